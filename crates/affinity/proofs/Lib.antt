@@ -1,0 +1,5 @@
+pub mod Numbers
+pub mod Paths
+pub mod Placed
+pub mod Preorder
+pub mod Rows

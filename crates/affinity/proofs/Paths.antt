@@ -1,0 +1,55 @@
+-- Beginnings of paths, and related paths.
+use Rattle.std.proofs.Common.{◌≡◌, true, false, [], ◌∷◌, refl, sym, ◌∙◌, ⊎_elim}
+use Rattle.std.proofs.lemmas.Bool.{and_parts, and_from, or_cases, or_left, or_right, eqb-true, eq-eqb, true≢false, false_from_ne_true}
+use Rattle.affinity.specs.Path.{Path, begins, are_related}
+
+pub begins-refl : (p : Path) → begins p p ≡ true
+begins-refl [] = refl
+begins-refl (x ∷ p) = and_from _ _ (eq-eqb x x refl) (begins-refl p)
+
+pub begins-trans : (p q r : Path) → begins p q ≡ true → begins q r ≡ true → begins p r ≡ true
+begins-trans [] q r a b = refl
+begins-trans (x ∷ p) [] r a b = absurd (true≢false (sym a))
+begins-trans (x ∷ p) (y ∷ q) [] a b = absurd (true≢false (sym b))
+begins-trans (x ∷ p) (y ∷ q) (z ∷ r) a b =
+    let first = and_parts _ _ a in
+    let second = and_parts _ _ b in
+    and_from _ _ (eq-eqb x z (eqb-true x y first.0 ∙ eqb-true y z second.0)) (begins-trans p q r first.1 second.1)
+
+pub are_related-refl : (p : Path) → are_related p p ≡ true
+are_related-refl p = or_left (begins p p) (begins p p) (begins-refl p)
+
+pub related_turned : (p q : Path) → are_related p q ≡ true → are_related q p ≡ true
+related_turned p q h = ⊎_elim
+    (λ a. or_right (begins q p) (begins p q) a)
+    (λ b. or_left (begins q p) (begins p q) b)
+    (or_cases (begins p q) (begins q p) h)
+
+pub unrelated_turned : (p q : Path) → are_related p q ≡ false → are_related q p ≡ false
+unrelated_turned p q h = false_from_ne_true _ (λ e. true≢false (sym (related_turned q p e) ∙ h))
+
+-- Two beginnings of one path are related.
+pub beginnings_related : (p q r : Path) → begins p r ≡ true → begins q r ≡ true → are_related p q ≡ true
+beginnings_related [] q r a b = refl
+beginnings_related (x ∷ p) [] r a b = refl
+beginnings_related (x ∷ p) (y ∷ q) [] a b = absurd (true≢false (sym a))
+beginnings_related (x ∷ p) (y ∷ q) (z ∷ r) a b =
+    let first = and_parts _ _ a in
+    let second = and_parts _ _ b in
+    let same : x ≡ y = eqb-true x z first.0 ∙ sym (eqb-true y z second.0) in
+    ⊎_elim
+    (λ h. or_left _ _ (and_from _ _ (eq-eqb x y same) h))
+    (λ h. or_right _ _ (and_from _ _ (eq-eqb y x (sym same)) h))
+    (or_cases _ _ (beginnings_related p q r first.1 second.1))
+
+-- What lies at a path or below it is unrelated to what is unrelated to that path.
+pub unrelated_below : (p q r : Path) → are_related p q ≡ false → begins p r ≡ true → are_related r q ≡ false
+unrelated_below p q r h under = false_from_ne_true _ (λ e. ⊎_elim
+    (λ below. true≢false (sym (or_left _ _ (begins-trans p r q under below)) ∙ h))
+    (λ above. true≢false (sym (beginnings_related p q r under above) ∙ h))
+    (or_cases (begins r q) (begins q r) e))
+
+-- What lies below one of two unrelated paths is unrelated to what lies below the other.
+pub unrelated_both_below : (p q r s : Path) → are_related p q ≡ false → begins p r ≡ true → begins q s ≡ true → are_related r s ≡ false
+unrelated_both_below p q r s h under beneath =
+    unrelated_turned s r (unrelated_below q r s (unrelated_turned r q (unrelated_below p q r h under)) beneath)

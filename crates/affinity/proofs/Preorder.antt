@@ -1,0 +1,263 @@
+-- The numbers of affinities follow the tree: an affinity's number lies in the interval of another exactly where that one is at or above it.
+use Rattle.std.proofs.Common.{◌≡◌, ℕ, zero, suc, ◌+◌, ◌*◌, ◌<◌, ◌≤◌, Bool, ◌&&◌, nat_lt, [], ◌∷◌, refl, ⊎_elim, arith, ◌==◌, subst, ◌∙◌, sym, ap, true, false}
+use Rattle.std.specs.Prelude.{nat_le, ◌||◌, ◌-◌, ◌/◌, ◌%◌, if◌then◌else◌}
+use Rattle.std.proofs.lemmas.Bool.{cases_order}
+use Rattle.std.proofs.lemmas.Bool.Decides.{nat_tests}
+use Rattle.std.proofs.lemmas.Nat.{row_fits, div-mul-add, mod-mul-add}
+use Rattle.affinity.specs.Path.{Path, begins, are_related, serial, aggregate, volume, logical, stripe, label}
+use Rattle.affinity.specs.Interval.{IsPath, IsAffinityOf, Interval, interval, contains, number, size, volume_number, volume_size, aggregate_size, server_size}
+use Rattle.affinity.specs.declared.sizes.Geometry.{Geometry}
+
+-- ---- among the paths of one volume
+
+in_volume : (g : Geometry) (a v : ℕ) (p q : Path) → IsPath g (a ∷ v ∷ p) → IsPath g (a ∷ v ∷ q) → begins p q ≡ contains (interval g (a ∷ v ∷ p)) (number g (a ∷ v ∷ q))
+in_volume g a v [] [] h k = grind (arith, nat_tests)
+in_volume g a v [] (zero ∷ []) h k = grind (arith, nat_tests)
+in_volume g a v [] (zero ∷ t ∷ []) h k = grind (arith, nat_tests)
+in_volume g a v [] (suc zero ∷ []) h k = grind (arith, nat_tests)
+in_volume g a v (zero ∷ []) [] h k = grind (arith, nat_tests)
+in_volume g a v (zero ∷ []) (zero ∷ []) h k = grind (arith, nat_tests)
+in_volume g a v (zero ∷ []) (zero ∷ t ∷ []) h k = grind (arith, nat_tests)
+in_volume g a v (zero ∷ []) (suc zero ∷ []) h k = grind (arith, nat_tests)
+in_volume g a v (zero ∷ s ∷ []) [] h k = grind (arith, nat_tests)
+in_volume g a v (zero ∷ s ∷ []) (zero ∷ []) h k = grind (arith, nat_tests)
+in_volume g a v (zero ∷ s ∷ []) (zero ∷ t ∷ []) h k = grind (arith, nat_tests)
+in_volume g a v (zero ∷ s ∷ []) (suc zero ∷ []) h k = grind (arith, nat_tests)
+in_volume g a v (suc zero ∷ []) [] h k = grind (arith, nat_tests)
+in_volume g a v (suc zero ∷ []) (zero ∷ []) h k = grind (arith, nat_tests)
+in_volume g a v (suc zero ∷ []) (zero ∷ t ∷ []) h k = grind (arith, nat_tests)
+in_volume g a v (suc zero ∷ []) (suc zero ∷ []) h k = grind (arith, nat_tests)
+in_volume g a v (zero ∷ s ∷ x ∷ p) q h k = absurd h
+in_volume g a v (suc zero ∷ x ∷ p) q h k = absurd h
+in_volume g a v (suc (suc n) ∷ p) q h k = absurd h
+in_volume g a v p (zero ∷ t ∷ x ∷ q) h k = absurd k
+in_volume g a v p (suc zero ∷ x ∷ q) h k = absurd k
+in_volume g a v p (suc (suc n) ∷ q) h k = absurd k
+
+-- an affinity's interval lies in that of its volume
+pub record FitsIn (from space : ℕ) (first count : ℕ) : Type 0 where
+  pub low : from ≤ first
+  pub some : 0 < count
+  pub high : first + count ≤ from + space
+
+fits_in_volume : (g : Geometry) (a v : ℕ) (p : Path) → IsPath g (a ∷ v ∷ p) → FitsIn (volume_number g a v) (volume_size g) (number g (a ∷ v ∷ p)) (size g (a ∷ v ∷ p))
+fits_in_volume g a v [] h = record { low = omega arith; some = omega arith; high = omega arith }
+fits_in_volume g a v (zero ∷ []) h = record { low = omega arith; some = omega arith; high = omega arith }
+fits_in_volume g a v (zero ∷ s ∷ []) h = record { low = omega arith; some = omega arith; high = omega arith }
+fits_in_volume g a v (suc zero ∷ []) h = record { low = omega arith; some = omega arith; high = omega arith }
+fits_in_volume g a v (zero ∷ s ∷ x ∷ p) h = absurd h
+fits_in_volume g a v (suc zero ∷ x ∷ p) h = absurd h
+fits_in_volume g a v (suc (suc n) ∷ p) h = absurd h
+
+-- ---- among children of one size
+
+-- the child with a smaller number ends before the other one begins
+earlier : (v w e : ℕ) → v < w → v * e + e ≤ w * e
+earlier v w e h = row_fits v e w e h (omega arith)
+
+children : (base e v w first count other : ℕ) (r : Bool) → FitsIn (base + v * e) e first count → base + w * e ≤ other → other < base + w * e + e → (v ≡ w → r ≡ (nat_le first other && nat_lt other (first + count))) → ((v == w) && r) ≡ (nat_le first other && nat_lt other (first + count))
+children base e v w first count other r fits low high same = ⊎_elim
+    (λ (equal : v ≡ w). let inner : r ≡ (nat_le first other && nat_lt other (first + count)) = same equal in grind (arith, nat_tests))
+    (λ apart. ⊎_elim
+    (λ (less : v < w). let space : v * e + e ≤ w * e = earlier v w e less in grind (arith, nat_tests))
+    (λ (more : w < v). let space : w * e + e ≤ v * e = earlier w v e more in grind (arith, nat_tests))
+    apart)
+    (cases_order v w)
+
+-- ---- among the paths of one aggregate
+
+among_volumes : (g : Geometry) (a v w : ℕ) (p q : Path) → IsPath g (a ∷ v ∷ p) → IsPath g (a ∷ w ∷ q) → begins (v ∷ p) (w ∷ q) ≡ contains (interval g (a ∷ v ∷ p)) (number g (a ∷ w ∷ q))
+among_volumes g a v w p q h k =
+    let fits = fits_in_volume g a w q k in
+    let same : v ≡ w → begins p q ≡ contains (interval g (a ∷ v ∷ p)) (number g (a ∷ w ∷ q)) =
+    λ e. subst (λ (x : ℕ). IsPath g (a ∷ x ∷ q) → begins p q ≡ contains (interval g (a ∷ v ∷ p)) (number g (a ∷ x ∷ q))) e (in_volume g a v p q h) k in
+    children (2 + a * aggregate_size g) (volume_size g) v w (number g (a ∷ v ∷ p)) (size g (a ∷ v ∷ p)) (number g (a ∷ w ∷ q)) (begins p q) (fits_in_volume g a v p h) fits.low (omega arith) same
+
+-- a path's volume, and its aggregate, are there
+volume_there : (g : Geometry) (a v : ℕ) (p : Path) → IsPath g (a ∷ v ∷ p) → (a < g.aggregates) × (v < g.volumes)
+volume_there g a v [] h = h
+volume_there g a v (zero ∷ []) h = h
+volume_there g a v (zero ∷ s ∷ []) h = (h.0, h.1)
+volume_there g a v (suc zero ∷ []) h = h
+volume_there g a v (zero ∷ s ∷ x ∷ p) h = absurd h
+volume_there g a v (suc zero ∷ x ∷ p) h = absurd h
+volume_there g a v (suc (suc n) ∷ p) h = absurd h
+
+aggregate_there : (g : Geometry) (a : ℕ) (p : Path) → IsPath g (a ∷ p) → a < g.aggregates
+aggregate_there g a [] h = h
+aggregate_there g a (v ∷ p) h = (volume_there g a v p h).0
+
+fits_in_aggregate : (g : Geometry) (a : ℕ) (p : Path) → IsPath g (a ∷ p) → FitsIn (1 + a * aggregate_size g) (aggregate_size g) (number g (a ∷ p)) (size g (a ∷ p))
+fits_in_aggregate g a [] h = record { low = omega arith; some = omega arith; high = omega arith }
+fits_in_aggregate g a (v ∷ p) h =
+    let fits = fits_in_volume g a v p h in
+    let space : v * volume_size g + volume_size g ≤ g.volumes * volume_size g = earlier v g.volumes (volume_size g) (volume_there g a v p h).1 in
+    record { low = omega arith; some = omega arith; high = omega arith }
+
+in_aggregate : (g : Geometry) (a : ℕ) (p q : Path) → IsPath g (a ∷ p) → IsPath g (a ∷ q) → begins p q ≡ contains (interval g (a ∷ p)) (number g (a ∷ q))
+in_aggregate g a [] q h k = let fits = fits_in_aggregate g a q k in grind (arith, nat_tests)
+in_aggregate g a (v ∷ p) [] h k = let fits = fits_in_volume g a v p h in grind (arith, nat_tests)
+in_aggregate g a (v ∷ p) (w ∷ q) h k = among_volumes g a v w p q h k
+
+-- ---- among all paths of a server
+
+among_aggregates : (g : Geometry) (a b : ℕ) (p q : Path) → IsPath g (a ∷ p) → IsPath g (b ∷ q) → begins (a ∷ p) (b ∷ q) ≡ contains (interval g (a ∷ p)) (number g (b ∷ q))
+among_aggregates g a b p q h k =
+    let fits = fits_in_aggregate g b q k in
+    let same : a ≡ b → begins p q ≡ contains (interval g (a ∷ p)) (number g (b ∷ q)) =
+    λ e. subst (λ (x : ℕ). IsPath g (x ∷ q) → begins p q ≡ contains (interval g (a ∷ p)) (number g (x ∷ q))) e (in_aggregate g a p q h) k in
+    children 1 (aggregate_size g) a b (number g (a ∷ p)) (size g (a ∷ p)) (number g (b ∷ q)) (begins p q) (fits_in_aggregate g a p h) fits.low (omega arith) same
+
+fits_in_server : (g : Geometry) (p : Path) → IsPath g p → FitsIn 0 (server_size g) (number g p) (size g p)
+fits_in_server g [] h = record { low = omega arith; some = omega arith; high = omega arith }
+fits_in_server g (a ∷ p) h =
+    let fits = fits_in_aggregate g a p h in
+    let space : a * aggregate_size g + aggregate_size g ≤ g.aggregates * aggregate_size g = earlier a g.aggregates (aggregate_size g) (aggregate_there g a p h) in
+    record { low = omega arith; some = omega arith; high = omega arith }
+
+-- A path begins another one exactly where its interval contains the other's number.
+pub begins-contains : (g : Geometry) (p q : Path) → IsPath g p → IsPath g q → begins p q ≡ contains (interval g p) (number g q)
+begins-contains g [] q h k = let fits = fits_in_server g q k in grind (arith, nat_tests)
+begins-contains g (a ∷ p) [] h k = let fits = fits_in_aggregate g a p h in grind (arith, nat_tests)
+begins-contains g (a ∷ p) (b ∷ q) h k = among_aggregates g a b p q h k
+
+-- Affinities are related as their paths are.
+pub are_related-contains : (g : Geometry) (p q : Path) (a b : Interval) → IsAffinityOf g p a → IsAffinityOf g q b → (contains a b.number || contains b a.number) ≡ are_related p q
+are_related-contains g p q a b h k =
+    let forward = begins-contains g p q h.path k.path in
+    let back = begins-contains g q p k.path h.path in
+    rw (h.interval, k.interval, forward, back) refl
+
+-- ---- back from a number to its path
+
+pub in_volume_at : Geometry → ℕ → ℕ → ℕ → Path
+in_volume_at g a v r = if r == 0 then volume a v else (if r == 1 then logical a v else (if nat_lt r (2 + g.stripes) then stripe a v (r - 2) else label a v))
+
+pub in_aggregate_at : Geometry → ℕ → ℕ → Path
+in_aggregate_at g a r = if r == 0 then aggregate a else in_volume_at g a ((r - 1) / volume_size g) ((r - 1) % volume_size g)
+
+-- the path with a number
+pub path_at : Geometry → ℕ → Path
+path_at g n = if n == 0 then serial else in_aggregate_at g ((n - 1) / aggregate_size g) ((n - 1) % aggregate_size g)
+
+-- a child's number, and what is left of it
+pub record Splits (w child rest n : ℕ) : Type 0 where
+  pub more : (n == 0) ≡ false
+  pub child_is : (n - 1) / w ≡ child
+  pub rest_is : (n - 1) % w ≡ rest
+
+splits : (w child rest n : ℕ) → rest < w → n ≡ 1 + child * w + rest → Splits w child rest n
+splits w child rest n h e = let less : n - 1 ≡ child * w + rest = omega arith in record {
+  more = grind (arith, nat_tests);
+  child_is = rw less (div-mul-add child w rest h);
+  rest_is = rw less (mod-mul-add child w rest h);
+}
+
+in_aggregate_at-volume : (g : Geometry) (a v r : ℕ) → r < volume_size g → in_aggregate_at g a (1 + v * volume_size g + r) ≡ in_volume_at g a v r
+unfolding in_aggregate_at
+in_aggregate_at-volume g a v r h =
+    let s = splits (volume_size g) v r (1 + v * volume_size g + r) h refl in
+    rw (s.more, s.child_is, s.rest_is) refl
+
+path_at-aggregate : (g : Geometry) (a r : ℕ) → r < aggregate_size g → path_at g (1 + a * aggregate_size g + r) ≡ in_aggregate_at g a r
+unfolding path_at
+path_at-aggregate g a r h =
+    let s = splits (aggregate_size g) a r (1 + a * aggregate_size g + r) h refl in
+    rw (s.more, s.child_is, s.rest_is) refl
+
+in_volume_at-offset : (g : Geometry) (a v : ℕ) (p : Path) → IsPath g (a ∷ v ∷ p) → (r : ℕ) → number g (a ∷ v ∷ p) ≡ volume_number g a v + r → in_volume_at g a v r ≡ a ∷ v ∷ p
+unfolding in_volume_at
+in_volume_at-offset g a v [] h r e = let zero_is : r ≡ 0 = omega arith in rw zero_is refl
+in_volume_at-offset g a v (zero ∷ []) h r e = let one_is : r ≡ 1 = omega arith in rw one_is refl
+in_volume_at-offset g a v (zero ∷ s ∷ []) h r e =
+    let r_is : r ≡ 2 + s = omega arith in
+    let not_zero : (2 + s == 0) ≡ false = grind (arith, nat_tests) in
+    let not_one : (2 + s == 1) ≡ false = grind (arith, nat_tests) in
+    let less : nat_lt (2 + s) (2 + g.stripes) ≡ true = grind (arith, nat_tests) in
+    let last : 2 + s - 2 ≡ s = omega arith in
+    rw (r_is, not_zero, not_one, less, last) refl
+in_volume_at-offset g a v (suc zero ∷ []) h r e =
+    let r_is : r ≡ 2 + g.stripes = omega arith in
+    let not_zero : (2 + g.stripes == 0) ≡ false = grind (arith, nat_tests) in
+    let not_one : (2 + g.stripes == 1) ≡ false = grind (arith, nat_tests) in
+    let not_less : nat_lt (2 + g.stripes) (2 + g.stripes) ≡ false = grind (arith, nat_tests) in
+    rw (r_is, not_zero, not_one, not_less) refl
+in_volume_at-offset g a v (zero ∷ s ∷ x ∷ p) h r e = absurd h
+in_volume_at-offset g a v (suc zero ∷ x ∷ p) h r e = absurd h
+in_volume_at-offset g a v (suc (suc n) ∷ p) h r e = absurd h
+
+in_aggregate_at-offset : (g : Geometry) (a : ℕ) (p : Path) → IsPath g (a ∷ p) → (r : ℕ) → number g (a ∷ p) ≡ 1 + a * aggregate_size g + r → in_aggregate_at g a r ≡ a ∷ p
+unfolding in_aggregate_at
+in_aggregate_at-offset g a [] h r e = let zero_is : r ≡ 0 = omega arith in rw zero_is refl
+in_aggregate_at-offset g a (v ∷ p) h r e =
+    let fits = fits_in_volume g a v p h in
+    let rest : ℕ = number g (a ∷ v ∷ p) - volume_number g a v in
+    let r_is : r ≡ 1 + v * volume_size g + rest = omega arith in
+    let less : rest < volume_size g = omega arith in
+    let number_is : number g (a ∷ v ∷ p) ≡ volume_number g a v + rest = omega arith in
+    rw r_is (in_aggregate_at-volume g a v rest less) ∙ in_volume_at-offset g a v p h rest number_is
+
+path_at-zero : (g : Geometry) → path_at g 0 ≡ serial
+unfolding path_at
+path_at-zero g = refl
+
+-- Each path is the one with its number.
+pub path_at-number : (g : Geometry) (p : Path) → IsPath g p → path_at g (number g p) ≡ p
+path_at-number g [] h = path_at-zero g
+path_at-number g (a ∷ p) h =
+    let fits = fits_in_aggregate g a p h in
+    let rest : ℕ = number g (a ∷ p) - (1 + a * aggregate_size g) in
+    let number_is : number g (a ∷ p) ≡ 1 + a * aggregate_size g + rest = omega arith in
+    let less : rest < aggregate_size g = omega arith in
+    ap (path_at g) number_is ∙ path_at-aggregate g a rest less ∙ in_aggregate_at-offset g a p h rest number_is
+
+-- An affinity has one path.
+pub path_unique : (g : Geometry) (p q : Path) (a : Interval) → IsAffinityOf g p a → IsAffinityOf g q a → p ≡ q
+path_unique g p q a h k =
+    sym (path_at-number g p h.path)
+    ∙ ap (path_at g) (sym (ap (λ i. i.number) h.interval) ∙ ap (λ i. i.number) k.interval)
+    ∙ path_at-number g q k.path
+
+-- ---- the same, as the code finds it
+
+-- the path with an affinity's number is the affinity's
+pub found : (g : Geometry) (n : ℕ) (a : Interval) (q : Path) → ((p : Path) × IsAffinityOf g p a) → n ≡ a.number → path_at g n ≡ q → IsAffinityOf g q a
+found g n a q h e at =
+    let p_is : path_at g n ≡ h.0 = ap (path_at g) (e ∙ ap (λ i. i.number) h.1.interval) ∙ path_at-number g h.0 h.1.path in
+    subst (λ (p : Path). IsAffinityOf g p a) (sym p_is ∙ at) h.1
+
+pub path_at-in_aggregate : (g : Geometry) (n d : ℕ) → (n ≡ 0 → ⊥) → d ≡ aggregate_size g → path_at g n ≡ in_aggregate_at g ((n - 1) / d) ((n - 1) % d)
+unfolding path_at
+path_at-in_aggregate g n d h e = let more : (n == 0) ≡ false = grind (arith, nat_tests) in rw (e, more) refl
+
+pub in_aggregate_at-self : (g : Geometry) (a r : ℕ) → r ≡ 0 → in_aggregate_at g a r ≡ aggregate a
+unfolding in_aggregate_at
+in_aggregate_at-self g a r e = rw e refl
+
+pub in_aggregate_at-in_volume : (g : Geometry) (a r e : ℕ) → (r ≡ 0 → ⊥) → e ≡ volume_size g → in_aggregate_at g a r ≡ in_volume_at g a ((r - 1) / e) ((r - 1) % e)
+unfolding in_aggregate_at
+in_aggregate_at-in_volume g a r e h k = let more : (r == 0) ≡ false = grind (arith, nat_tests) in rw (k, more) refl
+
+pub in_volume_at-self : (g : Geometry) (a v r : ℕ) → r ≡ 0 → in_volume_at g a v r ≡ volume a v
+unfolding in_volume_at
+in_volume_at-self g a v r e = rw e refl
+
+pub in_volume_at-logical : (g : Geometry) (a v r : ℕ) → r ≡ 1 → in_volume_at g a v r ≡ logical a v
+unfolding in_volume_at
+in_volume_at-logical g a v r e = rw e refl
+
+pub in_volume_at-stripe : (g : Geometry) (a v r : ℕ) → (r ≡ 0 → ⊥) → (r ≡ 1 → ⊥) → r < 2 + g.stripes → in_volume_at g a v r ≡ stripe a v (r - 2)
+unfolding in_volume_at
+in_volume_at-stripe g a v r h k l =
+    let not_zero : (r == 0) ≡ false = grind (arith, nat_tests) in
+    let not_one : (r == 1) ≡ false = grind (arith, nat_tests) in
+    let less : nat_lt r (2 + g.stripes) ≡ true = grind (arith, nat_tests) in
+    rw (not_zero, not_one, less) refl
+
+pub in_volume_at-label : (g : Geometry) (a v r : ℕ) → 2 + g.stripes ≤ r → in_volume_at g a v r ≡ label a v
+unfolding in_volume_at
+in_volume_at-label g a v r h =
+    let not_zero : (r == 0) ≡ false = grind (arith, nat_tests) in
+    let not_one : (r == 1) ≡ false = grind (arith, nat_tests) in
+    let not_less : nat_lt r (2 + g.stripes) ≡ false = grind (arith, nat_tests) in
+    rw (not_zero, not_one, not_less) refl

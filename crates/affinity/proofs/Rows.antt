@@ -1,0 +1,112 @@
+-- Worked examples of the definitions.
+use Rattle.std.proofs.Common.{lit≤, ◌≡◌, true, false, [], ◌∷◌, refl}
+use Rattle.affinity.specs.Geometry.{small, standard, group}
+use Rattle.affinity.specs.Interval.{interval}
+use Rattle.affinity.specs.declared.sizes.Geometry.{Geometry}
+use Rattle.affinity.specs.Path.{are_related, serial, aggregate, volume, logical, stripe, label}
+use Rattle.affinity.specs.Place.{is_in_range, place}
+use Rattle.affinity.specs.declared.kinds.Kind.TheVariants.{Create, Seal, Write, Summary, SetLabel}
+
+-- the stripes of a small server's blocks, and of the standard one's
+first_block : group small 0 0 ≡ 0
+first_block = refl
+
+second_block : group small 0 1 ≡ 1
+second_block = refl
+
+second_file : group small 1 0 ≡ 1
+second_file = refl
+
+end_of_run : group standard 0 3 ≡ 0
+end_of_run = refl
+
+next_run : group standard 0 4 ≡ 1
+next_run = refl
+
+round_again : group standard 3 7 ≡ 0
+round_again = refl
+
+-- the block is out of range, and the numbers that a kind doesn't have may be
+block_behind : is_in_range small Write (0 ∷ 0 ∷ 0 ∷ 4 ∷ []) ≡ false
+block_behind = refl
+
+last_block : is_in_range small Write (0 ∷ 0 ∷ 1 ∷ 3 ∷ []) ≡ true
+last_block = refl
+
+file_unused : is_in_range small Seal (0 ∷ 0 ∷ 9 ∷ 9 ∷ []) ≡ true
+file_unused = refl
+
+file_behind : is_in_range small Create (0 ∷ 0 ∷ 2 ∷ 0 ∷ []) ≡ false
+file_behind = refl
+
+all_unused : is_in_range small Summary (9 ∷ 9 ∷ 9 ∷ 9 ∷ []) ≡ true
+all_unused = refl
+
+place_of_seal : place small Seal (0 ∷ 0 ∷ 9 ∷ 9 ∷ []) ≡ volume 0 0
+place_of_seal = refl
+
+place_of_write : place small Write (0 ∷ 0 ∷ 1 ∷ 2 ∷ []) ≡ stripe 0 0 1
+place_of_write = refl
+
+place_of_label : place small SetLabel (0 ∷ 0 ∷ 0 ∷ 0 ∷ []) ≡ label 0 0
+place_of_label = refl
+
+-- a label runs beside files and blocks, and not beside its volume
+label_beside_files : are_related (label 0 0) (logical 0 0) ≡ false
+label_beside_files = refl
+
+label_beside_blocks : are_related (stripe 0 0 1) (label 0 0) ≡ false
+label_beside_blocks = refl
+
+label_under_volume : are_related (label 0 0) (volume 0 0) ≡ true
+label_under_volume = refl
+
+stripes_apart : are_related (stripe 0 0 0) (stripe 0 0 1) ≡ false
+stripes_apart = refl
+
+same_stripe : are_related (stripe 0 0 1) (stripe 0 0 1) ≡ true
+same_stripe = refl
+
+serial_above_all : are_related (stripe 0 0 1) serial ≡ true
+serial_above_all = refl
+
+aggregates_apart : are_related (aggregate 0) (volume 1 0) ≡ false
+aggregates_apart = refl
+
+-- the numbers of a small server's affinities, and of some of a larger one
+serial_numbers : interval small serial ≡ record { number = 0; end = 7 }
+serial_numbers = refl
+
+aggregate_numbers : interval small (aggregate 0) ≡ record { number = 1; end = 7 }
+aggregate_numbers = refl
+
+volume_numbers : interval small (volume 0 0) ≡ record { number = 2; end = 7 }
+volume_numbers = refl
+
+logical_numbers : interval small (logical 0 0) ≡ record { number = 3; end = 6 }
+logical_numbers = refl
+
+first_stripe_numbers : interval small (stripe 0 0 0) ≡ record { number = 4; end = 5 }
+first_stripe_numbers = refl
+
+second_stripe_numbers : interval small (stripe 0 0 1) ≡ record { number = 5; end = 6 }
+second_stripe_numbers = refl
+
+label_numbers : interval small (label 0 0) ≡ record { number = 6; end = 7 }
+label_numbers = refl
+
+two_of_each : Geometry
+two_of_each = record small {
+  aggregates = 2;
+  volumes = 2;
+  aggregates_range = (lit≤ tt, lit≤ tt);
+  volumes_range = (lit≤ tt, lit≤ tt);
+}
+
+last_volume_numbers : interval two_of_each (volume 1 1) ≡ record { number = 18; end = 23 }
+unfolding two_of_each
+last_volume_numbers = refl
+
+last_label_numbers : interval two_of_each (label 1 1) ≡ record { number = 22; end = 23 }
+unfolding two_of_each
+last_label_numbers = refl

@@ -1,0 +1,54 @@
+-- The numbers of a server, and the stripe of a block. A geometry carries the proof that each of its numbers is in range, as `g.stripes_range`.
+use Rattle.std.specs.Prelude.{ℕ, ◌+◌, ◌/◌, ◌%◌, List, [], ◌∷◌}
+use Rattle.std.proofs.Common.{lit≤}
+use Rattle.affinity.specs.declared.sizes.Geometry.{Geometry}
+
+-- the numbers in their order
+abbrev pub numbers_of : Geometry → List ℕ
+numbers_of g = g.aggregates ∷ g.volumes ∷ g.stripes ∷ g.width ∷ g.files ∷ g.blocks ∷ g.quota ∷ g.half ∷ []
+
+-- the stripe of block b of file f
+abbrev pub group : Geometry → ℕ → ℕ → ℕ
+group g f b = (f + b / g.width) % g.stripes
+
+-- the program's own numbers, where none are given
+abbrev pub standard : Geometry
+standard = record {
+  aggregates = 1;
+  volumes = 4;
+  stripes = 4;
+  width = 4;
+  files = 16;
+  blocks = 64;
+  quota = 64;
+  half = 256;
+  aggregates_range = (lit≤ tt, lit≤ tt);
+  volumes_range = (lit≤ tt, lit≤ tt);
+  stripes_range = (lit≤ tt, lit≤ tt);
+  width_range = (lit≤ tt, lit≤ tt);
+  files_range = (lit≤ tt, lit≤ tt);
+  blocks_range = (lit≤ tt, lit≤ tt);
+  quota_range = (lit≤ tt, lit≤ tt);
+  half_range = (lit≤ tt, lit≤ tt);
+}
+
+-- a small server for worked examples: one volume of two files of four blocks, in two stripes that hold two blocks each
+abbrev pub small : Geometry
+small = record {
+  aggregates = 1;
+  volumes = 1;
+  stripes = 2;
+  width = 1;
+  files = 2;
+  blocks = 4;
+  quota = 2;
+  half = 4;
+  aggregates_range = (lit≤ tt, lit≤ tt);
+  volumes_range = (lit≤ tt, lit≤ tt);
+  stripes_range = (lit≤ tt, lit≤ tt);
+  width_range = (lit≤ tt, lit≤ tt);
+  files_range = (lit≤ tt, lit≤ tt);
+  blocks_range = (lit≤ tt, lit≤ tt);
+  quota_range = (lit≤ tt, lit≤ tt);
+  half_range = (lit≤ tt, lit≤ tt);
+}

@@ -1,0 +1,66 @@
+-- Affinities as numbers. The tree of a server is numbered in preorder: each affinity comes before all that lie below it, and these are the numbers from its own up to its end.
+use Rattle.std.specs.Prelude.{◌≡◌, ℕ, zero, suc, ◌+◌, ◌*◌, ◌<◌, [], ◌∷◌, Bool, ◌&&◌, nat_le, nat_lt}
+use Rattle.affinity.specs.Path.{Path}
+use Rattle.affinity.specs.declared.sizes.Geometry.{Geometry}
+
+-- the number of an affinity, and the first number behind those below it
+pub record Interval : Type 0 where
+  pub number : ℕ
+  pub end : ℕ
+
+-- how many affinities a volume has, itself, its Volume Logical with the stripes, and its label
+abbrev pub volume_size : Geometry → ℕ
+volume_size g = 3 + g.stripes
+
+abbrev pub aggregate_size : Geometry → ℕ
+aggregate_size g = 1 + g.volumes * volume_size g
+
+abbrev pub server_size : Geometry → ℕ
+server_size g = 1 + g.aggregates * aggregate_size g
+
+-- The paths that there are: each number is below the limit that the geometry sets.
+abbrev pub IsPath : Geometry → Path → Type 0
+IsPath g [] = Unit {0}
+IsPath g (a ∷ []) = a < g.aggregates
+IsPath g (a ∷ v ∷ []) = (a < g.aggregates) × (v < g.volumes)
+IsPath g (a ∷ v ∷ zero ∷ []) = (a < g.aggregates) × (v < g.volumes)
+IsPath g (a ∷ v ∷ zero ∷ s ∷ []) = (a < g.aggregates) × (v < g.volumes) × (s < g.stripes)
+IsPath g (a ∷ v ∷ suc zero ∷ []) = (a < g.aggregates) × (v < g.volumes)
+IsPath g _ = ⊥
+
+abbrev pub volume_number : Geometry → ℕ → ℕ → ℕ
+volume_number g a v = 2 + a * aggregate_size g + v * volume_size g
+
+-- the place of a path in preorder
+abbrev pub number : Geometry → Path → ℕ
+number g [] = 0
+number g (a ∷ []) = 1 + a * aggregate_size g
+number g (a ∷ v ∷ []) = volume_number g a v
+number g (a ∷ v ∷ zero ∷ []) = volume_number g a v + 1
+number g (a ∷ v ∷ zero ∷ s ∷ _) = volume_number g a v + 2 + s
+number g (a ∷ v ∷ suc _ ∷ _) = volume_number g a v + 2 + g.stripes
+
+-- how many paths begin with it
+abbrev pub size : Geometry → Path → ℕ
+size g [] = server_size g
+size g (a ∷ []) = aggregate_size g
+size g (a ∷ v ∷ []) = volume_size g
+size g (a ∷ v ∷ zero ∷ []) = 1 + g.stripes
+size g (a ∷ v ∷ zero ∷ s ∷ _) = 1
+size g (a ∷ v ∷ suc _ ∷ _) = 1
+
+abbrev pub interval : Geometry → Path → Interval
+interval g p = record { number = number g p; end = number g p + size g p }
+
+-- whether the number is that of the affinity, or of one below it
+abbrev pub contains : Interval → ℕ → Bool
+contains i n = nat_le i.number n && nat_lt n i.end
+
+-- the affinity of a path that there is
+pub record IsAffinityOf (g : Geometry) (p : Path) (a : Interval) : Type 0 where
+  pub path : IsPath g p
+  pub interval : a ≡ interval g p
+
+-- an affinity of the geometry, whichever path it is of
+abbrev pub IsAffinity : Geometry → Interval → Type 0
+IsAffinity g a = (p : Path) × IsAffinityOf g p a

@@ -1,0 +1,19 @@
+-- The ranges of a geometry's numbers.
+use Rattle.std.specs.Prelude.{ℕ, ◌≤◌, List, [], ◌∷◌}
+
+-- from `least` to `most`, both included
+abbrev pub IsWithin : ℕ → ℕ → ℕ → Type 0
+IsWithin least most n = (least ≤ n) × (n ≤ most)
+
+-- Eight numbers, each in its range: aggregates, volumes, stripes, width, files, blocks, quota, half.
+abbrev pub AreInRange : List ℕ → Type 0
+AreInRange (aggregates ∷ volumes ∷ stripes ∷ width ∷ files ∷ blocks ∷ quota ∷ half ∷ []) =
+    IsWithin 1 4 aggregates
+    × IsWithin 1 8 volumes
+    × IsWithin 1 8 stripes
+    × IsWithin 1 64 width
+    × IsWithin 1 64 files
+    × IsWithin 1 256 blocks
+    × IsWithin 1 64 quota
+    × IsWithin 4 1024 half
+AreInRange _ = ⊥

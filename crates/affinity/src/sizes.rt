@@ -1,0 +1,134 @@
+ghost use Rattle.std.specs.Prelude.{◌≡◌, ◌↔◌, IsOk, IfOk};
+ghost use Rattle.affinity.specs.Limits.{IsWithin, AreInRange};
+
+use std::error::Error;
+use std::fmt;
+
+/// The eight numbers of a server. Each value keeps them in their ranges.
+#[derive(Clone, Copy, Debug, PartialEq, Eq)]
+pub struct Geometry {
+    /// Aggregates of the server, 1 to 4.
+    pub aggregates: u16,
+
+    /// Volumes of each aggregate, 1 to 8.
+    pub volumes: u16,
+
+    /// Stripes of each volume, 1 to 8.
+    pub stripes: u16,
+
+    /// Blocks in a row that lie in one stripe, before the file goes on in the next one, 1 to 64.
+    pub width: u16,
+
+    /// Files of each volume, 1 to 64.
+    pub files: u16,
+
+    /// Blocks of each file, 1 to 256.
+    pub blocks: u16,
+
+    /// Blocks that a stripe can hold, 1 to 64.
+    pub quota: u16,
+
+    /// Records in each half of the log, 4 to 1024.
+    pub half: u16,
+    pub ghost aggregates_range: { IsWithin 1 4 aggregates },
+    pub ghost volumes_range: { IsWithin 1 8 volumes },
+    pub ghost stripes_range: { IsWithin 1 8 stripes },
+    pub ghost width_range: { IsWithin 1 64 width },
+    pub ghost files_range: { IsWithin 1 64 files },
+    pub ghost blocks_range: { IsWithin 1 256 blocks },
+    pub ghost quota_range: { IsWithin 1 64 quota },
+    pub ghost half_range: { IsWithin 4 1024 half },
+}
+
+/// A number of a geometry that is out of its range.
+#[derive(Clone, Copy, Debug, PartialEq, Eq)]
+pub struct BadGeometry;
+
+impl fmt::Display for BadGeometry {
+    fn fmt<W: fmt::Write>(&self, f: &mut fmt::Formatter<W>) -> fmt::Result {
+        f.write_str("geometry out of range")
+    }
+}
+
+impl Error for BadGeometry {}
+
+/// The number, where it is from `least` to `most`.
+fn within(least: u16, most: u16, n: u16) -> Result<u16, BadGeometry>
+    ensures in_range { IsOk result ↔ IsWithin least most n }
+    ensures same { IfOk result (λ m. m ≡ n) }
+{
+    if n < least || most < n {
+        return Err(BadGeometry);
+    }
+    Ok(n)
+}
+
+impl Geometry {
+    ghost use Rattle.affinity.specs.Geometry.{numbers_of};
+
+    /// The geometry with these numbers: aggregates, volumes, stripes, width, files, blocks, quota
+    /// and half, in this order.
+    pub fn new(n: [u16; 8]) -> Result<Geometry, BadGeometry>
+        ensures in_range { IsOk result ↔ AreInRange n }
+        ensures same_numbers { IfOk result (λ g. numbers_of g ≡ n) }
+    {
+        let [
+            aggregates,
+            volumes,
+            stripes,
+            width,
+            files,
+            blocks,
+            quota,
+            half,
+        ] = n;
+        Ok(Geometry {
+            aggregates: within(1, 4, aggregates)?,
+            volumes: within(1, 8, volumes)?,
+            stripes: within(1, 8, stripes)?,
+            width: within(1, 64, width)?,
+            files: within(1, 64, files)?,
+            blocks: within(1, 256, blocks)?,
+            quota: within(1, 64, quota)?,
+            half: within(4, 1024, half)?,
+        })
+    }
+
+    /// The eight numbers, in the order in which `new` takes them.
+    pub fn numbers(&self) -> [u16; 8]
+        ensures { result ≡ numbers_of self.now }
+    {
+        [
+            self.aggregates,
+            self.volumes,
+            self.stripes,
+            self.width,
+            self.files,
+            self.blocks,
+            self.quota,
+            self.half,
+        ]
+    }
+}
+
+/// One aggregate of 4 volumes of 16 files of 64 blocks, in 4 stripes of runs of 4 blocks that hold
+/// 64 blocks each, and log halves of 256 records.
+impl Default for Geometry {
+    ghost use Rattle.std.specs.Prelude.{◌≡◌};
+    ghost use Rattle.affinity.specs.Geometry.{standard};
+
+    ghost is_default = { λ g. g ≡ standard };
+
+    fn default() -> Self {
+        Geometry {
+            aggregates: 1,
+            volumes: 4,
+            stripes: 4,
+            width: 4,
+            files: 16,
+            blocks: 64,
+            quota: 64,
+            half: 256,
+        }
+    }
+}
