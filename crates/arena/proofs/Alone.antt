@@ -1,0 +1,54 @@
+-- A slot that is its own neighbor is on no list.
+use Rattle.std.proofs.Common.{◌≡◌, ◌≢◌, ℕ, zero, suc, ◌+◌, ◌-◌, ◌<◌, ◌≤◌, List, [], ◌∷◌, refl, sym, ap, ◌∙◌, inl, inr, arith}
+use Rattle.std.specs.List.{concat, AllByRecursion}
+use Rattle.arena.specs.Lists.{times}
+use Rattle.arena.specs.Linked.{IsWay, ring, table, rings, IsLinked}
+use Rattle.arena.proofs.Times.{times-append, times-nowhere}
+use Rattle.arena.proofs.Ways.{AreSlots, walk-inside, slots-below}
+use Rattle.arena.proofs.Unlinking.{equal_or_not}
+
+-- a number that is in none of the lists of a table
+pub times-table : (i : ℕ) (at : ℕ → List ℕ) (from count : ℕ) → ((e : ℕ) → from ≤ e → e < from + count → times i (at e) ≡ 0)
+    → times i (concat (table at from count)) ≡ 0
+times-table i at from zero none = refl
+times-table i at from (suc count) none =
+    omega (
+      arith,
+      times-append i (at from) (concat (table at (suc from) count)),
+      none from (omega arith) (omega arith),
+      times-table i at (suc from) count (λ e low high. none e (omega arith) (omega arith)),
+    )
+
+module _ (slots nodes slot : ℕ) (next previous : ℕ → ℕ) (linked : IsLinked slots nodes next previous)
+    (within : slot < slots) (alone : next slot ≡ slot) where
+  is_node : slot < nodes
+  is_node = omega (arith, linked.slots_fit)
+
+  pub alone_back : previous slot ≡ slot
+  alone_back = ap previous (sym alone) ∙ linked.previous_undoes slot is_node
+
+  -- no way from another node comes by
+  pub way-passes : (a : ℕ) (xs : List ℕ) (z : ℕ) → a < nodes → AreSlots nodes xs → a ≢ slot → IsWay next a xs z
+      → AllByRecursion (λ x. x ≢ slot) xs
+  way-passes a [] z below inside apart way = tt
+  way-passes a (x ∷ xs) z below inside apart way =
+      let other : x ≢ slot = (λ same. apart (sym (linked.previous_undoes a below) ∙ ap previous (way.0 ∙ same) ∙ alone_back)) in
+      (other, way-passes x xs z inside.0 inside.1 other way.1)
+
+  pub ring-passes : (end : ℕ) → slots ≤ end → end < nodes → AllByRecursion (λ x. x ≢ slot) (ring next slots end)
+  ring-passes end outside below =
+      way-passes end (ring next slots end) end below
+      (slots-below slots nodes (ring next slots end) linked.slots_fit (walk-inside next slots slots (next end)))
+      (λ same. omega arith) (linked.closed end outside below)
+
+  pub times-alone : times slot (concat (rings next slots nodes)) ≡ 0
+  times-alone = times-table slot (ring next slots) slots (nodes - slots)
+      (λ e low high. times-nowhere slot (ring next slots e) (ring-passes e low (omega (arith, linked.slots_fit))))
+
+-- the converse
+pub alone-from_times : (slots nodes : ℕ) (next previous : ℕ → ℕ) → IsLinked slots nodes next previous → (a : ℕ) → a < slots
+    → times a (concat (rings next slots nodes)) ≡ 0 → next a ≡ a
+alone-from_times slots nodes next previous linked a within none = elim (equal_or_not (next a) a) [
+  | inl e ↦ e
+  | inr n ↦ absurd (omega (arith, linked.placed a within n))
+]

@@ -1,0 +1,29 @@
+-- The slot leaves its list, and becomes the last of the chain.
+use Rattle.std.proofs.Common.{◌≡◌, ◌<◌, true, is_some, None, sym, ◌∙◌, slice_index_or, arith, length}
+use Rattle.arena.specs.Kept.{chains_in}
+use Rattle.arena.proofs.Times.{times-without_all_same}
+use Rattle.arena.proofs.Keeping.{move-kept, move-row}
+use Rattle.arena.proofs.Arena.move_to.Goals as goal
+
+pub append-requires-clause-alone : goal.append-requires-clause-alone
+append-requires-clause-alone g c =
+    rw c.unlink.ensures.lists (times-without_all_same c.args.i c.self.inside.links.lists)
+
+pub invariant_of-self : goal.invariant_of-self
+invariant_of-self g c =
+    let held : is_some (slice_index_or c.self.inside.values.items c.args.i None) ≡ true = rw (← c.self.view_is) at (sym c.holds.ensures.answer ∙ c.if-not-holds.false) in
+    let count : c.chains.result ≡ length (chains_in c.self.inside.links.lists) = rw (← c.self.view_is) at c.chains.ensures in
+    let within : c.args.c < length (chains_in c.self.inside.links.lists) = omega arith in
+    rw (c.append.ensures.lists, c.unlink.ensures.lists)
+    (move-kept c.self.inside.values.items c.self.inside.links.slots c.self.inside.links.lists c.self.inside.free c.args.i c.args.c c.self.invariant held within)
+
+pub returns-clause-row : goal.returns-clause-row
+returns-clause-row g c =
+    let held : is_some (slice_index_or c.self.inside.values.items c.args.i None) ≡ true = rw (← c.self.view_is) at (sym c.holds.ensures.answer ∙ c.if-not-holds.false) in
+    let count : c.chains.result ≡ length (chains_in c.self.inside.links.lists) = rw (← c.self.view_is) at c.chains.ensures in
+    let within : c.args.c < length (chains_in c.self.inside.links.lists) = omega arith in
+    rw (← c.self.view_is, c.append.ensures.lists, c.unlink.ensures.lists)
+    (move-row c.self.inside.values.items c.self.inside.links.slots c.self.inside.links.lists c.self.inside.free c.args.i c.args.c c.self.invariant held within)
+
+pub returns-clause-parted : goal.returns-clause-parted
+returns-clause-parted g c = (invariant_of-self g c).parted

@@ -1,0 +1,10 @@
+-- A slot that holds no value is on no chain.
+use Rattle.std.proofs.Common.{◌≡◌, false, is_some, slice_index_or, sym, None, ◌∙◌}
+use Rattle.arena.proofs.Keeping.{behind-empty}
+use Rattle.arena.proofs.Arena.next.Goals as goal
+
+pub returns-else-holds : goal.returns-else-holds
+returns-else-holds g c =
+    let empty : is_some (slice_index_or c.self.inside.values.items c.args.i None) ≡ false = rw (← c.self.view_is) at (sym c.holds.ensures.answer ∙ c.if-holds.false) in
+    rw (← c.self.view_is) (sym (behind-empty c.self.inside.values.items c.self.inside.links.slots c.self.inside.links.lists c.self.inside.free
+    c.args.i c.self.invariant empty))

@@ -1,0 +1,12 @@
+-- All slots are free, and in order.
+use Rattle.std.proofs.Common.{◌≡◌, arith}
+use Rattle.arena.proofs.Keeping.{start-kept}
+use Rattle.arena.proofs.Arena.with_capacity.Goals as goal
+
+pub invariant_of-result : goal.invariant_of-result
+invariant_of-result g c =
+    let all : c.loop.counter ≡ c.args.slots = omega arith in
+    rw (c.loop.invariant.0, all, c.in_ok-links.ensures.lists) (start-kept c.args.slots c.args.chains)
+
+pub returns-clause-parted : goal.returns-clause-parted
+returns-clause-parted g c = (invariant_of-result g c).parted

@@ -1,0 +1,306 @@
+-- Each call on the two rows and the values keeps what an arena keeps, and does to the row what its definition says.
+use Rattle.std.proofs.Common.{◌≡◌, ℕ, zero, suc, ◌+◌, ◌-◌, ◌<◌, ◌≤◌, Bool, true, false, not, ◌&&◌, List, [], ◌∷◌, ◌++◌, map, length, replicate, refl, sym, ap, subst, ◌∙◌, inl, inr, arith, add-one, Option, Some, None, is_some, is_none, nat_lt, slice_index_or, slice_set, Ok, Err}
+use Rattle.std.proofs.lemmas.Bool.{lt-ltb, le-ltb, eq-eqb}
+use Rattle.std.proofs.lemmas.Bool.Decides.{leb_tells}
+use Rattle.std.proofs.lemmas.List.{length-set, length-replicate}
+use Rattle.std.specs.List.{concat, AllByRecursion}
+use Rattle.arena.specs.Lists.{times, is_on, without, first_of, behind_in, numbers_from}
+use Rattle.arena.specs.Linked.{Linked, list_at}
+use Rattle.arena.specs.Row.{Row, capacity_of, value_at, holds, is_lent, listed, moved, after_put, after_lend, after_take, after_move, after_restore, restore_answer, empty_row}
+use Rattle.arena.specs.Kept.{row_of, IsKept, free_in, chains_in}
+use Rattle.arena.proofs.Times.{times-append, times-cons_is, without-absent, without_all-absent, length-once}
+use Rattle.arena.proofs.Behind.{behind_in-nowhere}
+use Rattle.arena.proofs.Parts.{parted-put, parted-lend, parted-take, parted-move, parted-restore, held-not_free, parted-from, times-tail}
+use Rattle.arena.proofs.Start.{times-numbers, times-high, times-empties, length-numbers}
+
+abbrev pub linked_as : ℕ → List (List ℕ) → Linked
+linked_as slots lists = record { slots = slots; lists = lists }
+
+-- the first free slot, taken off the free list
+unlinked-free : (x : ℕ) (rest : List ℕ) (chains : List (List ℕ)) → times x ((x ∷ rest) ++ concat chains) ≤ 1
+    → map (without x) ((x ∷ rest) ∷ chains) ≡ rest ∷ chains
+unlinked-free x rest chains once =
+    let both = times-append x rest (concat chains) in
+    let more = times-cons_is x x (rest ++ concat chains) refl in
+    let here : without x (x ∷ rest) ≡ rest = rw (eq-eqb x x refl) (without-absent x rest (omega arith)) in
+    let others = without_all-absent x chains (omega arith) in
+    cc
+
+-- what holds of each number that stands in a list holds along the list
+pub each-from_times : (P : ℕ → Type 0) (xs : List ℕ) → ((i : ℕ) → 0 < times i xs → P i) → AllByRecursion P xs
+each-from_times P [] each = tt
+each-from_times P (x ∷ xs) each =
+    (each x (omega (arith, times-cons_is x x xs refl)), each-from_times P xs (λ i some. each i (omega (arith, times-tail i x xs))))
+
+start-within : (slots chains i : ℕ) → 0 < times i (numbers_from 0 slots ++ concat (replicate chains [])) → i < slots
+start-within slots chains i some = elim (leb_tells slots i) [
+  | inl e ↦ absurd (omega (arith, times-append i (numbers_from 0 slots) (concat (replicate chains [])), times-empties i chains, times-high i 0 slots (omega arith)))
+  | inr n ↦ n.1
+]
+
+module _ {T : Type 0} where
+  -- `next`
+  pub behind-held : (values : List (Option T)) (slots : ℕ) (lists : List (List ℕ)) (count i : ℕ) → IsKept values (linked_as slots lists) count
+      → is_some (slice_index_or values i None) ≡ true → behind_in i lists ≡ behind_in i (chains_in lists)
+  behind-held values slots [] count i kept held = refl
+  behind-held values slots (free ∷ chains) count i kept held =
+      rw (le-ltb 0 (times i free) (omega (arith, held-not_free (row_of values (linked_as slots (free ∷ chains))) kept.parted i held))) refl
+
+  pub behind-empty : (values : List (Option T)) (slots : ℕ) (lists : List (List ℕ)) (count i : ℕ) → IsKept values (linked_as slots lists) count
+      → is_some (slice_index_or values i None) ≡ false → behind_in i (chains_in lists) ≡ None
+  behind-empty values slots lists count i kept empty = elim (leb_tells 1 (times i (concat (chains_in lists)))) [
+    | inl e ↦ absurd (let held = kept.parted.chains_hold i e.1 in let lost : false ≡ true = sym empty ∙ held in cc)
+    | inr n ↦ behind_in-nowhere i (chains_in lists) (omega arith)
+  ]
+
+  -- `put`
+  pub put-within : (values : List (Option T)) (slots : ℕ) (lists : List (List ℕ)) (count slot : ℕ) → IsKept values (linked_as slots lists) count
+      → first_of (slice_index_or lists 0 []) ≡ Some slot → slot < length values
+  put-within values slots [] count slot kept found = absurd (cc)
+  put-within values slots ([] ∷ chains) count slot kept found = absurd (cc)
+  put-within values slots ((x ∷ rest) ∷ chains) count slot kept found =
+      let same : x ≡ slot = cc in
+      kept.parted.within slot (omega (arith, times-cons_is slot x (rest ++ concat chains) same))
+
+  pub put-empty : (values : List (Option T)) (slots : ℕ) (lists : List (List ℕ)) (count slot : ℕ) → IsKept values (linked_as slots lists) count
+      → first_of (slice_index_or lists 0 []) ≡ Some slot → slice_index_or values slot None ≡ None
+  put-empty values slots [] count slot kept found = absurd (cc)
+  put-empty values slots ([] ∷ chains) count slot kept found = absurd (cc)
+  put-empty values slots ((x ∷ rest) ∷ chains) count slot kept found =
+      let same : x ≡ slot = cc in
+      kept.parted.free_empty slot (omega (arith, times-cons_is slot x rest same))
+
+  pub put-counted : (values : List (Option T)) (slots : ℕ) (lists : List (List ℕ)) (count slot : ℕ) → IsKept values (linked_as slots lists) count
+      → first_of (slice_index_or lists 0 []) ≡ Some slot → 0 < count
+  put-counted values slots [] count slot kept found = absurd (cc)
+  put-counted values slots ([] ∷ chains) count slot kept found = absurd (cc)
+  put-counted values slots ((x ∷ rest) ∷ chains) count slot kept found = omega (arith, kept.counted)
+
+  pub put-kept : (values : List (Option T)) (slots : ℕ) (lists : List (List ℕ)) (count slot : ℕ) (value : T) → IsKept values (linked_as slots lists) count
+      → first_of (slice_index_or lists 0 []) ≡ Some slot
+      → IsKept (slice_set values slot (Some value)) (linked_as slots (map (without slot) lists)) (count - 1)
+  put-kept values slots [] count slot value kept found = absurd (cc)
+  put-kept values slots ([] ∷ chains) count slot value kept found = absurd (cc)
+  put-kept values slots ((x ∷ rest) ∷ chains) count slot value kept found =
+      let same : x ≡ slot = cc in
+      let P : ℕ → Type 0 = λ s. IsKept (slice_set values s (Some value)) (linked_as slots (map (without s) ((x ∷ rest) ∷ chains))) (count - 1) in
+      let Q : List (List ℕ) → Type 0 = λ lists. IsKept (slice_set values x (Some value)) (linked_as slots lists) (count - 1) in
+      subst P same (subst Q (sym (unlinked-free x rest chains (kept.parted.once x))) (record {
+        slots = kept.slots ∙ sym (length-set values x (Some value));
+        has_free = omega arith;
+        counted = omega (arith, kept.counted);
+        parted = parted-put values x rest chains value kept.parted;
+      }))
+
+  pub put-row : (values : List (Option T)) (slots : ℕ) (lists : List (List ℕ)) (count slot : ℕ) (value : T) → IsKept values (linked_as slots lists) count
+      → first_of (slice_index_or lists 0 []) ≡ Some slot
+      → row_of (slice_set values slot (Some value)) (linked_as slots (map (without slot) lists)) ≡ after_put (row_of values (linked_as slots lists)) value
+  put-row values slots [] count slot value kept found = absurd (cc)
+  put-row values slots ([] ∷ chains) count slot value kept found = absurd (cc)
+  put-row values slots ((x ∷ rest) ∷ chains) count slot value kept found =
+      let same : x ≡ slot = cc in
+      let P : ℕ → Type 0 = λ s. row_of (slice_set values s (Some value)) (linked_as slots (map (without s) ((x ∷ rest) ∷ chains)))
+      ≡ after_put (row_of values (linked_as slots ((x ∷ rest) ∷ chains))) value in
+      subst P same (ap (λ (lists : List (List ℕ)). row_of (slice_set values x (Some value)) (linked_as slots lists))
+      (unlinked-free x rest chains (kept.parted.once x)))
+
+  pub put-made : (values values' : List (Option T)) (links links' : Linked) (count slot : ℕ) (value : T) (m : Row T) → IsKept values links count
+      → first_of (list_at links 0) ≡ Some slot → values' ≡ slice_set values slot (Some value)
+      → links' ≡ linked_as links.slots (map (without slot) links.lists) → row_of values links ≡ m → row_of values' links' ≡ after_put m value
+  put-made values values' links links' count slot value m kept found values_are links_are row_is =
+      rw (values_are, links_are) (put-row values links.slots links.lists count slot value kept found)
+      ∙ ap (λ (row : Row T). after_put row value) row_is
+
+  -- a slot that holds its value, taken off its list
+  unlinked-held : (values : List (Option T)) (slots : ℕ) (free : List ℕ) (chains : List (List ℕ)) (count i : ℕ)
+      → IsKept values (linked_as slots (free ∷ chains)) count → is_some (slice_index_or values i None) ≡ true
+      → map (without i) (free ∷ chains) ≡ free ∷ map (without i) chains
+  unlinked-held values slots free chains count i kept held =
+      let unfree = without-absent i free (held-not_free (row_of values (linked_as slots (free ∷ chains))) kept.parted i held) in
+      cc
+
+  -- `lend`
+  pub lend-kept : (values : List (Option T)) (slots : ℕ) (lists : List (List ℕ)) (count i : ℕ) → IsKept values (linked_as slots lists) count
+      → is_some (slice_index_or values i None) ≡ true
+      → IsKept (slice_set values i None) (linked_as slots (map (without i) lists)) count
+  lend-kept values slots [] count i kept held = absurd (omega (arith, kept.has_free))
+  lend-kept values slots (free ∷ chains) count i kept held =
+      let Q : List (List ℕ) → Type 0 = λ lists. IsKept (slice_set values i None) (linked_as slots lists) count in
+      subst Q (sym (unlinked-held values slots free chains count i kept held)) (record {
+        slots = kept.slots ∙ sym (length-set values i None);
+        has_free = omega arith;
+        counted = kept.counted;
+        parted = parted-lend (row_of values (linked_as slots (free ∷ chains))) i kept.parted held;
+      })
+
+  pub lend-row : (values : List (Option T)) (slots : ℕ) (lists : List (List ℕ)) (count i : ℕ) → IsKept values (linked_as slots lists) count
+      → is_some (slice_index_or values i None) ≡ true
+      → row_of (slice_set values i None) (linked_as slots (map (without i) lists)) ≡ after_lend (row_of values (linked_as slots lists)) i
+  lend-row values slots [] count i kept held = absurd (omega (arith, kept.has_free))
+  lend-row values slots (free ∷ chains) count i kept held =
+      rw held (ap (λ (lists : List (List ℕ)). row_of (slice_set values i None) (linked_as slots lists))
+      (unlinked-held values slots free chains count i kept held))
+
+  -- `take`
+  prepended : (values : List (Option T)) (slots : ℕ) (free : List ℕ) (chains : List (List ℕ)) (count i : ℕ)
+      → IsKept values (linked_as slots (free ∷ chains)) count → is_some (slice_index_or values i None) ≡ true
+      → slice_set (map (without i) (free ∷ chains)) 0 (i ∷ slice_index_or (map (without i) (free ∷ chains)) 0 []) ≡ (i ∷ free) ∷ map (without i) chains
+  prepended values slots free chains count i kept held =
+      ap (λ (lists : List (List ℕ)). slice_set lists 0 (i ∷ slice_index_or lists 0 [])) (unlinked-held values slots free chains count i kept held)
+
+  pub take-kept : (values : List (Option T)) (slots : ℕ) (lists : List (List ℕ)) (count i : ℕ) → IsKept values (linked_as slots lists) count
+      → is_some (slice_index_or values i None) ≡ true
+      → IsKept (slice_set values i None) (linked_as slots (slice_set (map (without i) lists) 0 (i ∷ slice_index_or (map (without i) lists) 0 []))) (count + 1)
+  take-kept values slots [] count i kept held = absurd (omega (arith, kept.has_free))
+  take-kept values slots (free ∷ chains) count i kept held =
+      let Q : List (List ℕ) → Type 0 = λ lists. IsKept (slice_set values i None) (linked_as slots lists) (count + 1) in
+      subst Q (sym (prepended values slots free chains count i kept held)) (record {
+        slots = kept.slots ∙ sym (length-set values i None);
+        has_free = omega arith;
+        counted = omega (arith, kept.counted);
+        parted = parted-take (row_of values (linked_as slots (free ∷ chains))) i kept.parted held;
+      })
+
+  pub take-row : (values : List (Option T)) (slots : ℕ) (lists : List (List ℕ)) (count i : ℕ) → IsKept values (linked_as slots lists) count
+      → is_some (slice_index_or values i None) ≡ true
+      → row_of (slice_set values i None) (linked_as slots (slice_set (map (without i) lists) 0 (i ∷ slice_index_or (map (without i) lists) 0 [])))
+      ≡ after_take (row_of values (linked_as slots lists)) i
+  take-row values slots [] count i kept held = absurd (omega (arith, kept.has_free))
+  take-row values slots (free ∷ chains) count i kept held =
+      rw held (ap (λ (lists : List (List ℕ)). row_of (slice_set values i None) (linked_as slots lists))
+      (prepended values slots free chains count i kept held))
+
+  -- `move_to`
+  appended : (values : List (Option T)) (slots : ℕ) (free : List ℕ) (chains : List (List ℕ)) (count i c : ℕ)
+      → IsKept values (linked_as slots (free ∷ chains)) count → is_some (slice_index_or values i None) ≡ true
+      → slice_set (map (without i) (free ∷ chains)) (c + 1) (slice_index_or (map (without i) (free ∷ chains)) (c + 1) [] ++ i ∷ [])
+      ≡ free ∷ moved chains i c
+  appended values slots free chains count i c kept held =
+      rw (add-one) (ap (λ (lists : List (List ℕ)). slice_set lists (suc c) (slice_index_or lists (suc c) [] ++ i ∷ []))
+      (unlinked-held values slots free chains count i kept held))
+
+  pub move-kept : (values : List (Option T)) (slots : ℕ) (lists : List (List ℕ)) (count i c : ℕ) → IsKept values (linked_as slots lists) count
+      → is_some (slice_index_or values i None) ≡ true → c < length (chains_in lists)
+      → IsKept values (linked_as slots (slice_set (map (without i) lists) (c + 1) (slice_index_or (map (without i) lists) (c + 1) [] ++ i ∷ []))) count
+  move-kept values slots [] count i c kept held within = absurd (omega (arith, kept.has_free))
+  move-kept values slots (free ∷ chains) count i c kept held within =
+      let Q : List (List ℕ) → Type 0 = λ lists. IsKept values (linked_as slots lists) count in
+      subst Q (sym (appended values slots free chains count i c kept held)) (record {
+        slots = kept.slots;
+        has_free = omega arith;
+        counted = kept.counted;
+        parted = parted-move (row_of values (linked_as slots (free ∷ chains))) i c kept.parted held within;
+      })
+
+  pub move-row : (values : List (Option T)) (slots : ℕ) (lists : List (List ℕ)) (count i c : ℕ) → IsKept values (linked_as slots lists) count
+      → is_some (slice_index_or values i None) ≡ true → c < length (chains_in lists)
+      → row_of values (linked_as slots (slice_set (map (without i) lists) (c + 1) (slice_index_or (map (without i) lists) (c + 1) [] ++ i ∷ [])))
+      ≡ after_move (row_of values (linked_as slots lists)) i c
+  move-row values slots [] count i c kept held within = absurd (omega (arith, kept.has_free))
+  move-row values slots (free ∷ chains) count i c kept held within =
+      rw (held, lt-ltb c (length chains) within) (ap (λ (lists : List (List ℕ)). row_of values (linked_as slots lists))
+      (appended values slots free chains count i c kept held))
+
+  -- `restore`
+  none-from : (o : Option T) → is_some o ≡ false → is_none o ≡ true
+  none-from None empty = refl
+  none-from (Some v) empty = absurd (cc)
+
+  pub lent-from : (m : Row T) (i : ℕ) → i < capacity_of m → holds m i ≡ false → times i m.free ≡ 0 → is_lent m i ≡ true
+  lent-from m i within empty unfree =
+      rw (lt-ltb i (capacity_of m) within, none-from (value_at m i) empty, unfree) refl
+
+  pub restore-kept : (values : List (Option T)) (slots : ℕ) (lists : List (List ℕ)) (count i : ℕ) (value : T) → IsKept values (linked_as slots lists) count
+      → i < length values → times i (concat lists) ≡ 0
+      → IsKept (slice_set values i (Some value)) (linked_as slots lists) count
+  restore-kept values slots [] count i value kept within alone = absurd (omega (arith, kept.has_free))
+  restore-kept values slots (free ∷ chains) count i value kept within alone = record {
+    slots = kept.slots ∙ sym (length-set values i (Some value));
+    has_free = kept.has_free;
+    counted = kept.counted;
+    parted = parted-restore (row_of values (linked_as slots (free ∷ chains))) i value kept.parted within
+        (omega (arith, times-append i free (concat chains)));
+  }
+
+  pub lent-alone : (values : List (Option T)) (slots : ℕ) (lists : List (List ℕ)) (count i : ℕ) → IsKept values (linked_as slots lists) count
+      → i < length values → is_some (slice_index_or values i None) ≡ false → times i (concat lists) ≡ 0
+      → is_lent (row_of values (linked_as slots lists)) i ≡ true
+  lent-alone values slots [] count i kept within empty alone = absurd (omega (arith, kept.has_free))
+  lent-alone values slots (free ∷ chains) count i kept within empty alone =
+      lent-from (row_of values (linked_as slots (free ∷ chains))) i within empty (omega (arith, times-append i free (concat chains)))
+
+  -- where `restore` refuses
+  pub not_lent-outside : (m : Row T) (i : ℕ) → capacity_of m ≤ i → is_lent m i ≡ false
+  not_lent-outside m i outside = rw (le-ltb i (capacity_of m) outside) refl
+
+  pub not_lent : (m : Row T) (i : ℕ) → holds m i ≡ true → is_lent m i ≡ false
+  not_lent m i held = go (nat_lt i (capacity_of m)) (value_at m i) (not (is_on i m.free)) held
+    where
+      go : (b : Bool) (o : Option T) (f : Bool) → is_some o ≡ true → (b && (is_none o && f)) ≡ false
+      go true None f some = absurd (cc)
+      go true (Some v) f some = refl
+      go false o f some = refl
+
+  not_lent-free : (m : Row T) (i : ℕ) → 0 < times i m.free → is_lent m i ≡ false
+  not_lent-free m i free = rw (lt-ltb 0 (times i m.free) free) (go (nat_lt i (capacity_of m)) (is_none (value_at m i)))
+    where
+      go : (b n : Bool) → (b && (n && false)) ≡ false
+      go true true = refl
+      go true false = refl
+      go false n = refl
+
+  pub not_lent-listed : (values : List (Option T)) (slots : ℕ) (lists : List (List ℕ)) (count i : ℕ) → IsKept values (linked_as slots lists) count
+      → (times i (concat lists) ≡ 0 → ⊥) → is_lent (row_of values (linked_as slots lists)) i ≡ false
+  not_lent-listed values slots [] count i kept listed = absurd (omega (arith, kept.has_free))
+  not_lent-listed values slots (free ∷ chains) count i kept listed = elim (leb_tells 1 (times i free)) [
+    | inl e ↦ not_lent-free (row_of values (linked_as slots (free ∷ chains))) i e.1
+    | inr n ↦ not_lent (row_of values (linked_as slots (free ∷ chains))) i
+        (kept.parted.chains_hold i (elim (leb_tells 1 (times i (concat chains))) [
+          | inl e ↦ e.1
+          | inr o ↦ absurd (listed (omega (arith, times-append i free (concat chains))))
+        ]))
+  ]
+
+  -- no more slots are free than there are
+  pub kept-fits : (values : List (Option T)) (links : Linked) (count : ℕ) → IsKept values links count → count ≤ length values
+  kept-fits values links count kept =
+      let all = λ (i : ℕ). times-append i (free_in links.lists) (concat (chains_in links.lists)) in
+      omega (
+        arith,
+        kept.counted,
+        length-once (length values) (free_in links.lists)
+            (λ i. omega (arith, all i, kept.parted.once i))
+            (each-from_times (λ x. x < length values) (free_in links.lists) (λ i some. kept.parted.within i (omega (arith, all i)))),
+      )
+
+  none-at : (slots i : ℕ) → (let none : Option T = None in slice_index_or (replicate slots none) i none ≡ none)
+  none-at zero i = refl
+  none-at (suc slots) zero = refl
+  none-at (suc slots) (suc i) = none-at slots i
+
+  pub start-kept : (slots chains : ℕ) → IsKept {T = T} (replicate slots None) (linked_as slots (numbers_from 0 slots ∷ replicate chains [])) slots
+  start-kept slots chains = record {
+    slots = sym (length-replicate slots None);
+    has_free = omega arith;
+    counted = sym (length-numbers 0 slots);
+    parted = parted-from (empty_row slots chains)
+        (λ i. omega (arith, times-append i (numbers_from 0 slots) (concat (replicate chains [])), times-empties i chains, times-numbers i 0 slots))
+        (λ i some. omega (arith, length-replicate {A = Option T} slots None, start-within slots chains i some))
+        (λ i some. none-at slots i)
+        (λ i some. absurd (omega (arith, times-empties i chains)));
+  }
+
+  -- what `restore` does, where it refuses and where it does not
+  pub refused-answer : (m : Row T) (i : ℕ) (value : T) → is_lent m i ≡ false → Err value ≡ restore_answer m i value
+  refused-answer m i value refused = rw refused refl
+
+  pub refused-row : (m : Row T) (i : ℕ) (value : T) → is_lent m i ≡ false → m ≡ after_restore m i value
+  refused-row m i value refused = rw refused refl
+
+  pub restored-answer : (m : Row T) (i : ℕ) (value : T) → is_lent m i ≡ true → Ok tt ≡ restore_answer m i value
+  restored-answer m i value lent = rw lent refl
+
+  pub restored-row : (values values' : List (Option T)) (links : Linked) (i : ℕ) (value : T) (m : Row T) → is_lent m i ≡ true
+      → values' ≡ slice_set values i (Some value) → row_of values links ≡ m → row_of values' links ≡ after_restore m i value
+  restored-row values values' links i value m lent values_are row_is =
+      rw lent (rw values_are refl ∙ ap (λ (row : Row T). let made : Row T = record row { values = slice_set row.values i (Some value) } in made) row_is)

@@ -1,0 +1,118 @@
+-- What a caller needs of the parts of a row, and of the chains after a call.
+use Rattle.std.proofs.Common.{◌≡◌, ◌≢◌, ℕ, zero, suc, ◌+◌, ◌<◌, ◌≤◌, true, List, [], ◌∷◌, ◌++◌, map, length, refl, sym, ap, ◌∙◌, inl, inr, arith, eqb, Some, slice_index_or, IsOk, eq-eqb}
+use Rattle.std.proofs.lemmas.Bool.{lt-ltb}
+use Rattle.std.proofs.lemmas.Bool.Decides.{leb_tells, eqb_tells}
+use Rattle.std.proofs.lemmas.List.{length-set, get_or-set_same, get_or-set_other, length-map, length-append}
+use Rattle.std.proofs.lemmas.Map.Steps.{le-length_from_below}
+use Rattle.std.specs.List.{concat, list_any}
+use Rattle.arena.specs.Lists.{times, without, first_of}
+use Rattle.arena.specs.Row.{Row, capacity_of, holds, chain_at, listed, aside, IsParted, moved, front_of, slot_from, put_answer}
+use Rattle.arena.proofs.Times.{times-append, times-cons_is, times-cons_other, times-at, without-absent, length-once}
+use Rattle.arena.proofs.Keeping.{each-from_times}
+
+-- a chain after a slot left
+pub chain-without : (chains : List (List ℕ)) (i d : ℕ) → slice_index_or (map (without i) chains) d [] ≡ without i (slice_index_or chains d [])
+chain-without [] i d = refl
+chain-without (xs ∷ chains) i zero = refl
+chain-without (xs ∷ chains) i (suc d) = chain-without chains i d
+
+-- the chain that a slot was moved to, and each other
+pub chain-moved_same : (chains : List (List ℕ)) (i c : ℕ) → c < length chains
+    → slice_index_or (moved chains i c) c [] ≡ without i (slice_index_or chains c []) ++ i ∷ []
+chain-moved_same chains i c within =
+    get_or-set_same (map (without i) chains) c (slice_index_or (map (without i) chains) c [] ++ i ∷ []) [] (omega (arith, length-map chains (without i)))
+    ∙ ap (λ (xs : List ℕ). xs ++ i ∷ []) (chain-without chains i c)
+
+pub chain-moved_other : (chains : List (List ℕ)) (i c d : ℕ) → d ≢ c → slice_index_or (moved chains i c) d [] ≡ without i (slice_index_or chains d [])
+chain-moved_other chains i c d other =
+    get_or-set_other (map (without i) chains) c d (slice_index_or (map (without i) chains) c [] ++ i ∷ []) [] other ∙ chain-without chains i d
+
+pub length-moved : (chains : List (List ℕ)) (i c : ℕ) → length (moved chains i c) ≡ length chains
+length-moved chains i c =
+    length-set (map (without i) chains) c (slice_index_or (map (without i) chains) c [] ++ i ∷ []) ∙ length-map chains (without i)
+
+-- two chains together have a slot no more often than all
+times-two : (i : ℕ) (chains : List (List ℕ)) (c d : ℕ) → c ≢ d
+    → times i (slice_index_or chains c []) + times i (slice_index_or chains d []) ≤ times i (concat chains)
+times-two i [] c d other = omega arith
+times-two i (xs ∷ chains) zero zero other = absurd (other refl)
+times-two i (xs ∷ chains) zero (suc d) other = omega (arith, times-append i xs (concat chains), times-at i chains d)
+times-two i (xs ∷ chains) (suc c) zero other = omega (arith, times-append i xs (concat chains), times-at i chains c)
+times-two i (xs ∷ chains) (suc c) (suc d) other =
+    omega (arith, times-append i xs (concat chains), times-two i chains c d (λ same. other (ap (λ n. suc n) same)))
+
+found-from_times : (q : ℕ) (xs : List ℕ) → 0 < times q xs → list_any (eqb q) xs ≡ true
+found-from_times q [] some = absurd (omega arith)
+found-from_times q (x ∷ xs) some = elim (eqb_tells q x) [
+  | inl e ↦ rw e.0 refl
+  | inr n ↦ rw n.0 (found-from_times q xs (let same = times-cons_other q x xs (λ same. n.1 (sym same)) in omega arith))
+]
+
+times-first : (i : ℕ) (xs : List ℕ) → first_of xs ≡ Some i → 0 < times i xs
+times-first i [] first = absurd (cc)
+times-first i (x ∷ xs) first = let same : x ≡ i = cc in omega (arith, times-cons_is i x xs same)
+
+first-without : (i : ℕ) (xs : List ℕ) → first_of xs ≡ Some i → times i xs ≤ 1 → xs ≡ i ∷ without i xs
+first-without i [] first once = absurd (cc)
+first-without i (x ∷ xs) first once =
+    let same : x ≡ i = cc in
+    let rest = without-absent i xs (let more = times-cons_is i x xs same in omega arith) in
+    let gone : without i (x ∷ xs) ≡ without i xs = rw (eq-eqb x i same) refl in
+    cc
+
+module _ {T : Type 0} where
+  -- a slot on a chain holds its value, is not free, and is on no other chain
+  pub chained-listed : (m : Row T) (i c : ℕ) → 0 < times i (chain_at m c) → 0 < times i (concat m.chains)
+  chained-listed m i c some = omega (arith, times-at i m.chains c)
+
+  pub chained-holds : (m : Row T) (i c : ℕ) → IsParted m → 0 < times i (chain_at m c) → holds m i ≡ true
+  chained-holds m i c parted some = parted.chains_hold i (chained-listed m i c some)
+
+  pub chained-not_free : (m : Row T) (i c : ℕ) → IsParted m → 0 < times i (chain_at m c) → times i m.free ≡ 0
+  chained-not_free m i c parted some =
+      omega (arith, chained-listed m i c some, times-append i m.free (concat m.chains), parted.once i)
+
+  pub chained-once : (m : Row T) (i c : ℕ) → IsParted m → times i (chain_at m c) ≤ 1
+  chained-once m i c parted = omega (arith, times-at i m.chains c, times-append i m.free (concat m.chains), parted.once i)
+
+  pub chained-apart : (m : Row T) (i c d : ℕ) → IsParted m → c ≢ d → 0 < times i (chain_at m c) → times i (chain_at m d) ≡ 0
+  chained-apart m i c d parted other some =
+      omega (arith, times-two i m.chains c d other, times-append i m.free (concat m.chains), parted.once i)
+
+  -- the first slot of a chain, and what is left of the chain without it
+  pub front-chained : (m : Row T) (i c : ℕ) → front_of m c ≡ Some i → 0 < times i (chain_at m c)
+  front-chained m i c first = times-first i (chain_at m c) first
+
+  pub chain-front : (m : Row T) (i c : ℕ) → IsParted m → front_of m c ≡ Some i → chain_at m c ≡ i ∷ without i (chain_at m c)
+  chain-front m i c parted first = first-without i (chain_at m c) first (chained-once m i c parted)
+
+  -- `put` succeeds exactly where a slot is free
+  pub put-succeeds : (m : Row T) (value : T) → 0 < length m.free → IsOk (put_answer m value)
+  put-succeeds m value some = go m.free some
+    where
+      go : (free : List ℕ) → 0 < length free → IsOk (slot_from free value)
+      go [] some = absurd (omega arith)
+      go (i ∷ rest) some = refl
+
+  -- the numbers of the slots in the parts add up to the capacity
+  pub length-parts : (m : Row T) → IsParted m → length m.free + length (concat m.chains) + length (aside m) ≡ capacity_of m
+  length-parts m parted =
+      let all = listed m ++ aside m in
+      let short = length-once (capacity_of m) all (λ i. at_most i) (each-from_times (λ x. x < capacity_of m) all (λ i some. below i some)) in
+      let long = le-length_from_below all (capacity_of m) (λ q low. found-from_times q all (there q low)) in
+      omega (arith, length-append (listed m) (aside m), length-append m.free (concat m.chains))
+    where
+      at_most : (i : ℕ) → times i (listed m ++ aside m) ≤ 1
+      at_most i = elim (leb_tells (suc i) (capacity_of m)) [
+        | inl e ↦ (let count = rw e.0 at (parted.parts i) in omega arith)
+        | inr n ↦ (let count = rw n.0 at (parted.parts i) in omega arith)
+      ]
+
+      below : (i : ℕ) → 0 < times i (listed m ++ aside m) → i < capacity_of m
+      below i some = elim (leb_tells (suc i) (capacity_of m)) [
+        | inl e ↦ e.1
+        | inr n ↦ absurd (let count = rw n.0 at (parted.parts i) in omega arith)
+      ]
+
+      there : (q : ℕ) → q < capacity_of m → 0 < times q (listed m ++ aside m)
+      there q low = let count = rw (lt-ltb q (capacity_of m) low) at (parted.parts q) in omega arith

@@ -1,0 +1,78 @@
+-- What a few writes to the two rows do to the lists.
+use Rattle.std.proofs.Common.{◌≡◌, ℕ, ◌+◌, ◌-◌, ◌<◌, List, length, ap, ◌∙◌, inl, inr, arith, slice_index, get_or}
+use Rattle.std.proofs.lemmas.List.{get_or_default}
+use Rattle.std.proofs.lemmas.Bool.Decides.{leb_tells}
+use Rattle.arena.specs.Lists.{first_of}
+use Rattle.arena.specs.Linked.{Linked, list_at, ring, rings, IsLinked, IsSound}
+use Rattle.arena.proofs.Ways.{walk-inside, times-no_slot, table-at, length-table}
+use Rattle.arena.proofs.Alone.{times-table}
+use Rattle.arena.proofs.Behind.{slot_or_none, first_of-ring}
+
+-- the rows of numbers are the neighbors of lists
+abbrev pub IsStored : ℕ → List ℕ → List ℕ → Type 0
+IsStored slots next previous =
+    (length previous ≡ length next) × IsLinked slots (length next) (λ x. slice_index next x) (λ x. slice_index previous x)
+
+-- the lists, as a contract sees them
+abbrev pub stored : ℕ → List ℕ → Linked
+stored slots next = record { slots = slots; lists = rings (λ x. slice_index next x) slots (length next) }
+
+-- the lists of a row that has other numbers, and as many
+pub stored-same : (slots : ℕ) (next next' : List ℕ) (lists : List (List ℕ)) → length next' ≡ length next
+    → rings (λ x. slice_index next' x) slots (length next) ≡ lists → (stored slots next').lists ≡ lists
+stored-same slots next next' lists long same =
+    ap (λ n. rings (λ x. slice_index next' x) slots n) long ∙ same
+
+pub IsSound-linked : (slots nodes : ℕ) (next previous : ℕ → ℕ) → IsLinked slots nodes next previous
+    → IsSound (record { slots = slots; lists = rings next slots nodes })
+IsSound-linked slots nodes next previous linked = record {
+  once = linked.once;
+  within = λ i some. elim (leb_tells slots i) [
+    | inl e ↦ absurd (omega (
+      arith,
+      times-table i (ring next slots) slots (nodes - slots)
+          (λ end low high. times-no_slot slots i (ring next slots end) (walk-inside next slots slots (next end)) e.1),
+    ))
+    | inr n ↦ n.1
+  ];
+}
+
+pub end-below : (slots : ℕ) (next previous : List ℕ) (list : ℕ) → IsStored slots next previous → list < length (stored slots next).lists
+    → slots + list < length next
+end-below slots next previous list ok within =
+    omega (arith, length-table (ring (λ x. slice_index next x) slots) slots (length next - slots), ok.1.slots_fit)
+
+pub list-below : (slots : ℕ) (next : List ℕ) (list : ℕ) → list < length (stored slots next).lists → list < length next - slots
+list-below slots next list within = omega (arith, length-table (ring (λ x. slice_index next x) slots) slots (length next - slots))
+
+pub first-stored : (slots : ℕ) (next previous : List ℕ) (list : ℕ) → IsStored slots next previous → list < length (stored slots next).lists
+    → first_of (list_at (stored slots next) list) ≡ slot_or_none slots (slice_index next (slots + list))
+first-stored slots next previous list ok within =
+    ap first_of (table-at (ring (λ x. slice_index next x) slots) slots (length next - slots) list (list-below slots next list within))
+    ∙ first_of-ring slots (length next) (λ x. slice_index next x) (λ x. slice_index previous x) ok.1 (slots + list) (omega arith)
+    (end-below slots next previous list ok within)
+
+-- what the code reads of a row
+pub read : (row : List ℕ) (node x : ℕ) → node < length row → x ≡ get_or row node x → x ≡ slice_index row node
+read row node x below got = got ∙ get_or_default row node x 0 below
+
+pub slot-below : (slots : ℕ) (next previous : List ℕ) (slot : ℕ) → IsStored slots next previous → slot < slots → slot < length next
+slot-below slots next previous slot ok within = omega (arith, ok.1.slots_fit)
+
+pub read_next : (slots : ℕ) (next previous : List ℕ) (slot x : ℕ) → IsStored slots next previous → slot < slots → x ≡ get_or next slot x
+    → x ≡ slice_index next slot
+read_next slots next previous slot x ok within got = read next slot x (slot-below slots next previous slot ok within) got
+
+pub read_previous : (slots : ℕ) (next previous : List ℕ) (slot x : ℕ) → IsStored slots next previous → slot < slots → x ≡ get_or previous slot x
+    → x ≡ slice_index previous slot
+read_previous slots next previous slot x ok within got =
+    read previous slot x (omega (arith, slot-below slots next previous slot ok within, ok.0)) got
+
+pub read_end : (slots : ℕ) (next previous : List ℕ) (list x : ℕ) → IsStored slots next previous → list < length (stored slots next).lists
+    → x ≡ get_or next (slots + list) x → x ≡ slice_index next (slots + list)
+read_end slots next previous list x ok within got = read next (slots + list) x (end-below slots next previous list ok within) got
+
+pub read_end_back : (slots : ℕ) (next previous : List ℕ) (list x : ℕ) → IsStored slots next previous → list < length (stored slots next).lists
+    → x ≡ get_or previous (slots + list) x → x ≡ slice_index previous (slots + list)
+read_end_back slots next previous list x ok within got =
+    read previous (slots + list) x (omega (arith, end-below slots next previous list ok within, ok.0)) got

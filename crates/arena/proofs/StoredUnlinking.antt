@@ -1,0 +1,65 @@
+-- The slot's neighbors are tied to one another, and the slot to itself.
+use Rattle.std.proofs.Common.{◌≡◌, ℕ, ◌<◌, List, map, length, sym, ap, subst, ◌∙◌, arith, slice_index, slice_set}
+use Rattle.std.proofs.lemmas.List.{length-set, get_or-set_same, get_or-set_other}
+use Rattle.arena.specs.Lists.{without}
+use Rattle.arena.specs.Linked.{IsLinked}
+use Rattle.arena.proofs.Unlinking.{IsUnlinked, rings-unlinked, IsLinked-unlinked}
+use Rattle.arena.proofs.Stored.{IsStored, stored, stored-same}
+
+module _ (slots slot before after : ℕ) (next previous : List ℕ) (ok : IsStored slots next previous) (within : slot < slots)
+    (before_is : before ≡ slice_index previous slot) (after_is : after ≡ slice_index next slot) where
+  abbrev pub next_row : List ℕ
+  next_row = slice_set (slice_set next before after) slot slot
+
+  abbrev pub previous_row : List ℕ
+  previous_row = slice_set (slice_set previous after before) slot slot
+
+  slot_below : slot < length next
+  slot_below = omega (arith, ok.1.slots_fit)
+
+  before_below : before < length next
+  before_below = rw before_is (ok.1.previous_below slot slot_below)
+
+  after_below : after < length next
+  after_below = rw after_is (ok.1.next_below slot slot_below)
+
+  long_next : length next_row ≡ length next
+  long_next = length-set (slice_set next before after) slot slot ∙ length-set next before after
+
+  long_previous : length previous_row ≡ length previous
+  long_previous = length-set (slice_set previous after before) slot slot ∙ length-set previous after before
+
+  unlinked : IsUnlinked slot (λ x. slice_index next x) (λ x. slice_index previous x) (λ x. slice_index next_row x) (λ x. slice_index previous_row x)
+  unlinked = record {
+    alone_next = get_or-set_same (slice_set next before after) slot slot 0 (omega (arith, length-set next before after, slot_below));
+    alone_previous = get_or-set_same (slice_set previous after before) slot slot 0 (omega (arith, length-set previous after before, slot_below, ok.0));
+    tied_next = λ apart.
+        ap (λ x. slice_index next_row x) (sym before_is)
+        ∙ get_or-set_other (slice_set next before after) slot before slot 0 (λ same. apart (sym before_is ∙ same))
+        ∙ get_or-set_same next before after 0 before_below ∙ after_is;
+    tied_previous = λ apart.
+        ap (λ x. slice_index previous_row x) (sym after_is)
+        ∙ get_or-set_other (slice_set previous after before) slot after slot 0 (λ same. apart (sym after_is ∙ same))
+        ∙ get_or-set_same previous after before 0 (omega (arith, after_below, ok.0)) ∙ before_is;
+    rest_next = λ a other away.
+        get_or-set_other (slice_set next before after) slot a slot 0 other
+        ∙ get_or-set_other next before a after 0 (λ same. away (same ∙ before_is));
+    rest_previous = λ a other away.
+        get_or-set_other (slice_set previous after before) slot a slot 0 other
+        ∙ get_or-set_other previous after a before 0 (λ same. away (same ∙ after_is));
+  }
+
+  linked : IsLinked slots (length next) (λ x. slice_index next_row x) (λ x. slice_index previous_row x)
+  linked = IsLinked-unlinked slots (length next) slot (λ x. slice_index next x) (λ x. slice_index previous x)
+      (λ x. slice_index next_row x) (λ x. slice_index previous_row x) ok.1 within unlinked
+
+  pub IsStored-unlinked : IsStored slots (slice_set (slice_set next before after) slot slot) (slice_set (slice_set previous after before) slot slot)
+  IsStored-unlinked = (
+    long_previous ∙ ok.0 ∙ sym long_next,
+    (let P : ℕ → Type 0 = λ n. IsLinked slots n (λ x. slice_index next_row x) (λ x. slice_index previous_row x) in subst P (sym long_next) linked),
+  )
+
+  pub lists-unlinked : (stored slots (slice_set (slice_set next before after) slot slot)).lists ≡ map (without slot) (stored slots next).lists
+  lists-unlinked = stored-same slots next next_row (map (without slot) (stored slots next).lists) long_next
+      (rings-unlinked slots (length next) slot (λ x. slice_index next x) (λ x. slice_index previous x)
+      (λ x. slice_index next_row x) (λ x. slice_index previous_row x) ok.1 within unlinked)

@@ -1,0 +1,151 @@
+-- How often a number stands in lists that were joined, or that lost a number.
+use Rattle.std.proofs.Common.{◌≡◌, ◌≢◌, ℕ, zero, suc, ◌+◌, ◌<◌, ◌≤◌, true, false, List, [], ◌∷◌, ◌++◌, map, length, eqb, refl, sym, ap, subst, ◌∙◌, inl, inr, arith, ◌==◌, slice_set, slice_index_or}
+use Rattle.std.proofs.lemmas.Bool.{eq-eqb}
+use Rattle.std.proofs.lemmas.Bool.Decides.{eqb_tells}
+use Rattle.std.proofs.lemmas.Map.Steps.{length-le_from_distinct_below}
+use Rattle.std.specs.List.{concat, AllByRecursion, IsDistinct, list_any}
+use Rattle.arena.specs.Lists.{times, without}
+
+-- numbers that differ
+pub neq-eqb : (a b : ℕ) → a ≢ b → (a == b) ≡ false
+neq-eqb a b other = elim (eqb_tells a b) [ inl e ↦ absurd (other e.1) | inr n ↦ n.0 ]
+
+-- a number in two lists that were joined
+pub times-append : (i : ℕ) (xs ys : List ℕ) → times i (xs ++ ys) ≡ times i xs + times i ys
+times-append i [] ys = omega arith
+times-append i (x ∷ xs) ys = elim (eqb_tells x i) [
+  | inl e ↦ rw e.0 (omega (arith, times-append i xs ys))
+  | inr n ↦ rw n.0 (omega (arith, times-append i xs ys))
+]
+
+pub times-cons_same : (i : ℕ) (xs : List ℕ) → times i (i ∷ xs) ≡ suc (times i xs)
+times-cons_same i xs = rw (eq-eqb i i refl) refl
+
+pub times-cons_is : (i x : ℕ) (xs : List ℕ) → x ≡ i → times i (x ∷ xs) ≡ suc (times i xs)
+times-cons_is i x xs same = rw (eq-eqb x i same) refl
+
+pub times-cons_other : (i x : ℕ) (xs : List ℕ) → x ≢ i → times i (x ∷ xs) ≡ times i xs
+times-cons_other i x xs other = rw (neq-eqb x i other) refl
+
+-- it does not matter at which end a number is added
+pub times-last : (i slot : ℕ) (xs : List ℕ) → times i (xs ++ slot ∷ []) ≡ times i (slot ∷ xs)
+times-last i slot xs = elim (eqb_tells slot i) [
+  | inl e ↦ rw e.0 (omega (arith, times-append i xs (slot ∷ []), alone e.0))
+  | inr n ↦ rw n.0 (omega (arith, times-append i xs (slot ∷ []), times-cons_other i slot [] n.1))
+]
+  where
+    alone : (slot == i) ≡ true → times i (slot ∷ []) ≡ 1
+    alone e = rw e refl
+
+-- a number that a list lost
+pub times-without_same : (i : ℕ) (xs : List ℕ) → times i (without i xs) ≡ 0
+times-without_same i [] = refl
+times-without_same i (x ∷ xs) = elim (eqb_tells x i) [
+  | inl e ↦ rw e.0 (times-without_same i xs)
+  | inr n ↦ rw n.0 (times-cons_other i x (without i xs) n.1 ∙ times-without_same i xs)
+]
+
+-- a list that lost another number
+pub times-without_other : (i j : ℕ) (xs : List ℕ) → i ≢ j → times i (without j xs) ≡ times i xs
+times-without_other i j [] other = refl
+times-without_other i j (x ∷ xs) other = elim (eqb_tells x j) [
+  | inl e ↦ rw e.0 (times-without_other i j xs other ∙ sym (times-cons_other i x xs (λ same. other (sym same ∙ e.1))))
+  | inr n ↦ rw (n.0, times-without_other i j xs other) refl
+]
+
+-- a list never had what it is without
+pub without-absent : (i : ℕ) (xs : List ℕ) → times i xs ≡ 0 → without i xs ≡ xs
+without-absent i [] none = refl
+without-absent i (x ∷ xs) none = elim (eqb_tells x i) [
+  | inl e ↦ absurd (let some : times i (x ∷ xs) ≡ suc (times i xs) = rw e.1 (times-cons_same i xs) in omega arith)
+  | inr n ↦ rw n.0 (ap (λ (l : List ℕ). x ∷ l) (without-absent i xs (sym (times-cons_other i x xs n.1) ∙ none)))
+]
+
+pub length-without : (i : ℕ) (xs : List ℕ) → length (without i xs) ≤ length xs
+length-without i [] = omega arith
+length-without i (x ∷ xs) = elim (eqb_tells x i) [
+  | inl e ↦ rw e.0 (omega (arith, length-without i xs))
+  | inr n ↦ rw n.0 (omega (arith, length-without i xs))
+]
+
+-- the same for all lists together
+pub times-without_all_same : (i : ℕ) (lists : List (List ℕ)) → times i (concat (map (without i) lists)) ≡ 0
+times-without_all_same i [] = refl
+times-without_all_same i (xs ∷ lists) =
+    omega (arith, times-append i (without i xs) (concat (map (without i) lists)), times-without_same i xs, times-without_all_same i lists)
+
+pub times-without_all_other : (i j : ℕ) (lists : List (List ℕ)) → i ≢ j → times i (concat (map (without j) lists)) ≡ times i (concat lists)
+times-without_all_other i j [] other = refl
+times-without_all_other i j (xs ∷ lists) other =
+    omega (
+      arith,
+      times-append i (without j xs) (concat (map (without j) lists)),
+      times-append i xs (concat lists),
+      times-without_other i j xs other,
+      times-without_all_other i j lists other,
+    )
+
+pub without_all-absent : (i : ℕ) (lists : List (List ℕ)) → times i (concat lists) ≡ 0 → map (without i) lists ≡ lists
+without_all-absent i [] none = refl
+without_all-absent i (xs ∷ lists) none =
+    let both = times-append i xs (concat lists) in
+    let here = without-absent i xs (omega arith) in
+    let later = without_all-absent i lists (omega arith) in
+    cc
+
+-- a list is replaced by one that has a number more
+pub times-set : (i : ℕ) (lists : List (List ℕ)) (k : ℕ) (xs : List ℕ) → k < length lists →
+    times i (concat (slice_set lists k xs)) + times i (slice_index_or lists k []) ≡ times i (concat lists) + times i xs
+times-set i [] k xs within = absurd (omega arith)
+times-set i (ys ∷ lists) zero xs within = omega (arith, times-append i xs (concat lists), times-append i ys (concat lists))
+times-set i (ys ∷ lists) (suc k) xs within =
+    omega (arith, times-append i ys (concat (slice_set lists k xs)), times-append i ys (concat lists), times-set i lists k xs (omega arith))
+
+-- a list has a number no more often than all of them together
+pub times-at : (i : ℕ) (lists : List (List ℕ)) (k : ℕ) → times i (slice_index_or lists k []) ≤ times i (concat lists)
+times-at i [] k = omega arith
+times-at i (ys ∷ lists) zero = omega (arith, times-append i ys (concat lists))
+times-at i (ys ∷ lists) (suc k) = omega (arith, times-append i ys (concat lists), times-at i lists k)
+
+-- a number that none of the list is
+pub times-nowhere : (i : ℕ) (xs : List ℕ) → AllByRecursion (λ x. x ≢ i) xs → times i xs ≡ 0
+times-nowhere i [] apart = refl
+times-nowhere i (x ∷ xs) apart = times-cons_other i x xs apart.0 ∙ times-nowhere i xs apart.1
+
+-- a number that stands in a list meets what each of its numbers meets
+pub times-member : (P : ℕ → Type 0) (i : ℕ) (xs : List ℕ) → AllByRecursion P xs → 0 < times i xs → P i
+times-member P i [] each some = absurd (omega arith)
+times-member P i (x ∷ xs) each some = elim (eqb_tells x i) [
+  | inl e ↦ subst P e.1 each.0
+  | inr n ↦ times-member P i xs each.1 (let same = times-cons_other i x xs n.1 in omega arith)
+]
+
+apart-from_times : (i : ℕ) (xs : List ℕ) → times i xs ≡ 0 → AllByRecursion (λ y. eqb i y ≡ false) xs
+apart-from_times i [] none = tt
+apart-from_times i (x ∷ xs) none = elim (eqb_tells x i) [
+  | inl e ↦ absurd (let some : times i (x ∷ xs) ≡ suc (times i xs) = rw e.1 (times-cons_same i xs) in omega arith)
+  | inr n ↦ (neq-eqb i x (λ same. n.1 (sym same)), apart-from_times i xs (sym (times-cons_other i x xs n.1) ∙ none))
+]
+
+-- numbers that each stand once in a list are distinct
+pub distinct-from_times : (xs : List ℕ) → ((i : ℕ) → times i xs ≤ 1) → IsDistinct eqb xs
+unfolding IsDistinct
+distinct-from_times [] once = tt
+distinct-from_times (x ∷ xs) once = (
+  apart-from_times x xs (let more = times-cons_same x xs in omega (arith, once x)),
+  distinct-from_times xs (λ i. elim (eqb_tells x i) [
+    | inl e ↦ (let more : times i (x ∷ xs) ≡ suc (times i xs) = rw e.1 (times-cons_same i xs) in omega (arith, once i))
+    | inr n ↦ (let same = times-cons_other i x xs n.1 in omega (arith, once i))
+  ]),
+)
+
+below-from_member : (n q : ℕ) (xs : List ℕ) → AllByRecursion (λ x. x < n) xs → list_any (eqb q) xs ≡ true → q < n
+below-from_member n q [] each found = absurd (cc)
+below-from_member n q (x ∷ xs) each found = elim (eqb_tells q x) [
+  | inl e ↦ (let here : x < n = each.0 in omega arith)
+  | inr n' ↦ below-from_member n q xs each.1 (rw n'.0 at found)
+]
+
+-- so many numbers below n, each once, are at most n
+pub length-once : (n : ℕ) (xs : List ℕ) → ((i : ℕ) → times i xs ≤ 1) → AllByRecursion (λ x. x < n) xs → length xs ≤ n
+length-once n xs once each = length-le_from_distinct_below xs n (distinct-from_times xs once) (λ q. below-from_member n q xs each)

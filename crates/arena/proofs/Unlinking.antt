@@ -1,0 +1,143 @@
+-- A slot is taken off its list.
+use Rattle.std.proofs.Common.{◌≡◌, ◌≢◌, ℕ, ◌-◌, ◌<◌, ◌≤◌, List, [], ◌∷◌, map, sym, ap, subst, ◌∙◌, inl, inr, ◌⊎◌, arith}
+use Rattle.std.proofs.lemmas.Bool.Decides.{eqb_tells}
+use Rattle.std.specs.List.{concat}
+use Rattle.arena.specs.Lists.{times, without}
+use Rattle.arena.specs.Linked.{IsWay, ring, rings, IsLinked}
+use Rattle.arena.proofs.Times.{times-without_all_same, times-without_all_other, length-without}
+use Rattle.arena.proofs.Ways.{AreSlots, walk-way, walk-inside, length-walk, slots-below, slots-without, table-map}
+
+-- two numbers are equal or differ
+pub equal_or_not : (a b : ℕ) → (a ≡ b) ⊎ (a ≢ b)
+equal_or_not a b = elim (eqb_tells a b) [ inl e ↦ inl e.1 | inr n ↦ inr n.1 ]
+
+-- The neighbors of a slot were tied to one another, and the slot to itself.
+pub record IsUnlinked (slot : ℕ) (next previous next' previous' : ℕ → ℕ) : Type 0 where
+  pub alone_next : next' slot ≡ slot
+  pub alone_previous : previous' slot ≡ slot
+  pub tied_next : previous slot ≢ slot → next' (previous slot) ≡ next slot
+  pub tied_previous : next slot ≢ slot → previous' (next slot) ≡ previous slot
+  pub rest_next : (a : ℕ) → a ≢ slot → a ≢ previous slot → next' a ≡ next a
+  pub rest_previous : (a : ℕ) → a ≢ slot → a ≢ next slot → previous' a ≡ previous a
+
+module _ (slots nodes slot : ℕ) (next previous next' previous' : ℕ → ℕ) (linked : IsLinked slots nodes next previous)
+    (within : slot < slots) (unlinked : IsUnlinked slot next previous next' previous') where
+  is_node : slot < nodes
+  is_node = omega (arith, linked.slots_fit)
+
+  -- where a way goes on behind node b, that went on behind node a
+  abbrev Follows : ℕ → ℕ → Type 0
+  Follows b a = (next a ≢ slot → next' b ≡ next a) × (next a ≡ slot → next' b ≡ next slot)
+
+  follows : (a : ℕ) → a < nodes → a ≢ slot → Follows a a
+  follows a below other = (
+    λ onward. unlinked.rest_next a other (λ same. onward (ap next same ∙ linked.next_undoes slot is_node)),
+    λ onto.
+        let same : a ≡ previous slot = sym (linked.previous_undoes a below) ∙ ap previous onto in
+        ap next' same ∙ unlinked.tied_next (λ loop. other (same ∙ loop)),
+  )
+
+  way-without : (b a : ℕ) (xs : List ℕ) (z : ℕ) → Follows b a → AreSlots nodes xs → z ≢ slot → IsWay next a xs z → IsWay next' b (without slot xs) z
+  way-without b a [] z follow inside apart way = follow.0 (λ same. apart (sym way ∙ same)) ∙ way
+  way-without b a (x ∷ xs) z follow inside apart way = elim (eqb_tells x slot) [
+    | inl e ↦ rw e.0 (way-without b x xs z
+        (λ _. follow.1 (way.0 ∙ e.1) ∙ ap next (sym e.1), λ _. follow.1 (way.0 ∙ e.1)) inside.1 apart way.1)
+    | inr n ↦ rw n.0 (follow.0 (λ same. n.1 (sym way.0 ∙ same)) ∙ way.0, way-without x x xs z (follows x inside.0 n.1) inside.1 apart way.1)
+  ]
+
+  end_apart : (end : ℕ) → slots ≤ end → end ≢ slot
+  end_apart end outside same = omega arith
+
+  ring_way : (end : ℕ) → slots ≤ end → end < nodes → IsWay next' end (without slot (ring next slots end)) end
+  ring_way end outside below =
+      way-without end end (ring next slots end) end (follows end below (end_apart end outside))
+      (slots-below slots nodes (ring next slots end) linked.slots_fit (walk-inside next slots slots (next end)))
+      (end_apart end outside) (linked.closed end outside below)
+
+  ring-unlinked : (end : ℕ) → slots ≤ end → end < nodes → ring next' slots end ≡ without slot (ring next slots end)
+  ring-unlinked end outside below =
+      walk-way next' slots slots end (without slot (ring next slots end)) end (ring_way end outside below)
+      (slots-without slots slot (ring next slots end) (walk-inside next slots slots (next end))) outside
+      (omega (arith, length-without slot (ring next slots end), length-walk next slots slots (next end)))
+
+  pub rings-unlinked : rings next' slots nodes ≡ map (without slot) (rings next slots nodes)
+  rings-unlinked = table-map (ring next slots) (ring next' slots) (without slot) slots (nodes - slots)
+      (λ e low high. ring-unlinked e low (omega (arith, linked.slots_fit)))
+
+  next_below : (a : ℕ) → a < nodes → next' a < nodes
+  next_below a below = elim (equal_or_not a slot) [
+    | inl e ↦ rw (e, unlinked.alone_next) is_node
+    | inr n ↦ elim (equal_or_not a (previous slot)) [
+      | inl p ↦ rw (p, unlinked.tied_next (λ loop. n (p ∙ loop))) (linked.next_below slot is_node)
+      | inr q ↦ rw (unlinked.rest_next a n q) (linked.next_below a below)
+    ]
+  ]
+
+  previous_below : (a : ℕ) → a < nodes → previous' a < nodes
+  previous_below a below = elim (equal_or_not a slot) [
+    | inl e ↦ rw (e, unlinked.alone_previous) is_node
+    | inr n ↦ elim (equal_or_not a (next slot)) [
+      | inl p ↦ rw (p, unlinked.tied_previous (λ loop. n (p ∙ loop))) (linked.previous_below slot is_node)
+      | inr q ↦ rw (unlinked.rest_previous a n q) (linked.previous_below a below)
+    ]
+  ]
+
+  next_undoes : (a : ℕ) → a < nodes → next' (previous' a) ≡ a
+  next_undoes a below = elim (equal_or_not a slot) [
+    | inl e ↦ ap (λ x. next' (previous' x)) e ∙ ap next' unlinked.alone_previous ∙ unlinked.alone_next ∙ sym e
+    | inr n ↦ elim (equal_or_not a (next slot)) [
+      | inl p ↦
+          let apart : previous slot ≢ slot = (λ loop. n (p ∙ ap next (sym loop) ∙ linked.next_undoes slot is_node)) in
+          ap (λ x. next' (previous' x)) p ∙ ap next' (unlinked.tied_previous (λ loop. n (p ∙ loop))) ∙ unlinked.tied_next apart ∙ sym p
+      | inr q ↦
+          ap next' (unlinked.rest_previous a n q)
+          ∙ unlinked.rest_next (previous a) (λ same. q (sym (linked.next_undoes a below) ∙ ap next same))
+          (λ same. n (sym (linked.next_undoes a below) ∙ ap next same ∙ linked.next_undoes slot is_node))
+          ∙ linked.next_undoes a below
+    ]
+  ]
+
+  previous_undoes : (a : ℕ) → a < nodes → previous' (next' a) ≡ a
+  previous_undoes a below = elim (equal_or_not a slot) [
+    | inl e ↦ ap (λ x. previous' (next' x)) e ∙ ap previous' unlinked.alone_next ∙ unlinked.alone_previous ∙ sym e
+    | inr n ↦ elim (equal_or_not a (previous slot)) [
+      | inl p ↦
+          let apart : next slot ≢ slot = (λ loop. n (p ∙ ap previous (sym loop) ∙ linked.previous_undoes slot is_node)) in
+          ap (λ x. previous' (next' x)) p ∙ ap previous' (unlinked.tied_next (λ loop. n (p ∙ loop))) ∙ unlinked.tied_previous apart ∙ sym p
+      | inr q ↦
+          ap previous' (unlinked.rest_next a n q)
+          ∙ unlinked.rest_previous (next a) (λ same. q (sym (linked.previous_undoes a below) ∙ ap previous same))
+          (λ same. n (sym (linked.previous_undoes a below) ∙ ap previous same ∙ linked.previous_undoes slot is_node))
+          ∙ linked.previous_undoes a below
+    ]
+  ]
+
+  closed : (end : ℕ) → slots ≤ end → end < nodes → IsWay next' end (ring next' slots end) end
+  closed end outside below =
+      let P : List ℕ → Type 0 = λ xs. IsWay next' end xs end in
+      subst P (sym (ring-unlinked end outside below)) (ring_way end outside below)
+
+  once : (i : ℕ) → times i (concat (rings next' slots nodes)) ≤ 1
+  once i = rw rings-unlinked (elim (equal_or_not i slot) [
+    | inl e ↦ rw e (omega (arith, times-without_all_same slot (rings next slots nodes)))
+    | inr n ↦ omega (arith, times-without_all_other i slot (rings next slots nodes) n, linked.once i)
+  ])
+
+  placed : (a : ℕ) → a < slots → next' a ≢ a → 0 < times a (concat (rings next' slots nodes))
+  placed a low moves =
+      let other : a ≢ slot = (λ same. moves (ap next' same ∙ unlinked.alone_next ∙ sym same)) in
+      let moved : next a ≢ a = (λ loop.
+      moves (unlinked.rest_next a other (λ same. other (sym loop ∙ ap next same ∙ linked.next_undoes slot is_node)) ∙ loop)) in
+      rw rings-unlinked (omega (arith, times-without_all_other a slot (rings next slots nodes) other, linked.placed a low moved))
+
+  pub IsLinked-unlinked : IsLinked slots nodes next' previous'
+  IsLinked-unlinked = record {
+    slots_fit = linked.slots_fit;
+    next_below = next_below;
+    previous_below = previous_below;
+    next_undoes = next_undoes;
+    previous_undoes = previous_undoes;
+    closed = closed;
+    once = once;
+    placed = placed;
+  }

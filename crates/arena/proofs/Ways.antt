@@ -1,0 +1,104 @@
+-- Ways over nodes, and the rows of lists that they make.
+use Rattle.std.proofs.Common.{◌≡◌, ◌≢◌, ℕ, zero, suc, ◌+◌, ◌<◌, ◌≤◌, List, [], ◌∷◌, ◌++◌, map, length, refl, ap, ◌∙◌, inl, inr, arith, add-zero, slice_set, slice_index_or}
+use Rattle.std.proofs.lemmas.Bool.{lt-ltb, le-ltb}
+use Rattle.std.proofs.lemmas.Bool.Decides.{eqb_tells, leb_tells}
+use Rattle.std.specs.List.{AllByRecursion}
+use Rattle.arena.specs.Lists.{times, without}
+use Rattle.arena.specs.Linked.{IsWay, walk, table}
+use Rattle.arena.proofs.Times.{times-cons_other}
+
+-- each number of the list is a slot
+abbrev pub AreSlots : ℕ → List ℕ → Type 0
+AreSlots slots xs = AllByRecursion (λ x. x < slots) xs
+
+-- a way over slots to an end is what the walk finds
+pub walk-way : (next : ℕ → ℕ) (slots steps a : ℕ) (xs : List ℕ) (z : ℕ) → IsWay next a xs z → AreSlots slots xs → slots ≤ z
+    → length xs ≤ steps → walk next slots steps (next a) ≡ xs
+walk-way next slots zero a [] z way inside outside short = refl
+walk-way next slots zero a (x ∷ xs) z way inside outside short = absurd (omega arith)
+walk-way next slots (suc steps) a [] z way inside outside short = rw (way, le-ltb z slots outside) refl
+walk-way next slots (suc steps) a (x ∷ xs) z way inside outside short =
+    rw (way.0, lt-ltb x slots inside.0) (ap (λ (l : List ℕ). x ∷ l) (walk-way next slots steps x xs z way.1 inside.1 outside (omega arith)))
+
+-- a walk meets slots alone
+pub walk-inside : (next : ℕ → ℕ) (slots steps a : ℕ) → AreSlots slots (walk next slots steps a)
+walk-inside next slots zero a = tt
+walk-inside next slots (suc steps) a = elim (leb_tells (suc a) slots) [
+  | inl e ↦ rw e.0 (e.1, walk-inside next slots steps (next a))
+  | inr n ↦ rw n.0 tt
+]
+
+-- each slot is a node
+pub slots-below : (slots nodes : ℕ) (xs : List ℕ) → slots ≤ nodes → AreSlots slots xs → AreSlots nodes xs
+slots-below slots nodes [] fit inside = tt
+slots-below slots nodes (x ∷ xs) fit inside = (omega (arith, inside.0), slots-below slots nodes xs fit inside.1)
+
+pub slots-without : (slots i : ℕ) (xs : List ℕ) → AreSlots slots xs → AreSlots slots (without i xs)
+slots-without slots i [] inside = tt
+slots-without slots i (x ∷ xs) inside = elim (eqb_tells x i) [
+  | inl e ↦ rw e.0 (slots-without slots i xs inside.1)
+  | inr n ↦ rw n.0 (inside.0, slots-without slots i xs inside.1)
+]
+
+pub slots-append : (slots i : ℕ) (xs : List ℕ) → AreSlots slots xs → i < slots → AreSlots slots (xs ++ i ∷ [])
+slots-append slots i [] inside within = (within, tt)
+slots-append slots i (x ∷ xs) inside within = (inside.0, slots-append slots i xs inside.1 within)
+
+-- a number that is no slot stands in no list of slots
+pub times-no_slot : (slots i : ℕ) (xs : List ℕ) → AreSlots slots xs → slots ≤ i → times i xs ≡ 0
+times-no_slot slots i [] inside outside = refl
+times-no_slot slots i (x ∷ xs) inside outside =
+    times-cons_other i x xs (λ same. absurd (let within : x < slots = inside.0 in omega arith)) ∙ times-no_slot slots i xs inside.1 outside
+
+pub length-walk : (next : ℕ → ℕ) (slots steps a : ℕ) → length (walk next slots steps a) ≤ steps
+length-walk next slots zero a = omega arith
+length-walk next slots (suc steps) a = elim (leb_tells (suc a) slots) [
+  | inl e ↦ rw e.0 (omega (arith, length-walk next slots steps (next a)))
+  | inr n ↦ rw n.0 (omega arith)
+]
+
+-- a way stays where its nodes lead on as before
+pub way-kept : (next next' : ℕ → ℕ) (a b : ℕ) (xs : List ℕ) (z : ℕ) → next' b ≡ next a
+    → AllByRecursion (λ x. next' x ≡ next x) xs → IsWay next a xs z → IsWay next' b xs z
+way-kept next next' a b [] z first rest way = first ∙ way
+way-kept next next' a b (x ∷ xs) z first rest way =
+    (first ∙ way.0, way-kept next next' x x xs z rest.0 rest.1 way.1)
+
+-- the rows of two functions, where one is made of the other at each place
+pub table-map : (at at' : ℕ → List ℕ) (made : List ℕ → List ℕ) (from count : ℕ)
+    → ((e : ℕ) → from ≤ e → e < from + count → at' e ≡ made (at e)) → table at' from count ≡ map made (table at from count)
+table-map at at' made from zero each = refl
+table-map at at' made from (suc count) each =
+    let here = each from (omega arith) (omega arith) in
+    let later = table-map at at' made (suc from) count (λ e low high. each e (omega arith) (omega arith)) in
+    cc
+
+pub length-table : (at : ℕ → List ℕ) (from count : ℕ) → length (table at from count) ≡ count
+length-table at from zero = refl
+length-table at from (suc count) = omega (arith, length-table at (suc from) count)
+
+pub map-same : (lists : List (List ℕ)) → map (λ xs. xs) lists ≡ lists
+map-same [] = refl
+map-same (xs ∷ lists) = ap (λ (l : List (List ℕ)). xs ∷ l) (map-same lists)
+
+-- the rows of two functions that differ at one place
+pub table-set : (at at' : ℕ → List ℕ) (from count k : ℕ) → k < count
+    → ((e : ℕ) → from ≤ e → e < from + count → e ≢ from + k → at' e ≡ at e)
+    → table at' from count ≡ slice_set (table at from count) k (at' (from + k))
+table-set at at' from zero k within others = absurd (omega arith)
+table-set at at' from (suc count) zero within others =
+    let later = table-map at at' (λ xs. xs) (suc from) count (λ e low high. others e (omega arith) (omega arith) (λ same. omega arith)) in
+    rw (add-zero) (ap (λ (l : List (List ℕ)). at' from ∷ l) (later ∙ map-same (table at (suc from) count)))
+table-set at at' from (suc count) (suc k) within others =
+    let here = others from (omega arith) (omega arith) (λ same. omega arith) in
+    let later = table-set at at' (suc from) count k (omega arith) (λ e low high other. others e (omega arith) (omega arith) (λ same. other (omega arith))) in
+    let place : suc from + k ≡ from + suc k = omega arith in
+    cc
+
+pub table-at : (at : ℕ → List ℕ) (from count k : ℕ) → k < count → slice_index_or (table at from count) k [] ≡ at (from + k)
+table-at at from zero k within = absurd (omega arith)
+table-at at from (suc count) zero within = rw add-zero refl
+table-at at from (suc count) (suc k) within =
+    let later = table-at at (suc from) count k (omega arith) in
+    let place : suc from + k ≡ from + suc k = omega arith in
+    cc

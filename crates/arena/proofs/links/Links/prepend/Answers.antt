@@ -1,0 +1,50 @@
+-- The four writes are those of `IsStored-prepended`.
+use Rattle.std.proofs.Common.{◌≡◌, ◌+◌, ◌<◌, ℕ, List, ap, arith, length}
+use Rattle.std.specs.List.{concat}
+use Rattle.arena.specs.Lists.{times}
+use Rattle.arena.specs.Linked.{Linked}
+use Rattle.arena.proofs.Stored.{stored, read_end, end-below, IsSound-linked}
+use Rattle.arena.proofs.StoredPrepending.{IsStored-prepended, lists-prepended}
+use Rattle.arena.proofs.links.Links.prepend.Goals as goal
+
+pub overflow_add-end : goal.overflow_add-end
+overflow_add-end c =
+    let list_within : c.args.list < length (stored c.self.inside.slots c.self.inside.next.items).lists = rw (← c.self.view_is) at c.requires.list_is_there in
+    omega (arith, end-below _ _ _ _ c.self.invariant list_within)
+
+pub index-after-requires : goal.index-after-requires
+index-after-requires c =
+    let list_within : c.args.list < length (stored c.self.inside.slots c.self.inside.next.items).lists = rw (← c.self.view_is) at c.requires.list_is_there in
+    omega (arith, end-below _ _ _ _ c.self.invariant list_within)
+
+pub index_mut-requires : goal.index_mut-requires
+index_mut-requires c =
+    let list_within : c.args.list < length (stored c.self.inside.slots c.self.inside.next.items).lists = rw (← c.self.view_is) at c.requires.list_is_there in
+    omega (arith, end-below _ _ _ _ c.self.invariant list_within)
+
+pub index_mut-requires-4 : goal.index_mut-requires-4
+index_mut-requires-4 c =
+    let list_within : c.args.list < length (stored c.self.inside.slots c.self.inside.next.items).lists = rw (← c.self.view_is) at c.requires.list_is_there in
+    let end_below = end-below _ _ _ _ c.self.invariant list_within in
+    let after_is = read_end _ _ _ _ _ c.self.invariant list_within c.index-after.ensures in
+    omega (arith, c.self.invariant.1.next_below (c.self.inside.slots + c.args.list) end_below)
+
+pub invariant_of-self : goal.invariant_of-self
+invariant_of-self c =
+    let within : c.args.slot < c.self.inside.slots = rw (← c.self.view_is) at c.requires.slot_is_there in
+    let list_within : c.args.list < length (stored c.self.inside.slots c.self.inside.next.items).lists = rw (← c.self.view_is) at c.requires.list_is_there in
+    let nowhere : times c.args.slot (concat (stored c.self.inside.slots c.self.inside.next.items).lists) ≡ 0 = rw (← c.self.view_is) at c.requires.alone in
+    IsStored-prepended c.self.inside.slots c.args.slot c.args.list c.index-after.result.now c.self.inside.next.items c.self.inside.previous.items
+    c.self.invariant within list_within nowhere (read_end _ _ _ _ _ c.self.invariant list_within c.index-after.ensures)
+
+pub returns-clause-lists : goal.returns-clause-lists
+returns-clause-lists c =
+    let within : c.args.slot < c.self.inside.slots = rw (← c.self.view_is) at c.requires.slot_is_there in
+    let list_within : c.args.list < length (stored c.self.inside.slots c.self.inside.next.items).lists = rw (← c.self.view_is) at c.requires.list_is_there in
+    let nowhere : times c.args.slot (concat (stored c.self.inside.slots c.self.inside.next.items).lists) ≡ 0 = rw (← c.self.view_is) at c.requires.alone in
+    rw (← c.self.view_is) (ap (λ (lists : List (List ℕ)). let made : Linked = record { slots = c.self.inside.slots; lists = lists } in made)
+    (lists-prepended c.self.inside.slots c.args.slot c.args.list c.index-after.result.now c.self.inside.next.items c.self.inside.previous.items
+    c.self.invariant within list_within nowhere (read_end _ _ _ _ _ c.self.invariant list_within c.index-after.ensures)))
+
+pub returns-clause-sound : goal.returns-clause-sound
+returns-clause-sound c = IsSound-linked c.self.inside.slots _ _ _ ((invariant_of-self c).1)

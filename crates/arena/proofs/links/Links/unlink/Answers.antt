@@ -1,0 +1,26 @@
+-- The four writes are those of `IsStored-unlinked`.
+use Rattle.std.proofs.Common.{◌<◌, ℕ, List, ap}
+use Rattle.arena.specs.Linked.{Linked}
+use Rattle.arena.proofs.Stored.{read_next, read_previous, IsSound-linked}
+use Rattle.arena.proofs.StoredUnlinking.{IsStored-unlinked, lists-unlinked}
+use Rattle.arena.proofs.links.Links.unlink.Goals as goal
+
+pub invariant_of-self : goal.invariant_of-self
+invariant_of-self c =
+    let within : c.args.slot < c.self.inside.slots = rw (← c.self.view_is) at c.requires in
+    IsStored-unlinked c.self.inside.slots c.args.slot c.index-before.result.now c.index-after.result.now c.self.inside.next.items
+    c.self.inside.previous.items c.self.invariant within
+    (read_previous _ _ _ _ _ c.self.invariant within c.index-before.ensures)
+    (read_next _ _ _ _ _ c.self.invariant within c.index-after.ensures)
+
+pub returns-clause-lists : goal.returns-clause-lists
+returns-clause-lists c =
+    let within : c.args.slot < c.self.inside.slots = rw (← c.self.view_is) at c.requires in
+    rw (← c.self.view_is) (ap (λ (lists : List (List ℕ)). let made : Linked = record { slots = c.self.inside.slots; lists = lists } in made)
+    (lists-unlinked c.self.inside.slots c.args.slot c.index-before.result.now c.index-after.result.now c.self.inside.next.items
+    c.self.inside.previous.items c.self.invariant within
+    (read_previous _ _ _ _ _ c.self.invariant within c.index-before.ensures)
+    (read_next _ _ _ _ _ c.self.invariant within c.index-after.ensures)))
+
+pub returns-clause-sound : goal.returns-clause-sound
+returns-clause-sound c = IsSound-linked c.self.inside.slots _ _ _ ((invariant_of-self c).1)

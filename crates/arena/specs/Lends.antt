@@ -1,0 +1,14 @@
+-- What an `Arena` ends as, where a `&mut` to one of its values is returned.
+use Rattle.std.specs.Prelude.{ℕ, Option}
+use Rattle.std.specs.Borrow.{Lends, LendsIf, Fml, RattleType, MutBor}
+use Rattle.arena.specs.Row.{Row, with_value}
+use Rattle.arena.specs.contracts.Arena.{the_row}
+
+module _ (T : RattleType) (arena : MutBor (Row T.Denot)) (i : ℕ) where
+  -- once the borrow ends, the slot holds the last value that was written through it
+  abbrev pub lends_value : MutBor T.Denot → Fml
+  lends_value r = Lends (the_row T) T arena r (with_value arena.now i)
+
+  -- the same where there is a value, and at `None` the arena stays as it is
+  abbrev pub lends_get : Option (MutBor T.Denot) → Fml
+  lends_get r = LendsIf (the_row T) T arena r (with_value arena.now i) arena.now

@@ -1,0 +1,242 @@
+//! A fixed row of slots with chains through them. All memory is taken at the start.
+#![tactic(auto)]
+
+ghost use Rattle.std.specs.Prelude.{◌≡◌, ◌+◌, ◌<◌, length, slice_set, slice_index_or, IsTrue, IsSome, IfOk, Some, option_copied, vec_len};
+ghost use Rattle.std.specs.Option.{option_copied_mut};
+ghost use Rattle.std.specs.Option.Follows.{option_follows_value};
+ghost use Rattle.std.specs.Borrow.{sem};
+ghost use Rattle.arena.specs.Row.{IsParted, capacity_of, value_at, holds, empty_row, put_answer, after_put, front_of, next_of, can_move, after_move, after_lend, restore_answer, after_restore, after_take};
+
+mod links;
+#[cfg(test)]
+mod tests;
+
+use links::Links;
+use std::alloc::{AllocError, Global};
+use std::marker::Model;
+use std::mem;
+
+/// The number, among the lists of `Links`, of the list of free slots. Chain `c` is list `c + 1`.
+const FREE: usize = 0;
+
+/// A fixed row of slots. A slot is free, on exactly one chain, or aside: claimed, and on no chain.
+///
+/// A claimed slot holds a value or has it lent out, and a slot whose value is out is aside.
+/// Each call but `with_capacity` takes constant time and no memory, and leaves all unchanged where it refuses.
+#[derive(Drop)]
+pub struct Arena<T> {
+    values: Vec<Option<T>>,
+    links: Links,
+    free: usize,
+}
+
+impl<T> Model for Arena<T> {
+    ghost use Rattle.arena.specs.Row.{Row, row_code};
+
+    ghost Value = { Row T };
+
+    ghost coded = { row_code T.code };
+
+    ghost use Rattle.arena.specs.Kept.{row_of, IsKept};
+
+    ghost view = { λ a. row_of a.values.items a.links };
+
+    ghost invariant = { λ a. IsKept a.values.items a.links a.free };
+}
+
+// The value of a slot that has one.
+fn value_of<T>(slot: &mut Option<T>) -> &mut T
+    requires { IsSome slot.old }
+    ensures* lends { sem 𝓛 (option_follows_value T.row slot.entry result) }
+    ensures value { slot.old ≡ Some result.now }
+{
+    match slot {
+        Some(value) => value,
+        None => unreachable!(),
+    }
+}
+
+// Puts a value into a slot that has none.
+fn fill<T>(values: &mut Vec<Option<T>>, i: usize, value: T)
+    requires is_there { i < vec_len values.old }
+    requires empty { slice_index_or values.old.items i None ≡ None }
+    ensures { values.new.items ≡ slice_set values.old.items i (Some value) }
+{
+    match mem::replace(&mut values[i], Some(value)) {
+        None => {}
+        Some(_) => unreachable!(),
+    }
+}
+
+impl<T> Arena<T> {
+    ghost use Rattle.arena.specs.Lends.{lends_get, lends_value};
+
+    /// `slots` free slots in order, and `chains` empty chains, numbered from 0.
+    pub fn with_capacity(alloc: Global, slots: usize, chains: usize) -> Result<Arena<T>, AllocError>
+        requires { slots + chains < usize.MAX }
+        ensures row { IfOk result (λ arena. arena ≡ empty_row slots chains) }
+        ensures parted { IfOk result IsParted }
+    {
+        let links = Links::new(alloc, slots, chains)?;
+        let mut values = Vec::with_capacity(alloc, slots)?;
+        for _ in 0..slots {
+            values.push_reserved(None);
+        }
+        Ok(Arena {
+            values,
+            links,
+            free: slots,
+        })
+    }
+
+    /// How many slots are free.
+    pub fn free(&self) -> usize
+        ensures parted { IsParted self.now }
+        ensures count { result ≡ length self.now.free }
+    {
+        self.free
+    }
+
+    /// How many slots there are.
+    pub fn capacity(&self) -> usize
+        ensures parted { IsParted self.now }
+        ensures count { result ≡ capacity_of self.now }
+    {
+        self.values.len()
+    }
+
+    /// The value in a slot: none where the slot is free, where its value is out, and where there is no slot.
+    pub fn get(&self, i: usize) -> Option<&T>
+        ensures { option_copied result ≡ value_at self.now i }
+    {
+        self.values.get(i)?.as_ref()
+    }
+
+    /// The value in a slot for writing, where `get` gives one.
+    pub fn get_mut(&mut self, i: usize) -> Option<&mut T>
+        ensures* writes_back { sem 𝓛 (lends_get T.row self.entry i result) }
+        ensures value { option_copied_mut result ≡ value_at self.old i }
+    {
+        if self.holds(i) {
+            Some(self.value_mut(i))
+        } else {
+            None
+        }
+    }
+
+    fn value_mut(&mut self, i: usize) -> &mut T
+        requires { IsTrue (holds self.old i) }
+        ensures* writes_back { sem 𝓛 (lends_value T.row self.entry i result) }
+        ensures value { value_at self.old i ≡ Some result.now }
+    {
+        value_of(&mut self.values[i])
+    }
+
+    // Whether a slot holds its value.
+    fn holds(&self, i: usize) -> bool
+        ensures answer { result ≡ holds self.now i }
+        ensures there { IsTrue result → i < capacity_of self.now }
+        ensures parted { IsParted self.now }
+    {
+        matches!(self.values.get(i), Some(Some(_)))
+    }
+
+    // How many chains there are.
+    fn chains(&self) -> usize
+        ensures { result ≡ length self.now.chains }
+    {
+        self.links.lists() - 1
+    }
+
+    /// Puts a value into the first free slot, which is aside then, and answers its number. Where no slot is free it hands the value back.
+    pub fn put(&mut self, value: T) -> Result<usize, T>
+        ensures answer { result ≡ put_answer self.old value }
+        ensures row { self.new ≡ after_put self.old value }
+        ensures parted { IsParted self.new }
+    {
+        let Some(slot) = self.links.first(FREE) else {
+            return Err(value);
+        };
+        self.links.unlink(slot);
+        fill(&mut self.values, slot, value);
+        self.free -= 1;
+        Ok(slot)
+    }
+
+    /// The first slot of a chain: none where the chain is empty, and where there is no such chain.
+    pub fn front(&self, c: usize) -> Option<usize>
+        ensures { result ≡ front_of self.now c }
+    {
+        if c < self.chains() {
+            self.links.first(c + 1)
+        } else {
+            None
+        }
+    }
+
+    /// The slot behind this one on its chain: none where it is the last, and where it is on no chain.
+    pub fn next(&self, i: usize) -> Option<usize>
+        ensures { result ≡ next_of self.now i }
+    {
+        if self.holds(i) {
+            self.links.behind(i)
+        } else {
+            None
+        }
+    }
+
+    /// Makes a slot the last of a chain, whether it was on a chain or aside. Answers `false`, and changes nothing, where the slot holds no value or there is no such chain.
+    pub fn move_to(&mut self, i: usize, c: usize) -> bool
+        ensures answer { result ≡ can_move self.old i c }
+        ensures row { self.new ≡ after_move self.old i c }
+        ensures parted { IsParted self.new }
+    {
+        if !self.holds(i) || c >= self.chains() {
+            return false;
+        }
+        self.links.unlink(i);
+        self.links.append(c + 1, i);
+        true
+    }
+
+    /// Gives the value of a slot out, and takes the slot off its chain. It stays claimed, until `restore` brings the value back. Answers `None`, and changes nothing, where `get` does.
+    pub fn lend(&mut self, i: usize) -> Option<T>
+        ensures answer { result ≡ value_at self.old i }
+        ensures row { self.new ≡ after_lend self.old i }
+        ensures parted { IsParted self.new }
+    {
+        if !self.holds(i) {
+            return None;
+        }
+        self.links.unlink(i); // it stays claimed
+        self.values[i].take()
+    }
+
+    /// Brings a value into a slot whose value is out. The slot stays aside. Anywhere else it hands the value back, and changes nothing.
+    pub fn restore(&mut self, i: usize, value: T) -> Result<(), T>
+        ensures answer { result ≡ restore_answer self.old i value }
+        ensures row { self.new ≡ after_restore self.old i value }
+        ensures parted { IsParted self.new }
+    {
+        if i >= self.capacity() || self.holds(i) || !self.links.is_alone(i) {
+            return Err(value);
+        }
+        fill(&mut self.values, i, value);
+        Ok(())
+    }
+
+    /// Takes the value out of a slot, which becomes the first free one. Answers `None`, and changes nothing, where `get` does.
+    pub fn take(&mut self, i: usize) -> Option<T>
+        ensures answer { result ≡ value_at self.old i }
+        ensures row { self.new ≡ after_take self.old i }
+        ensures parted { IsParted self.new }
+    {
+        if !self.holds(i) {
+            return None;
+        }
+        self.links.unlink(i); // it may be inside a chain
+        self.links.prepend(FREE, i);
+        self.free += 1;
+        self.values[i].take()
+    }
+}
