@@ -1,0 +1,137 @@
+-- The forms of messages, a word at a time.
+use Rattle.std.proofs.Common.{◌≡◌, ℕ, List, [], ◌∷◌, Option, Some, None, refl, ap, sym, ◌∙◌}
+use Rattle.message.specs.declared.Block.{Block}
+use Rattle.message.specs.declared.Msg.{Msg}
+use Rattle.message.specs.Lines.{words, number, block}
+use Rattle.message.proofs.Words.{words_some, only-words}
+use Rattle.message.proofs.Numbers.{number_no_space}
+use Rattle.message.proofs.Blocks.{block_no_space}
+use Rattle.message.specs.Grammar.{◌>>=◌, first_number, only, of_volume, of_file, of_block, of_data}
+
+-- what the first of several words says as a number goes to k, with the words behind it
+abbrev pub onward : (ℕ → List (List ℕ) → Option Msg) → List (List ℕ) → Option Msg
+onward k ws = first_number ws >>= (λ p. k p.0 p.1)
+
+pub onward_some : (k : ℕ → List (List ℕ) → Option Msg) (ws : List (List ℕ)) (n : ℕ) (vs : List (List ℕ)) → first_number ws ≡ Some (n, vs) → onward k ws ≡ k n vs
+onward_some k ws n vs e = rw e refl
+
+pub onward_none : (k : ℕ → List (List ℕ) → Option Msg) (ws : List (List ℕ)) → first_number ws ≡ None → onward k ws ≡ None
+onward_none k ws e = rw e refl
+
+-- a number with the words behind it
+abbrev beside : List (List ℕ) → ℕ → Option (ℕ × List (List ℕ))
+beside vs n = Some (n, vs)
+
+-- a number, and k of the words behind it
+live : (o : Option ℕ) (vs : List (List ℕ)) (f : ℕ → Option Msg) (k : ℕ → List (List ℕ) → Option Msg) → ((n : ℕ) → f n ≡ k n vs)
+    → (o >>= f) ≡ ((o >>= beside vs) >>= (λ p. k p.0 p.1))
+live None vs f k h = refl
+live (Some n) vs f k h = h n
+
+-- words too few or too many
+dead : (o : Option ℕ) (vs : List (List ℕ)) (k : ℕ → List (List ℕ) → Option Msg) → ((n : ℕ) → k n vs ≡ None)
+    → None ≡ ((o >>= beside vs) >>= (λ p. k p.0 p.1))
+dead None vs k h = refl
+dead (Some n) vs k h = sym (h n)
+
+-- ---- two, three and four numbers
+
+abbrev pub of_number : (ℕ → Msg) → List (List ℕ) → Option Msg
+of_number make ws = only number ws >>= (λ n. Some (make n))
+
+pub of_volume-onward : (make : ℕ → ℕ → Msg) (ws : List (List ℕ)) → of_volume make ws ≡ onward (λ n. of_number (make n)) ws
+of_volume-onward make [] = refl
+of_volume-onward make (a ∷ []) = refl
+of_volume-onward make (a ∷ v ∷ []) = live (number a) (v ∷ []) _ (λ n. of_number (make n)) (λ n. refl)
+of_volume-onward make (a ∷ v ∷ f ∷ ws) = dead (number a) (v ∷ f ∷ ws) (λ n. of_number (make n)) (λ n. refl)
+
+pub of_file-onward : (make : ℕ → ℕ → ℕ → Msg) (ws : List (List ℕ)) → of_file make ws ≡ onward (λ n. of_volume (make n)) ws
+of_file-onward make [] = refl
+of_file-onward make (a ∷ []) = refl
+of_file-onward make (a ∷ v ∷ []) = dead (number a) (v ∷ []) (λ n. of_volume (make n)) (λ n. refl)
+of_file-onward make (a ∷ v ∷ f ∷ []) = live (number a) (v ∷ f ∷ []) _ (λ n. of_volume (make n)) (λ n. refl)
+of_file-onward make (a ∷ v ∷ f ∷ b ∷ ws) = dead (number a) (v ∷ f ∷ b ∷ ws) (λ n. of_volume (make n)) (λ n. refl)
+
+pub of_block-onward : (make : ℕ → ℕ → ℕ → ℕ → Msg) (ws : List (List ℕ)) → of_block make ws ≡ onward (λ n. of_file (make n)) ws
+of_block-onward make [] = refl
+of_block-onward make (a ∷ []) = refl
+of_block-onward make (a ∷ v ∷ []) = dead (number a) (v ∷ []) (λ n. of_file (make n)) (λ n. refl)
+of_block-onward make (a ∷ v ∷ f ∷ []) = dead (number a) (v ∷ f ∷ []) (λ n. of_file (make n)) (λ n. refl)
+of_block-onward make (a ∷ v ∷ f ∷ b ∷ []) = live (number a) (v ∷ f ∷ b ∷ []) _ (λ n. of_file (make n)) (λ n. refl)
+of_block-onward make (a ∷ v ∷ f ∷ b ∷ w ∷ ws) = dead (number a) (v ∷ f ∷ b ∷ w ∷ ws) (λ n. of_file (make n)) (λ n. refl)
+
+-- ---- numbers and the digits of a block
+
+abbrev pub of_digits : (Block → Msg) → List (List ℕ) → Option Msg
+of_digits make ws = only block ws >>= (λ content. Some (make content))
+
+-- the words of a `write` from its third, second and first number on
+abbrev pub from_block : (ℕ → Block → Msg) → List (List ℕ) → Option Msg
+from_block make (b ∷ digits ∷ []) = number b >>= (λ place. block digits >>= (λ content. Some (make place content)))
+from_block make _ = None
+
+abbrev pub from_file : (ℕ → ℕ → Block → Msg) → List (List ℕ) → Option Msg
+from_file make (f ∷ b ∷ digits ∷ []) = number f >>= (λ file. from_block (make file) (b ∷ digits ∷ []))
+from_file make _ = None
+
+abbrev pub from_volume : (ℕ → ℕ → ℕ → Block → Msg) → List (List ℕ) → Option Msg
+from_volume make (v ∷ f ∷ b ∷ digits ∷ []) = number v >>= (λ volume. from_file (make volume) (f ∷ b ∷ digits ∷ []))
+from_volume make _ = None
+
+pub from_block-onward : (make : ℕ → Block → Msg) (ws : List (List ℕ)) → from_block make ws ≡ onward (λ n. of_digits (make n)) ws
+from_block-onward make [] = refl
+from_block-onward make (b ∷ []) = refl
+from_block-onward make (b ∷ d ∷ []) = live (number b) (d ∷ []) _ (λ n. of_digits (make n)) (λ n. refl)
+from_block-onward make (b ∷ d ∷ w ∷ ws) = dead (number b) (d ∷ w ∷ ws) (λ n. of_digits (make n)) (λ n. refl)
+
+pub from_file-onward : (make : ℕ → ℕ → Block → Msg) (ws : List (List ℕ)) → from_file make ws ≡ onward (λ n. from_block (make n)) ws
+from_file-onward make [] = refl
+from_file-onward make (f ∷ []) = refl
+from_file-onward make (f ∷ b ∷ []) = dead (number f) (b ∷ []) (λ n. from_block (make n)) (λ n. refl)
+from_file-onward make (f ∷ b ∷ d ∷ []) = live (number f) (b ∷ d ∷ []) _ (λ n. from_block (make n)) (λ n. refl)
+from_file-onward make (f ∷ b ∷ d ∷ w ∷ ws) = dead (number f) (b ∷ d ∷ w ∷ ws) (λ n. from_block (make n)) (λ n. refl)
+
+pub from_volume-onward : (make : ℕ → ℕ → ℕ → Block → Msg) (ws : List (List ℕ)) → from_volume make ws ≡ onward (λ n. from_file (make n)) ws
+from_volume-onward make [] = refl
+from_volume-onward make (v ∷ []) = refl
+from_volume-onward make (v ∷ f ∷ []) = dead (number v) (f ∷ []) (λ n. from_file (make n)) (λ n. refl)
+from_volume-onward make (v ∷ f ∷ b ∷ []) = dead (number v) (f ∷ b ∷ []) (λ n. from_file (make n)) (λ n. refl)
+from_volume-onward make (v ∷ f ∷ b ∷ d ∷ []) = live (number v) (f ∷ b ∷ d ∷ []) _ (λ n. from_file (make n)) (λ n. refl)
+from_volume-onward make (v ∷ f ∷ b ∷ d ∷ w ∷ ws) = dead (number v) (f ∷ b ∷ d ∷ w ∷ ws) (λ n. from_file (make n)) (λ n. refl)
+
+pub of_data-onward : (make : ℕ → ℕ → ℕ → ℕ → Block → Msg) (ws : List (List ℕ)) → of_data make ws ≡ onward (λ n. from_volume (make n)) ws
+of_data-onward make [] = refl
+of_data-onward make (a ∷ []) = refl
+of_data-onward make (a ∷ v ∷ []) = dead (number a) (v ∷ []) (λ n. from_volume (make n)) (λ n. refl)
+of_data-onward make (a ∷ v ∷ f ∷ []) = dead (number a) (v ∷ f ∷ []) (λ n. from_volume (make n)) (λ n. refl)
+of_data-onward make (a ∷ v ∷ f ∷ b ∷ []) = dead (number a) (v ∷ f ∷ b ∷ []) (λ n. from_volume (make n)) (λ n. refl)
+of_data-onward make (a ∷ v ∷ f ∷ b ∷ d ∷ []) = live (number a) (v ∷ f ∷ b ∷ d ∷ []) _ (λ n. from_volume (make n)) (λ n. refl)
+of_data-onward make (a ∷ v ∷ f ∷ b ∷ d ∷ w ∷ ws) = dead (number a) (v ∷ f ∷ b ∷ d ∷ w ∷ ws) (λ n. from_volume (make n)) (λ n. refl)
+
+-- ---- as the code reads them
+
+-- the words behind a first word that says a number
+pub first_number_some : (ws : List (List ℕ)) (w bs : List ℕ) (n : ℕ) → ws ≡ w ∷ words bs → number w ≡ Some n → first_number ws ≡ Some (n, words bs)
+first_number_some ws w bs n e h =
+    ap first_number e ∙ elim (words bs) as (λ vs. words bs ≡ vs → first_number (w ∷ vs) ≡ Some (n, vs)) [
+      | [] ↦ λ none. absurd (words_some bs none)
+      | v ∷ vs ↦ λ some. rw h refl
+    ] refl
+
+pub only-number : (line : List ℕ) → only number (words line) ≡ number line
+only-number line = only-words number line (number_no_space line)
+
+pub only-block : (line : List ℕ) → only block (words line) ≡ block line
+only-block line = only-words block line (block_no_space line)
+
+pub of_number-read : (make : ℕ → Msg) (line : List ℕ) (n : ℕ) → Some n ≡ number line → of_number make (words line) ≡ Some (make n)
+of_number-read make line n h = let e = only-number line ∙ sym h in rw e refl
+
+pub of_number-none : (make : ℕ → Msg) (line : List ℕ) → None ≡ number line → of_number make (words line) ≡ None
+of_number-none make line h = let e = only-number line ∙ sym h in rw e refl
+
+pub of_digits-read : (make : Block → Msg) (line : List ℕ) (content : Block) → Some content ≡ block line → of_digits make (words line) ≡ Some (make content)
+of_digits-read make line content h = let e = only-block line ∙ sym h in rw e refl
+
+pub of_digits-none : (make : Block → Msg) (line : List ℕ) → None ≡ block line → of_digits make (words line) ≡ None
+of_digits-none make line h = let e = only-block line ∙ sym h in rw e refl

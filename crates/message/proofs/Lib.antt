@@ -1,0 +1,12 @@
+mod Rows
+pub mod Words
+pub mod Numbers
+pub mod Blocks
+pub mod Digits
+pub mod Forms
+pub mod Keywords
+pub mod Zeros
+pub mod Assembly
+pub mod Spelling
+pub mod ReaderLemmas
+mod ReaderRows

@@ -1,0 +1,372 @@
+-- Laws of the first line of some bytes, and of what is unread.
+use Rattle.std.proofs.Common.{◌≡◌, ◌≢◌, ℕ, zero, suc, min, ◌+◌, ◌-◌, ◌<◌, ◌≤◌, ◌⊎◌, inl, inr, Bool, true, false, eqb, List, [], ◌∷◌, ◌++◌, length, take, drop, get_or, Option, Some, None, IfSome, refl, sym, ap, ◌∙◌, subst, arith, append-nil, append_assoc, drop-drop}
+use Rattle.std.specs.List.{Contains, slice_range}
+use Rattle.std.specs.Io.KnownBytes.{prepend_known, Keeps, Consumes, IsAtEnd}
+use Rattle.std.proofs.KnownBytes.{prepend_known-nil}
+use Rattle.std.proofs.lemmas.Bool.{false≢true, cond-true, cond-false, eq-eqb, ne_eqb, cases_eq, cases_lt}
+use Rattle.std.proofs.lemmas.List.{length-append, get_or_default, get_or-take, get_or_append_left}
+use Rattle.std.proofs.lemmas.List.Edits.{length-between, get_or-between, between_none, between_more}
+use Rattle.std.proofs.lemmas.List.Elements.{All-nil, All-head, All-tail, All-append, All-from_get_or, All-contains, All-from_recursion, recursion_from_All}
+use Rattle.std.proofs.lemmas.Slice.{between_is}
+use Rattle.std.proofs.lemmas.Option.{none-some, same_Some}
+use Rattle.std.specs.Prelude.{◌&&◌, ◌↔◌}
+use Rattle.std.proofs.Math.Seq.{take-add}
+use Rattle.message.specs.Lines.{lines, in_first}
+use Rattle.message.specs.Reader.{first_line, after_line, IsWithinLine, still_to_come, GivesLine, PassesLine, IsAtEndOf, LosesFront, IsClosed, are_none}
+
+-- ---- lines and the first line
+
+first_line-newline : (b : ℕ) (bs : List ℕ) → b ≡ 10 → first_line (b ∷ bs) ≡ []
+first_line-newline b bs is = cond-true (eqb b 10) [] (b ∷ first_line bs) (eq-eqb b 10 is)
+
+first_line-other : (b : ℕ) (bs : List ℕ) → b ≢ 10 → first_line (b ∷ bs) ≡ b ∷ first_line bs
+first_line-other b bs not = cond-false (eqb b 10) [] (b ∷ first_line bs) (ne_eqb b 10 not)
+
+after_line-newline : (b : ℕ) (bs : List ℕ) → b ≡ 10 → after_line (b ∷ bs) ≡ bs
+after_line-newline b bs is = cond-true (eqb b 10) bs (after_line bs) (eq-eqb b 10 is)
+
+after_line-other : (b : ℕ) (bs : List ℕ) → b ≢ 10 → after_line (b ∷ bs) ≡ after_line bs
+after_line-other b bs not = cond-false (eqb b 10) bs (after_line bs) (ne_eqb b 10 not)
+
+lines-newline : (b : ℕ) (bs : List ℕ) → b ≡ 10 → lines (b ∷ bs) ≡ [] ∷ lines bs
+lines-newline b bs is = cond-true (eqb b 10) ([] ∷ lines bs) (in_first b (lines bs)) (eq-eqb b 10 is)
+
+lines-other : (b : ℕ) (bs : List ℕ) → b ≢ 10 → lines (b ∷ bs) ≡ in_first b (lines bs)
+lines-other b bs not = cond-false (eqb b 10) ([] ∷ lines bs) (in_first b (lines bs)) (ne_eqb b 10 not)
+
+-- no bytes have no lines
+pub lines-nil : lines [] ≡ []
+lines-nil = refl
+
+lines-of_rest : (b : ℕ) (bs : List ℕ) → in_first b (lines bs) ≡ (b ∷ first_line bs) ∷ lines (after_line bs) → lines (b ∷ bs) ≡ first_line (b ∷ bs) ∷ lines (after_line (b ∷ bs))
+lines-of_rest b bs rest = elim (cases_eq b 10) [
+  | inl is ↦ lines-newline b bs is ∙ ap (λ l. l ∷ lines bs) (sym (first_line-newline b bs is)) ∙ ap (λ l. first_line (b ∷ bs) ∷ lines l) (sym (after_line-newline b bs is))
+  | inr not ↦ lines-other b bs not ∙ rest ∙ ap (λ l. l ∷ lines (after_line bs)) (sym (first_line-other b bs not)) ∙ ap (λ l. first_line (b ∷ bs) ∷ lines l) (sym (after_line-other b bs not))
+]
+
+lines-cons : (b : ℕ) (bs : List ℕ) → lines (b ∷ bs) ≡ first_line (b ∷ bs) ∷ lines (after_line (b ∷ bs))
+lines-cons b [] = lines-of_rest b [] refl
+lines-cons b (c ∷ cs) = lines-of_rest b (c ∷ cs) (ap (in_first b) (lines-cons c cs))
+
+-- the lines of some bytes are the first line and the lines of what lies behind it
+pub lines-first : (bs : List ℕ) → bs ≢ [] → lines bs ≡ first_line bs ∷ lines (after_line bs)
+lines-first [] some = absurd (some refl)
+lines-first (b ∷ bs) some = lines-cons b bs
+
+-- what was found goes on with the lines of the input
+
+pub lines-given : (line bs : List ℕ) (left : Option (List ℕ)) → GivesLine line bs left → lines bs ≡ line ∷ lines (after_line bs)
+lines-given line bs left found = lines-first bs found.more ∙ ap (λ l. l ∷ lines (after_line bs)) (sym found.line_is)
+
+long_some : (bs : List ℕ) → 1100 < length (first_line bs) → bs ≢ []
+long_some [] long = absurd (omega arith)
+long_some (b ∷ bs) long = λ is. cc
+
+pub lines-passed : (bs : List ℕ) (left : Option (List ℕ)) → PassesLine bs left → lines bs ≡ first_line bs ∷ lines (after_line bs)
+lines-passed bs left found = lines-first bs (long_some bs found.long)
+
+pub lines-at_end : (bs : List ℕ) (left : Option (List ℕ)) → IsAtEndOf bs left → lines bs ≡ []
+lines-at_end bs left found = ap lines found.none
+
+-- ---- the first line of bytes that are read in parts
+
+abbrev NoNewline : ℕ → Type 0
+NoNewline b = b ≢ 10
+
+pub first_line-within : (xs ys : List ℕ) → IsWithinLine xs → first_line (xs ++ ys) ≡ xs ++ first_line ys
+first_line-within [] ys h = refl
+first_line-within (x ∷ xs) ys h = first_line-other x (xs ++ ys) (All-head NoNewline x xs h) ∙ ap (λ l. x ∷ l) (first_line-within xs ys (All-tail NoNewline x xs h))
+
+pub after_line-within : (xs ys : List ℕ) → IsWithinLine xs → after_line (xs ++ ys) ≡ after_line ys
+after_line-within [] ys h = refl
+after_line-within (x ∷ xs) ys h = after_line-other x (xs ++ ys) (All-head NoNewline x xs h) ∙ after_line-within xs ys (All-tail NoNewline x xs h)
+
+pub first_line-all : (xs : List ℕ) → IsWithinLine xs → first_line xs ≡ xs
+first_line-all xs h = ap first_line (sym (append-nil xs)) ∙ first_line-within xs [] h ∙ append-nil xs
+
+-- the byte was not the newline that is contained
+later : (x : ℕ) (xs : List ℕ) → x ≢ 10 → Contains (x ∷ xs) 10 → Contains xs 10
+later x xs not (zero, low, is) = absurd (not is)
+later x xs not (suc k, low, is) = (k, omega arith, is)
+
+-- a line that is held whole is the first, whatever follows
+pub first_line-whole : (xs ys : List ℕ) → Contains xs 10 → first_line (xs ++ ys) ≡ first_line xs
+first_line-whole [] ys (k, low, is) = absurd (omega arith)
+first_line-whole (x ∷ xs) ys h = elim (cases_eq x 10) [
+  | inl is ↦ first_line-newline x (xs ++ ys) is ∙ sym (first_line-newline x xs is)
+  | inr not ↦ first_line-other x (xs ++ ys) not ∙ ap (λ l. x ∷ l) (first_line-whole xs ys (later x xs not h)) ∙ sym (first_line-other x xs not)
+]
+
+pub after_line-whole : (xs ys : List ℕ) → Contains xs 10 → after_line (xs ++ ys) ≡ after_line xs ++ ys
+after_line-whole [] ys (k, low, is) = absurd (omega arith)
+after_line-whole (x ∷ xs) ys h = elim (cases_eq x 10) [
+  | inl is ↦ after_line-newline x (xs ++ ys) is ∙ ap (λ l. l ++ ys) (sym (after_line-newline x xs is))
+  | inr not ↦ after_line-other x (xs ++ ys) not ∙ after_line-whole xs ys (later x xs not h) ∙ ap (λ l. l ++ ys) (sym (after_line-other x xs not))
+]
+
+-- what is read later makes the first line no shorter
+pub length-first_line : (xs ys : List ℕ) → length (first_line xs) ≤ length (first_line (xs ++ ys))
+length-first_line [] ys = omega arith
+length-first_line (x ∷ xs) ys = elim (cases_eq x 10) [
+  | inl is ↦ rw (first_line-newline x xs is) (omega arith)
+  | inr not ↦ rw (first_line-other x xs not, first_line-other x (xs ++ ys) not) (omega (arith, length-first_line xs ys))
+]
+
+-- a newline is there, or it is not
+pub Contains-not_within : (xs : List ℕ) → IsWithinLine xs → Contains xs 10 → ⊥
+Contains-not_within xs within there = All-contains NoNewline xs 10 within there refl
+
+-- ---- parts of a buffer
+
+slice-none : (xs : List ℕ) (k j : ℕ) → j ≤ k → slice_range xs k j ≡ []
+slice-none xs k j over = let none : j - k ≡ 0 = omega arith in ap (λ n. take n (drop k xs)) none
+
+slice-split : (xs : List ℕ) (i k j : ℕ) → i ≤ k → k ≤ j → slice_range xs i j ≡ slice_range xs i k ++ slice_range xs k j
+slice-split xs i k j low high =
+    let whole : j - i ≡ (k - i) + (j - k) = omega arith in
+    let there : i + (k - i) ≡ k = omega arith in
+    ap (λ n. take n (drop i xs)) whole ∙ take-add (k - i) (j - k) (drop i xs) ∙ ap (λ l. slice_range xs i k ++ take (j - k) l) (drop-drop (k - i) i xs ∙ ap (λ n. drop n xs) there)
+
+slice-one : (xs : List ℕ) (k : ℕ) → k < length xs → slice_range xs k (k + 1) ≡ get_or xs k 0 ∷ []
+slice-one xs k low = between_more xs k k 0 (omega arith) low ∙ ap (λ l. l ++ get_or xs k 0 ∷ []) (between_none xs k)
+
+slice-first : (xs : List ℕ) (k j : ℕ) → k < j → j ≤ length xs → slice_range xs k j ≡ get_or xs k 0 ∷ slice_range xs (k + 1) j
+slice-first xs k j low high = slice-split xs k (k + 1) j (omega arith) (omega arith) ∙ ap (λ l. l ++ slice_range xs (k + 1) j) (slice-one xs k (omega arith))
+
+-- no byte of the buffer from i up to k is a newline
+abbrev pub NoneFrom : List ℕ → ℕ → ℕ → Type 0
+NoneFrom xs i k = (m : ℕ) → i ≤ m → m < k → get_or xs m 0 ≢ 10
+
+pub IsWithinLine-slice : (xs : List ℕ) (i k : ℕ) → k ≤ length xs → NoneFrom xs i k → IsWithinLine (slice_range xs i k)
+IsWithinLine-slice xs i k high none = All-from_get_or NoNewline (slice_range xs i k) 0
+    (λ m low. let below : m < k - i = omega (arith, length-between xs i k high) in
+    let inside : i + m < k = omega arith in
+    λ is. none (i + m) (omega arith) inside (sym (get_or-between xs i k m 0 inside) ∙ is))
+
+pub IsWithinLine-whole_slice : (xs : List ℕ) (i k j : ℕ) → j ≤ length xs → j ≤ k → NoneFrom xs i k → IsWithinLine (slice_range xs i j)
+IsWithinLine-whole_slice xs i k j high over none = IsWithinLine-slice xs i j high (λ m low below. none m low (omega arith))
+
+pub Contains-slice : (xs : List ℕ) (i k j : ℕ) → i ≤ k → k < j → j ≤ length xs → get_or xs k 0 ≡ 10 → Contains (slice_range xs i j) 10
+Contains-slice xs i k j low high within is =
+    let there : i + (k - i) ≡ k = omega arith in
+    (k - i, omega (arith, length-between xs i j within), get_or-between xs i j (k - i) 10 (omega arith) ∙ ap (λ n. get_or xs n 10) there ∙ get_or_default xs k 10 0 (omega arith) ∙ is)
+
+-- the first line of a part of the buffer ends where the first newline is
+pub first_line-slice : (xs : List ℕ) (i k j : ℕ) → i ≤ k → k ≤ j → j ≤ length xs → NoneFrom xs i k → (k < j → get_or xs k 0 ≡ 10) → first_line (slice_range xs i j) ≡ slice_range xs i k
+first_line-slice xs i k j low high within none there =
+    let quiet = IsWithinLine-slice xs i k (omega arith) none in
+    ap first_line (slice-split xs i k j low high) ∙ first_line-within (slice_range xs i k) (slice_range xs k j) quiet
+    ∙ ap (λ l. slice_range xs i k ++ l) (elim (cases_lt k j) [
+      | inl below ↦ ap first_line (slice-first xs k j below within) ∙ first_line-newline (get_or xs k 0) (slice_range xs (k + 1) j) (there below)
+      | inr over ↦ ap first_line (slice-none xs k j over)
+    ]) ∙ append-nil (slice_range xs i k)
+
+-- and what lies behind it begins behind that newline
+pub after_line-slice : (xs : List ℕ) (i k j n : ℕ) → i ≤ k → k ≤ j → j ≤ length xs → NoneFrom xs i k → (k < j → get_or xs k 0 ≡ 10) → n ≡ min j (k + 1) → after_line (slice_range xs i j) ≡ slice_range xs n j
+after_line-slice xs i k j n low high within none there next =
+    let quiet = IsWithinLine-slice xs i k (omega arith) none in
+    ap after_line (slice-split xs i k j low high) ∙ after_line-within (slice_range xs i k) (slice_range xs k j) quiet
+    ∙ elim (cases_lt k j) [
+      | inl below ↦
+          let behind : k + 1 ≡ n = omega arith in
+          ap after_line (slice-first xs k j below within) ∙ after_line-newline (get_or xs k 0) (slice_range xs (k + 1) j) (there below) ∙ ap (λ m. slice_range xs m j) behind
+      | inr over ↦ ap after_line (slice-none xs k j over) ∙ sym (slice-none xs n j (omega arith))
+    ]
+
+-- ---- what is unread
+
+pub IfSome-kept : (a b : Option (List ℕ)) (P : List ℕ → Type 0) → Keeps a b → IfSome b P → IfSome a P
+IfSome-kept None b P keeps h = tt
+IfSome-kept (Some x) None P keeps h = absurd keeps
+IfSome-kept (Some x) (Some y) P keeps h = subst P keeps h
+
+pub LosesFront-kept : (old new : Option (List ℕ)) → Keeps old new → IfSome old (λ bs. LosesFront bs new)
+LosesFront-kept None new keeps = tt
+LosesFront-kept (Some x) None keeps = absurd keeps
+LosesFront-kept (Some x) (Some y) keeps = record { got = []; rest = x; parts = refl; within_line = All-nil NoNewline; left_is = ap Some keeps }
+
+-- what is held may be let go, where no newline is in it
+pub LosesFront-held : (held : List ℕ) (known : Option (List ℕ)) → IsWithinLine held → IfSome (prepend_known held known) (λ bs. LosesFront bs known)
+LosesFront-held held None within = tt
+LosesFront-held held (Some ys) within = record { got = held; rest = ys; parts = refl; within_line = within; left_is = refl }
+
+losing_twice : (x : List ℕ) (b c : Option (List ℕ)) → LosesFront x b → IfSome b (λ bs. LosesFront bs c) → LosesFront x c
+losing_twice x b c first next =
+    let P : Option (List ℕ) → Type 0 = λ o. IfSome o (λ bs. LosesFront bs c) in
+    let second : LosesFront first.rest c = subst P first.left_is next in
+    record {
+      got = first.got ++ second.got;
+      rest = second.rest;
+      parts = first.parts ∙ ap (λ l. first.got ++ l) second.parts ∙ sym (append_assoc first.got second.got second.rest);
+      within_line = All-append NoNewline first.got second.got first.within_line second.within_line;
+      left_is = second.left_is;
+    }
+
+pub LosesFront-trans : (a b c : Option (List ℕ)) → IfSome a (λ bs. LosesFront bs b) → IfSome b (λ bs. LosesFront bs c) → IfSome a (λ bs. LosesFront bs c)
+LosesFront-trans None b c first next = tt
+LosesFront-trans (Some x) b c first next = losing_twice x b c first next
+
+passing_behind : (x : List ℕ) (b c : Option (List ℕ)) → LosesFront x b → IfSome b (λ bs. c ≡ Some (after_line bs)) → c ≡ Some (after_line x)
+passing_behind x b c first next =
+    let P : Option (List ℕ) → Type 0 = λ o. IfSome o (λ bs. c ≡ Some (after_line bs)) in
+    let second : c ≡ Some (after_line first.rest) = subst P first.left_is next in
+    second ∙ ap Some (sym (ap after_line first.parts ∙ after_line-within first.got first.rest first.within_line))
+
+-- what lies behind the line is the same after some of the line was let go
+pub after_line-behind : (a b c : Option (List ℕ)) → IfSome a (λ bs. LosesFront bs b) → IfSome b (λ bs. c ≡ Some (after_line bs)) → IfSome a (λ bs. c ≡ Some (after_line bs))
+after_line-behind None b c first next = tt
+after_line-behind (Some x) b c first next = passing_behind x b c first next
+
+-- a whole line is held, or nothing is to come
+abbrev pub IsWhole : List ℕ → Option (List ℕ) → Type 0
+IsWhole held known = Contains held 10 ⊎ IsAtEnd known
+
+pub first_line-held : (held : List ℕ) (known : Option (List ℕ)) → IsWhole held known → IfSome (prepend_known held known) (λ bs. first_line held ≡ first_line bs)
+first_line-held held None whole = tt
+first_line-held held (Some ys) (inl there) = sym (first_line-whole held ys there)
+first_line-held held (Some ys) (inr none) = ap first_line (sym (ap (λ l. held ++ l) none ∙ append-nil held))
+
+pub after_line-held : (held : List ℕ) (known : Option (List ℕ)) → IsWhole held known → IfSome (prepend_known held known) (λ bs. prepend_known (after_line held) known ≡ Some (after_line bs))
+after_line-held held None whole = tt
+after_line-held held (Some ys) (inl there) = ap Some (sym (after_line-whole held ys there))
+after_line-held held (Some ys) (inr none) = ap Some (ap (λ l. after_line held ++ l) none ∙ append-nil (after_line held) ∙ ap after_line (sym (ap (λ l. held ++ l) none ∙ append-nil held)))
+
+-- what a search of a part of the buffer says of the buffer
+module _ (xs : List ℕ) (n e r : ℕ) (within : e ≤ length xs) (bound : r ≤ length (slice_range xs n e)) where
+  pub NoneFrom-slice : ((m : ℕ) → m < r → get_or (slice_range xs n e) m 0 ≢ 10) → NoneFrom xs n (n + r)
+  NoneFrom-slice none m low high is =
+      let size = length-between xs n e within in
+      let place : n + (m - n) ≡ m = omega arith in
+      none (m - n) (omega arith) (get_or-between xs n e (m - n) 0 (omega arith) ∙ ap (λ k. get_or xs k 0) place ∙ is)
+
+  pub newline-slice : (r < length (slice_range xs n e) → get_or (slice_range xs n e) r 0 ≡ 10) → n + r < e → get_or xs (n + r) 0 ≡ 10
+  newline-slice there low = sym (get_or-between xs n e r 0 low) ∙ there (omega (arith, length-between xs n e within))
+
+-- a part with no bytes has none in another buffer of the same length
+pub slice-still_none : (xs ys : List ℕ) (i j : ℕ) → length ys ≡ length xs → j ≤ length xs → slice_range xs i j ≡ [] → slice_range ys i j ≡ []
+slice-still_none xs ys i j same within none =
+    let empty : j - i ≡ 0 = sym (length-between xs i j within) ∙ ap length none in
+    slice-none ys i j (omega arith)
+
+-- a part that lies before what was written is as it was
+pub slice-front : (xs ys : List ℕ) (i j : ℕ) → take j ys ≡ take j xs → slice_range ys i j ≡ slice_range xs i j
+slice-front xs ys i j same = between_is ys i j ∙ ap (drop i) same ∙ sym (between_is xs i j)
+
+-- what is held and what came behind it
+pub slice-grown : (xs ys : List ℕ) (i j n : ℕ) → i ≤ j → take j ys ≡ take j xs → slice_range ys i (j + n) ≡ slice_range xs i j ++ take n (drop j ys)
+slice-grown xs ys i j n low same =
+    let whole : (j + n) - j ≡ n = omega arith in
+    slice-split ys i j (j + n) low (omega arith) ∙ ap (λ l. l ++ slice_range ys j (j + n)) (slice-front xs ys i j same) ∙ ap (λ m. slice_range xs i j ++ take m (drop j ys)) whole
+
+-- the bytes that came move from what is to come to what is held
+pub Keeps-read : (old new : Option (List ℕ)) (held came : List ℕ) → Consumes old new came → Keeps (prepend_known held old) (prepend_known (held ++ came) new)
+Keeps-read None new held came consumes = tt
+Keeps-read (Some x) None held came consumes = absurd consumes
+Keeps-read (Some x) (Some y) held came consumes = append_assoc held came y ∙ ap (λ l. held ++ l) (sym consumes)
+
+-- what was read behind bytes without a newline
+pub NoneFrom-read : (xs ys : List ℕ) (i j k : ℕ) → take j ys ≡ take j xs → NoneFrom xs i j → NoneFrom ys j k → NoneFrom ys i k
+NoneFrom-read xs ys i j k same before behind m low high = elim (cases_lt m j) [
+  | inl below ↦ λ is. before m low below (sym (get_or-take j xs m 0 below) ∙ ap (λ l. get_or l m 0) (sym same) ∙ get_or-take j ys m 0 below ∙ is)
+  | inr over ↦ behind m over high
+]
+
+-- ---- steps of a reader of lines: held bytes, and what is to come
+
+-- what is held was let go as well
+pub LosesFront-cleared : (a known : Option (List ℕ)) (held empty : List ℕ) → IfSome a (λ bs. LosesFront bs (prepend_known held known)) → IsWithinLine held → empty ≡ [] → IfSome a (λ bs. LosesFront bs (prepend_known empty known))
+LosesFront-cleared a known held empty lost within none =
+    let gone : prepend_known empty known ≡ known = ap (λ l. prepend_known l known) none ∙ prepend_known-nil known in
+    rw gone (LosesFront-trans a (prepend_known held known) known lost (LosesFront-held held known within))
+
+IsAtEnd-told : (ended : Bool) (known : Option (List ℕ)) → ended ≡ true → IsAtEnd (still_to_come ended known)
+IsAtEnd-told false known told = absurd (false≢true told)
+IsAtEnd-told true None told = tt
+IsAtEnd-told true (Some xs) told = refl
+
+pub IsWhole-told : (ended : Bool) (held : List ℕ) (known : Option (List ℕ)) → (ended ≡ true) ⊎ Contains held 10 → IsWhole held (still_to_come ended known)
+IsWhole-told ended held known (inl told) = inr (IsAtEnd-told ended known told)
+IsWhole-told ended held known (inr there) = inl there
+
+-- the first line is passed, after some of it was let go
+pub passed : (a known : Option (List ℕ)) (held rest : List ℕ) → IfSome a (λ bs. LosesFront bs (prepend_known held known)) → IsWhole held known → rest ≡ after_line held → IfSome a (λ bs. prepend_known rest known ≡ Some (after_line bs))
+passed a known held rest lost whole is = rw is (after_line-behind a (prepend_known held known) (prepend_known (after_line held) known) lost (after_line-held held known whole))
+
+-- too much of a line is held, so the line is too long
+pub PassesLine-held : (held : List ℕ) (known left : Option (List ℕ)) → 1100 < length (first_line held) → IfSome (prepend_known held known) (λ bs. left ≡ Some (after_line bs)) → IfSome (prepend_known held known) (λ bs. PassesLine bs left)
+PassesLine-held held None left long passed = tt
+PassesLine-held held (Some ys) left long passed = record { long = omega (arith, length-first_line held ys); left_is = passed }
+
+some_more : (xs ys : List ℕ) → xs ≢ [] → xs ++ ys ≢ []
+some_more [] ys some = absurd (some refl)
+some_more (x ∷ xs) ys some = λ is. cc
+
+-- a whole line is held, so it is the first
+pub GivesLine-held : (held line rest : List ℕ) (known : Option (List ℕ)) → IsWhole held known → held ≢ [] → line ≡ first_line held → rest ≡ after_line held → IfSome (prepend_known held known) (λ bs. GivesLine line bs (prepend_known rest known))
+GivesLine-held held line rest None whole some line_is rest_is = tt
+GivesLine-held held line rest (Some ys) whole some line_is rest_is = record {
+  more = some_more held ys some;
+  line_is = line_is ∙ first_line-held held (Some ys) whole;
+  left_is = ap (λ l. prepend_known l (Some ys)) rest_is ∙ after_line-held held (Some ys) whole;
+}
+
+-- ---- the end of the input
+
+contains_front : (xs ys : List ℕ) → Contains xs 10 → Contains (xs ++ ys) 10
+contains_front xs ys found = (found.0, omega (arith, found.1, length-append xs ys), get_or_append_left xs ys 10 found.0 found.1 ∙ found.2)
+
+contains_behind : (xs ys : List ℕ) → Contains ys 10 → Contains (xs ++ ys) 10
+contains_behind [] ys found = found
+contains_behind (x ∷ xs) ys found = let more = contains_behind xs ys found in (suc more.0, omega (arith, more.1), more.2)
+
+newline_or_none : (xs : List ℕ) → Contains xs 10 ⊎ IsWithinLine xs
+newline_or_none [] = inr (All-nil (λ b. b ≢ 10))
+newline_or_none (x ∷ xs) = elim (cases_eq x 10) [
+  | inl same ↦ inl (0, omega arith, same)
+  | inr other ↦ elim (newline_or_none xs) [
+    | inl found ↦ inl (contains_behind (x ∷ []) xs found)
+    | inr none ↦ inr (All-from_recursion (λ b. b ≢ 10) (x ∷ xs) (other, recursion_from_All (λ b. b ≢ 10) xs none))
+  ]
+]
+
+after_line-all : (xs : List ℕ) → IsWithinLine xs → after_line xs ≡ []
+after_line-all xs none = ap after_line (sym (append-nil xs)) ∙ after_line-within xs [] none
+
+-- the first line of what is held ends with a newline, or nothing is behind it
+pub IsClosed-held : (ended : Bool) (held : List ℕ) (known : Option (List ℕ)) → (ended ≡ true) ⊎ Contains held 10
+    → IsClosed (prepend_known held (still_to_come ended known)) (ended && are_none (after_line held))
+IsClosed-held false held None (inl told) = tt
+IsClosed-held false held (Some more) (inl told) = absurd (false≢true told)
+IsClosed-held true held None h = tt
+IsClosed-held true held (Some more) (inl told) = elim (newline_or_none held) [
+  | inl found ↦ inl (contains_front held [] found)
+  | inr none ↦ inr (ap are_none (after_line-all held none))
+]
+IsClosed-held false held None (inr found) = tt
+IsClosed-held false held (Some more) (inr found) = inl (contains_front held more found)
+IsClosed-held true held (Some more) (inr found) = inl (contains_front held [] found)
+
+closed_behind : (bs : List ℕ) (b : Option (List ℕ)) (drained : Bool) → LosesFront bs b → IsClosed b drained → Contains bs 10 ⊎ (drained ≡ true)
+closed_behind bs None drained lost closed = absurd (none-some lost.rest lost.left_is)
+closed_behind bs (Some rest) drained lost closed = elim closed [
+  | inl found ↦ inl (subst (λ (z : List ℕ). Contains z 10) (sym lost.parts) (contains_behind lost.got lost.rest (subst (λ (z : List ℕ). Contains z 10) (same_Some rest lost.rest lost.left_is) found)))
+  | inr told ↦ inr told
+]
+
+-- the same, where bytes in front of those were lost
+pub IsClosed-behind : (a b : Option (List ℕ)) (drained : Bool) → IfSome a (λ bs. LosesFront bs b) → IsClosed b drained → IsClosed a drained
+IsClosed-behind None b drained lost closed = tt
+IsClosed-behind (Some bs) b drained lost closed = closed_behind bs b drained lost closed
+
+-- a list that a test finds empty
+pub are_none-test : (b : Bool) (xs : List ℕ) → ((b ≡ true) ↔ (xs ≡ [])) → b ≡ are_none xs
+are_none-test true xs h = sym (ap are_none (h.0 refl))
+are_none-test false [] h = h.1 refl
+are_none-test false (x ∷ xs) h = refl
+
+-- nothing is to come of a reader that is drained
+pub drained_has_none : (ended : Bool) (held : List ℕ) (known : Option (List ℕ)) → (ended && are_none held) ≡ true → IfSome (prepend_known held (still_to_come ended known)) (λ bs. bs ≡ [])
+drained_has_none false held known h = absurd (false≢true h)
+drained_has_none true [] None h = tt
+drained_has_none true [] (Some more) h = refl
+drained_has_none true (x ∷ xs) known h = absurd (false≢true h)

@@ -1,0 +1,89 @@
+-- A line and its words.
+use Rattle.std.proofs.Common.{◌≡◌, ℕ, zero, suc, ◌+◌, ◌-◌, ◌<◌, ◌≤◌, true, false, cond, eqb, List, [], ◌∷◌, ◌++◌, length, Option, Some, None, length-drop, get_or, take, drop, refl, ap, sym, ◌∙◌, arith}
+use Rattle.std.proofs.lemmas.Bool.{ne_eqb}
+use Rattle.std.proofs.lemmas.List.{take_all, drop_more, take-append-drop}
+use Rattle.std.specs.Prelude.{if◌then◌else◌, ◌==◌}
+use Rattle.std.specs.List.{AllByRecursion, join_with_byte, slice_split, onto_first}
+use Rattle.std.proofs.lemmas.List.Splits.{join_with_byte-slice_split}
+use Rattle.message.specs.Lines.{words, in_first}
+use Rattle.message.specs.Grammar.{only}
+
+-- no byte of the word is a space
+abbrev pub HasNoSpace : List ℕ → Type 0
+HasNoSpace word = AllByRecursion (λ b. (b == 32) ≡ false) word
+
+in_first-onto_first : (b : ℕ) (ws : List (List ℕ)) → in_first b ws ≡ onto_first b ws
+in_first-onto_first b [] = refl
+in_first-onto_first b (w ∷ ws) = refl
+
+words-slice_split : (bs : List ℕ) → words bs ≡ slice_split (λ b. eqb b 32) bs
+words-slice_split [] = refl
+words-slice_split (b ∷ bs) =
+    let e = words-slice_split bs in
+    rw e (elim (b == 32) as (λ t. (if t then [] ∷ slice_split (λ b. eqb b 32) bs else in_first b (slice_split (λ b. eqb b 32) bs)) ≡ cond t ([] ∷ slice_split (λ b. eqb b 32) bs) (onto_first b (slice_split (λ b. eqb b 32) bs))) [
+      | true ↦ refl
+      | false ↦ in_first-onto_first b (slice_split (λ b. eqb b 32) bs)
+    ])
+
+pub join-words : (bs : List ℕ) → join_with_byte 32 (words bs) ≡ bs
+join-words bs = rw (words-slice_split bs) (join_with_byte-slice_split 32 bs)
+
+in_first_some : (b : ℕ) (ws : List (List ℕ)) → in_first b ws ≡ [] → ⊥
+in_first_some b [] e = cc e
+in_first_some b (w ∷ ws) e = cc e
+
+pub words_some : (bs : List ℕ) → words bs ≡ [] → ⊥
+words_some [] e = cc e
+words_some (b ∷ bs) e = elim (b == 32) as (λ t. (if t then [] ∷ words bs else in_first b (words bs)) ≡ [] → ⊥) [ true ↦ λ e. cc e | false ↦ λ e. in_first_some b (words bs) e ] e
+
+-- a line without a space is its one word
+pub words_alone : (w : List ℕ) → HasNoSpace w → words w ≡ w ∷ []
+words_alone [] h = refl
+words_alone (b ∷ w) h = let e = words_alone w h.1 in rw (h.0, e) refl
+
+-- a space ends the first word
+pub words_space : (w rest : List ℕ) → HasNoSpace w → words (w ++ 32 ∷ rest) ≡ w ∷ words rest
+words_space [] rest h = refl
+words_space (b ∷ w) rest h = let e = words_space w rest h.1 in rw (h.0, e) refl
+
+pub words-join : (w : List ℕ) (ws : List (List ℕ)) → AllByRecursion HasNoSpace (w ∷ ws) → words (join_with_byte 32 (w ∷ ws)) ≡ w ∷ ws
+words-join w [] h = words_alone w h.0
+words-join w (v ∷ ws) h = words_space w (join_with_byte 32 (v ∷ ws)) h.0 ∙ ap (λ (vs : List (List ℕ)). w ∷ vs) (words-join v ws h.1)
+
+-- ---- the first space of a line
+
+pub no_space_more : (w : List ℕ) (i : ℕ) → i < length w → HasNoSpace (take i w) → (get_or w i 0 ≡ 32 → ⊥) → HasNoSpace (take (i + 1) w)
+no_space_more [] i lt h d = absurd (omega arith)
+no_space_more (b ∷ w) zero lt h d = (ne_eqb b 32 d, tt)
+no_space_more (b ∷ w) (suc i) lt h d =
+    let next : suc i + 1 ≡ suc (i + 1) = omega arith in
+    rw next (h.0, no_space_more w i (omega arith) h.1 d)
+
+pub words_split : (line : List ℕ) (i : ℕ) → i < length line → HasNoSpace (take i line) → get_or line i 0 ≡ 32
+    → words line ≡ take i line ∷ words (take (length line - (i + 1)) (drop (i + 1) line))
+words_split line i lt h e =
+    let rest : take (length line - (i + 1)) (drop (i + 1) line) ≡ drop (i + 1) line = take_all _ _ (omega (arith, length-drop (i + 1) line)) in
+    let front : drop i line ≡ 32 ∷ drop (i + 1) line = drop_more line i 0 lt ∙ ap (λ b. b ∷ drop (i + 1) line) e in
+    let whole : line ≡ take i line ++ 32 ∷ drop (i + 1) line = sym (take-append-drop i line) ∙ ap (λ (r : List ℕ). take i line ++ r) front in
+    ap words whole ∙ words_space (take i line) (drop (i + 1) line) h ∙ ap (λ (r : List ℕ). take i line ∷ words r) (sym rest)
+
+pub words_whole : (line : List ℕ) (i : ℕ) → length line ≤ i → HasNoSpace (take i line) → words line ≡ line ∷ []
+words_whole line i h none = words_alone line (let e : take i line ≡ line = take_all i line h in rw e at none)
+
+-- ---- what a whole line says
+
+-- what a line says that says nothing where it has a space
+pub only-words : {A : Type 0} (says : List ℕ → Option A) (line : List ℕ) → ((x : A) → says line ≡ Some x → HasNoSpace line) → only says (words line) ≡ says line
+only-words {A} says line no_space =
+    let none : (ws : List (List ℕ)) → join_with_byte 32 ws ≡ line → says line ≡ None → only says ws ≡ None =
+    λ ws. elim ws as (λ ws. join_with_byte 32 ws ≡ line → says line ≡ None → only says ws ≡ None) [
+      | [] ↦ λ e h. refl
+      | w ∷ ws ↦ elim ws as (λ ws. join_with_byte 32 (w ∷ ws) ≡ line → says line ≡ None → only says (w ∷ ws) ≡ None) [
+        | [] ↦ λ e h. ap says e ∙ h
+        | v ∷ ws ↦ λ e h. refl
+      ]
+    ] in
+    elim (says line) as (λ o. says line ≡ o → only says (words line) ≡ o) [
+      | None ↦ λ h. none (words line) (join-words line) h
+      | Some x ↦ λ h. ap (only says) (words_alone line (no_space x h)) ∙ h
+    ] refl

@@ -1,0 +1,68 @@
+-- The zeros at the end of a block.
+use Rattle.std.proofs.Common.{◌≡◌, ℕ, zero, suc, ◌+◌, ◌-◌, ◌<◌, ◌≤◌, List, [], ◌∷◌, ◌++◌, length, get_or, take, refl, ap, sym, ◌∙◌, inl, inr, arith, drop, length-drop, length-take-le}
+use Rattle.std.proofs.lemmas.Bool.{ne_eqb, cond-false, cases_eq}
+use Rattle.std.specs.Prelude.{EachIndex}
+use Rattle.std.proofs.lemmas.List.{take_more}
+use Rattle.std.proofs.lemmas.List.Edits.{get_or-between}
+use Rattle.message.specs.Replies.{before, without_zeros, at_least_one}
+
+zero_goes : (xs : List ℕ) → without_zeros (xs ++ 0 ∷ []) ≡ without_zeros xs
+zero_goes [] = refl
+zero_goes (b ∷ xs) = ap (before b) (zero_goes xs)
+
+before_some : (b c : ℕ) (xs : List ℕ) → before b (xs ++ c ∷ []) ≡ b ∷ xs ++ c ∷ []
+before_some b c [] = refl
+before_some b c (x ∷ xs) = refl
+
+other_stays : (xs : List ℕ) (b : ℕ) → (b ≡ 0 → ⊥) → without_zeros (xs ++ b ∷ []) ≡ xs ++ b ∷ []
+other_stays [] b h = cond-false _ _ _ (ne_eqb b 0 h)
+other_stays (c ∷ xs) b h = ap (before c) (other_stays xs b h) ∙ before_some c b xs
+
+some_stays : (xs : List ℕ) (b : ℕ) → at_least_one (xs ++ b ∷ []) ≡ xs ++ b ∷ []
+some_stays [] b = refl
+some_stays (x ∷ xs) b = refl
+
+-- one byte fewer, which is a zero
+pub one_fewer : (xs : List ℕ) (n : ℕ) → 0 < n → n ≤ length xs → get_or xs (n - 1) 0 ≡ 0 → without_zeros (take n xs) ≡ without_zeros (take (n - 1) xs)
+one_fewer xs n some h e =
+    let next : n ≡ n - 1 + 1 = omega arith in
+    let front : take n xs ≡ take (n - 1) xs ++ 0 ∷ [] =
+    ap (λ k. take k xs) next ∙ take_more xs (n - 1) 0 (omega arith) ∙ ap (λ b. take (n - 1) xs ++ b ∷ []) e in
+    ap without_zeros front ∙ zero_goes (take (n - 1) xs)
+
+-- no byte fewer where the last isn't a zero
+pub last_stays : (xs : List ℕ) (n : ℕ) → 0 < n → n ≤ length xs → (get_or xs (n - 1) 0 ≡ 0 → ⊥) → at_least_one (without_zeros (take n xs)) ≡ take n xs
+last_stays xs n some h other =
+    let next : n ≡ n - 1 + 1 = omega arith in
+    let front : take n xs ≡ take (n - 1) xs ++ get_or xs (n - 1) 0 ∷ [] = ap (λ k. take k xs) next ∙ take_more xs (n - 1) 0 (omega arith) in
+    ap (λ ys. at_least_one (without_zeros ys)) front
+    ∙ ap at_least_one (other_stays (take (n - 1) xs) (get_or xs (n - 1) 0) other)
+    ∙ some_stays (take (n - 1) xs) (get_or xs (n - 1) 0) ∙ sym front
+
+-- nor where it is the only one
+pub only_stays : (xs : List ℕ) → 1 ≤ length xs → at_least_one (without_zeros (take 1 xs)) ≡ take 1 xs
+only_stays [] h = absurd (omega arith)
+only_stays (b ∷ xs) h = elim (cases_eq b 0) [
+  | inl none ↦ rw none refl
+  | inr other ↦ last_stays (b ∷ xs) 1 (omega arith) h other
+]
+
+-- several bytes fewer, which are zeros
+pub several_fewer : (xs : List ℕ) (n k : ℕ) → k ≤ n → n ≤ length xs → ((j : ℕ) → n - k ≤ j → j < n → get_or xs j 0 ≡ 0)
+    → without_zeros (take n xs) ≡ without_zeros (take (n - k) xs)
+several_fewer xs n zero few h zeros = let same : n ≡ n - 0 = omega arith in ap (λ m. without_zeros (take m xs)) same
+several_fewer xs n (suc k) few h zeros =
+    let less : n - k - 1 ≡ n - suc k = omega arith in
+    several_fewer xs n k (omega arith) h (λ j low high. zeros j (omega arith) high)
+    ∙ one_fewer xs (n - k) (omega arith) (omega arith) (zeros (n - k - 1) (omega arith) (omega arith))
+    ∙ ap (λ m. without_zeros (take m xs)) less
+
+-- a piece of zeros fewer
+pub piece_fewer : (xs : List ℕ) (n : ℕ) → 64 ≤ n → n ≤ length xs → EachIndex (take (n - (n - 64)) (drop (n - 64) xs)) (λ k. get_or (take (n - (n - 64)) (drop (n - 64) xs)) k 0 ≡ 0)
+    → without_zeros (take n xs) ≡ without_zeros (take (n - 64) xs)
+piece_fewer xs n some h zeros =
+    several_fewer xs n 64 some h (λ j low high.
+    let size : length (take (n - (n - 64)) (drop (n - 64) xs)) ≡ 64 = length-take-le _ _ (omega (arith, length-drop (n - 64) xs)) ∙ omega arith in
+    let place : n - 64 + (j - (n - 64)) ≡ j = omega arith in
+    let read : get_or (take (n - (n - 64)) (drop (n - 64) xs)) (j - (n - 64)) 0 ≡ get_or xs (n - 64 + (j - (n - 64))) 0 = get_or-between xs (n - 64) n (j - (n - 64)) 0 (omega arith) in
+    sym (ap (λ i. get_or xs i 0) place) ∙ sym read ∙ zeros (j - (n - 64)) (omega arith))

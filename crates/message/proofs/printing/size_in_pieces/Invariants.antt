@@ -1,0 +1,13 @@
+use Rattle.std.proofs.Common.{◌≡◌, ◌≤◌, take}
+use Rattle.message.specs.Replies.{without_zeros}
+use Rattle.message.proofs.printing.size_in_pieces.Given as goal
+
+abbrev pub invariant-loop-size : goal.invariant-loop-size
+invariant-loop-size l = record {
+  same : without_zeros (take l.size l.bytes) ≡ without_zeros l.bytes;
+  some : 1 ≤ l.size;
+  bound : l.size ≤ 512;
+}
+
+abbrev pub decreases-loop-size : goal.decreases-loop-size
+decreases-loop-size l = l.size

@@ -1,0 +1,17 @@
+use Rattle.std.proofs.Common.{◌≡◌, ◌-◌, [], false, true, cond, length}
+use Rattle.std.specs.Io.KnownBytes.{Keeps}
+use Rattle.message.specs.Reader.{held_bytes, unread, line_of, HoldsLine, has_ended, has_failed}
+use Rattle.message.proofs.reading.LineReader.gather.Given as goal
+
+abbrev pub invariant-loop-self : goal.invariant-loop-self
+invariant-loop-self g l = record {
+  line : line_of l.self ≡ [];
+  sound : has_failed l.self ≡ false;
+  bytes : Keeps (unread g.R.Read.remaining l.initial.self) (unread g.R.Read.remaining l.self);
+  at_once : HoldsLine l.initial.self → l.self ≡ l.initial.self;
+  told : has_ended l.initial.self ≡ true → l.self ≡ l.initial.self;
+}
+
+-- the reads that may be needed
+abbrev pub decreases-loop-self : goal.decreases-loop-self
+decreases-loop-self g l = cond l.self.ended 0 (1102 - length (held_bytes l.self.held))

@@ -1,0 +1,12 @@
+use Rattle.std.proofs.Common.{◌≡◌, [], false, IfSome}
+use Rattle.message.specs.Reader.{held_bytes, IsWithinLine, unread, line_of, has_failed, LosesFront}
+use Rattle.message.proofs.reading.LineReader.skip.Given as goal
+
+abbrev pub invariant-loop : goal.invariant-loop
+invariant-loop g l = record {
+  line : line_of l.self ≡ [];
+  sound : has_failed l.self ≡ false;
+  open_still : l.self.ended ≡ false;
+  within_line : IsWithinLine (held_bytes l.self.held);
+  lost : IfSome (unread g.R.Read.remaining l.initial.self) (λ bs. LosesFront bs (unread g.R.Read.remaining l.self));
+}

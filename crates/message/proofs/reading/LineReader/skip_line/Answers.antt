@@ -1,0 +1,44 @@
+use Rattle.std.proofs.Common.{◌≡◌, ◌⊎◌, inl, inr, true, IfSome}
+use Rattle.std.specs.List.{Contains}
+use Rattle.std.specs.Prelude.{◌&&◌}
+use Rattle.std.proofs.KnownBytes.{Keeps-refl}
+use Rattle.message.specs.Reader.{held_bytes, still_to_come, unread, LosesFront, after_line, are_none}
+use Rattle.message.proofs.ReaderLemmas.{IsWhole-told, passed, LosesFront-kept, IsClosed-held, IsClosed-behind}
+use Rattle.message.proofs.reading.LineReader.skip_line.Goals as goal
+use Rattle.message.proofs.reading.LineReader.skip_line.Goals.{then-not-self+then-not-has_newline+in_ok-skip, else-not-self, else-not-self-via-then-not-self+else-not-has_newline, else-not-self-via-else-not-self}
+
+pub returns-clause-passed : goal.returns-clause-passed
+returns-clause-passed g c =
+    let before = c.if-not-self.self in
+    let a = unread g.R.Read.remaining c.args.self.now in
+    let known = still_to_come before.ended (g.R.Read.remaining before.reader) in
+    let lost : IfSome a (λ bs. LosesFront bs (unread g.R.Read.remaining before)) = elim c.if-not-self.branch [
+      | then-not-self+then-not-has_newline+in_ok-skip w ↦ rw w.self-is w.skip.ensures.lost
+      | else-not-self w ↦ rw w.self-is (LosesFront-kept a a (Keeps-refl a))
+    ] in
+    let whole : (before.ended ≡ true) ⊎ Contains (held_bytes before.held) 10 = elim c.if-not-self.branch [
+      | then-not-self+then-not-has_newline+in_ok-skip w ↦ rw w.self-is w.in_ok-skip.ensures.whole
+      | else-not-self w ↦ rw w.self-is (elim w.else-not-self.branch [
+        | else-not-self-via-then-not-self+else-not-has_newline w' ↦ inr (w'.has_newline.ensures.holds.0 w'.if-not-has_newline.false)
+        | else-not-self-via-else-not-self w' ↦ inl w'.if-not-self.false
+      ])
+    ] in
+    passed a known (held_bytes before.held) (held_bytes c.pass_line.new.self) lost (IsWhole-told before.ended (held_bytes before.held) (g.R.Read.remaining before.reader) whole) c.pass_line.ensures.bytes
+
+pub returns-clause-closed : goal.returns-clause-closed
+returns-clause-closed g c =
+    let before = c.if-not-self.self in
+    let a = unread g.R.Read.remaining c.args.self.now in
+    let lost : IfSome a (λ bs. LosesFront bs (unread g.R.Read.remaining before)) = elim c.if-not-self.branch [
+      | then-not-self+then-not-has_newline+in_ok-skip w ↦ rw w.self-is w.skip.ensures.lost
+      | else-not-self w ↦ rw w.self-is (LosesFront-kept a a (Keeps-refl a))
+    ] in
+    let whole : (before.ended ≡ true) ⊎ Contains (held_bytes before.held) 10 = elim c.if-not-self.branch [
+      | then-not-self+then-not-has_newline+in_ok-skip w ↦ rw w.self-is w.in_ok-skip.ensures.whole
+      | else-not-self w ↦ rw w.self-is (elim w.else-not-self.branch [
+        | else-not-self-via-then-not-self+else-not-has_newline w' ↦ inr (w'.has_newline.ensures.holds.0 w'.if-not-has_newline.false)
+        | else-not-self-via-else-not-self w' ↦ inl w'.if-not-self.false
+      ])
+    ] in
+    rw c.pass_line.ensures.bytes (IsClosed-behind a (unread g.R.Read.remaining before) (before.ended && are_none (after_line (held_bytes before.held))) lost
+    (IsClosed-held before.ended (held_bytes before.held) (g.R.Read.remaining before.reader) whole))

@@ -1,0 +1,9 @@
+use Rattle.std.proofs.Common.{length, ap, ◌∙◌, arith}
+use Rattle.std.proofs.lemmas.Bool.{leb-true}
+use Rattle.message.proofs.ReaderLemmas.{first_line-all}
+use Rattle.message.proofs.reading.LineReader.wants_more.Goals as goal
+
+pub returns-clause-room : goal.returns-clause-room
+returns-clause-room g c is =
+    let size = c.first_len.ensures ∙ ap length (first_line-all _ (c.has_newline.ensures.none c.if-has_newline.false)) in
+    omega (arith, leb-true c.first_len.result 1100 is, size)

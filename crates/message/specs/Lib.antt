@@ -1,0 +1,4 @@
+pub mod Lines
+pub mod Grammar
+pub mod Replies
+pub mod Reader

@@ -1,0 +1,42 @@
+-- The lines of an input, the words of a line, and what a word says.
+use Rattle.std.specs.Prelude.{ℕ, ◌-◌, Bool, ◌&&◌, ◌||◌, not, ◌==◌, nat_lt, nat_le, List, [], ◌∷◌, ◌++◌, length, replicate, slice_index, if◌then◌else◌, Option, Some, None, Result, Ok, Err}
+use Rattle.std.specs.Str.{all_ascii_digits}
+use Rattle.std.specs.Str.Parse.{digits_value}
+use Rattle.hex.specs.Hex.{decode_of}
+use Rattle.hex.specs.declared.error.FromHexError.{FromHexError}
+use Rattle.message.specs.declared.Block.{Block}
+
+-- the pieces, with this byte in front of the first of them
+abbrev pub in_first : ℕ → List (List ℕ) → List (List ℕ)
+in_first b [] = (b ∷ []) ∷ []
+in_first b (piece ∷ pieces) = (b ∷ piece) ∷ pieces
+
+-- The lines of an input: it is split at each newline, and what follows the last newline is a line too where it isn't empty.
+abbrev pub lines : List ℕ → List (List ℕ)
+lines [] = []
+lines (b ∷ bs) = if b == 10 then [] ∷ lines bs else in_first b (lines bs)
+
+-- The words of a line: what lies before, between and after its spaces.
+abbrev pub words : List ℕ → List (List ℕ)
+words [] = [] ∷ []
+words (b ∷ bs) = if b == 32 then [] ∷ words bs else in_first b (words bs)
+
+-- decimal digits, with no zero in front but in 0 itself
+abbrev pub is_numeral : List ℕ → Bool
+is_numeral word = all_ascii_digits word && nat_lt 0 (length word) && (not (slice_index word 0 == 48) || (length word == 1))
+
+-- the number from 0 to 65535 that a word says
+unfoldable pub number : List ℕ → Option ℕ
+number word = if is_numeral word && nat_lt (digits_value 10 word) 65536 then Some (digits_value 10 word) else None
+
+-- the bytes, and zeros up to this many
+abbrev pub padded : ℕ → List ℕ → List ℕ
+padded size bytes = bytes ++ replicate (size - length bytes) 0
+
+abbrev pub block_with : Result (List ℕ) FromHexError → Option Block
+block_with (Ok bytes) = Some (record { 0 = padded 512 bytes })
+block_with (Err e) = None
+
+-- the block that a word says: 2 to 1024 hexadecimal digits, two for each byte
+unfoldable pub block : List ℕ → Option Block
+block word = if nat_le 2 (length word) && nat_le (length word) 1024 then block_with (decode_of word) else None

@@ -1,0 +1,121 @@
+-- What a reader of lines holds, and what it finds in the bytes that are not yet read.
+use Rattle.std.specs.Prelude.{◌≡◌, ◌≢◌, ℕ, ◌<◌, ◌⊎◌, ◌==◌, ◌&&◌, Bool, true, false, List, [], ◌∷◌, ◌++◌, length, slice_range, if◌then◌else◌, Option, Some, Result, Ok, Err, IsTrue, IfSome, All, Contains}
+use Rattle.std.specs.Option.{option_map}
+use Rattle.std.specs.Io.KnownBytes.{prepend_known}
+use Rattle.message.specs.declared.reading.Found.{Found}
+use Rattle.message.specs.declared.reading.Found.TheVariants.{Line, TooLong, End}
+use Rattle.message.specs.declared.reading.ReadFault.{ReadFault}
+use Rattle.message.specs.declared.reading.Held.{Held}
+use Rattle.message.specs.declared.reading.LineReader.{LineReader}
+
+-- ---- the first line of some bytes
+
+-- the bytes before the first newline, or all of them
+abbrev pub first_line : List ℕ → List ℕ
+first_line [] = []
+first_line (b ∷ bs) = if b == 10 then [] else b ∷ first_line bs
+
+-- the bytes behind the first newline, or none
+abbrev pub after_line : List ℕ → List ℕ
+after_line [] = []
+after_line (b ∷ bs) = if b == 10 then bs else after_line bs
+
+-- none of the bytes is a newline
+abbrev pub IsWithinLine : List ℕ → Type 0
+IsWithinLine bs = All (λ b. b ≢ 10) bs
+
+-- ---- what a reader of lines holds
+
+-- the bytes that are read and not yet given
+abbrev pub held_bytes : Held → List ℕ
+held_bytes h = slice_range h.buffer.items h.start h.end
+
+-- the line that was given last
+abbrev pub held_line : Held → List ℕ
+held_line h = slice_range h.buffer.items h.line_start h.line_end
+
+-- the bytes that are still to come, where they are known: none once the end was told
+abbrev pub still_to_come : Bool → Option (List ℕ) → Option (List ℕ)
+still_to_come false known = known
+still_to_come true known = option_map (λ _. []) known
+
+-- the bytes that it has not given yet, where they are known: those that it holds, and then what its reader has left
+abbrev pub unread : {R : Type 0} → (R → Option (List ℕ)) → LineReader R → Option (List ℕ)
+unread remaining r = prepend_known (held_bytes r.held) (still_to_come r.ended (remaining r.reader))
+
+-- the line that was found last
+abbrev pub line_of : {R : Type 0} → LineReader R → List ℕ
+line_of r = held_line r.held
+
+-- a whole line is held, its newline included
+abbrev pub HoldsLine : {R : Type 0} → LineReader R → Type 0
+HoldsLine r = Contains (held_bytes r.held) 10
+
+-- a read has told the end
+abbrev pub has_ended : {R : Type 0} → LineReader R → Bool
+has_ended r = r.ended
+
+-- what is found is known: nothing is to come, a whole line is held, or more of a line than it may have
+abbrev pub HoldsEnough : {R : Type 0} → LineReader R → Type 0
+HoldsEnough r = IsTrue (has_ended r) ⊎ HoldsLine r ⊎ (1100 < length (first_line (held_bytes r.held)))
+
+-- a read has failed
+abbrev pub has_failed : {R : Type 0} → LineReader R → Bool
+has_failed r = r.failed
+
+-- the reader behind it
+abbrev pub source : {R : Type 0} → LineReader R → R
+source r = r.reader
+
+-- ---- what is found, where the bytes are known
+
+-- The line is the first of the bytes, and those behind it are left.
+pub record GivesLine (line bs : List ℕ) (left : Option (List ℕ)) : Type 0 where
+  pub more : bs ≢ []
+  pub line_is : line ≡ first_line bs
+  pub left_is : left ≡ Some (after_line bs)
+
+-- The first line of the bytes has more than 1,100 bytes, and those behind it are left.
+pub record PassesLine (bs : List ℕ) (left : Option (List ℕ)) : Type 0 where
+  pub long : 1100 < length (first_line bs)
+  pub left_is : left ≡ Some (after_line bs)
+
+-- There are no bytes, and none are left.
+pub record IsAtEndOf (bs : List ℕ) (left : Option (List ℕ)) : Type 0 where
+  pub none : bs ≡ []
+  pub left_is : left ≡ Some []
+
+-- Some of the bytes at the front were lost, none of them a newline, and the others are left.
+pub record LosesFront (bs : List ℕ) (left : Option (List ℕ)) : Type 0 where
+  pub got : List ℕ
+  pub rest : List ℕ
+  pub parts : bs ≡ got ++ rest
+  pub within_line : IsWithinLine got
+  pub left_is : left ≡ Some rest
+
+-- What each answer says of the bytes that were unread before, of the line, and of the bytes that are unread now.
+abbrev pub Finds : Result Found ReadFault → Option (List ℕ) → List ℕ → Option (List ℕ) → Type 0
+Finds (Ok Line) old line new = IfSome old (λ bs. GivesLine line bs new)
+Finds (Ok TooLong) old line new = IfSome old (λ bs. PassesLine bs new)
+Finds (Ok End) old line new = IfSome old (λ bs. IsAtEndOf bs new)
+Finds (Err fault) old line new = IfSome old (λ bs. LosesFront bs new)
+
+-- ---- the end of the input
+
+abbrev pub are_none : List ℕ → Bool
+are_none [] = true
+are_none (b ∷ bs) = false
+
+-- a read has told the end, and nothing is held: nothing is to come
+abbrev pub is_drained : {R : Type 0} → LineReader R → Bool
+is_drained r = r.ended && are_none (held_bytes r.held)
+
+-- The bytes have a newline, or the reader is drained now.
+abbrev pub IsClosed : Option (List ℕ) → Bool → Type 0
+IsClosed old drained = IfSome old (λ bs. Contains bs 10 ⊎ (drained ≡ true))
+
+-- A line that was found ends with a newline, or with the input.
+abbrev pub Closes : Result Found ReadFault → Option (List ℕ) → Bool → Type 0
+Closes (Ok Line) old drained = IsClosed old drained
+Closes (Ok TooLong) old drained = IsClosed old drained
+Closes _ old drained = Unit {0}

@@ -1,0 +1,70 @@
+//! The language of the server: messages as lines come in, replies as lines go out.
+#![tactic(auto)]
+
+mod parsing;
+mod printing;
+mod reading;
+#[cfg(test)]
+mod tests;
+
+pub use parsing::parse_line;
+pub use printing::{no_message_line, write_reply};
+pub use reading::{Found, LineReader, ReadFault};
+
+/// How many bytes a block has.
+pub const BLOCK_SIZE: usize = 512;
+
+/// How many bytes a line of the input may have, its newline apart. A longer one is no message.
+pub const LONGEST_LINE: usize = 1100;
+
+/// How many bytes the longest reply line has, its newline included: `block `, two digits for each
+/// byte of a block, and the newline.
+pub const LONGEST_REPLY: usize = 1031;
+
+/// What a file holds at one of its places.
+#[derive(Clone, Copy, Debug, PartialEq, Eq)]
+pub struct Block(pub [u8; 512]);
+
+/// A message. The numbers are, in this order, an aggregate, a volume of it, a file of that and a
+/// block of that file.
+#[derive(Clone, Copy, Debug, PartialEq, Eq)]
+pub enum Msg {
+    /// Makes a volume, without files.
+    MakeVol(u16, u16),
+    /// Makes a file, without blocks.
+    Create(u16, u16, u16),
+    /// Puts a block into a file.
+    Write(u16, u16, u16, u16, Block),
+    /// Asks for a block of a file.
+    Read(u16, u16, u16, u16),
+}
+
+/// Why a message was refused.
+#[derive(Clone, Copy, Debug, PartialEq, Eq)]
+pub enum Refusal {
+    /// A number of it is not below its limit.
+    Range,
+    /// Its volume is not there.
+    Volume,
+    /// What it makes is there already.
+    Exists,
+    /// Its volume is sealed.
+    Sealed,
+    /// Its file is not there.
+    File,
+    /// The stripe of its block is full.
+    Space,
+}
+
+/// What a message is answered.
+#[derive(Clone, Copy, Debug, PartialEq, Eq)]
+pub enum Reply {
+    /// The message was carried out.
+    Done,
+    /// The block is not there.
+    Hole,
+    /// The block.
+    Block(Block),
+    /// The message was refused, and changed nothing.
+    Refused(Refusal),
+}

@@ -1,0 +1,166 @@
+use crate::{Block, Msg, Refusal, Reply, no_message_line, parse_line, write_reply};
+
+// A block that begins with these bytes, with zeros behind them.
+fn block_of(front: &[u8]) -> Block {
+    let mut bytes = [0; 512];
+    for (place, byte) in bytes.iter_mut().zip(front) {
+        *place = *byte;
+    }
+    Block(bytes)
+}
+
+#[test]
+fn reads_messages(rt: HostRuntime) {
+    let rows: [(&str, Msg); 12] = [
+        ("makevol 0 0", Msg::MakeVol(0, 0)),
+        ("makevol 65535 10", Msg::MakeVol(65535, 10)),
+        ("create 0 0 0", Msg::Create(0, 0, 0)),
+        ("create 1 20 300", Msg::Create(1, 20, 300)),
+        (
+            "write 0 0 0 0 6162",
+            Msg::Write(0, 0, 0, 0, block_of(b"ab")),
+        ),
+        ("write 1 2 3 4 00", Msg::Write(1, 2, 3, 4, block_of(b""))),
+        (
+            "write 1 2 3 4 000A",
+            Msg::Write(1, 2, 3, 4, block_of(&[0, 10])),
+        ),
+        (
+            "write 9 8 7 6 aAfF09",
+            Msg::Write(9, 8, 7, 6, block_of(&[170, 255, 9])),
+        ),
+        ("read 0 0 0 63", Msg::Read(0, 0, 0, 63)),
+        ("read 0 0 0 65535", Msg::Read(0, 0, 0, 65535)),
+        (
+            "read 65535 65535 65535 65535",
+            Msg::Read(65535, 65535, 65535, 65535),
+        ),
+        ("read 10 100 1000 10000", Msg::Read(10, 100, 1000, 10000)),
+    ];
+    for (line, message) in rows.iter() {
+        assert_eq!(rt; parse_line(line.as_bytes()), Some(*message), "at {line}");
+    }
+}
+
+#[test]
+fn refuses_other_lines(rt: HostRuntime) {
+    let lines = [
+        "",
+        " ",
+        "read",
+        "read ",
+        "read 0 0 0",
+        "read 0 0 0 0 0",
+        "read 0 0 0 0 ",
+        " read 0 0 0 0",
+        "read  0 0 0 0",
+        "read 0 0  0 0",
+        "read\t0 0 0 0",
+        "read 0 0 0 0\r",
+        "READ 0 0 0 0",
+        "Read 0 0 0 0",
+        "reads 0 0 0 0",
+        "rea 0 0 0 0",
+        "read 00 0 0 0",
+        "read 01 0 0 0",
+        "read 0 0 0 65536",
+        "read 0 0 0 99999",
+        "read 0 0 0 100000",
+        "read 0 0 0 4294967296",
+        "read 0 0 0 18446744073709551616",
+        "read 0 0 0 -1",
+        "read 0 0 0 +1",
+        "read 0 0 0 1.0",
+        "read 0 0 0 0x1",
+        "read 0 0 0 a",
+        "makevol 0",
+        "makevol 0 0 0",
+        "create 0 0",
+        "create 0 0 0 0",
+        "write 0 0 0 0",
+        "write 0 0 0 0 ",
+        "write 0 0 0 0 6",
+        "write 0 0 0 0 616",
+        "write 0 0 0 0 6g",
+        "write 0 0 0 0 61 62",
+        "write 0 0 0 0 6162 ",
+        "write 0 0 0 6162",
+        "error line",
+        "done",
+    ];
+    for line in lines.iter() {
+        assert_eq!(rt; parse_line(line.as_bytes()), None, "at {line}");
+    }
+}
+
+// What is read of `write 1 2 3 4 ` and this many digits, at most 1,087, that say the byte 171 over
+// and over.
+fn read_digits(digits: u16) -> Option<Msg> {
+    let mut line = [b' '; 1101];
+    for (place, byte) in line.iter_mut().zip(b"write 1 2 3 4 ") {
+        *place = *byte;
+    }
+    for (index, place) in line.iter_mut().skip(14).enumerate() {
+        *place = if index % 2 == 0 { b'a' } else { b'B' };
+    }
+    let end = 14 + usize::from(digits);
+    parse_line(&line[..end.min(1101)])
+}
+
+#[test]
+fn takes_up_to_1024_digits(rt: HostRuntime) {
+    let full = Some(Msg::Write(1, 2, 3, 4, Block([0xab; 512])));
+    assert_eq!(rt; read_digits(1024), full);
+    assert!(rt; read_digits(1022).is_some());
+    for digits in [1, 1023, 1025, 1026, 1028, 1086, 1087] {
+        assert_eq!(rt; read_digits(digits), None, "at {digits} digits");
+    }
+}
+
+#[test]
+fn takes_no_line_of_1101_bytes(rt: HostRuntime) {
+    for byte in [b' ', b'0', b'a'] {
+        assert_eq!(rt; parse_line(&[byte; 1101]), None);
+        assert_eq!(rt; parse_line(&[byte; 1101][..1100]), None);
+    }
+}
+
+#[test]
+fn writes_replies(rt: HostRuntime) {
+    let rows: [(Reply, &str); 13] = [
+        (Reply::Done, "done\n"),
+        (Reply::Hole, "hole\n"),
+        (Reply::Block(block_of(b"ab")), "block 6162\n"),
+        (Reply::Block(block_of(b"")), "block 00\n"),
+        (Reply::Block(block_of(&[0, 0, 10])), "block 00000a\n"),
+        (Reply::Block(block_of(&[171, 0, 205, 0])), "block ab00cd\n"),
+        (Reply::Block(block_of(&[255])), "block ff\n"),
+        (Reply::Refused(Refusal::Range), "error range\n"),
+        (Reply::Refused(Refusal::Volume), "error volume\n"),
+        (Reply::Refused(Refusal::Exists), "error exists\n"),
+        (Reply::Refused(Refusal::Sealed), "error sealed\n"),
+        (Reply::Refused(Refusal::File), "error file\n"),
+        (Reply::Refused(Refusal::Space), "error space\n"),
+    ];
+    for (reply, line) in rows.iter() {
+        let mut out = [7; 1031];
+        let size = write_reply(reply, &mut out);
+        assert_eq!(rt; &out[..size], line.as_bytes());
+        assert!(rt; out[size..].iter().all(|byte| *byte == 7));
+    }
+    assert_eq!(rt; no_message_line(), b"error line\n".as_slice());
+}
+
+#[test]
+fn writes_a_full_block(rt: HostRuntime) {
+    let mut out = [7; 1031];
+    assert_eq!(rt;
+        write_reply(&Reply::Block(Block([0x1f; 512])), &mut out),
+        1031
+    );
+    assert_eq!(rt; &out[..6], b"block ".as_slice());
+    for (place, byte) in out.iter().skip(6).take(1024).enumerate() {
+        assert_eq!(rt; *byte, if place % 2 == 0 { b'1' } else { b'f' });
+    }
+    assert_eq!(rt; out[1030], b'\n');
+}

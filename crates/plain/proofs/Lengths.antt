@@ -1,0 +1,133 @@
+-- The length of a set or a map whose keys are all in range, as a sum of its look-ups.
+use Rattle.std.proofs.Common.{◌≡◌, ℕ, ◌+◌, ◌<◌, Bool, true, false, cond, List, [], ◌∷◌, length, refl, ap, sym, ◌∙◌, arith}
+use Rattle.std.specs.Prelude.{◌&&◌, ◌||◌, ◌==◌, Some, is_some}
+use Rattle.std.specs.List.{AllByRecursion, list_any, IsDistinct}
+use Rattle.std.specs.Map.{lookup, keys_of}
+use Rattle.std.specs.Ordering.{eq_by_cmp}
+use Rattle.std.specs.BTreeSet as set
+use Rattle.std.specs.BTreeMap as map
+use Rattle.std.specs.BTreeMap.{BTreeMap, is_at}
+use Rattle.std.specs.BTreeSet.{BTreeSet}
+use Rattle.std.proofs.lemmas.Bool.{or_left, or_right}
+use Rattle.std.proofs.lemmas.Map.Keys.{IsDistinct-from_sorted, IsDistinct-head, IsDistinct-tail}
+use Rattle.affinity.specs.declared.sizes.Geometry.{Geometry}
+use Rattle.plain.specs.State.{VolumeKey, FileKey, BlockKey, sum_below, one_if, is_volume, is_file, is_block}
+use Rattle.plain.specs.Server.{by_volume, by_file, by_block}
+use Rattle.plain.proofs.Keys.{at_volume, at_file, at_block, the_volume, the_file, the_block, picks_volume, picks_file, picks_block}
+use Rattle.plain.proofs.Sums.{sum_same, sum_add, sum_zero, sum_pick}
+
+-- ---- a list of keys, by a sum over all keys that are in range
+
+-- a sum over the keys in range: it adds up, and each key in range is in it once
+record IsWhole {K : Type 0} (same : K → K → Bool) (IsIn : K → Type 0) (whole : (K → ℕ) → ℕ) : Type 0 where
+  pub nothing : whole (λ k. 0) ≡ 0
+  pub adds : (f h : K → ℕ) → whole (λ k. f k + h k) ≡ whole f + whole h
+  pub once : (e : K) → IsIn e → whole (λ k. one_if (same k e)) ≡ 1
+  pub itself : (k : K) → same k k ≡ true
+  pub exact : (j k : K) → same j k ≡ true → j ≡ k
+
+module _ {K : Type 0} (same : K → K → Bool) (IsIn : K → Type 0) (whole : (K → ℕ) → ℕ) (w : IsWhole same IsIn whole) where
+  absent : (k : K) (ks : List K) → AllByRecursion (λ j. same k j ≡ false) ks → list_any (same k) ks ≡ false
+  absent k [] h = refl
+  absent k (j ∷ ks) h = (λ i. h.0 i || list_any (same k) ks) ∙ absent k ks h.1
+
+  -- a key in front is one more
+  in_front : (e : K) (ks : List K) → AllByRecursion (λ j. same e j ≡ false) ks → (k : K) → one_if (same k e || list_any (same k) ks) ≡ one_if (same k e) + one_if (list_any (same k) ks)
+  in_front e ks apart k = elim (same k e) as (λ t. same k e ≡ t → one_if (t || list_any (same k) ks) ≡ one_if t + one_if (list_any (same k) ks)) [
+    | false ↦ λ other. omega arith
+    | true ↦ λ is. let none = ap one_if (ap (λ j. list_any (same j) ks) (w.exact k e is) ∙ absent e ks apart) in omega (arith, none)
+  ] refl
+
+  counted : (ks : List K) → IsDistinct same ks → ((k : K) → list_any (same k) ks ≡ true → IsIn k) → whole (λ k. one_if (list_any (same k) ks)) ≡ length ks
+  counted [] d h = w.nothing
+  counted (e ∷ ks) d h =
+      let front : whole (λ k. one_if (same k e || list_any (same k) ks)) ≡ whole (λ k. one_if (same k e) + one_if (list_any (same k) ks)) = λ i. whole (λ k. in_front e ks (IsDistinct-head same e ks d) k i) in
+      let split = w.adds (λ k. one_if (same k e)) (λ k. one_if (list_any (same k) ks)) in
+      let one = w.once e (h e (or_left (same e e) (list_any (same e) ks) (w.itself e))) in
+      let rest = counted ks (IsDistinct-tail same e ks d) (λ k is. h k (or_right (same k e) (list_any (same k) ks) is)) in
+      omega (arith, front, split, one, rest)
+
+-- the keys of the entries are where a look-up finds something
+found : {K X : Type 0} (test : K → Bool) (es : List (K × X)) → is_some (lookup test es) ≡ list_any test (keys_of es)
+found test [] = refl
+found test (e ∷ es) = elim (test e.0) as (λ t. is_some (cond t (Some e.1) (lookup test es)) ≡ (t || list_any test (keys_of es))) [
+  | true ↦ refl
+  | false ↦ found test es
+]
+
+as_many : {K X : Type 0} (es : List (K × X)) → length (keys_of es) ≡ length es
+as_many [] = refl
+as_many (e ∷ es) = let rest = as_many es in omega (arith, rest)
+
+-- ---- the keys of a server
+
+abbrev pub over_volumes : Geometry → (VolumeKey → ℕ) → ℕ
+over_volumes g f = sum_below g.aggregates (λ a. sum_below g.volumes (λ v. f (a, v)))
+
+abbrev pub over_files : Geometry → (FileKey → ℕ) → ℕ
+over_files g f = sum_below g.aggregates (λ a. sum_below g.volumes (λ v. sum_below g.files (λ n. f (a, v, n))))
+
+abbrev pub over_blocks : Geometry → (BlockKey → ℕ) → ℕ
+over_blocks g f = sum_below g.aggregates (λ a. sum_below g.volumes (λ v. sum_below g.files (λ n. sum_below g.blocks (λ b. f (a, v, n, b)))))
+
+abbrev pub IsVolumeIn : Geometry → VolumeKey → Type 0
+IsVolumeIn g k = (k.0 < g.aggregates) × (k.1 < g.volumes)
+
+abbrev pub IsFileIn : Geometry → FileKey → Type 0
+IsFileIn g k = (k.0 < g.aggregates) × (k.1 < g.volumes) × (k.2 < g.files)
+
+abbrev pub IsBlockIn : Geometry → BlockKey → Type 0
+IsBlockIn g k = (k.0 < g.aggregates) × (k.1 < g.volumes) × (k.2 < g.files) × (k.3 < g.blocks)
+
+module _ (g : Geometry) where
+  one_volume : (e : VolumeKey) → IsVolumeIn g e → over_volumes g (λ k. one_if (is_volume k.0 k.1 e)) ≡ 1
+  one_volume e h = sum_same g.aggregates _ _ (λ a. sum_pick g.volumes e.1 h.1 (a == e.0)) ∙ sum_pick g.aggregates e.0 h.0 true
+
+  one_file : (e : FileKey) → IsFileIn g e → over_files g (λ k. one_if (is_file k.0 k.1 k.2 e)) ≡ 1
+  one_file e h = sum_same g.aggregates _ _ (λ a. sum_same g.volumes _ _ (λ v. sum_pick g.files e.2 h.2 ((a == e.0) && (v == e.1)))) ∙ one_volume (e.0, e.1) (h.0, h.1)
+
+  one_block : (e : BlockKey) → IsBlockIn g e → over_blocks g (λ k. one_if (is_block k.0 k.1 k.2 k.3 e)) ≡ 1
+  one_block e h = sum_same g.aggregates _ _ (λ a. sum_same g.volumes _ _ (λ v. sum_same g.files _ _ (λ f. sum_pick g.blocks e.3 h.3 ((a == e.0) && (v == e.1) && (f == e.2))))) ∙ one_file (e.0, e.1, e.2) (h.0, h.1, h.2)
+
+  volumes : IsWhole (eq_by_cmp by_volume) (IsVolumeIn g) (over_volumes g)
+  volumes = record {
+    nothing = sum_same g.aggregates _ _ (λ a. sum_zero g.volumes) ∙ sum_zero g.aggregates;
+    adds = λ f h. sum_same g.aggregates _ _ (λ a. sum_add g.volumes (λ v. f (a, v)) (λ v. h (a, v))) ∙ sum_add g.aggregates _ _;
+    once = λ e h. (λ i. over_volumes g (λ k. one_if (at_volume k.0 k.1 e i))) ∙ one_volume e h;
+    itself = λ k. at_volume k.0 k.1 k ∙ picks_volume k.0 k.1;
+    exact = λ j k e. the_volume j.0 j.1 k (sym (at_volume j.0 j.1 k) ∙ e);
+  }
+
+  files : IsWhole (eq_by_cmp by_file) (IsFileIn g) (over_files g)
+  files = record {
+    nothing = sum_same g.aggregates _ _ (λ a. sum_same g.volumes _ _ (λ v. sum_zero g.files) ∙ sum_zero g.volumes) ∙ sum_zero g.aggregates;
+    adds = λ f h. sum_same g.aggregates _ _ (λ a. sum_same g.volumes _ _ (λ v. sum_add g.files (λ n. f (a, v, n)) (λ n. h (a, v, n))) ∙ sum_add g.volumes _ _) ∙ sum_add g.aggregates _ _;
+    once = λ e h. (λ i. over_files g (λ k. one_if (at_file k.0 k.1 k.2 e i))) ∙ one_file e h;
+    itself = λ k. at_file k.0 k.1 k.2 k ∙ picks_file k.0 k.1 k.2;
+    exact = λ j k e. the_file j.0 j.1 j.2 k (sym (at_file j.0 j.1 j.2 k) ∙ e);
+  }
+
+  blocks : IsWhole (eq_by_cmp by_block) (IsBlockIn g) (over_blocks g)
+  blocks = record {
+    nothing = sum_same g.aggregates _ _ (λ a. sum_same g.volumes _ _ (λ v. sum_same g.files _ _ (λ f. sum_zero g.blocks) ∙ sum_zero g.files) ∙ sum_zero g.volumes) ∙ sum_zero g.aggregates;
+    adds = λ f h. sum_same g.aggregates _ _ (λ a. sum_same g.volumes _ _ (λ v. sum_same g.files _ _ (λ n. sum_add g.blocks (λ b. f (a, v, n, b)) (λ b. h (a, v, n, b))) ∙ sum_add g.files _ _) ∙ sum_add g.volumes _ _) ∙ sum_add g.aggregates _ _;
+    once = λ e h. (λ i. over_blocks g (λ k. one_if (at_block k.0 k.1 k.2 k.3 e i))) ∙ one_block e h;
+    itself = λ k. at_block k.0 k.1 k.2 k.3 k ∙ picks_block k.0 k.1 k.2 k.3;
+    exact = λ j k e. the_block j.0 j.1 j.2 j.3 k (sym (at_block j.0 j.1 j.2 j.3 k) ∙ e);
+  }
+
+  -- a set of volumes, a set of files, and a map of blocks have as many keys as look-ups that find something
+  pub volumes_length : (s : BTreeSet VolumeKey) → set.IsOrdered by_volume s → ((k : VolumeKey) → set.contains by_volume s k ≡ true → IsVolumeIn g k)
+      → over_volumes g (λ k. one_if (set.contains by_volume s k)) ≡ set.btree_set_len s
+  volumes_length s o h = counted (eq_by_cmp by_volume) (IsVolumeIn g) (over_volumes g) volumes s.keys (IsDistinct-from_sorted by_volume s.keys o) h
+
+  pub files_length : (s : BTreeSet FileKey) → set.IsOrdered by_file s → ((k : FileKey) → set.contains by_file s k ≡ true → IsFileIn g k)
+      → over_files g (λ k. one_if (set.contains by_file s k)) ≡ set.btree_set_len s
+  files_length s o h = counted (eq_by_cmp by_file) (IsFileIn g) (over_files g) files s.keys (IsDistinct-from_sorted by_file s.keys o) h
+
+  pub blocks_length : {X : Type 0} (m : BTreeMap BlockKey X) → map.IsOrdered by_block m → ((k : BlockKey) → is_some (map.get by_block m k) ≡ true → IsBlockIn g k)
+      → over_blocks g (λ k. one_if (is_some (map.get by_block m k))) ≡ map.btree_map_len m
+  blocks_length m o h =
+      (λ i. over_blocks g (λ k. one_if (found (is_at (by_block k)) m.entries i)))
+      ∙ counted (eq_by_cmp by_block) (IsBlockIn g) (over_blocks g) blocks (map.keys m) (IsDistinct-from_sorted by_block (map.keys m) o) (λ k e. h k (found (is_at (by_block k)) m.entries ∙ e))
+      ∙ as_many m.entries

@@ -1,0 +1,9 @@
+pub mod ProgressLemmas
+pub mod Keys
+pub mod Sums
+pub mod Counts
+pub mod Writes
+pub mod Rows
+pub mod Kept
+pub mod Lengths
+pub mod Stripes

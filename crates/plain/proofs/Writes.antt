@@ -1,0 +1,52 @@
+-- A block that is put into a file, and what the stripes have after it.
+use Rattle.std.proofs.Common.{◌≡◌, ℕ, ◌+◌, ◌<◌, true, false, Some, refl, ap, sym, ◌∙◌}
+use Rattle.std.specs.Prelude.{None, is_some, if◌then◌else◌}
+use Rattle.affinity.specs.declared.sizes.Geometry.{Geometry}
+use Rattle.affinity.specs.Geometry.{group}
+use Rattle.message.specs.declared.Block.{Block}
+use Rattle.message.specs.declared.Msg.TheVariants.{Write}
+use Rattle.plain.specs.State.{State, BlockKey, one_if, group_count, is_block}
+use Rattle.plain.specs.Serial.{effect}
+use Rattle.plain.specs.Server.{StripeKey, is_stripe, without_block}
+use Rattle.plain.proofs.Keys.{the_block, picks_block}
+use Rattle.plain.proofs.Counts.{same_counts, one_more}
+
+-- what is noted by stripe is what a state has
+abbrev pub AreCounts : Geometry → (StripeKey → ℕ) → State → Type 0
+AreCounts g noted x = (k : StripeKey) → noted k ≡ group_count g x k.0 k.1 k.2
+
+module _ (x : State) (a v f b : ℕ) (content : Block) where
+  abbrev written : State
+  written = effect x (Write a v f b content)
+
+  pub there : is_some (written.blocks (a, v, f, b)) ≡ true
+  there = ap (λ t. is_some (if t then Some content else x.blocks (a, v, f, b))) (picks_block a v f b)
+
+  pub others : (k : BlockKey) → is_block a v f b k ≡ false → is_some (written.blocks k) ≡ is_some (x.blocks k)
+  others k e = ap (λ t. is_some (if t then Some content else x.blocks k)) e
+
+  -- a block in place of another one: there are blocks where there were
+  pub replaced : is_some (x.blocks (a, v, f, b)) ≡ true → (k : BlockKey) → is_some (written.blocks k) ≡ is_some (x.blocks k)
+  replaced was k = elim (is_block a v f b k) as (λ t. is_block a v f b k ≡ t → is_some (if t then Some content else x.blocks k) ≡ is_some (x.blocks k)) [
+    | true ↦ λ is. sym (sym (ap (λ k. is_some (x.blocks k)) (the_block a v f b k is)) ∙ was)
+    | false ↦ λ e. refl
+  ] refl
+
+  -- a new block that is taken out again leaves what was
+  pub taken_back : x.blocks (a, v, f, b) ≡ None → without_block written a v f b ≡ x
+  taken_back none = λ i. record x { blocks = λ k. at k i }
+    where
+      at : (k : BlockKey) → (without_block written a v f b).blocks k ≡ x.blocks k
+      at k = elim (is_block a v f b k) as (λ t. is_block a v f b k ≡ t → (if t then None else if t then Some content else x.blocks k) ≡ x.blocks k) [
+        | true ↦ λ is. sym none ∙ ap x.blocks (the_block a v f b k is)
+        | false ↦ λ e. refl
+      ] refl
+
+  module _ (g : Geometry) (old new : StripeKey → ℕ) (counts : AreCounts g old x) where
+    pub replaced_counts : is_some (x.blocks (a, v, f, b)) ≡ true → ((k : StripeKey) → new k ≡ old k) → AreCounts g new written
+    replaced_counts was same k = same k ∙ counts k ∙ sym (same_counts g x written (replaced was) k.0 k.1 k.2)
+
+    pub added_counts : f < g.files → b < g.blocks → is_some (x.blocks (a, v, f, b)) ≡ false
+        → ((k : StripeKey) → new k ≡ old k + one_if (is_stripe a v (group g f b) k)) → AreCounts g new written
+    added_counts in_files in_blocks absent more k = more k ∙ ap (λ n. n + one_if (is_stripe a v (group g f b) k)) (counts k)
+        ∙ sym (one_more g x written a v f b others in_files in_blocks absent there k)

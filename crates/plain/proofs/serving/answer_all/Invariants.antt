@@ -1,0 +1,11 @@
+use Rattle.message.specs.Reader.{unread, is_drained}
+use Rattle.plain.specs.Server.{state_of, IsSound}
+use Rattle.plain.specs.Waiting.{so_far}
+use Rattle.plain.specs.Progress.{Goes}
+use Rattle.plain.proofs.serving.answer_all.Given as goal
+
+abbrev pub invariant-loop : goal.invariant-loop
+invariant-loop g l = record {
+  sound : IsSound l.g l.server;
+  goes : Goes l.g (unread g.R.Read.remaining l.initial.lines) (unread g.R.Read.remaining l.lines) (is_drained l.lines) (state_of l.server) (so_far (g.W.Write.contents l.initial.w) l.initial.out) (so_far (g.W.Write.contents l.w) l.out);
+}

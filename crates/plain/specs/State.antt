@@ -1,0 +1,94 @@
+-- What a server keeps. A set is its test, and a map its look-up.
+use Rattle.std.specs.Prelude.{◌≡◌, ℕ, zero, suc, ◌+◌, ◌<◌, ◌≤◌, Bool, true, false, not, ◌&&◌, ◌||◌, ◌==◌, length, if◌then◌else◌, Option, Some, None, is_some, IfSome}
+use Rattle.std.specs.List.{AllByRecursion}
+use Rattle.affinity.specs.declared.sizes.Geometry.{Geometry}
+use Rattle.affinity.specs.Geometry.{group}
+use Rattle.message.specs.declared.Block.{Block}
+
+-- ---- sets and maps
+
+abbrev pub Set : Type 0 → Type 0
+Set K = K → Bool
+
+abbrev pub Map : Type 0 → Type 0 → Type 0
+Map K X = K → Option X
+
+-- the set with those, or without those, that the test picks
+abbrev pub adding : {K : Type 0} → (K → Bool) → Set K → Set K
+adding picks s k = picks k || s k
+
+abbrev pub dropping : {K : Type 0} → (K → Bool) → Set K → Set K
+dropping picks s k = not (picks k) && s k
+
+-- the map with this value at the keys that the test picks, or with none there
+abbrev pub setting : {K X : Type 0} → (K → Bool) → X → Map K X → Map K X
+setting picks value m k = if picks k then Some value else m k
+
+abbrev pub clearing : {K X : Type 0} → (K → Bool) → Map K X → Map K X
+clearing picks m k = if picks k then None else m k
+
+-- ---- keys: a volume (a, v), a file (a, v, f), a block (a, v, f, b)
+
+abbrev pub VolumeKey : Type 0
+VolumeKey = ℕ × ℕ
+
+abbrev pub FileKey : Type 0
+FileKey = ℕ × ℕ × ℕ
+
+abbrev pub BlockKey : Type 0
+BlockKey = ℕ × ℕ × ℕ × ℕ
+
+abbrev pub is_volume : ℕ → ℕ → VolumeKey → Bool
+is_volume a v k = (a == k.0) && (v == k.1)
+
+abbrev pub is_file : ℕ → ℕ → ℕ → FileKey → Bool
+is_file a v f k = (a == k.0) && (v == k.1) && (f == k.2)
+
+abbrev pub is_block : ℕ → ℕ → ℕ → ℕ → BlockKey → Bool
+is_block a v f b k = (a == k.0) && (v == k.1) && (f == k.2) && (b == k.3)
+
+-- ---- the state: which volumes are made, which are sealed, which files there are, and the blocks
+
+pub record State : Type 0 where
+  pub made : Set VolumeKey
+  pub sealed : Set VolumeKey
+  pub files : Set FileKey
+  pub blocks : Map BlockKey Block
+
+-- the state in which there is nothing
+abbrev pub empty : State
+empty = record { made = λ k. false; sealed = λ k. false; files = λ k. false; blocks = λ k. None }
+
+-- ---- counts
+
+-- the sum over the numbers below n
+abbrev pub sum_below : ℕ → (ℕ → ℕ) → ℕ
+sum_below zero f = 0
+sum_below (suc n) f = sum_below n f + f n
+
+abbrev pub one_if : Bool → ℕ
+one_if true = 1
+one_if false = 0
+
+-- how many numbers below n pass
+abbrev pub count_below : ℕ → (ℕ → Bool) → ℕ
+count_below n passes = sum_below n (λ i. one_if (passes i))
+
+-- how many blocks of a volume lie in a stripe
+abbrev pub group_count : Geometry → State → ℕ → ℕ → ℕ → ℕ
+group_count g x a v s = sum_below g.files (λ f. count_below g.blocks (λ b. (group g f b == s) && is_some (x.blocks (a, v, f, b))))
+
+-- ---- which states there are
+
+-- 512 bytes
+abbrev pub IsBlock : Block → Type 0
+IsBlock content = (length content.0 ≡ 512) × AllByRecursion (λ b. b < 256) content.0
+
+-- All numbers are in range, only volumes that are made are sealed or have files, only files have blocks, a block is 512 bytes, and no stripe has more blocks than its quota.
+pub record IsState (g : Geometry) (x : State) : Type 0 where
+  pub made : (k : VolumeKey) → x.made k ≡ true → (k.0 < g.aggregates) × (k.1 < g.volumes)
+  pub sealed : (k : VolumeKey) → x.sealed k ≡ true → x.made k ≡ true
+  pub files : (k : FileKey) → x.files k ≡ true → (k.2 < g.files) × (x.made (k.0, k.1) ≡ true)
+  pub blocks : (k : BlockKey) → is_some (x.blocks k) ≡ true → (k.3 < g.blocks) × (x.files (k.0, k.1, k.2) ≡ true)
+  pub content : (k : BlockKey) → IfSome (x.blocks k) IsBlock
+  pub quota : (a v s : ℕ) → group_count g x a v s ≤ g.quota

@@ -1,0 +1,63 @@
+ghost use Rattle.std.specs.Prelude.{◌≡◌, IfOk, OnOk, OnErr};
+ghost use Rattle.affinity.specs.declared.sizes.Geometry.{Geometry};
+ghost use Rattle.plain.specs.State.{empty};
+ghost use Rattle.plain.specs.Serial.{reply_to, after};
+ghost use Rattle.plain.specs.Server.{state_of, IsSound};
+
+use affinity::Geometry;
+use message::{Block, Msg, Reply};
+use std::alloc::{AllocError, Global};
+use std::collections::{BTreeMap, BTreeSet};
+
+mod effects;
+mod lookups;
+mod refusals;
+mod replies;
+
+/// The state of a serial server.
+#[derive(Drop)]
+pub(crate) struct Server {
+    /// The volumes that are made.
+    made: BTreeSet<(u16, u16)>,
+
+    /// The files that there are, by volume.
+    files: BTreeSet<(u16, u16, u16)>,
+
+    /// The blocks, by file.
+    blocks: BTreeMap<(u16, u16, u16, u16), Block>,
+
+    /// How many blocks each stripe of a volume has, so that no write counts them. A stripe that
+    /// isn't named here has none.
+    used: BTreeMap<(u16, u16, u16), u16>,
+}
+
+impl Server {
+    /// A server in which there is nothing.
+    pub(crate) fn new(alloc: Global) -> Server
+        ensures empty { state_of result ≡ empty }
+        ensures sound { (g : Geometry) → IsSound g result }
+    {
+        Server {
+            made: BTreeSet::new(alloc),
+            files: BTreeSet::new(alloc),
+            blocks: BTreeMap::new(alloc),
+            used: BTreeMap::new(alloc),
+        }
+    }
+
+    /// Carries out one message and gives its reply. Where there is no memory, nothing changes.
+    pub(crate) fn answer(&mut self, g: &Geometry, m: &Msg) -> Result<Reply, AllocError>
+        requires sound { IsSound g.now self.old }
+        ensures reply { IfOk result (λ reply. reply ≡ reply_to g.now (state_of self.old) m.now) }
+        ensures state { OnOk result (state_of self.new ≡ after g.now (state_of self.old) m.now) }
+        ensures unchanged { OnErr result (state_of self.new ≡ state_of self.old) }
+        ensures sound { IsSound g.now self.new }
+    {
+        if let Some(why) = self.refusal(g, m) {
+            return Ok(Reply::Refused(why));
+        }
+        let reply = self.reply(m);
+        self.apply(g, m)?;
+        Ok(reply)
+    }
+}

@@ -1,0 +1,37 @@
+ghost use Rattle.std.specs.Prelude.{◌≡◌, is_some};
+ghost use Rattle.plain.specs.Server.{state_of, noted};
+
+use super::Server;
+
+impl Server {
+    /// Whether a volume is made.
+    pub(super) fn has_volume(&self, a: u16, v: u16) -> bool
+        ensures { result ≡ (state_of self.now).made (a, v) }
+    {
+        self.made.contains(&(a, v))
+    }
+
+    /// Whether there is a file.
+    pub(super) fn has_file(&self, a: u16, v: u16, f: u16) -> bool
+        ensures { result ≡ (state_of self.now).files (a, v, f) }
+    {
+        self.files.contains(&(a, v, f))
+    }
+
+    /// Whether there is a block.
+    pub(super) fn has_block(&self, a: u16, v: u16, f: u16, b: u16) -> bool
+        ensures { result ≡ is_some ((state_of self.now).blocks (a, v, f, b)) }
+    {
+        self.blocks.contains_key(&(a, v, f, b))
+    }
+
+    /// How many blocks a stripe of a volume has.
+    pub(super) fn blocks_in(&self, a: u16, v: u16, s: u16) -> u16
+        ensures { result ≡ noted self.now (a, v, s) }
+    {
+        match self.used.get(&(a, v, s)) {
+            Some(count) => *count,
+            None => 0,
+        }
+    }
+}

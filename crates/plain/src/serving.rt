@@ -1,0 +1,166 @@
+ghost use Rattle.std.specs.Prelude.{◌≡◌, ℕ, List, [], Option, false, IfOk, OnOk, IsErrOf, MatchBool};
+ghost use Rattle.std.specs.Io.KnownBytes.{Appends};
+ghost use Rattle.message.specs.Grammar.{message_of};
+ghost use Rattle.message.specs.Reader.{unread, is_drained};
+ghost use Rattle.plain.specs.State.{empty};
+ghost use Rattle.plain.specs.Server.{state_of, IsSound};
+ghost use Rattle.plain.specs.Waiting.{so_far};
+ghost use Rattle.plain.specs.Progress.{Goes};
+ghost use Rattle.plain.specs.Output.{serial_out, answer_line, after_line, AnswersWholeLines, IsBeginning, Writes};
+
+use crate::output::{Output, PIECE, zeros};
+use crate::server::Server;
+use affinity::Geometry;
+use message::{Found, LONGEST_REPLY, LineReader, no_message_line, parse_line, write_reply};
+use std::alloc::Global;
+use std::io::{Read, Write};
+
+/// Why the serial server ended before the end of its input.
+#[derive(Clone, Copy, Debug, PartialEq, Eq)]
+pub enum PlainFault {
+    /// The input could not be read.
+    Read,
+    /// The output could not be written. What was written of it is open.
+    Write,
+    /// There was no memory.
+    OutOfMemory,
+}
+
+/// Answers one line.
+fn answer_one<W: Write>(
+    g: &Geometry,
+    line: &[u8],
+    server: &mut Server,
+    out: &mut Output,
+    w: &mut W,
+) -> Result<(), PlainFault>
+    requires { IsSound g.now server.old }
+    ensures sound { IsSound g.now server.new }
+    ensures state { OnOk result (state_of server.new
+        ≡ after_line g.now (state_of server.old) (message_of line.now)) }
+    ensures added { OnOk result (Appends (so_far (W.contents w.old) out.old)
+        (so_far (W.contents w.new) out.new)
+        (answer_line g.now (state_of server.old) (message_of line.now))) }
+    ensures out_of_memory { IsErrOf result PlainFault.OutOfMemory →
+        Appends (so_far (W.contents w.old) out.old) (so_far (W.contents w.new) out.new) [] }
+    ensures no_read { IsErrOf result PlainFault.Read → ⊥ }
+{
+    let Some(m) = parse_line(line) else {
+        return out.add(no_message_line(), w);
+    };
+    let Ok(reply) = server.answer(g, &m) else {
+        return Err(PlainFault::OutOfMemory);
+    };
+    let mut text = [0; LONGEST_REPLY];
+    let len = write_reply(&reply, &mut text);
+    out.add(&text[..len], w)
+}
+
+/// Answers the next line, unless the input has ended: whether it has not.
+fn answer_next<R: Read + Drop, W: Write>(
+    g: &Geometry,
+    lines: &mut LineReader<R>,
+    server: &mut Server,
+    out: &mut Output,
+    w: &mut W,
+) -> Result<bool, PlainFault>
+    requires { IsSound g.now server.old }
+    ensures sound { IsSound g.now server.new }
+    ensures goes { (input start : Option (List ℕ)) → Goes g.now input (unread R.remaining lines.old)
+        (is_drained lines.old) (state_of server.old) start (so_far (W.contents w.old) out.old) →
+        IfOk result (λ more. MatchBool more
+        (Goes g.now input (unread R.remaining lines.new) (is_drained lines.new)
+        (state_of server.new) start (so_far (W.contents w.new) out.new))
+        (Writes input start (so_far (W.contents w.new) out.new)
+        (λ bytes written. written ≡ serial_out g.now empty bytes))) }
+    ensures read { (input start : Option (List ℕ)) → Goes g.now input (unread R.remaining lines.old)
+        (is_drained lines.old) (state_of server.old) start (so_far (W.contents w.old) out.old) →
+        IsErrOf result PlainFault.Read → Writes input start (so_far (W.contents w.new) out.new)
+        (AnswersWholeLines g.now) }
+    ensures out_of_memory { (input start : Option (List ℕ)) → Goes g.now input (unread R.remaining lines.old)
+        (is_drained lines.old) (state_of server.old) start (so_far (W.contents w.old) out.old) →
+        IsErrOf result PlainFault.OutOfMemory → Writes input start (so_far (W.contents w.new) out.new)
+        (IsBeginning g.now) }
+{
+    if lines.is_drained() {
+        return Ok(false);
+    }
+    out.send_unless(lines.holds_line(), w)?;
+    match lines.next_line() {
+        Ok(Found::Line) => {
+            answer_one(g, lines.line(), server, out, w)?;
+            Ok(true)
+        }
+        Ok(Found::TooLong) => {
+            out.add(no_message_line(), w)?;
+            Ok(true)
+        }
+        Ok(Found::End) => Ok(false),
+        Err(_) => Err(PlainFault::Read),
+    }
+}
+
+/// Answers each line that is left, and leaves the last answers waiting.
+fn answer_all<R: Read + Drop, W: Write>(
+    g: &Geometry,
+    lines: &mut LineReader<R>,
+    server: &mut Server,
+    out: &mut Output,
+    w: &mut W,
+) -> Result<(), PlainFault>
+    requires sound { IsSound g.now server.old }
+    requires fresh { state_of server.old ≡ empty }
+    requires begun { is_drained lines.old ≡ false }
+    ensures ok { OnOk result (Writes (unread R.remaining lines.old)
+        (so_far (W.contents w.old) out.old) (so_far (W.contents w.new) out.new)
+        (λ input written. written ≡ serial_out g.now empty input)) }
+    ensures read { IsErrOf result PlainFault.Read → Writes (unread R.remaining lines.old)
+        (so_far (W.contents w.old) out.old) (so_far (W.contents w.new) out.new)
+        (AnswersWholeLines g.now) }
+    ensures out_of_memory { IsErrOf result PlainFault.OutOfMemory → Writes (unread R.remaining lines.old)
+        (so_far (W.contents w.old) out.old) (so_far (W.contents w.new) out.new)
+        (IsBeginning g.now) }
+{
+    for _ in 0..u64::MAX {
+        if !answer_next(g, lines, server, out, w)? {
+            return Ok(());
+        }
+    }
+    if lines.is_drained() {
+        return Ok(());
+    }
+    Err(PlainFault::Read)
+}
+
+/// Answers each line of the input with one line of the output, from the empty state on, until the
+/// input ends. What was answered is written before a read that may wait.
+///
+/// For want of memory and after a failed read, what was answered before is still written.
+pub fn serve_plain<R: Read + Drop, W: Write>(
+    alloc: Global,
+    g: &Geometry,
+    r: R,
+    w: &mut W,
+) -> Result<(), PlainFault>
+    ensures ok { OnOk result (Writes (R.remaining r) (W.contents w.old) (W.contents w.new)
+        (λ input written. written ≡ serial_out g.now empty input)) }
+    ensures read { IsErrOf result PlainFault.Read → Writes (R.remaining r) (W.contents w.old)
+        (W.contents w.new) (AnswersWholeLines g.now) }
+    ensures out_of_memory { IsErrOf result PlainFault.OutOfMemory → Writes (R.remaining r)
+        (W.contents w.old) (W.contents w.new) (IsBeginning g.now) }
+{
+    let Ok(buffer) = zeros(alloc, PIECE) else {
+        return Err(PlainFault::OutOfMemory);
+    };
+    let Ok(mut out) = Output::new(alloc) else {
+        return Err(PlainFault::OutOfMemory);
+    };
+    let mut lines = LineReader::new(r, buffer);
+    let mut server = Server::new(alloc);
+    let answered = answer_all(g, &mut lines, &mut server, &mut out, w);
+    out.send(w)?;
+    answered
+}
+
+#[cfg(test)]
+mod tests;

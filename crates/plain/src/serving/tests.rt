@@ -1,0 +1,118 @@
+use super::{PlainFault, serve_plain};
+use affinity::Geometry;
+use std::alloc::{AllocError, Global};
+use std::io;
+use std::io::{ErrorKind, Read, Write};
+use std::test::Fail;
+
+/// One volume of two files of four blocks, in two stripes that hold two blocks each.
+const SMALL: [u16; 8] = [1, 1, 2, 1, 2, 4, 2, 4];
+
+/// Gives one byte a read, and fails where the bytes end.
+#[derive(Drop)]
+struct Failing<'a>(&'a [u8]);
+
+impl<'a> Read for Failing<'a> {
+    fn read(&mut self, buf: &mut [u8]) -> io::Result<usize> {
+        let Some((first, others)) = self.0.split_first() else {
+            return Err(io::Error::from(ErrorKind::Other));
+        };
+        let Some(place) = buf.first_mut() else {
+            return Ok(0);
+        };
+        *place = *first;
+        self.0 = others;
+        Ok(1)
+    }
+}
+
+/// Takes nothing.
+#[derive(Drop)]
+struct Full;
+
+impl Write for Full {
+    fn write(&mut self, _buf: &[u8]) -> io::Result<usize> {
+        Err(io::Error::from(ErrorKind::Other))
+    }
+
+    fn flush(&mut self) -> io::Result<()> {
+        Ok(())
+    }
+}
+
+/// What is written for an input at the small geometry, and how it ends.
+fn served<R: Read + Drop>(
+    alloc: Global,
+    input: R,
+) -> Result<(Vec<u8>, Result<(), PlainFault>), AllocError> {
+    let mut output = Vec::new(alloc);
+    let Ok(geometry) = Geometry::new(SMALL) else {
+        return Ok((output, Err(PlainFault::OutOfMemory)));
+    };
+    let end = serve_plain(alloc, &geometry, input, &mut output);
+    Ok((output, end))
+}
+
+const FULL_STRIPE: &[u8] = b"makevol 0 0
+create 0 0 0
+create 0 0 1
+write 0 0 0 0 61
+write 0 0 0 2 62
+write 0 0 1 1 61
+write 0 0 1 0 61
+write 0 0 0 2 63
+read 0 0 0 2
+no message
+";
+
+const FULL_STRIPE_REPLIES: &[u8] = b"done
+done
+done
+done
+done
+error space
+done
+done
+block 63
+error line
+";
+
+#[test]
+fn a_stripe_is_full_where_its_quota_is_used(rt: HostRuntime) -> Result<(), Fail> {
+    let (output, end) = served(rt.alloc(), FULL_STRIPE)?;
+    assert_eq!(rt; end, Ok(()));
+    assert_eq!(rt; output.as_slice(), FULL_STRIPE_REPLIES);
+    Ok(())
+}
+
+#[test]
+fn whole_lines_are_answered_before_a_failed_read(rt: HostRuntime) -> Result<(), Fail> {
+    let rows: [(&[u8], &[u8]); 4] = [
+        (b"", b""),
+        (b"makevol 0 0", b""),
+        (b"makevol 0 0\n", b"done\n"),
+        (
+            b"makevol 0 0\nmakevol 0 0\ncreate 0 ",
+            b"done\nerror exists\n",
+        ),
+    ];
+    for (input, replies) in rows {
+        let (output, end) = served(rt.alloc(), Failing(input))?;
+        assert_eq!(rt; end, Err(PlainFault::Read));
+        assert_eq!(rt; output.as_slice(), replies);
+    }
+    Ok(())
+}
+
+#[test]
+fn a_failed_write_is_told(rt: HostRuntime) -> Result<(), Fail> {
+    let geometry = Geometry::new(SMALL)?;
+    let end = serve_plain(
+        rt.alloc(),
+        &geometry,
+        b"makevol 0 0\n".as_slice(),
+        &mut Full,
+    );
+    assert_eq!(rt; end, Err(PlainFault::Write));
+    Ok(())
+}

@@ -1,0 +1,76 @@
+-- How a command ends where it serves nothing, and that words which are wrong ask for nothing.
+use Rattle.std.proofs.Common.{◌≡◌, ◌∙◌, ◌&&◌, refl, sym, subst, inl, inr, ℕ, Bool, List, [], ◌∷◌, true, false, Option, Some, None, append-nil}
+use Rattle.std.specs.Prelude.{Err, Result}
+use Rattle.std.specs.List.{list_all}
+use Rattle.std.specs.Io.KnownBytes.{Appends}
+use Rattle.affinity.specs.declared.sizes.Geometry.{Geometry}
+use Rattle.affinity.specs.Limits.{AreInRange}
+use Rattle.clap.specs.Words.{IsAmong, Kinds, Text, kind_of}
+use Rattle.clap.specs.declared.error.kind.ErrorKind.{ErrorKind}
+use Rattle.plain.specs.Output.{Writes, IsBeginning}
+use Rattle.waffd.proofs.Options.{in_range, same_geometry}
+use Rattle.waffd.specs.Ends.{Ends, EndsPlain, status_at}
+use Rattle.waffd.specs.Faults.{status_of}
+use Rattle.waffd.specs.Words.{Asks, AsksPlain, IsReason, IsRefused, is_mistake}
+use Rattle.waffd.specs.declared.faults.Fault.{Fault}
+use Rattle.waffd.specs.declared.faults.Fault.TheVariants.{Read, Write, GeometryOutOfRange, OutOfMemory}
+use Rattle.waffd.specs.declared.words.Refusal.TheVariants.{Fault as by_fault, Words as by_words}
+use Rattle.clap.specs.declared.error.Error.{Error}
+use Rattle.waffd.specs.declared.words.Request.{Request}
+use Rattle.waffd.specs.declared.words.Request.TheVariants.{Help, Plain}
+
+-- ---- words that are wrong
+
+both : (a b : Bool) → (a && b) ≡ true → (a ≡ true) × (b ≡ true)
+both true b h = (refl, h)
+both false b h = cc
+
+mistake_among : (kinds : Kinds) (k : ErrorKind) → list_all is_mistake kinds ≡ true → IsAmong k kinds → is_mistake k ≡ true
+mistake_among [] k all among = absurd among
+mistake_among (x ∷ xs) k all among = elim among [
+  | inl is ↦ rw is (both (is_mistake x) (list_all is_mistake xs) all).0
+  | inr later ↦ mistake_among xs k (both (is_mistake x) (list_all is_mistake xs) all).1 later
+]
+
+pub ask_for_nothing : (words : List Text) (request : Request) → Asks words request → IsRefused words → ⊥
+ask_for_nothing words (Plain g) asks (inl wrong) = wrong.0 asks.0
+ask_for_nothing words (Plain g) asks (inr out_of_range) = out_of_range.1 (subst AreInRange asks.1 (in_range g))
+ask_for_nothing words (Help text) asks (inl wrong) =
+    let bad : true ≡ false = sym (mistake_among _ (kind_of text) wrong.1 asks.0) ∙ asks.1 in
+    cc
+ask_for_nothing words (Help text) asks (inr out_of_range) = subst (IsAmong (kind_of text)) out_of_range.0 asks.0
+
+-- ---- a fault has a status of its own
+
+pub is_told : (fault : Fault) → status_of fault ≡ 0 → ⊥
+is_told Read none = cc
+is_told Write none = cc
+is_told GeometryOutOfRange none = cc
+is_told OutOfMemory none = cc
+
+-- ---- want of memory while the words are read
+
+appends_nothing : (old : Option (List ℕ)) → Appends old old []
+appends_nothing None = tt
+appends_nothing (Some xs) = sym (append-nil xs)
+
+nothing_written : (g : Geometry) (input old : Option (List ℕ)) → Writes input old old (IsBeginning g)
+nothing_written g None old = tt
+nothing_written g (Some bytes) old = ([], appends_nothing old, (0, refl))
+
+pub served_nothing : (words : List Text) (g : Geometry) (fault : Fault) (input old : Option (List ℕ)) → AsksPlain words g → IsReason words (by_fault fault)
+    → EndsPlain g (status_of fault) input old old
+served_nothing words g OutOfMemory input old asks reason = (Err OutOfMemory, refl, nothing_written g input old)
+served_nothing words g GeometryOutOfRange input old asks reason = absurd (reason.1 (subst AreInRange asks.1 (in_range g)))
+served_nothing words g fault input old asks reason = absurd reason
+
+-- ---- what the words ask for is served
+
+pub served : (words : List Text) (request : Request) (g : Geometry) (end : Result (Unit {0}) Fault) (input old new : Option (List ℕ)) → Asks words request → AsksPlain words g
+    → Ends request end input old new → EndsPlain g (status_at end) input old new
+served words (Plain h) g end input old new given asks ends =
+    (end, refl, subst (λ k. Ends (Plain k) end input old new) (same_geometry h g (given.1 ∙ sym asks.1)) ends)
+served words (Help text) g end input old new given asks ends = absurd (subst (IsAmong (kind_of text)) asks.0 given.0)
+
+pub no_mistake : (words : List Text) (g : Geometry) (error : Error) → AsksPlain words g → IsReason words (by_words error) → ⊥
+no_mistake words g error asks reason = subst (IsAmong (kind_of error)) asks.0 reason.0

@@ -1,0 +1,57 @@
+use Rattle.std.proofs.Common.{map, string_bytes, subst, Ok, Err}
+use Rattle.waffd.proofs.Ending.{ask_for_nothing, is_told, no_mistake, served, served_nothing}
+use Rattle.waffd.proofs.Rows.{asks_alone}
+use Rattle.affinity.specs.Geometry.{standard}
+use Rattle.waffd.specs.Words.{IsReason}
+use Rattle.waffd.specs.declared.words.Refusal.{Refusal}
+use Rattle.waffd.proofs.command.command.Goals as goal
+
+pub returns-in-Err-Fault-clause-served : goal.returns-in-Err-Fault-clause-served
+returns-in-Err-Fault-clause-served g c = λ geometry asks.
+    let words = map string_bytes c.args.words.now in
+    let P : Refusal → Type 0 = λ refusal. IsReason words refusal in
+    let reason = subst P c.in-Err-Fault.field-0-is c.in-Err-Fault.ensures.err in
+    rw (c.report.ensures, c.in-Err-Fault.fault-is) (served_nothing words geometry c.in-Err-Fault.fault (g.R.Read.remaining c.args.r.now) (g.W.Write.contents c.args.w.now) asks reason)
+
+pub returns-in-Ok-run-clause-served : goal.returns-in-Ok-run-clause-served
+returns-in-Ok-run-clause-served g c = λ geometry asks.
+    let words = map string_bytes c.args.words.now in
+    served words c.in-Ok.request geometry (Ok c.in-Ok-run.field-0) (g.R.Read.remaining c.args.r.now) (g.W.Write.contents c.args.w.now) (g.W.Write.contents c.run.new.w) c.in-Ok.ensures.ok asks c.in-Ok-run.ensures
+
+pub returns-in-Err-clause-served : goal.returns-in-Err-clause-served
+returns-in-Err-clause-served g c = λ geometry asks.
+    let words = map string_bytes c.args.words.now in
+    rw c.report-in-Err.ensures
+    (served words c.in-Ok.request geometry (Err c.in-Err.fault) (g.R.Read.remaining c.args.r.now) (g.W.Write.contents c.args.w.now) (g.W.Write.contents c.run.new.w) c.in-Ok.ensures.ok asks c.in-Err.ensures)
+
+pub returns-in-Ok-run-clause-refused : goal.returns-in-Ok-run-clause-refused
+returns-in-Ok-run-clause-refused g c = λ wrong. absurd (ask_for_nothing (map string_bytes c.args.words.now) c.in-Ok.request c.in-Ok.ensures.ok wrong)
+
+pub returns-in-Err-clause-refused : goal.returns-in-Err-clause-refused
+returns-in-Err-clause-refused g c = λ wrong. absurd (ask_for_nothing (map string_bytes c.args.words.now) c.in-Ok.request c.in-Ok.ensures.ok wrong)
+
+-- the word `plain` alone asks for the standard geometry
+
+pub returns-in-Err-Fault-clause-plain : goal.returns-in-Err-Fault-clause-plain
+returns-in-Err-Fault-clause-plain g c = λ program are. returns-in-Err-Fault-clause-served g c standard (asks_alone (map string_bytes c.args.words.now) program are)
+
+pub returns-in-Ok-run-clause-plain : goal.returns-in-Ok-run-clause-plain
+returns-in-Ok-run-clause-plain g c = λ program are. returns-in-Ok-run-clause-served g c standard (asks_alone (map string_bytes c.args.words.now) program are)
+
+pub returns-in-Err-clause-plain : goal.returns-in-Err-clause-plain
+returns-in-Err-clause-plain g c = λ program are. returns-in-Err-clause-served g c standard (asks_alone (map string_bytes c.args.words.now) program are)
+
+pub returns-in-Err-Words-clause-plain : goal.returns-in-Err-Words-clause-plain
+returns-in-Err-Words-clause-plain g c = λ program are.
+    let words = map string_bytes c.args.words.now in
+    let P : Refusal → Type 0 = λ refusal. IsReason words refusal in
+    let reason = subst P c.in-Err-Words.field-0-is c.in-Err-Words.ensures.err in
+    absurd (no_mistake words standard c.in-Err-Words.error (asks_alone words program are) reason)
+
+-- a fault has a status of its own
+
+pub returns-in-Err-Fault-clause-quiet : goal.returns-in-Err-Fault-clause-quiet
+returns-in-Err-Fault-clause-quiet g c = λ none. absurd (is_told c.in-Err-Fault.fault (rw (c.report.ensures, c.in-Err-Fault.fault-is) at none))
+
+pub returns-in-Err-clause-quiet : goal.returns-in-Err-clause-quiet
+returns-in-Err-clause-quiet g c = λ none. absurd (is_told c.in-Err.fault (rw c.report-in-Err.ensures at none))

@@ -1,0 +1,138 @@
+-- What the words of a call ask for. `clap` reads them, by its rules for the commands and options that stand here.
+use Rattle.std.specs.Prelude.{◌≡◌, ◌≢◌, ◌&&◌, ◌⊎◌, ℕ, Bool, true, false, List, [], ◌∷◌, fold, length, Option, Some, None, option_and_then, unwrap_or, Result, Ok, Err, codes, if◌then◌else◌, nat_lt, pos}
+use Rattle.std.specs.Char.{digit_value}
+use Rattle.std.specs.List.{list_all}
+use Rattle.std.specs.Str.Parse.{digits_value, without_leading_plus}
+use Rattle.affinity.specs.declared.sizes.Geometry.{Geometry}
+use Rattle.affinity.specs.Geometry.{numbers_of, standard}
+use Rattle.affinity.specs.Limits.{AreInRange}
+use Rattle.clap.specs.Words.{AddsSubcommand, App, Kinds, IsAmong, Row, Rule, Shape, Text, app_of, fault_of, kind_of, new_app, new_rule, subcommand_of, with_rule, with_subcommand}
+use Rattle.clap.specs.Simple.{on_top}
+use Rattle.clap.specs.Walk.{one_of}
+use Rattle.clap.specs.declared.builder.value_parser.ValueParser.TheVariants.{Signed}
+use Rattle.clap.specs.declared.builder.command.Command.{Command}
+use Rattle.clap.specs.declared.error.Error.{Error}
+use Rattle.clap.specs.declared.error.kind.ErrorKind.{ErrorKind}
+use Rattle.clap.specs.declared.error.kind.ErrorKind.TheVariants.{DisplayHelp, DisplayVersion}
+use Rattle.clap.specs.declared.error.kind.ErrorKind.TheVariants as kind
+use Rattle.waffd.specs.declared.faults.Fault.TheVariants.{GeometryOutOfRange, OutOfMemory}
+use Rattle.waffd.specs.declared.words.Request.{Request}
+use Rattle.waffd.specs.declared.words.Request.TheVariants.{Help, Plain}
+use Rattle.waffd.specs.declared.words.Refusal.{Refusal}
+use Rattle.waffd.specs.declared.words.Refusal.TheVariants.{Words, Fault}
+
+-- ---- the commands
+
+-- the options of a geometry, in the order of its numbers
+abbrev pub names : List Text
+names = codes "aggregates" ∷ codes "volumes" ∷ codes "stripes" ∷ codes "width" ∷ codes "files" ∷ codes "blocks" ∷ codes "quota" ∷ codes "half" ∷ []
+
+-- an option with one value, a number from 0 to 65535
+abbrev pub number_rule : Text → Rule
+number_rule name = record (new_rule name) { long = Some name; value_names = 1; parser = Some (Signed (pos 0) (pos 65535)) }
+
+abbrev pub with_numbers : App → App
+with_numbers a = fold (λ b name. with_rule b (number_rule name)) a names
+
+-- the command `plain`
+abbrev pub plain : App
+plain = with_numbers (new_app (codes "plain"))
+
+-- the program: one of its commands has to be given
+abbrev pub waffd : App
+waffd = with_subcommand (on_top (λ s. record s { subcommand_required = true; arg_required_else_help = true }) (new_app (codes "waffd"))) plain.top
+
+-- Wherever the command is added to another one, that one gets this subcommand.
+abbrev pub IsSubcommand : Shape → Command → Type 0
+IsSubcommand shape c = (old new : Command) → AddsSubcommand old c new → app_of new ≡ with_subcommand (app_of old) shape
+
+-- ---- what the words say
+
+-- the number that decimal digits write, below 2^16
+abbrev pub number_of : Text → Option ℕ
+number_of text =
+    let digits = without_leading_plus text in
+    if nat_lt 0 (length digits) && list_all (λ d. nat_lt (digit_value d) 10) digits && nat_lt (digits_value 10 digits) 65536 then Some (digits_value 10 digits) else None
+
+-- the number of an option among those that were given, or the standard one
+abbrev pub number_in : List Row → Text → ℕ → ℕ
+number_in rows name default = unwrap_or (option_and_then number_of (one_of name rows)) default
+
+-- the eight numbers
+abbrev pub numbers_in : List Row → List ℕ
+numbers_in rows =
+    number_in rows (codes "aggregates") standard.aggregates
+    ∷ number_in rows (codes "volumes") standard.volumes
+    ∷ number_in rows (codes "stripes") standard.stripes
+    ∷ number_in rows (codes "width") standard.width
+    ∷ number_in rows (codes "files") standard.files
+    ∷ number_in rows (codes "blocks") standard.blocks
+    ∷ number_in rows (codes "quota") standard.quota
+    ∷ number_in rows (codes "half") standard.half
+    ∷ []
+
+-- what `clap` may find in the words, the program's own name first: nothing, a call for help, or mistakes
+abbrev pub findings : List Text → Kinds
+findings words = fault_of waffd words
+
+-- whether the text that tells of it goes to the standard error: it does, but for help and the version
+abbrev pub is_mistake : ErrorKind → Bool
+is_mistake DisplayHelp = false
+is_mistake DisplayVersion = false
+is_mistake _ = true
+
+-- the numbers that the options of the command give
+abbrev pub numbers_at : Option (Text × List Row) → List ℕ
+numbers_at None = numbers_of standard
+numbers_at (Some command) = numbers_in command.1
+
+-- The request, or its refusal, by the options of the command.
+abbrev pub IsRequested : Option (Text × List Row) → Result Request Refusal → Type 0
+IsRequested command (Ok (Plain g)) = numbers_of g ≡ numbers_at command
+IsRequested command (Err (Fault GeometryOutOfRange)) = ¬ (AreInRange (numbers_at command))
+IsRequested command _ = ⊥
+
+-- The words ask for service without a device at this geometry.
+abbrev pub AsksPlain : List Text → Geometry → Type 0
+AsksPlain words g = (findings words ≡ []) × (numbers_of g ≡ numbers_at (subcommand_of waffd words))
+
+-- The words ask for it at numbers that are no geometry.
+abbrev pub AsksOutOfRange : List Text → Type 0
+AsksOutOfRange words = (findings words ≡ []) × (¬ (AreInRange (numbers_at (subcommand_of waffd words))))
+
+-- The words ask for help.
+abbrev pub AsksHelp : List Text → Type 0
+AsksHelp words = findings words ≡ DisplayHelp ∷ []
+
+-- There are mistakes in the words, and they ask for no help.
+abbrev pub IsWrong : List Text → Type 0
+IsWrong words = (findings words ≢ []) × (list_all is_mistake (findings words) ≡ true)
+
+-- The words are refused.
+abbrev pub IsRefused : List Text → Type 0
+IsRefused words = IsWrong words ⊎ AsksOutOfRange words
+
+-- The words ask for this.
+abbrev pub Asks : List Text → Request → Type 0
+Asks words (Help text) = IsAmong (kind_of text) (findings words) × (is_mistake (kind_of text) ≡ false)
+Asks words (Plain g) = AsksPlain words g
+
+-- The words give no request for this reason. Memory may be wanting at any words.
+abbrev pub IsReason : List Text → Refusal → Type 0
+IsReason words (Words error) = IsAmong (kind_of error) (findings words) × (is_mistake (kind_of error) ≡ true)
+IsReason words (Fault OutOfMemory) = Unit {0}
+IsReason words (Fault GeometryOutOfRange) = AsksOutOfRange words
+IsReason words (Fault _) = ⊥
+
+abbrev pub no_memory : Refusal
+no_memory = Fault OutOfMemory
+
+-- what an error of `clap` stands for, by its kind
+abbrev pub answer_by : Error → ErrorKind → Result Request Refusal
+answer_by error kind.OutOfMemory = Err no_memory
+answer_by error DisplayHelp = Ok (Help error)
+answer_by error DisplayVersion = Ok (Help error)
+answer_by error _ = Err (Words error)
+
+abbrev pub answer_of : Error → Result Request Refusal
+answer_of error = answer_by error (kind_of error)

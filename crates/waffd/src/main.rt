@@ -1,0 +1,33 @@
+//! `waffd`: a server for messages about files of 512-byte blocks, as a program.
+#![tactic(auto)]
+
+mod command;
+mod faults;
+#[cfg(test)]
+mod tests;
+mod words;
+
+use command::{command, report};
+use faults::Fault;
+use std::process::ExitCode;
+use std::{env, io};
+
+/// The words that the program was called with, its own name first.
+fn called_with(rt: &HostRuntime) -> io::Result<Vec<String>> {
+    let words = env::args(rt)?.collect(rt.alloc())?;
+    Ok(words)
+}
+
+fn main(rt: HostRuntime) -> ExitCode {
+    let status = match called_with(&rt) {
+        Ok(words) => command(
+            rt.alloc(),
+            words.as_slice(),
+            &mut rt.stdin(),
+            &mut rt.stdout(),
+            &mut rt.stderr(),
+        ),
+        Err(_) => report(Fault::OutOfMemory, &mut rt.stderr()),
+    };
+    ExitCode::from(status)
+}

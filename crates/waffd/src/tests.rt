@@ -1,0 +1,226 @@
+//! Calls of the program over memory: which words it takes, what it prints of them, and where.
+mod serving;
+
+use crate::command::command;
+use std::alloc::{AllocError, Global};
+use std::io;
+use std::io::{Read, Write};
+use std::test::Fail;
+
+/// How a call ended: its status, what it printed, and what it printed of faults.
+#[derive(Drop)]
+struct Ended {
+    status: u8,
+    output: Vec<u8>,
+    faults: Vec<u8>,
+}
+
+/// A writer that takes nothing.
+#[derive(Drop)]
+struct Closed;
+
+impl Write for Closed {
+    fn write(&mut self, _buf: &[u8]) -> io::Result<usize> {
+        Err(io::Error::from(io::ErrorKind::BrokenPipe))
+    }
+
+    fn flush(&mut self) -> io::Result<()> {
+        Err(io::Error::from(io::ErrorKind::BrokenPipe))
+    }
+}
+
+fn owned(alloc: Global, words: &[&str]) -> Result<Vec<String>, AllocError> {
+    let mut all = Vec::new(alloc);
+    for word in words {
+        all.push(String::from_str(alloc, word)?)?;
+    }
+    Ok(all)
+}
+
+/// A call with these words on this input.
+fn call<R: Read>(alloc: Global, words: &[&str], mut input: R) -> Result<Ended, AllocError>
+where
+    R: Drop,
+{
+    let words = owned(alloc, words)?;
+    let mut output = Vec::new(alloc);
+    let mut faults = Vec::new(alloc);
+    let status = command(
+        alloc,
+        words.as_slice(),
+        &mut input,
+        &mut output,
+        &mut faults,
+    );
+    Ok(Ended {
+        status,
+        output,
+        faults,
+    })
+}
+
+fn text(bytes: &[u8]) -> &str {
+    str::from_utf8(bytes).unwrap_or("no text")
+}
+
+#[test]
+fn help_goes_to_the_output(rt: HostRuntime) -> Result<(), Fail> {
+    let calls = [
+        ["waffd", "--help"].as_slice(),
+        ["waffd", "-h"].as_slice(),
+        ["waffd", "help"].as_slice(),
+        ["waffd", "plain", "--help"].as_slice(),
+        ["waffd", "help", "plain"].as_slice(),
+    ];
+    for words in calls {
+        let ended = call(rt.alloc(), words, b"".as_slice())?;
+        assert_eq!(rt; ended.status, 0, "{words:?}");
+        let help = text(ended.output.as_slice());
+        assert!(rt; help.contains("Usage: waffd "), "{words:?}: {help}");
+        assert!(rt; ended.faults.is_empty(), "{words:?}");
+    }
+    Ok(())
+}
+
+#[test]
+fn help_names_the_commands_and_the_options(rt: HostRuntime) -> Result<(), Fail> {
+    let top = call(rt.alloc(), ["waffd", "--help"].as_slice(), b"".as_slice())?;
+    assert!(rt; text(top.output.as_slice()).contains("  plain  Answers the messages"));
+    let plain = call(
+        rt.alloc(),
+        ["waffd", "plain", "-h"].as_slice(),
+        b"".as_slice(),
+    )?;
+    let help = text(plain.output.as_slice());
+    for option in [
+        "--aggregates <N>  Aggregates, 1 to 4 [default: 1]",
+        "--volumes <N>     Volumes of each aggregate, 1 to 8 [default: 4]",
+        "--stripes <N>     Stripes of each volume, 1 to 8 [default: 4]",
+        "--width <N>       Blocks in a row in one stripe, 1 to 64 [default: 4]",
+        "--files <N>       Files of each volume, 1 to 64 [default: 16]",
+        "--blocks <N>      Blocks of each file, 1 to 256 [default: 64]",
+        "--quota <N>       Blocks that a stripe can hold, 1 to 64 [default: 64]",
+        "--half <N>        Records in each half of the log, 4 to 1024 [default: 256]",
+    ] {
+        assert!(rt; help.contains(option), "{option} in {help}");
+    }
+    Ok(())
+}
+
+#[test]
+fn wrong_words_are_told_on_the_standard_error(rt: HostRuntime) -> Result<(), Fail> {
+    let calls = [
+        ([].as_slice(), "Usage: waffd"),
+        (["waffd"].as_slice(), "Usage: waffd"),
+        (
+            ["waffd", "flat"].as_slice(),
+            "error: unrecognized subcommand 'flat'",
+        ),
+        (
+            ["waffd", "--plain"].as_slice(),
+            "error: unexpected argument '--plain'",
+        ),
+        (
+            ["waffd", "plain", "x"].as_slice(),
+            "error: unexpected argument 'x'",
+        ),
+        (
+            ["waffd", "plain", "--files"].as_slice(),
+            "error: a value is required",
+        ),
+        (
+            ["waffd", "plain", "--files", "two"].as_slice(),
+            "error: invalid value 'two'",
+        ),
+        (
+            ["waffd", "plain", "--files", "65536"].as_slice(),
+            "error: invalid value '65536'",
+        ),
+        (
+            ["waffd", "plain", "--files=-1"].as_slice(),
+            "error: invalid value '-1'",
+        ),
+        (
+            ["waffd", "plain", "--files", "2", "--files", "2"].as_slice(),
+            "error: the argument '--files <N>' cannot be used multiple times",
+        ),
+        (
+            ["waffd", "plain", "--files", "0", "--blocks", "x"].as_slice(),
+            "error: invalid value 'x'",
+        ),
+    ];
+    for (words, told) in calls {
+        let ended = call(rt.alloc(), words, b"makevol 0 0\n".as_slice())?;
+        assert_eq!(rt; ended.status, 2, "{words:?}");
+        assert!(rt; ended.output.is_empty(), "{words:?}");
+        let faults = text(ended.faults.as_slice());
+        assert!(rt; faults.contains(told), "{words:?}: {faults}");
+        assert!(rt; !faults.starts_with("waffd: "), "{words:?}: {faults}");
+    }
+    Ok(())
+}
+
+#[test]
+fn numbers_out_of_range_are_refused(rt: HostRuntime) -> Result<(), Fail> {
+    let ranges = [
+        ("--aggregates", "0", "5"),
+        ("--volumes", "0", "9"),
+        ("--stripes", "0", "9"),
+        ("--width", "0", "65"),
+        ("--files", "0", "65"),
+        ("--blocks", "0", "257"),
+        ("--quota", "0", "65"),
+        ("--half", "3", "1025"),
+    ];
+    for (option, below, above) in ranges {
+        for number in [below, above, "65535"] {
+            let words = ["waffd", "plain", option, number];
+            let ended = call(rt.alloc(), words.as_slice(), b"makevol 0 0\n".as_slice())?;
+            assert_eq!(rt; ended.status, 2, "{option} {number}");
+            assert!(rt; ended.output.is_empty(), "{option} {number}");
+            let faults = text(ended.faults.as_slice());
+            assert_eq!(rt;
+                faults,
+                "waffd: geometry out of range\n",
+                "{option} {number}"
+            );
+        }
+    }
+    Ok(())
+}
+
+#[test]
+fn help_that_cannot_be_written_is_a_write_fault(rt: HostRuntime) -> Result<(), Fail> {
+    let alloc = rt.alloc();
+    let words = owned(alloc, ["waffd", "--help"].as_slice())?;
+    let mut faults = Vec::new(alloc);
+    let mut input = b"".as_slice();
+    let status = command(
+        alloc,
+        words.as_slice(),
+        &mut input,
+        &mut Closed,
+        &mut faults,
+    );
+    assert_eq!(rt; status, 1);
+    assert_eq!(rt; text(faults.as_slice()), "waffd: write fault\n");
+    Ok(())
+}
+
+#[test]
+fn a_fault_that_cannot_be_told_keeps_its_status(rt: HostRuntime) -> Result<(), Fail> {
+    let alloc = rt.alloc();
+    for (last, want) in [("--help", 1), ("--what", 2)] {
+        let words = owned(alloc, ["waffd", last].as_slice())?;
+        let mut input = b"".as_slice();
+        let status = command(
+            alloc,
+            words.as_slice(),
+            &mut input,
+            &mut Closed,
+            &mut Closed,
+        );
+        assert_eq!(rt; status, want, "{last}");
+    }
+    Ok(())
+}

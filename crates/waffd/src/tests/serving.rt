@@ -1,0 +1,202 @@
+//! Calls of the command `plain` on messages.
+use super::{Closed, Ended, call, owned, text};
+use crate::command::command;
+use std::alloc::{AllocError, Global};
+use std::io;
+use std::io::Read;
+use std::test::Fail;
+
+/// A reader that gives its bytes one at a time.
+#[derive(Drop)]
+struct ByteByByte<'a> {
+    left: &'a [u8],
+}
+
+impl Read for ByteByByte<'_> {
+    fn read(&mut self, buf: &mut [u8]) -> io::Result<usize> {
+        if buf.is_empty() || self.left.is_empty() {
+            return Ok(0);
+        }
+        buf[0] = self.left[0];
+        self.left = &self.left[1..];
+        Ok(1)
+    }
+}
+
+/// A reader that gives its bytes in one piece, and then fails.
+#[derive(Drop)]
+struct Failing<'a> {
+    left: &'a [u8],
+}
+
+impl Read for Failing<'_> {
+    fn read(&mut self, buf: &mut [u8]) -> io::Result<usize> {
+        if self.left.is_empty() {
+            return Err(io::Error::from(io::ErrorKind::Other));
+        }
+        self.left.read(buf)
+    }
+}
+
+const PLAIN: [&str; 2] = ["waffd", "plain"];
+
+fn serve(alloc: Global, input: &[u8]) -> Result<Ended, AllocError> {
+    call(alloc, PLAIN.as_slice(), input)
+}
+
+const MADE: &[u8] = b"makevol 0 0\ncreate 0 0 0\nwrite 0 0 0 0 6162\nread 0 0 0 0\n";
+
+#[test]
+fn answers_each_line_with_a_line(rt: HostRuntime) -> Result<(), Fail> {
+    let rows = [
+        (b"".as_slice(), ""),
+        (MADE, "done\ndone\ndone\nblock 6162\n"),
+        (
+            b"makevol 0 0\ncreate 0 0 0\nwrite 0 0 0 0 00\nread 0 0 0 0\n".as_slice(),
+            "done\ndone\ndone\nblock 00\n",
+        ),
+        (b"makevol 0 4\n".as_slice(), "error range\n"),
+        (b"write 0 0 0 0 61\n".as_slice(), "error volume\n"),
+        (
+            b"makevol 0 0\ncreate 0 0 0\nread 0 0 0 63\nread 0 0 0 64\n".as_slice(),
+            "done\ndone\nhole\nerror range\n",
+        ),
+        (
+            b"makevol 0 0\nmakevol 0 0".as_slice(),
+            "done\nerror exists\n",
+        ),
+    ];
+    for (input, want) in rows {
+        let ended = serve(rt.alloc(), input)?;
+        assert_eq!(rt; ended.status, 0, "{}", text(input));
+        assert_eq!(rt; text(ended.output.as_slice()), want, "{}", text(input));
+        assert!(rt; ended.faults.is_empty(), "{}", text(input));
+    }
+    Ok(())
+}
+
+#[test]
+fn the_options_give_the_ranges(rt: HostRuntime) -> Result<(), Fail> {
+    let rows = [
+        (
+            ["--aggregates", "2"],
+            "makevol 1 0\nmakevol 2 0\n",
+            "done\nerror range\n",
+        ),
+        (
+            ["--volumes", "5"],
+            "makevol 0 4\nmakevol 0 5\n",
+            "done\nerror range\n",
+        ),
+        (
+            ["--files", "2"],
+            "makevol 0 0\ncreate 0 0 2\n",
+            "done\nerror range\n",
+        ),
+        (
+            ["--blocks", "256"],
+            "makevol 0 0\ncreate 0 0 0\nread 0 0 0 255\nread 0 0 0 256\n",
+            "done\ndone\nhole\nerror range\n",
+        ),
+        (
+            ["--quota", "1"],
+            "makevol 0 0\ncreate 0 0 0\nwrite 0 0 0 0 61\nwrite 0 0 0 1 61\nwrite 0 0 0 4 61\n",
+            "done\ndone\ndone\nerror space\ndone\n",
+        ),
+    ];
+    for ([option, number], input, want) in rows {
+        let words = ["waffd", "plain", option, number];
+        let ended = call(rt.alloc(), words.as_slice(), input.as_bytes())?;
+        assert_eq!(rt; ended.status, 0, "{option}");
+        assert_eq!(rt; text(ended.output.as_slice()), want, "{option}");
+    }
+    Ok(())
+}
+
+#[test]
+fn the_ends_of_the_ranges_are_taken(rt: HostRuntime) -> Result<(), Fail> {
+    let least = ["1", "1", "1", "1", "1", "1", "1", "4"];
+    let most = ["4", "8", "8", "64", "64", "256", "64", "1024"];
+    for [a, v, s, w, f, b, q, h] in [least, most] {
+        let words = [
+            "waffd",
+            "plain",
+            "--aggregates",
+            a,
+            "--volumes",
+            v,
+            "--stripes",
+            s,
+            "--width",
+            w,
+            "--files",
+            f,
+            "--blocks",
+            b,
+            "--quota",
+            q,
+            "--half",
+            h,
+        ];
+        let ended = call(rt.alloc(), words.as_slice(), b"".as_slice())?;
+        assert_eq!(rt; ended.status, 0, "{a}");
+        assert!(rt; ended.output.is_empty(), "{a}");
+    }
+    Ok(())
+}
+
+#[test]
+fn long_lines_are_one_line(rt: HostRuntime) -> Result<(), Fail> {
+    let alloc = rt.alloc();
+    for length in [1100, 1101, 3000] {
+        let mut input = vec![in alloc; b'a'; length]?;
+        input.extend_from_slice(b"\nmakevol 0 0\n")?;
+        let ended = serve(alloc, input.as_slice())?;
+        assert_eq!(rt; ended.status, 0, "{length}");
+        assert_eq!(rt;
+            text(ended.output.as_slice()),
+            "error line\ndone\n",
+            "{length}"
+        );
+    }
+    Ok(())
+}
+
+#[test]
+fn reads_of_one_byte_change_nothing(rt: HostRuntime) -> Result<(), Fail> {
+    let ended = call(rt.alloc(), PLAIN.as_slice(), ByteByByte { left: MADE })?;
+    assert_eq!(rt; ended.status, 0);
+    assert_eq!(rt;
+        text(ended.output.as_slice()),
+        "done\ndone\ndone\nblock 6162\n"
+    );
+    Ok(())
+}
+
+#[test]
+fn a_read_that_fails_leaves_the_answers_to_whole_lines(rt: HostRuntime) -> Result<(), Fail> {
+    let input = b"makevol 0 0\ncreate 0 0 0\nread 0 0 0 0".as_slice();
+    let ended = call(rt.alloc(), PLAIN.as_slice(), Failing { left: input })?;
+    assert_eq!(rt; ended.status, 1);
+    assert_eq!(rt; text(ended.output.as_slice()), "done\ndone\n");
+    assert_eq!(rt; text(ended.faults.as_slice()), "waffd: read fault\n");
+    Ok(())
+}
+
+#[test]
+fn a_write_that_fails_is_a_write_fault(rt: HostRuntime) -> Result<(), Fail> {
+    let alloc = rt.alloc();
+    let words = owned(alloc, PLAIN.as_slice())?;
+    let mut faults = Vec::new(alloc);
+    let mut input = MADE;
+    let status = command(
+        alloc,
+        words.as_slice(),
+        &mut input,
+        &mut Closed,
+        &mut faults,
+    );
+    assert_eq!(rt; status, 1);
+    assert_eq!(rt; text(faults.as_slice()), "waffd: write fault\n");
+    Ok(())
+}
