@@ -1,90 +1,94 @@
 -- A line put together in the front of a buffer.
-use Rattle.std.proofs.Common.{◌≡◌, ℕ, lit≤, true, false, ◌+◌, ◌*◌, ◌≤◌, List, [], ◌∷◌, ◌++◌, codes, length, length-append, get_or, take, drop, set, refl, ap, sym, ◌∙◌, arith}
-use Rattle.std.specs.Prelude.{◌==◌, if◌then◌else◌}
-use Rattle.std.proofs.lemmas.List.{append_assoc, take_at, drop_at, set_at, drop-drop, drop_more}
+use Rattle.std.proofs.Common.{◌≡◌, ℕ, lit≤, true, false, codes, add-one, ◌+◌, ◌-◌, ◌*◌, ◌/◌, ◌^◌, ◌<◌, ◌≤◌, List, [], ◌∷◌, ◌++◌, length, length-append, length-drop, length-take, length-take-le, take, drop, refl, ap, sym, subst, ◌∙◌, arith}
+use Rattle.std.proofs.lemmas.List.{append_assoc, take_at, drop_at, drop-drop, append-nil}
+use Rattle.std.specs.Prelude.{if◌then◌else◌}
 use Rattle.hex.specs.Hex.{encode_lower, lower_digits}
 use Rattle.hex.proofs.HexLemmas.{length-encode_with}
-use Rattle.message.specs.declared.Block.{Block}
-use Rattle.message.specs.declared.Refusal.{Refusal}
-use Rattle.message.specs.declared.Refusal.TheVariants.{Range, Volume, Exists, Sealed, File, Space}
-use Rattle.message.specs.declared.Reply.{Reply}
-use Rattle.message.specs.declared.Reply.TheVariants.{Done, Hole, Block as Found, Refused}
-use Rattle.message.specs.Replies.{at_least_one, before, without_zeros, shown, reply_line}
+use Rattle.message.specs.Replies.{Appends, at_least_one, without_zeros, shown, has_file, spaced, files_below, files_text}
+use Rattle.std.specs.Int.{bit_at}
+use Rattle.std.specs.Prelude.{bit_and}
+use Rattle.std.proofs.lemmas.Bool.{eq-eqb, ne_eqb}
+use Rattle.std.proofs.lemmas.Nat.Bits.{shr_and_one}
 use borrow.Rule.Slice.PartMut.{put_mid, post_of}
 
--- head, digits and an end, one after the other
-pub assembled : (out head digits : List ℕ) (n : ℕ) → length head ≡ 6 → length digits ≡ n → 6 + n + 1 ≤ length out
-    → set (put_mid 6 n (head ++ post_of 0 6 out) digits) (6 + n) 10 ≡ (head ++ digits ++ 10 ∷ []) ++ drop (6 + n + 1) out
-assembled out head digits n h d room =
-    let front : take 6 (head ++ drop 6 out) ≡ head = take_at head (drop 6 out) 6 h in
-    let behind : drop n (drop 6 (head ++ drop 6 out)) ≡ drop (6 + n) out = ap (drop n) (drop_at head (drop 6 out) 6 h) ∙ drop-drop n 6 out in
-    let more : drop (6 + n) out ≡ get_or out (6 + n) 0 ∷ drop (6 + n + 1) out = drop_more out (6 + n) 0 (omega arith) in
-    let whole : take 6 (head ++ drop 6 out) ++ (digits ++ drop n (drop 6 (head ++ drop 6 out))) ≡ (head ++ digits) ++ get_or out (6 + n) 0 ∷ drop (6 + n + 1) out =
-    (λ i. front i ++ (digits ++ behind i)) ∙ ap (λ (r : List ℕ). head ++ (digits ++ r)) more ∙ sym (append_assoc head digits _) in
-    ap (λ (xs : List ℕ). set xs (6 + n) 10) whole
-    ∙ set_at (head ++ digits) (get_or out (6 + n) 0) (drop (6 + n + 1) out) 10 (6 + n) (omega (arith, length-append head digits))
-    ∙ sym (append_assoc (head ++ digits) (10 ∷ []) (drop (6 + n + 1) out))
+-- a text behind a text
+pub appends_more : {old mid new : List ℕ} {at k end : ℕ} {t u : List ℕ} → Appends old mid at k t → Appends mid new k end u → Appends old new at end (t ++ u)
+appends_more {old} {mid} {new} {at} {k} {end} {t} {u} first second =
+    let one = first.ends in
+    let two = second.ends in
+    let len : length (t ++ u) ≡ length t + length u = length-append t u in
+    let gap : end ≡ k + (end - k) = omega arith in
+    let behind : (xs : List ℕ) → drop end xs ≡ drop (end - k) (drop k xs) = λ xs. ap (λ n. drop n xs) gap ∙ sym (drop-drop (end - k) k xs) in
+    record {
+      ends = omega arith;
+      front = second.front ∙ ap (λ (xs : List ℕ). xs ++ u) first.front ∙ append_assoc (take at old) t u;
+      rest = second.rest ∙ behind mid ∙ ap (drop (end - k)) first.rest ∙ sym (behind old);
+    }
 
--- ---- the line of a block
+-- the same text in other words
+pub appends_same : {old new : List ℕ} {at end : ℕ} {t u : List ℕ} → t ≡ u → Appends old new at end t → Appends old new at end u
+appends_same {old} {new} {at} {end} e h = subst (λ (t : List ℕ). Appends old new at end t) e h
 
-module _ (content : Block) (bytes : List ℕ) (are : bytes ≡ at_least_one (without_zeros content.0)) where
-  encoded : encode_lower bytes ≡ shown content.0
-  unfolding shown
-  encoded = ap encode_lower are
+-- a text that takes the place of as many bytes
+pub appends_from : (old text : List ℕ) (at : ℕ) → at + length text ≤ length old → Appends old (take at old ++ (text ++ drop (length text) (drop at old))) at (at + length text) text
+appends_from old text at room =
+    let rest : drop (length text) (drop at old) ≡ drop (at + length text) old = drop-drop (length text) at old ∙ ap (λ n. drop n old) (omega arith) in
+    let front : length (take at old ++ text) ≡ at + length text = length-append (take at old) text ∙ ap (λ n. n + length text) (length-take-le at old (omega arith)) in
+    let whole : take at old ++ (text ++ drop (length text) (drop at old)) ≡ (take at old ++ text) ++ drop (at + length text) old =
+    sym (append_assoc (take at old) text _) ∙ ap (λ (xs : List ℕ). (take at old ++ text) ++ xs) rest in
+    record {
+      ends = refl;
+      front = ap (take (at + length text)) whole ∙ take_at (take at old ++ text) _ (at + length text) front;
+      rest = ap (drop (at + length text)) whole ∙ drop_at (take at old ++ text) _ (at + length text) front;
+    }
 
-  pub length-block_line : 6 + 2 * length bytes + 1 ≡ length (reply_line (Found content))
-  length-block_line =
-      let digits : length (shown content.0) ≡ 2 * length bytes = ap length (sym encoded) ∙ length-encode_with lower_digits bytes in
-      let head : length (codes "block " ++ shown content.0) ≡ 6 + length (shown content.0) = length-append (codes "block ") (shown content.0) in
-      let whole : length (reply_line (Found content)) ≡ length (codes "block " ++ shown content.0) + 1 = length-append (codes "block " ++ shown content.0) (10 ∷ []) in
-      omega arith
+pub appends_put : (old new text : List ℕ) (at end : ℕ) → at + length text ≤ length old → new ≡ take at old ++ (text ++ drop (length text) (drop at old)) → end ≡ at + length text → Appends old new at end text
+appends_put old new text at end room e ends = rw (e, ends) (appends_from old text at room)
 
-  pub block_line : (out head digits : List ℕ) (k : ℕ) → length out ≡ 1031 → head ≡ codes "block " → digits ≡ encode_lower bytes → length bytes ≤ 512 → k ≡ 2 * length bytes
-      → set (put_mid 6 k (head ++ post_of 0 6 out) digits) (6 + 2 * length bytes) 10 ≡ reply_line (Found content) ++ drop (6 + 2 * length bytes + 1) out
-  block_line out head digits k room h d most n =
-      let size : length digits ≡ 2 * length bytes = ap length d ∙ length-encode_with lower_digits bytes in
-      ap (λ m. set (put_mid 6 m (head ++ post_of 0 6 out) digits) (6 + 2 * length bytes) 10) n
-      ∙ assembled out head digits (2 * length bytes) (ap length h) size (omega arith)
-      ∙ ap (λ (ds : List ℕ). (head ++ ds ++ 10 ∷ []) ++ drop (6 + 2 * length bytes + 1) out) (d ∙ encoded)
-      ∙ ap (λ (hs : List ℕ). (hs ++ shown content.0 ++ 10 ∷ []) ++ drop (6 + 2 * length bytes + 1) out) h
+-- a text in a part of the buffer that is as long
+pub appends_part : (old part text : List ℕ) (at k end : ℕ) → at + length text ≤ length old → part ≡ text → k ≡ length text → end ≡ at + length text → Appends old (put_mid at k old part) at end text
+appends_part old part text at k end room same len ends =
+    appends_put old (put_mid at k old part) text at end room (ap (put_mid at k old) same ∙ ap (λ n. put_mid at n old text) len) ends
 
--- the front of a buffer with a line in it, and the rest
-pub line_in_front : (out new line : List ℕ) (n : ℕ) → new ≡ line ++ drop n out → n ≡ length line → take n new ≡ line
-line_in_front out new line n e len = ap (take n) e ∙ take_at line (drop n out) n (sym len)
+-- ---- the digits that show some bytes
 
-pub rest_behind : (out new line : List ℕ) (n : ℕ) → new ≡ line ++ drop n out → n ≡ length line → drop n new ≡ drop n out
-rest_behind out new line n e len = ap (drop n) e ∙ drop_at line (drop n out) n (sym len)
+pub length-lower : (bytes : List ℕ) → length (encode_lower bytes) ≡ 2 * length bytes
+length-lower bytes = length-encode_with lower_digits bytes
 
--- ---- how long a reply's line is
+pub shown_by : (bytes front : List ℕ) → front ≡ at_least_one (without_zeros bytes) → encode_lower front ≡ shown bytes
+unfolding shown
+shown_by bytes front e = ap encode_lower e
 
-before_longer : (b : ℕ) (bs : List ℕ) (n : ℕ) → length bs ≤ n → length (before b bs) ≤ n + 1
-before_longer b [] n h = elim (b == 0) as (λ t. length (if t then [] else b ∷ []) ≤ n + 1) [ true ↦ omega arith | false ↦ omega arith ]
-before_longer b (c ∷ cs) n h = omega arith
+-- ---- the files of a volume
 
-zeros_fewer : (bytes : List ℕ) → length (without_zeros bytes) ≤ length bytes
-zeros_fewer [] = omega arith
-zeros_fewer (b ∷ bs) = let more = before_longer b (without_zeros bs) (length bs) (zeros_fewer bs) in omega arith
+pub files_more : (files f : ℕ) → files_below files (f + 1) ≡ files_below files f ++ (if has_file files f then spaced f else [])
+files_more files f = rw (add-one f) refl
 
-one_or_fewer : (bytes : List ℕ) → length bytes ≤ 512 → length (at_least_one bytes) ≤ 512
-one_or_fewer [] h = lit≤ tt
-one_or_fewer (b ∷ bs) h = h
+pub file_there : (files f : ℕ) → has_file files f ≡ true → codes "files" ++ files_below files f ++ spaced f ≡ codes "files" ++ files_below files (f + 1)
+file_there files f h = append_assoc (codes "files") (files_below files f) (spaced f) ∙ ap (λ (text : List ℕ). codes "files" ++ text) (sym (files_more files f ∙ rw h refl))
 
-refusal_bound : (why : Refusal) → length (reply_line (Refused why)) ≤ 1031
-refusal_bound Range = lit≤ tt
-refusal_bound Volume = lit≤ tt
-refusal_bound Exists = lit≤ tt
-refusal_bound Sealed = lit≤ tt
-refusal_bound File = lit≤ tt
-refusal_bound Space = lit≤ tt
+pub file_not_there : (files f : ℕ) → has_file files f ≡ false → codes "files" ++ files_below files f ≡ codes "files" ++ files_below files (f + 1)
+file_not_there files f h = ap (λ (text : List ℕ). codes "files" ++ text) (sym (files_more files f ∙ rw h (append-nil (files_below files f))))
 
--- no line is longer than that of a block without zeros
-pub reply_line_bound : (r : Reply) → ((content : Block) → r ≡ Found content → length content.0 ≤ 512) → length (reply_line r) ≤ 1031
-reply_line_bound Done h = lit≤ tt
-reply_line_bound Hole h = lit≤ tt
-reply_line_bound (Found content) h =
-    let bytes : List ℕ = at_least_one (without_zeros content.0) in
-    let size = h content refl in
-    let few : length bytes ≤ 512 = one_or_fewer (without_zeros content.0) (omega (arith, zeros_fewer content.0)) in
-    let len = length-block_line content bytes refl in
+pub all_files : (files f : ℕ) → f ≡ 64 → codes "files" ++ files_below files f ≡ codes "files" ++ files_text files
+unfolding files_text
+all_files files f e = ap (λ n. codes "files" ++ files_below files n) e
+
+pub bit_there : (files f : ℕ) → bit_and (files / 2 ^ f) 1 ≡ 1 → has_file files f ≡ true
+bit_there files f h = eq-eqb (bit_at files f) 1 (sym (shr_and_one files f) ∙ h)
+
+pub bit_not_there : (files f : ℕ) → (bit_and (files / 2 ^ f) 1 ≡ 1 → ⊥) → has_file files f ≡ false
+bit_not_there files f h = ne_eqb (bit_at files f) 1 (λ e. absurd (h (shr_and_one files f ∙ e)))
+
+-- ---- a whole line
+
+-- the same buffer and end under other names
+pub appends_moved : {old new new' : List ℕ} {at end end' : ℕ} {t : List ℕ} → new' ≡ new → end' ≡ end → Appends old new at end t → Appends old new' at end' t
+appends_moved {old} {new} {new'} {at} {end} {end'} {t} e f h = rw (e, f) h
+
+pub line_bound : (old new line : List ℕ) (end : ℕ) → length new ≡ 1031 → Appends old new 0 end line → end ≤ 1031
+line_bound old new line end size h =
+    let ends = h.ends in
+    let front : length (take end new) ≡ length line = ap length h.front in
+    let few = length-take end new in
     omega arith
-reply_line_bound (Refused why) h = refusal_bound why

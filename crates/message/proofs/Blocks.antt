@@ -1,49 +1,72 @@
--- What a word says as a block.
-use Rattle.std.proofs.Common.{◌≡◌, ℕ, ◌-◌, ◌/◌, ◌%◌, ◌<◌, ◌≤◌, Bool, true, false, cond, List, [], ◌∷◌, ◌++◌, length, length-take-le, take, drop, replicate, Option, Some, None, Result, Ok, Err, refl, ap, sym, ◌∙◌, inl, inr, arith}
-use Rattle.std.specs.Prelude.{◌&&◌, nat_le, MatchResult}
+-- What a word says as bytes, a block or a label.
+use Rattle.std.proofs.Common.{◌≡◌, ℕ, zero, suc, ◌+◌, ◌-◌, ◌*◌, ◌/◌, ◌%◌, ◌<◌, ◌≤◌, Bool, true, false, cond, List, [], ◌∷◌, ◌++◌, length, length-append, length-take-le, get_or, take, drop, replicate, Option, Some, None, Result, Ok, Err, refl, ap, sym, ◌∙◌, inl, inr, ◌⊎◌, arith}
+use Rattle.std.specs.Prelude.{◌&&◌, ◌==◌, nat_le, if◌then◌else◌, MatchResult, option_map}
 use Rattle.std.specs.Result.{result_ok}
-use Rattle.std.proofs.lemmas.Bool.{and_parts, and_from, ne_eqb, leb-true, le-leb, cond-true, cases_eq, true≢false}
-use Rattle.std.proofs.lemmas.Option.{same_Some}
+use Rattle.std.proofs.lemmas.Bool.{and_parts, and_from, ne_eqb, eqb-true, leb-true, le-leb, cond-true, cases_eq, true≢false}
+use Rattle.std.proofs.lemmas.Option.{cond_some, none-some, same_Some}
+use Rattle.std.proofs.lemmas.Result.{MatchResult-at_ok}
 use Rattle.std.proofs.lemmas.List.{drop-replicate, length-replicate}
 use Rattle.std.proofs.lemmas.List.Elements.{All-head, All-tail}
 use Rattle.std.specs.List.{AllPass}
-use Rattle.hex.specs.Hex.{decode_of, decode_sized, is_hex_digit}
+use Rattle.hex.specs.Hex.{decode_of, decode_sized, decode_pairs, is_hex_digit, hex_digit_value, pair_value, value_at, digit_or_error, ◌>>=◌}
 use Rattle.hex.specs.declared.error.FromHexError.{FromHexError}
+use Rattle.hex.specs.declared.error.FromHexError.TheVariants.{OddLength}
 use Rattle.hex.proofs.HexLemmas.{decode_of-ok, decode_of-even, decode_of-odd, decode_sized-odd}
-use Rattle.hex.proofs.Pairs.{decode_sized-pairs}
+use Rattle.hex.proofs.Pairs.{decode_sized-pairs, decode_pairs-ok_pair, cons_byte}
 use Rattle.message.specs.declared.Block.{Block}
-use Rattle.message.specs.Lines.{block, block_with, padded}
+use Rattle.message.specs.Lines.{bytes_said, block, label, padded, padded_with}
 use Rattle.message.proofs.Words.{HasNoSpace}
 
--- a word with what makes it say a block
-pub record IsBlock (w bytes : List ℕ) : Type 0 where
+-- a word with what makes it say so many bytes
+pub record IsDigits (size : ℕ) (w bytes : List ℕ) : Type 0 where
   pub low : 2 ≤ length w
-  pub high : length w ≤ 1024
+  pub high : length w ≤ 2 * size
   pub decoded : decode_of w ≡ Ok bytes
 
-block_ok : (r : Result (List ℕ) FromHexError) (content : Block) → block_with r ≡ Some content → (bytes : List ℕ) × (r ≡ Ok bytes) × (content ≡ record { 0 = padded 512 bytes })
-block_ok (Ok bytes) content h = (bytes, refl, sym (same_Some _ content h))
-block_ok (Err e) content h = cc h
+bytes_ok : (size : ℕ) (r : Result (List ℕ) FromHexError) (whole : List ℕ) → padded_with size r ≡ Some whole → (bytes : List ℕ) × (r ≡ Ok bytes) × (whole ≡ padded size bytes)
+bytes_ok size (Ok bytes) whole h = (bytes, refl, sym (same_Some _ whole h))
+bytes_ok size (Err e) whole h = cc h
 
 cond_given : {A : Type 0} (b : Bool) (o : Option A) (x : A) → cond b o None ≡ Some x → (b ≡ true) × (o ≡ Some x)
 cond_given true o x h = (refl, h)
 cond_given false o x h = cc h
 
-pub block_parts : (w : List ℕ) (content : Block) → block w ≡ Some content → (bytes : List ℕ) × IsBlock w bytes × (content ≡ record { 0 = padded 512 bytes })
-unfolding block
-block_parts w content h =
-    let p = cond_given (nat_le 2 (length w) && nat_le (length w) 1024) (block_with (decode_of w)) content h in
-    let q = and_parts (nat_le 2 (length w)) (nat_le (length w) 1024) p.0 in
-    let r = block_ok (decode_of w) content p.1 in
-    (r.0, record { low = leb-true 2 (length w) q.0; high = leb-true (length w) 1024 q.1; decoded = r.1 }, r.2)
+pub bytes_parts : (size : ℕ) (w whole : List ℕ) → bytes_said size w ≡ Some whole → (bytes : List ℕ) × IsDigits size w bytes × (whole ≡ padded size bytes)
+unfolding bytes_said
+bytes_parts size w whole h =
+    let p = cond_given (nat_le 2 (length w) && nat_le (length w) (2 * size)) (padded_with size (decode_of w)) whole h in
+    let q = and_parts (nat_le 2 (length w)) (nat_le (length w) (2 * size)) p.0 in
+    let r = bytes_ok size (decode_of w) whole p.1 in
+    (r.0, record { low = leb-true 2 (length w) q.0; high = leb-true (length w) (2 * size) q.1; decoded = r.1 }, r.2)
 
-pub block_from : (w bytes : List ℕ) → IsBlock w bytes → block w ≡ Some (record { 0 = padded 512 bytes })
-unfolding block
-block_from w bytes h =
-    cond-true _ _ _ (and_from _ _ (le-leb 2 (length w) h.low) (le-leb (length w) 1024 h.high)) ∙ ap block_with h.decoded
+pub bytes_from : (size : ℕ) (w bytes : List ℕ) → IsDigits size w bytes → bytes_said size w ≡ Some (padded size bytes)
+unfolding bytes_said
+bytes_from size w bytes h =
+    cond-true _ _ _ (and_from _ _ (le-leb 2 (length w) h.low) (le-leb (length w) (2 * size) h.high)) ∙ ap (padded_with size) h.decoded
 
-pub no_block : (w : List ℕ) → ((bytes : List ℕ) → IsBlock w bytes → ⊥) → block w ≡ None
-no_block w h = elim (block w) as (λ o. block w ≡ o → o ≡ None) [ None ↦ λ e. refl | Some content ↦ λ e. let p = block_parts w content e in absurd (h p.0 p.1) ] refl
+pub no_bytes : (size : ℕ) (w : List ℕ) → ((bytes : List ℕ) → IsDigits size w bytes → ⊥) → bytes_said size w ≡ None
+no_bytes size w h = elim (bytes_said size w) as (λ o. bytes_said size w ≡ o → o ≡ None) [ None ↦ λ e. refl | Some whole ↦ λ e. let p = bytes_parts size w whole e in absurd (h p.0 p.1) ] refl
+
+block_made : (o : Option (List ℕ)) (content : Block) → option_map (λ bytes. record { 0 = bytes }) o ≡ Some content → o ≡ Some content.0
+block_made (Some bytes) content h = ap Some (ap (λ (b : Block). b.0) (same_Some _ content h))
+block_made None content h = cc h
+
+-- a block by its bytes
+pub block_bytes : (w : List ℕ) (content : Block) → block w ≡ Some content → bytes_said 512 w ≡ Some content.0
+unfolding block
+block_bytes w content h = block_made (bytes_said 512 w) content h
+
+pub bytes_block : (w : List ℕ) (content : Block) → bytes_said 512 w ≡ Some content.0 → block w ≡ Some content
+unfolding block
+bytes_block w content h = ap (λ (o : Option (List ℕ)). option_map (λ bytes. record { 0 = bytes }) o) h
+
+pub no_block : (w : List ℕ) → bytes_said 512 w ≡ None → block w ≡ None
+unfolding block
+no_block w h = ap (λ (o : Option (List ℕ)). option_map (λ bytes. record { 0 = bytes }) o) h
+
+pub label_bytes : (w : List ℕ) → label w ≡ bytes_said 32 w
+unfolding label
+label_bytes w = refl
 
 -- ---- no digit is a space
 
@@ -53,8 +76,14 @@ no_space (c ∷ w) h =
     let digit : is_hex_digit c ≡ true = All-head (λ c. is_hex_digit c ≡ true) c w h in
     (ne_eqb c 32 (λ e. absurd (true≢false (sym digit ∙ ap is_hex_digit e))), no_space w (All-tail (λ c. is_hex_digit c ≡ true) c w h))
 
+pub bytes_no_space : (size : ℕ) (w whole : List ℕ) → bytes_said size w ≡ Some whole → HasNoSpace w
+bytes_no_space size w whole h = let p = bytes_parts size w whole h in no_space w (decode_of-ok w p.0 p.1.decoded).1
+
 pub block_no_space : (w : List ℕ) (content : Block) → block w ≡ Some content → HasNoSpace w
-block_no_space w content h = let p = block_parts w content h in no_space w (decode_of-ok w p.0 p.1.decoded).1
+block_no_space w content h = bytes_no_space 512 w content.0 (block_bytes w content h)
+
+pub label_no_space : (w bytes : List ℕ) → label w ≡ Some bytes → HasNoSpace w
+label_no_space w bytes h = bytes_no_space 32 w bytes (sym (label_bytes w) ∙ h)
 
 -- ---- decoding into half the length
 
@@ -79,25 +108,21 @@ decoded_err : (d : Result (List ℕ) FromHexError) (r : Result (Unit {0}) FromHe
 decoded_err (Ok bs) r out bytes h e ok = let f : None ≡ Some tt = e ∙ ap result_ok h.0 in cc f
 decoded_err (Err x) r out bytes h e ok = cc ok
 
--- an empty block
-abbrev pub zeros : List ℕ
-zeros = replicate 512 0
+room_is : (size n : ℕ) → n ≤ size → length {A = ℕ} (take n (replicate size 0)) ≡ n
+room_is size n h = length-take-le n (replicate size 0) (let e : length {A = ℕ} (replicate size 0) ≡ size = length-replicate {A = ℕ} size 0 in omega arith)
 
-room_is : (n : ℕ) → n ≤ 512 → length (take n zeros) ≡ n
-room_is n h = length-take-le n zeros (let e : length zeros ≡ 512 = length-replicate {A = ℕ} 512 0 in omega arith)
-
-pub block_decoded : (w : List ℕ) (n : ℕ) (r : Result (Unit {0}) FromHexError) (out : List ℕ) (u : Unit {0}) → n ≡ length w / 2 → 0 < n → n ≤ 512 → Decoded w (length (take n zeros)) r out → Some u ≡ result_ok r
-    → block w ≡ Some (record { 0 = out ++ drop n zeros })
-block_decoded w n r out u half some most told ok =
-    let room : ℕ = length (take n zeros) in
-    let decoded : decode_of w ≡ Ok out = sym (decode_sized-half w room (room_is n most ∙ half)) ∙ decoded_ok (decode_sized w room) r out u told ok in
+pub bytes_decoded : (size : ℕ) (w : List ℕ) (n : ℕ) (r : Result (Unit {0}) FromHexError) (out : List ℕ) (u : Unit {0}) → n ≡ length w / 2 → 0 < n → n ≤ size → Decoded w (length {A = ℕ} (take n (replicate size 0))) r out → Some u ≡ result_ok r
+    → bytes_said size w ≡ Some (out ++ drop n (replicate size 0))
+bytes_decoded size w n r out u half some most told ok =
+    let room : ℕ = length {A = ℕ} (take n (replicate size 0)) in
+    let decoded : decode_of w ≡ Ok out = sym (decode_sized-half w room (room_is size n most ∙ half)) ∙ decoded_ok (decode_sized w room) r out u told ok in
     let parts = decode_of-ok w out decoded in
     let len = parts.2 in
-    let size : n ≡ length out = omega arith in
-    let rest : drop n zeros ≡ replicate (512 - length out) 0 = rw size (drop-replicate (length out) 512 0) in
-    block_from w out (record { low = omega arith; high = omega arith; decoded = decoded }) ∙ ap (λ (behind : List ℕ). Some (record { 0 = out ++ behind })) (sym rest)
+    let same : n ≡ length out = omega arith in
+    let rest : drop {A = ℕ} n (replicate size 0) ≡ replicate (size - length out) 0 = rw same (drop-replicate (length out) size 0) in
+    bytes_from size w out (record { low = omega arith; high = omega arith; decoded = decoded }) ∙ ap (λ (behind : List ℕ). Some (out ++ behind)) (sym rest)
 
-pub block_not_decoded : (w : List ℕ) (n : ℕ) (r : Result (Unit {0}) FromHexError) (out : List ℕ) → n ≡ length w / 2 → n ≤ 512 → Decoded w (length (take n zeros)) r out → None ≡ result_ok r → block w ≡ None
-block_not_decoded w n r out half most told err =
-    let room : ℕ = length (take n zeros) in
-    no_block w (λ bytes h. decoded_err (decode_sized w room) r out bytes told err (decode_sized-half w room (room_is n most ∙ half) ∙ h.decoded))
+pub bytes_not_decoded : (size : ℕ) (w : List ℕ) (n : ℕ) (r : Result (Unit {0}) FromHexError) (out : List ℕ) → n ≡ length w / 2 → n ≤ size → Decoded w (length {A = ℕ} (take n (replicate size 0))) r out → None ≡ result_ok r → bytes_said size w ≡ None
+bytes_not_decoded size w n r out half most told err =
+    let room : ℕ = length {A = ℕ} (take n (replicate size 0)) in
+    no_bytes size w (λ bytes h. decoded_err (decode_sized w room) r out bytes told err (decode_sized-half w room (room_is size n most ∙ half) ∙ h.decoded))

@@ -1,14 +1,15 @@
--- The digits of a block, by pairs and as they are decoded.
-use Rattle.std.proofs.Common.{◌≡◌, ℕ, ◌+◌, ◌*◌, List, [], ◌∷◌, length, Option, Some, None, Result, Ok, Err, refl, ap, sym, ◌∙◌, arith}
+-- The digits of a block or a label, by pairs and as they are decoded.
+use Rattle.std.proofs.Common.{◌≡◌, ℕ, zero, suc, ◌+◌, ◌*◌, ◌/◌, ◌%◌, ◌<◌, ◌≤◌, List, [], ◌∷◌, length, Option, Some, None, Result, Ok, Err, refl, ap, sym, ◌∙◌, arith}
+use Rattle.std.proofs.lemmas.Option.{same_Some}
 use Rattle.std.specs.Result.{result_unwrap_or}
 use Rattle.hex.specs.Hex.{decode_of, decode_pairs, hex_digit_value, pair_value, value_at, digit_or_error, ◌>>=◌}
 use Rattle.hex.specs.declared.error.FromHexError.{FromHexError}
 use Rattle.hex.proofs.HexLemmas.{decode_of-ok, decode_of-even}
 use Rattle.hex.proofs.Pairs.{decode_pairs-ok_pair, cons_byte}
 use Rattle.message.specs.declared.Block.{Block}
-use Rattle.message.specs.Lines.{block, padded}
-use Rattle.message.specs.Grammar.{AreDigitsOf, SaysBlock}
-use Rattle.message.proofs.Blocks.{block_parts, block_from}
+use Rattle.message.specs.Lines.{bytes_said, block, label, padded}
+use Rattle.message.specs.Grammar.{AreDigitsOf, SaysBytes}
+use Rattle.message.proofs.Blocks.{IsDigits, bytes_parts, bytes_from, block_bytes, bytes_block, label_bytes}
 
 -- two digits for each byte
 digits_length : (digits bytes : List ℕ) → AreDigitsOf digits bytes → length digits ≡ 2 * length bytes
@@ -58,22 +59,33 @@ decoded_digits i (d ∷ e ∷ digits) bytes h =
     let whole : pair.0 ∷ rest.0 ≡ bytes = ap (λ (r : Result (List ℕ) FromHexError). result_unwrap_or r []) rest.2 in
     rw (← whole) (high.0, low.0, digit_read d i (hex_digit_value d) high.0 high.1, digit_read e (i + 1) (hex_digit_value e) low.0 low.1, sym byte, decoded_digits (i + 2) digits rest.0 rest.1)
 
--- ---- the block that they say
+-- ---- the bytes that they say
 
-pub block_says : (digits : List ℕ) (content : Block) → block digits ≡ Some content → SaysBlock digits content
-block_says digits content h =
-    let p = block_parts digits content h in
+bytes_say : (size : ℕ) (digits whole : List ℕ) → bytes_said size digits ≡ Some whole → SaysBytes size digits whole
+bytes_say size digits whole h =
+    let p = bytes_parts size digits whole h in
     let ok = decode_of-ok digits p.0 p.1.decoded in
     let len = ok.2 in
     let low = p.1.low in
     let high = p.1.high in
-    (p.0, decoded_digits 0 digits p.0 (sym (decode_of-even digits ok.0) ∙ p.1.decoded), omega arith, omega arith, ap (λ (b : Block). b.0) p.2)
+    (p.0, decoded_digits 0 digits p.0 (sym (decode_of-even digits ok.0) ∙ p.1.decoded), omega arith, omega arith, p.2)
 
-pub says_block : (digits : List ℕ) (content : Block) → SaysBlock digits content → block digits ≡ Some content
-says_block digits content h =
+say_bytes : (size : ℕ) (digits whole : List ℕ) → SaysBytes size digits whole → bytes_said size digits ≡ Some whole
+say_bytes size digits whole h =
     let len = digits_length digits h.0 h.1 in
     let low = h.2 in
     let high = h.3 in
     let decoded : decode_of digits ≡ Ok h.0 = decode_of-even digits (omega arith) ∙ digits_decode 0 digits h.0 h.1 in
-    let same : record { 0 = padded 512 h.0 } ≡ content = ap (λ (bytes : List ℕ). record { 0 = bytes }) (sym h.4) in
-    block_from digits h.0 (record { low = omega arith; high = omega arith; decoded = decoded }) ∙ ap Some same
+    bytes_from size digits h.0 (record { low = omega arith; high = omega arith; decoded = decoded }) ∙ ap Some (sym h.4)
+
+pub block_says : (digits : List ℕ) (content : Block) → block digits ≡ Some content → SaysBytes 512 digits content.0
+block_says digits content h = bytes_say 512 digits content.0 (block_bytes digits content h)
+
+pub says_block : (digits : List ℕ) (content : Block) → SaysBytes 512 digits content.0 → block digits ≡ Some content
+says_block digits content h = bytes_block digits content (say_bytes 512 digits content.0 h)
+
+pub label_says : (digits bytes : List ℕ) → label digits ≡ Some bytes → SaysBytes 32 digits bytes
+label_says digits bytes h = bytes_say 32 digits bytes (sym (label_bytes digits) ∙ h)
+
+pub says_label : (digits bytes : List ℕ) → SaysBytes 32 digits bytes → label digits ≡ Some bytes
+says_label digits bytes h = label_bytes digits ∙ say_bytes 32 digits bytes h

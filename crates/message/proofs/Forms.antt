@@ -1,12 +1,13 @@
 -- The forms of messages, a word at a time.
 use Rattle.std.proofs.Common.{◌≡◌, ℕ, List, [], ◌∷◌, Option, Some, None, refl, ap, sym, ◌∙◌}
+use Rattle.std.specs.Prelude.{option_map}
 use Rattle.message.specs.declared.Block.{Block}
 use Rattle.message.specs.declared.Msg.{Msg}
-use Rattle.message.specs.Lines.{words, number, block}
+use Rattle.message.specs.Lines.{words, number, block, label, bytes_said}
 use Rattle.message.proofs.Words.{words_some, only-words}
 use Rattle.message.proofs.Numbers.{number_no_space}
-use Rattle.message.proofs.Blocks.{block_no_space}
-use Rattle.message.specs.Grammar.{◌>>=◌, first_number, only, of_volume, of_file, of_block, of_data}
+use Rattle.message.proofs.Blocks.{block_no_space, label_no_space, bytes_block, no_block, label_bytes}
+use Rattle.message.specs.Grammar.{◌>>=◌, first_number, only, of_volume, of_file, of_block, of_data, of_label, of_nothing}
 
 -- what the first of several words says as a number goes to k, with the words behind it
 abbrev pub onward : (ℕ → List (List ℕ) → Option Msg) → List (List ℕ) → Option Msg
@@ -108,6 +109,37 @@ of_data-onward make (a ∷ v ∷ f ∷ b ∷ []) = dead (number a) (v ∷ f ∷ 
 of_data-onward make (a ∷ v ∷ f ∷ b ∷ d ∷ []) = live (number a) (v ∷ f ∷ b ∷ d ∷ []) _ (λ n. from_volume (make n)) (λ n. refl)
 of_data-onward make (a ∷ v ∷ f ∷ b ∷ d ∷ w ∷ ws) = dead (number a) (v ∷ f ∷ b ∷ d ∷ w ∷ ws) (λ n. from_volume (make n)) (λ n. refl)
 
+-- ---- numbers and the digits of a label
+
+abbrev pub of_label_digits : (List ℕ → Msg) → List (List ℕ) → Option Msg
+of_label_digits make ws = only label ws >>= (λ bytes. Some (make bytes))
+
+-- the words of a `setlabel` from its second number on
+abbrev pub label_from_volume : (ℕ → List ℕ → Msg) → List (List ℕ) → Option Msg
+label_from_volume make (v ∷ digits ∷ []) = number v >>= (λ volume. label digits >>= (λ bytes. Some (make volume bytes)))
+label_from_volume make _ = None
+
+pub label_from_volume-onward : (make : ℕ → List ℕ → Msg) (ws : List (List ℕ)) → label_from_volume make ws ≡ onward (λ n. of_label_digits (make n)) ws
+label_from_volume-onward make [] = refl
+label_from_volume-onward make (v ∷ []) = refl
+label_from_volume-onward make (v ∷ d ∷ []) = live (number v) (d ∷ []) _ (λ n. of_label_digits (make n)) (λ n. refl)
+label_from_volume-onward make (v ∷ d ∷ w ∷ ws) = dead (number v) (d ∷ w ∷ ws) (λ n. of_label_digits (make n)) (λ n. refl)
+
+pub of_label-onward : (make : ℕ → ℕ → List ℕ → Msg) (ws : List (List ℕ)) → of_label make ws ≡ onward (λ n. label_from_volume (make n)) ws
+of_label-onward make [] = refl
+of_label-onward make (a ∷ []) = refl
+of_label-onward make (a ∷ v ∷ []) = dead (number a) (v ∷ []) (λ n. label_from_volume (make n)) (λ n. refl)
+of_label-onward make (a ∷ v ∷ d ∷ []) = live (number a) (v ∷ d ∷ []) _ (λ n. label_from_volume (make n)) (λ n. refl)
+of_label-onward make (a ∷ v ∷ d ∷ w ∷ ws) = dead (number a) (v ∷ d ∷ w ∷ ws) (λ n. label_from_volume (make n)) (λ n. refl)
+
+-- ---- no words
+
+pub nothing_behind : (m : Msg) (line : List ℕ) → of_nothing m (words line) ≡ None
+nothing_behind m line = elim (words line) as (λ ws. words line ≡ ws → of_nothing m ws ≡ None) [
+  | [] ↦ λ none. absurd (words_some line none)
+  | w ∷ ws ↦ λ some. refl
+] refl
+
 -- ---- as the code reads them
 
 -- the words behind a first word that says a number
@@ -130,8 +162,17 @@ of_number-read make line n h = let e = only-number line ∙ sym h in rw e refl
 pub of_number-none : (make : ℕ → Msg) (line : List ℕ) → None ≡ number line → of_number make (words line) ≡ None
 of_number-none make line h = let e = only-number line ∙ sym h in rw e refl
 
-pub of_digits-read : (make : Block → Msg) (line : List ℕ) (content : Block) → Some content ≡ block line → of_digits make (words line) ≡ Some (make content)
-of_digits-read make line content h = let e = only-block line ∙ sym h in rw e refl
+only-label : (line : List ℕ) → only label (words line) ≡ label line
+only-label line = only-words label line (label_no_space line)
 
-pub of_digits-none : (make : Block → Msg) (line : List ℕ) → None ≡ block line → of_digits make (words line) ≡ None
-of_digits-none make line h = let e = only-block line ∙ sym h in rw e refl
+pub of_digits-read : (make : Block → Msg) (line bytes : List ℕ) → Some bytes ≡ bytes_said 512 line → of_digits make (words line) ≡ Some (make (record { 0 = bytes }))
+of_digits-read make line bytes h = let e = only-block line ∙ bytes_block line (record { 0 = bytes }) (sym h) in rw e refl
+
+pub of_digits-none : (make : Block → Msg) (line : List ℕ) → None ≡ bytes_said 512 line → of_digits make (words line) ≡ None
+of_digits-none make line h = let e = only-block line ∙ no_block line (sym h) in rw e refl
+
+pub of_label_digits-read : (make : List ℕ → Msg) (line bytes : List ℕ) → Some bytes ≡ bytes_said 32 line → of_label_digits make (words line) ≡ Some (make bytes)
+of_label_digits-read make line bytes h = let e = only-label line ∙ label_bytes line ∙ sym h in rw e refl
+
+pub of_label_digits-none : (make : List ℕ → Msg) (line : List ℕ) → None ≡ bytes_said 32 line → of_label_digits make (words line) ≡ None
+of_label_digits-none make line h = let e = only-label line ∙ label_bytes line ∙ sym h in rw e refl

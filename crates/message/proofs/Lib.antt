@@ -1,4 +1,3 @@
-mod Rows
 pub mod Words
 pub mod Numbers
 pub mod Blocks

@@ -1,23 +1,26 @@
 -- The message by the words of a line, and the line by the message, are the same.
-use Rattle.std.proofs.Common.{◌≡◌, ℕ, ◌<◌, ◌≤◌, Bool, true, false, cond, codes, List, [], ◌∷◌, ◌++◌, map, length, Option, Some, None, refl, ap, sym, subst, ◌∙◌, inl, inr, ◌⊎◌}
-use Rattle.std.specs.Prelude.{◌&&◌, not, ◌==◌, nat_lt, ◌↔◌}
+use Rattle.std.proofs.Common.{◌≡◌, ℕ, ◌<◌, ◌≤◌, Bool, true, false, cond, codes, List, [], ◌∷◌, ◌++◌, map, length, Option, Some, None, refl, ap, sym, subst, ◌∙◌, inl, inr, ◌⊎◌, ⊎_elim, arith}
+use Rattle.std.specs.Prelude.{◌&&◌, not, ◌==◌, if◌then◌else◌, nat_lt, ◌↔◌}
 use Rattle.std.specs.List.{AllByRecursion, join_with_byte}
 use Rattle.std.specs.Str.{bytes_eq}
 use Rattle.std.specs.Fmt.{decimal}
 use Rattle.std.proofs.lemmas.Bool.{and_parts, not-true, cases_lt, lt-ltb, le-ltb, cond-true, cond-false}
 use Rattle.std.proofs.lemmas.List.{append-nil}
-use Rattle.std.proofs.lemmas.Option.{same_Some}
+use Rattle.std.proofs.lemmas.Option.{none-some, same_Some}
 use Rattle.std.proofs.lemmas.Slice.Eq.{bytes_eq-Decides}
+use Rattle.affinity.specs.declared.kinds.Kind.{Kind}
+use Rattle.affinity.specs.declared.kinds.Kind.TheVariants as kinds
 use Rattle.message.specs.declared.Block.{Block}
 use Rattle.message.specs.declared.Msg.{Msg}
-use Rattle.message.specs.declared.Msg.TheVariants.{MakeVol, Create, Write, Read}
-use Rattle.message.specs.Lines.{words, number, block}
-use Rattle.message.specs.Grammar.{message_of, of_words, with_keyword, of_volume, of_file, of_block, of_data, keyword, numbers, IsData, SaysBlock, Spells, ◌>>=◌}
+use Rattle.message.specs.declared.Msg.TheVariants.{MakeVol, DropVol, Create, Delete, Seal, Unseal, Write, Punch, Read, List as ListFiles, Usage, Summary, SetLabel, Label}
+use Rattle.message.specs.Lines.{words, number, block, label}
+use Rattle.message.specs.Messages.{kind, numbers}
+use Rattle.message.specs.Grammar.{message_of, of_words, of_kind, of_volume, of_file, of_block, of_data, of_label, of_nothing, kind_named, keyword, IsData, SaysBytes, Spells, ◌>>=◌}
 use Rattle.message.proofs.Words.{HasNoSpace, join-words, words-join}
 use Rattle.message.proofs.Numbers.{decimal-number, number-decimal, number_no_space}
-use Rattle.message.proofs.Blocks.{block_no_space}
-use Rattle.message.proofs.Digits.{block_says, says_block}
-use Rattle.message.proofs.Keywords.{by_words}
+use Rattle.message.proofs.Blocks.{block_no_space, label_no_space}
+use Rattle.message.proofs.Digits.{block_says, says_block, label_says, says_label}
+use Rattle.message.proofs.Keywords.{with_kind, its_keyword, keyword_names}
 
 abbrev AreSmall : List ℕ → Type 0
 AreSmall ns = AllByRecursion (λ n. n < 65536) ns
@@ -81,7 +84,7 @@ block_said make (x ∷ y ∷ z ∷ w ∷ u ∷ ws) m h = cc h
 
 data_said : (make : ℕ → ℕ → ℕ → ℕ → Block → Msg) (ws : List (List ℕ)) (m : Msg) → of_data make ws ≡ Some m
     → (a : ℕ) × (v : ℕ) × (f : ℕ) × (b : ℕ) × (content : Block) × (digits : List ℕ)
-    × (m ≡ make a v f b content) × (ws ≡ map decimal (a ∷ v ∷ f ∷ b ∷ []) ++ digits ∷ []) × AreSmall (a ∷ v ∷ f ∷ b ∷ []) × SaysBlock digits content
+    × (m ≡ make a v f b content) × (ws ≡ map decimal (a ∷ v ∷ f ∷ b ∷ []) ++ digits ∷ []) × AreSmall (a ∷ v ∷ f ∷ b ∷ []) × SaysBytes 512 digits content.0
 data_said make [] m h = cc h
 data_said make (x ∷ []) m h = cc h
 data_said make (x ∷ y ∷ []) m h = cc h
@@ -97,8 +100,26 @@ data_said make (x ∷ y ∷ z ∷ w ∷ u ∷ []) m h =
     (a.0, v.0, f.0, b.0, d.0, u, sym (same_Some _ m d.2), ap (λ (vs : List (List ℕ)). vs ++ u ∷ []) said.words, said.small, block_says u d.0 d.1)
 data_said make (x ∷ y ∷ z ∷ w ∷ u ∷ t ∷ ws) m h = cc h
 
+label_said : (make : ℕ → ℕ → List ℕ → Msg) (ws : List (List ℕ)) (m : Msg) → of_label make ws ≡ Some m
+    → (a : ℕ) × (v : ℕ) × (bytes : List ℕ) × (digits : List ℕ)
+    × (m ≡ make a v bytes) × (ws ≡ map decimal (a ∷ v ∷ []) ++ digits ∷ []) × AreSmall (a ∷ v ∷ []) × SaysBytes 32 digits bytes
+label_said make [] m h = cc h
+label_said make (x ∷ []) m h = cc h
+label_said make (x ∷ y ∷ []) m h = cc h
+label_said make (x ∷ y ∷ z ∷ []) m h =
+    let a = bind_some (number x) _ m h in
+    let v = bind_some (number y) _ m a.2 in
+    let d = bind_some (label z) _ m v.2 in
+    let said = says_more x a.0 _ _ a.1 (says_more y v.0 _ _ v.1 says_none) in
+    (a.0, v.0, d.0, z, sym (same_Some _ m d.2), ap (λ (vs : List (List ℕ)). vs ++ z ∷ []) said.words, said.small, label_says z d.0 d.1)
+label_said make (x ∷ y ∷ z ∷ w ∷ ws) m h = cc h
+
+nothing_said : (m : Msg) (ws : List (List ℕ)) (n : Msg) → of_nothing m ws ≡ Some n → (n ≡ m) × Say ws []
+nothing_said m [] n h = (sym (same_Some m n h), says_none)
+nothing_said m (w ∷ ws) n h = cc h
+
 -- a line of these words spells its message
-spell : (line : List ℕ) (m : Msg) (behind : List (List ℕ)) → length line ≤ 1100 → words line ≡ keyword m ∷ map decimal (numbers m) ++ behind → AreSmall (numbers m) → IsData m behind → Spells line m
+spell : (line : List ℕ) (m : Msg) (behind : List (List ℕ)) → length line ≤ 1100 → words line ≡ keyword (kind m) ∷ map decimal (numbers m) ++ behind → AreSmall (numbers m) → IsData m behind → Spells line m
 spell line m behind short e small content = record {
   words_behind = behind;
   parts = sym (join-words line) ∙ ap (join_with_byte 32) e;
@@ -107,72 +128,73 @@ spell line m behind short e small content = record {
   short = short;
 }
 
--- a message without data, by its keyword and numbers
-pub record Plain (m : Msg) (name : List ℕ) (ns : List ℕ) : Type 0 where
-  pub named : keyword m ≡ name
+-- a message without data, by its kind and numbers
+record Plain (m : Msg) (k : Kind) (ns : List ℕ) : Type 0 where
+  pub kinded : kind m ≡ k
   pub numbered : numbers m ≡ ns
   pub no_data : IsData m []
 
-plain_spells : (line : List ℕ) (m : Msg) (name : List ℕ) (ns : List ℕ) (args : List (List ℕ)) → Plain m name ns → length line ≤ 1100 → words line ≡ name ∷ args → Say args ns → Spells line m
-plain_spells line m name ns args form short e said =
-    let all : words line ≡ keyword m ∷ map decimal (numbers m) ++ [] = e ∙ ap (λ (vs : List (List ℕ)). name ∷ vs) said.words ∙ sym (append-nil (name ∷ map decimal ns))
-    ∙ (λ i. sym form.named i ∷ map decimal (sym form.numbered i) ++ []) in
+plain_spells : (line : List ℕ) (m : Msg) (k : Kind) (ns : List ℕ) (args : List (List ℕ)) → Plain m k ns → length line ≤ 1100 → words line ≡ keyword k ∷ args → Say args ns → Spells line m
+plain_spells line m k ns args form short e said =
+    let all : words line ≡ keyword (kind m) ∷ map decimal (numbers m) ++ [] = e ∙ ap (λ (vs : List (List ℕ)). keyword k ∷ vs) said.words ∙ sym (append-nil (keyword k ∷ map decimal ns))
+    ∙ (λ i. keyword (sym form.kinded i) ∷ map decimal (sym form.numbered i) ++ []) in
     spell line m [] short all (subst (λ (ks : List ℕ). AreSmall ks) (sym form.numbered) said.small) form.no_data
 
-volume_spells : (make : ℕ → ℕ → Msg) (name : List ℕ) → ((a v : ℕ) → Plain (make a v) name (a ∷ v ∷ []))
-    → (line : List ℕ) (args : List (List ℕ)) (m : Msg) → length line ≤ 1100 → words line ≡ name ∷ args → of_volume make args ≡ Some m → Spells line m
-volume_spells make name form line args m short e h =
-    let s = volume_said make args m h in
-    subst (λ (n : Msg). Spells line n) (sym s.2) (plain_spells line (make s.0 s.1) name _ args (form s.0 s.1) short e s.3)
+-- a line with the keyword of a kind, and behind it the words of a message
+module _ (line : List ℕ) (args : List (List ℕ)) (m : Msg) (short : length line ≤ 1100) where
+  volume_spells : (make : ℕ → ℕ → Msg) (k : Kind) → ((a v : ℕ) → Plain (make a v) k (a ∷ v ∷ [])) → words line ≡ keyword k ∷ args → of_volume make args ≡ Some m → Spells line m
+  volume_spells make k form e h =
+      let s = volume_said make args m h in
+      subst (λ (n : Msg). Spells line n) (sym s.2) (plain_spells line (make s.0 s.1) k _ args (form s.0 s.1) short e s.3)
 
-file_spells : (make : ℕ → ℕ → ℕ → Msg) (name : List ℕ) → ((a v f : ℕ) → Plain (make a v f) name (a ∷ v ∷ f ∷ []))
-    → (line : List ℕ) (args : List (List ℕ)) (m : Msg) → length line ≤ 1100 → words line ≡ name ∷ args → of_file make args ≡ Some m → Spells line m
-file_spells make name form line args m short e h =
-    let s = file_said make args m h in
-    subst (λ (n : Msg). Spells line n) (sym s.3) (plain_spells line (make s.0 s.1 s.2) name _ args (form s.0 s.1 s.2) short e s.4)
+  file_spells : (make : ℕ → ℕ → ℕ → Msg) (k : Kind) → ((a v f : ℕ) → Plain (make a v f) k (a ∷ v ∷ f ∷ [])) → words line ≡ keyword k ∷ args → of_file make args ≡ Some m → Spells line m
+  file_spells make k form e h =
+      let s = file_said make args m h in
+      subst (λ (n : Msg). Spells line n) (sym s.3) (plain_spells line (make s.0 s.1 s.2) k _ args (form s.0 s.1 s.2) short e s.4)
 
-block_spells : (make : ℕ → ℕ → ℕ → ℕ → Msg) (name : List ℕ) → ((a v f b : ℕ) → Plain (make a v f b) name (a ∷ v ∷ f ∷ b ∷ []))
-    → (line : List ℕ) (args : List (List ℕ)) (m : Msg) → length line ≤ 1100 → words line ≡ name ∷ args → of_block make args ≡ Some m → Spells line m
-block_spells make name form line args m short e h =
-    let s = block_said make args m h in
-    subst (λ (n : Msg). Spells line n) (sym s.4) (plain_spells line (make s.0 s.1 s.2 s.3) name _ args (form s.0 s.1 s.2 s.3) short e s.5)
+  block_spells : (make : ℕ → ℕ → ℕ → ℕ → Msg) (k : Kind) → ((a v f b : ℕ) → Plain (make a v f b) k (a ∷ v ∷ f ∷ b ∷ [])) → words line ≡ keyword k ∷ args → of_block make args ≡ Some m → Spells line m
+  block_spells make k form e h =
+      let s = block_said make args m h in
+      subst (λ (n : Msg). Spells line n) (sym s.4) (plain_spells line (make s.0 s.1 s.2 s.3) k _ args (form s.0 s.1 s.2 s.3) short e s.5)
 
-write_spells : (line : List ℕ) (args : List (List ℕ)) (m : Msg) → length line ≤ 1100 → words line ≡ codes "write" ∷ args → of_data Write args ≡ Some m → Spells line m
-write_spells line args m short e h =
-    let s = data_said Write args m h in
-    let all : words line ≡ codes "write" ∷ map decimal (s.0 ∷ s.1 ∷ s.2 ∷ s.3 ∷ []) ++ s.5 ∷ [] = e ∙ ap (λ (vs : List (List ℕ)). codes "write" ∷ vs) s.7 in
-    subst (λ (n : Msg). Spells line n) (sym s.6) (spell line (Write s.0 s.1 s.2 s.3 s.4) (s.5 ∷ []) short all s.8 (s.5, refl, s.9))
+  write_spells : words line ≡ keyword kinds.Write ∷ args → of_data Write args ≡ Some m → Spells line m
+  write_spells e h =
+      let s = data_said Write args m h in
+      let all : words line ≡ keyword kinds.Write ∷ map decimal (s.0 ∷ s.1 ∷ s.2 ∷ s.3 ∷ []) ++ s.5 ∷ [] = e ∙ ap (λ (vs : List (List ℕ)). keyword kinds.Write ∷ vs) s.7 in
+      subst (λ (n : Msg). Spells line n) (sym s.6) (spell line (Write s.0 s.1 s.2 s.3 s.4) (s.5 ∷ []) short all s.8 (s.5, refl, s.9))
 
--- ---- a keyword's test
+  setlabel_spells : words line ≡ keyword kinds.SetLabel ∷ args → of_label SetLabel args ≡ Some m → Spells line m
+  setlabel_spells e h =
+      let s = label_said SetLabel args m h in
+      let all : words line ≡ keyword kinds.SetLabel ∷ map decimal (s.0 ∷ s.1 ∷ []) ++ s.3 ∷ [] = e ∙ ap (λ (vs : List (List ℕ)). keyword kinds.SetLabel ∷ vs) s.5 in
+      subst (λ (n : Msg). Spells line n) (sym s.4) (spell line (SetLabel s.0 s.1 s.2) (s.3 ∷ []) short all s.6 (s.3, refl, s.7))
 
--- what a choice gave, it gave by its test or without it
-either : (t : Bool) (a b : Option Msg) (m : Msg) → cond t a b ≡ Some m → ((t ≡ true) × (a ≡ Some m)) ⊎ (b ≡ Some m)
-either true a b m h = inl (refl, h)
-either false a b m h = inr h
+  summary_spells : words line ≡ keyword kinds.Summary ∷ args → of_nothing Summary args ≡ Some m → Spells line m
+  summary_spells e h =
+      let s = nothing_said Summary args m h in
+      subst (λ (n : Msg). Spells line n) (sym s.0) (plain_spells line Summary kinds.Summary [] args (record { kinded = refl; numbered = refl; no_data = refl }) short e s.1)
 
--- at a line of a word and others, the word is the keyword that passed
-first_word : (line word literal : List ℕ) (args : List (List ℕ)) → words line ≡ word ∷ args → bytes_eq word literal ≡ true → words line ≡ literal ∷ args
-first_word line word literal args e is = e ∙ ap (λ (w : List ℕ). w ∷ args) ((bytes_eq-Decides word literal).0 is)
-
-keyword_spells : (line word : List ℕ) (args : List (List ℕ)) (m : Msg) → length line ≤ 1100 → words line ≡ word ∷ args → with_keyword word args ≡ Some m → Spells line m
-keyword_spells line word args m short e h =
-    elim (either (bytes_eq word (codes "makevol")) (of_volume MakeVol args) _ m h) [
-      | inl makevol ↦ volume_spells MakeVol (codes "makevol") (λ a v. record { named = refl; numbered = refl; no_data = refl }) line args m short (first_word line word _ args e makevol.0) makevol.1
-      | inr h ↦ elim (either (bytes_eq word (codes "create")) (of_file Create args) _ m h) [
-        | inl create ↦ file_spells Create (codes "create") (λ a v f. record { named = refl; numbered = refl; no_data = refl }) line args m short (first_word line word _ args e create.0) create.1
-        | inr h ↦ elim (either (bytes_eq word (codes "write")) (of_data Write args) _ m h) [
-          | inl write ↦ write_spells line args m short (first_word line word _ args e write.0) write.1
-          | inr h ↦ elim (either (bytes_eq word (codes "read")) (of_block Read args) _ m h) [
-            | inl read ↦ block_spells Read (codes "read") (λ a v f b. record { named = refl; numbered = refl; no_data = refl }) line args m short (first_word line word _ args e read.0) read.1
-            | inr h ↦ cc h
-          ]
-        ]
-      ]
-    ]
+  kind_spells : (k : Kind) → words line ≡ keyword k ∷ args → of_kind k args ≡ Some m → Spells line m
+  kind_spells kinds.MakeVol e h = volume_spells MakeVol kinds.MakeVol (λ a v. record { kinded = refl; numbered = refl; no_data = refl }) e h
+  kind_spells kinds.DropVol e h = volume_spells DropVol kinds.DropVol (λ a v. record { kinded = refl; numbered = refl; no_data = refl }) e h
+  kind_spells kinds.Create e h = file_spells Create kinds.Create (λ a v f. record { kinded = refl; numbered = refl; no_data = refl }) e h
+  kind_spells kinds.Delete e h = file_spells Delete kinds.Delete (λ a v f. record { kinded = refl; numbered = refl; no_data = refl }) e h
+  kind_spells kinds.Seal e h = volume_spells Seal kinds.Seal (λ a v. record { kinded = refl; numbered = refl; no_data = refl }) e h
+  kind_spells kinds.Unseal e h = volume_spells Unseal kinds.Unseal (λ a v. record { kinded = refl; numbered = refl; no_data = refl }) e h
+  kind_spells kinds.Write e h = write_spells e h
+  kind_spells kinds.Punch e h = block_spells Punch kinds.Punch (λ a v f b. record { kinded = refl; numbered = refl; no_data = refl }) e h
+  kind_spells kinds.Read e h = block_spells Read kinds.Read (λ a v f b. record { kinded = refl; numbered = refl; no_data = refl }) e h
+  kind_spells kinds.List e h = volume_spells ListFiles kinds.List (λ a v. record { kinded = refl; numbered = refl; no_data = refl }) e h
+  kind_spells kinds.Usage e h = volume_spells Usage kinds.Usage (λ a v. record { kinded = refl; numbered = refl; no_data = refl }) e h
+  kind_spells kinds.Summary e h = summary_spells e h
+  kind_spells kinds.SetLabel e h = setlabel_spells e h
+  kind_spells kinds.Label e h = volume_spells Label kinds.Label (λ a v. record { kinded = refl; numbered = refl; no_data = refl }) e h
 
 words_spell : (line : List ℕ) (ws : List (List ℕ)) (m : Msg) → length line ≤ 1100 → words line ≡ ws → of_words ws ≡ Some m → Spells line m
 words_spell line [] m short e h = cc h
-words_spell line (word ∷ args) m short e h = keyword_spells line word args m short e h
+words_spell line (word ∷ args) m short e h =
+    let k = bind_some (kind_named word) _ m h in
+    kind_spells line args m short k.0 (e ∙ ap (λ (w : List ℕ). w ∷ args) (its_keyword word k.0 k.1)) k.2
 
 short_line : (line : List ℕ) (m : Msg) → message_of line ≡ Some m → (length line ≤ 1100) × (of_words (words line) ≡ Some m)
 unfolding message_of
@@ -198,36 +220,58 @@ no_space_from_test (b ∷ w) h =
     let p = and_parts (not (b == 32)) (has_no_space w) h in
     (not-true (b == 32) p.0, no_space_from_test w p.1)
 
-keyword_no_space : (m : Msg) → HasNoSpace (keyword m)
+keyword_no_space : (k : Kind) → HasNoSpace (keyword k)
 unfolding has_no_space
-keyword_no_space (MakeVol a v) = no_space_from_test (codes "makevol") refl
-keyword_no_space (Create a v f) = no_space_from_test (codes "create") refl
-keyword_no_space (Write a v f b content) = no_space_from_test (codes "write") refl
-keyword_no_space (Read a v f b) = no_space_from_test (codes "read") refl
+keyword_no_space kinds.MakeVol = no_space_from_test (codes "makevol") refl
+keyword_no_space kinds.DropVol = no_space_from_test (codes "dropvol") refl
+keyword_no_space kinds.Create = no_space_from_test (codes "create") refl
+keyword_no_space kinds.Delete = no_space_from_test (codes "delete") refl
+keyword_no_space kinds.Seal = no_space_from_test (codes "seal") refl
+keyword_no_space kinds.Unseal = no_space_from_test (codes "unseal") refl
+keyword_no_space kinds.Write = no_space_from_test (codes "write") refl
+keyword_no_space kinds.Punch = no_space_from_test (codes "punch") refl
+keyword_no_space kinds.Read = no_space_from_test (codes "read") refl
+keyword_no_space kinds.List = no_space_from_test (codes "list") refl
+keyword_no_space kinds.Usage = no_space_from_test (codes "usage") refl
+keyword_no_space kinds.Summary = no_space_from_test (codes "summary") refl
+keyword_no_space kinds.SetLabel = no_space_from_test (codes "setlabel") refl
+keyword_no_space kinds.Label = no_space_from_test (codes "label") refl
 
 numbers_no_space : (ns : List ℕ) (behind : List (List ℕ)) → AreSmall ns → AllByRecursion HasNoSpace behind → AllByRecursion HasNoSpace (map decimal ns ++ behind)
 numbers_no_space [] behind h rest = rest
 numbers_no_space (n ∷ ns) behind h rest = (number_no_space (decimal n) n (number-decimal n h.0), numbers_no_space ns behind h.1 rest)
 
-no_data_no_space : (behind : List (List ℕ)) → behind ≡ [] → AllByRecursion HasNoSpace behind
-no_data_no_space behind none = subst (λ (ws : List (List ℕ)). AllByRecursion HasNoSpace ws) (sym none) tt
+none_no_space : (behind : List (List ℕ)) → behind ≡ [] → AllByRecursion HasNoSpace behind
+none_no_space behind none = subst (λ (ws : List (List ℕ)). AllByRecursion HasNoSpace ws) (sym none) tt
+
+one_no_space : (behind : List (List ℕ)) (digits : List ℕ) → behind ≡ digits ∷ [] → HasNoSpace digits → AllByRecursion HasNoSpace behind
+one_no_space behind digits e h = subst (λ (ws : List (List ℕ)). AllByRecursion HasNoSpace ws) (sym e) (h, tt)
 
 data_no_space : (m : Msg) (behind : List (List ℕ)) → IsData m behind → AllByRecursion HasNoSpace behind
-data_no_space (Write a v f b content) behind h =
-    subst (λ (ws : List (List ℕ)). AllByRecursion HasNoSpace ws) (sym h.1) (block_no_space h.0 content (says_block h.0 content h.2), tt)
-data_no_space (MakeVol a v) behind h = no_data_no_space behind h
-data_no_space (Create a v f) behind h = no_data_no_space behind h
-data_no_space (Read a v f b) behind h = no_data_no_space behind h
+data_no_space (Write a v f b content) behind h = one_no_space behind h.0 h.1 (block_no_space h.0 content (says_block h.0 content h.2))
+data_no_space (SetLabel a v bytes) behind h = one_no_space behind h.0 h.1 (label_no_space h.0 bytes (says_label h.0 bytes h.2))
+data_no_space (MakeVol a v) behind h = none_no_space behind h
+data_no_space (DropVol a v) behind h = none_no_space behind h
+data_no_space (Create a v f) behind h = none_no_space behind h
+data_no_space (Delete a v f) behind h = none_no_space behind h
+data_no_space (Seal a v) behind h = none_no_space behind h
+data_no_space (Unseal a v) behind h = none_no_space behind h
+data_no_space (Punch a v f b) behind h = none_no_space behind h
+data_no_space (Read a v f b) behind h = none_no_space behind h
+data_no_space (ListFiles a v) behind h = none_no_space behind h
+data_no_space (Usage a v) behind h = none_no_space behind h
+data_no_space Summary behind h = none_no_space behind h
+data_no_space (Label a v) behind h = none_no_space behind h
 
 -- the words of a line that spells a message
-spelled_words : (line : List ℕ) (m : Msg) (s : Spells line m) → words line ≡ keyword m ∷ map decimal (numbers m) ++ s.words_behind
+spelled_words : (line : List ℕ) (m : Msg) (s : Spells line m) → words line ≡ keyword (kind m) ∷ map decimal (numbers m) ++ s.words_behind
 spelled_words line m s =
     let behind : AllByRecursion HasNoSpace s.words_behind = data_no_space m s.words_behind s.content in
     let all : AllByRecursion HasNoSpace (map decimal (numbers m) ++ s.words_behind) = numbers_no_space (numbers m) s.words_behind s.fits behind in
-    ap words s.parts ∙ words-join (keyword m) (map decimal (numbers m) ++ s.words_behind) (keyword_no_space m, all)
+    ap words s.parts ∙ words-join (keyword (kind m)) (map decimal (numbers m) ++ s.words_behind) (keyword_no_space (kind m), all)
 
-spelled_as : (line : List ℕ) (m : Msg) (s : Spells line m) → message_of line ≡ of_words (keyword m ∷ map decimal (numbers m) ++ s.words_behind)
-spelled_as line m s = by_words line _ s.short (spelled_words line m s)
+spelled_as : (line : List ℕ) (m : Msg) (s : Spells line m) → message_of line ≡ of_kind (kind m) (map decimal (numbers m) ++ s.words_behind)
+spelled_as line m s = with_kind line (keyword (kind m)) (map decimal (numbers m) ++ s.words_behind) (kind m) s.short (spelled_words line m s) (sym (keyword_names (kind m)))
 
 volume_read : (make : ℕ → ℕ → Msg) (a v : ℕ) (behind : List (List ℕ)) → AreSmall (a ∷ v ∷ []) → behind ≡ [] → of_volume make (map decimal (a ∷ v ∷ []) ++ behind) ≡ Some (make a v)
 volume_read make a v behind h none =
@@ -251,14 +295,31 @@ data_read make a v f b content digits behind h is said =
     ap (λ (ws : List (List ℕ)). of_data make (map decimal (a ∷ v ∷ f ∷ b ∷ []) ++ ws)) is
     ∙ rw (number-decimal a h.0, number-decimal v h.1.0, number-decimal f h.1.1.0, number-decimal b h.1.1.1.0, said) refl
 
+label_read : (make : ℕ → ℕ → List ℕ → Msg) (a v : ℕ) (bytes digits : List ℕ) (behind : List (List ℕ)) → AreSmall (a ∷ v ∷ []) → behind ≡ digits ∷ [] → label digits ≡ Some bytes
+    → of_label make (map decimal (a ∷ v ∷ []) ++ behind) ≡ Some (make a v bytes)
+label_read make a v bytes digits behind h is said =
+    ap (λ (ws : List (List ℕ)). of_label make (map decimal (a ∷ v ∷ []) ++ ws)) is
+    ∙ rw (number-decimal a h.0, number-decimal v h.1.0, said) refl
+
 -- what a line spells is what its words make
+made_again : (m : Msg) (behind : List (List ℕ)) → AreSmall (numbers m) → IsData m behind → of_kind (kind m) (map decimal (numbers m) ++ behind) ≡ Some m
+made_again (MakeVol a v) behind small none = volume_read MakeVol a v behind small none
+made_again (DropVol a v) behind small none = volume_read DropVol a v behind small none
+made_again (Create a v f) behind small none = file_read Create a v f behind small none
+made_again (Delete a v f) behind small none = file_read Delete a v f behind small none
+made_again (Seal a v) behind small none = volume_read Seal a v behind small none
+made_again (Unseal a v) behind small none = volume_read Unseal a v behind small none
+made_again (Write a v f b content) behind small d = data_read Write a v f b content d.0 behind small d.1 (says_block d.0 content d.2)
+made_again (Punch a v f b) behind small none = block_read Punch a v f b behind small none
+made_again (Read a v f b) behind small none = block_read Read a v f b behind small none
+made_again (ListFiles a v) behind small none = volume_read ListFiles a v behind small none
+made_again (Usage a v) behind small none = volume_read Usage a v behind small none
+made_again Summary behind small none = ap (of_nothing Summary) none
+made_again (SetLabel a v bytes) behind small d = label_read SetLabel a v bytes d.0 behind small d.1 (says_label d.0 bytes d.2)
+made_again (Label a v) behind small none = volume_read Label a v behind small none
+
 pub spelled_is_read : (line : List ℕ) (m : Msg) → Spells line m → message_of line ≡ Some m
-spelled_is_read line (MakeVol a v) s = spelled_as line (MakeVol a v) s ∙ volume_read MakeVol a v s.words_behind s.fits s.content
-spelled_is_read line (Create a v f) s = spelled_as line (Create a v f) s ∙ file_read Create a v f s.words_behind s.fits s.content
-spelled_is_read line (Write a v f b content) s =
-    spelled_as line (Write a v f b content) s
-    ∙ data_read Write a v f b content s.content.0 s.words_behind s.fits s.content.1 (says_block s.content.0 content s.content.2)
-spelled_is_read line (Read a v f b) s = spelled_as line (Read a v f b) s ∙ block_read Read a v f b s.words_behind s.fits s.content
+spelled_is_read line m s = spelled_as line m s ∙ made_again m s.words_behind s.fits s.content
 
 -- what was read of a line is its message exactly where the line spells it
 pub read_iff_spelled : (line : List ℕ) (r : Option Msg) → r ≡ message_of line → (m : Msg) → (r ≡ Some m) ↔ Spells line m

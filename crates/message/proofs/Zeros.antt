@@ -1,9 +1,7 @@
 -- The zeros at the end of a block.
-use Rattle.std.proofs.Common.{◌≡◌, ℕ, zero, suc, ◌+◌, ◌-◌, ◌<◌, ◌≤◌, List, [], ◌∷◌, ◌++◌, length, get_or, take, refl, ap, sym, ◌∙◌, inl, inr, arith, drop, length-drop, length-take-le}
+use Rattle.std.proofs.Common.{◌≡◌, ℕ, zero, suc, ◌+◌, ◌-◌, ◌<◌, ◌≤◌, List, [], ◌∷◌, ◌++◌, length, get_or, take, refl, ap, sym, ◌∙◌, inl, inr, ◌⊎◌, arith}
 use Rattle.std.proofs.lemmas.Bool.{ne_eqb, cond-false, cases_eq}
-use Rattle.std.specs.Prelude.{EachIndex}
 use Rattle.std.proofs.lemmas.List.{take_more}
-use Rattle.std.proofs.lemmas.List.Edits.{get_or-between}
 use Rattle.message.specs.Replies.{before, without_zeros, at_least_one}
 
 zero_goes : (xs : List ℕ) → without_zeros (xs ++ 0 ∷ []) ≡ without_zeros xs
@@ -46,23 +44,3 @@ only_stays (b ∷ xs) h = elim (cases_eq b 0) [
   | inl none ↦ rw none refl
   | inr other ↦ last_stays (b ∷ xs) 1 (omega arith) h other
 ]
-
--- several bytes fewer, which are zeros
-pub several_fewer : (xs : List ℕ) (n k : ℕ) → k ≤ n → n ≤ length xs → ((j : ℕ) → n - k ≤ j → j < n → get_or xs j 0 ≡ 0)
-    → without_zeros (take n xs) ≡ without_zeros (take (n - k) xs)
-several_fewer xs n zero few h zeros = let same : n ≡ n - 0 = omega arith in ap (λ m. without_zeros (take m xs)) same
-several_fewer xs n (suc k) few h zeros =
-    let less : n - k - 1 ≡ n - suc k = omega arith in
-    several_fewer xs n k (omega arith) h (λ j low high. zeros j (omega arith) high)
-    ∙ one_fewer xs (n - k) (omega arith) (omega arith) (zeros (n - k - 1) (omega arith) (omega arith))
-    ∙ ap (λ m. without_zeros (take m xs)) less
-
--- a piece of zeros fewer
-pub piece_fewer : (xs : List ℕ) (n : ℕ) → 64 ≤ n → n ≤ length xs → EachIndex (take (n - (n - 64)) (drop (n - 64) xs)) (λ k. get_or (take (n - (n - 64)) (drop (n - 64) xs)) k 0 ≡ 0)
-    → without_zeros (take n xs) ≡ without_zeros (take (n - 64) xs)
-piece_fewer xs n some h zeros =
-    several_fewer xs n 64 some h (λ j low high.
-    let size : length (take (n - (n - 64)) (drop (n - 64) xs)) ≡ 64 = length-take-le _ _ (omega (arith, length-drop (n - 64) xs)) ∙ omega arith in
-    let place : n - 64 + (j - (n - 64)) ≡ j = omega arith in
-    let read : get_or (take (n - (n - 64)) (drop (n - 64) xs)) (j - (n - 64)) 0 ≡ get_or xs (n - 64 + (j - (n - 64))) 0 = get_or-between xs (n - 64) n (j - (n - 64)) 0 (omega arith) in
-    sym (ap (λ i. get_or xs i 0) place) ∙ sym read ∙ zeros (j - (n - 64)) (omega arith))

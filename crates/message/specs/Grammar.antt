@@ -1,13 +1,16 @@
 -- Which lines spell which messages.
-use Rattle.std.specs.Prelude.{◌≡◌, ℕ, ◌+◌, ◌*◌, ◌<◌, ◌≤◌, nat_lt, List, [], ◌∷◌, ◌++◌, length, map, codes, if◌then◌else◌, Option, Some, None}
+use Rattle.std.specs.Prelude.{◌≡◌, ℕ, ◌+◌, ◌*◌, ◌<◌, ◌≤◌, nat_lt, List, [], ◌∷◌, ◌++◌, length, map, codes, if◌then◌else◌, Option, Some, None, option_and_then}
 use Rattle.std.specs.List.{AllByRecursion, join_with_byte}
 use Rattle.std.specs.Str.{bytes_eq}
 use Rattle.std.specs.Fmt.{decimal}
 use Rattle.hex.specs.Hex.{hex_digit_value}
+use Rattle.affinity.specs.declared.kinds.Kind.{Kind}
+use Rattle.affinity.specs.declared.kinds.Kind.TheVariants as kinds
 use Rattle.message.specs.declared.Block.{Block}
 use Rattle.message.specs.declared.Msg.{Msg}
-use Rattle.message.specs.declared.Msg.TheVariants.{MakeVol, Create, Write, Read}
-use Rattle.message.specs.Lines.{words, number, block, padded}
+use Rattle.message.specs.declared.Msg.TheVariants.{MakeVol, DropVol, Create, Delete, Seal, Unseal, Write, Punch, Read, List as ListFiles, Usage, Summary, SetLabel, Label}
+use Rattle.message.specs.Lines.{words, number, block, label, padded}
+use Rattle.message.specs.Messages.{kind, numbers}
 
 -- ---- by the words of a line: which message they make, if any
 
@@ -64,37 +67,78 @@ of_data make (a ∷ v ∷ f ∷ b ∷ digits ∷ []) = do
   Some (make aggregate volume file place content)
 of_data make _ = None
 
--- the message of a keyword and the words behind it
-abbrev pub with_keyword : List ℕ → List (List ℕ) → Option Msg
-with_keyword keyword arguments =
-    if bytes_eq keyword (codes "makevol") then of_volume MakeVol arguments
-    else if bytes_eq keyword (codes "create") then of_file Create arguments
-    else if bytes_eq keyword (codes "write") then of_data Write arguments
-    else if bytes_eq keyword (codes "read") then of_block Read arguments
-    else None
+-- two numbers, and the digits of a label
+abbrev pub of_label : (ℕ → ℕ → List ℕ → Msg) → List (List ℕ) → Option Msg
+of_label make (a ∷ v ∷ digits ∷ []) = do
+  aggregate ← number a
+  volume ← number v
+  bytes ← label digits
+  Some (make aggregate volume bytes)
+of_label make _ = None
+
+-- no word at all
+abbrev pub of_nothing : Msg → List (List ℕ) → Option Msg
+of_nothing m [] = Some m
+of_nothing m _ = None
+
+-- the message of a kind and the words behind its keyword
+abbrev pub of_kind : Kind → List (List ℕ) → Option Msg
+of_kind kinds.MakeVol arguments = of_volume MakeVol arguments
+of_kind kinds.DropVol arguments = of_volume DropVol arguments
+of_kind kinds.Create arguments = of_file Create arguments
+of_kind kinds.Delete arguments = of_file Delete arguments
+of_kind kinds.Seal arguments = of_volume Seal arguments
+of_kind kinds.Unseal arguments = of_volume Unseal arguments
+of_kind kinds.Write arguments = of_data Write arguments
+of_kind kinds.Punch arguments = of_block Punch arguments
+of_kind kinds.Read arguments = of_block Read arguments
+of_kind kinds.List arguments = of_volume ListFiles arguments
+of_kind kinds.Usage arguments = of_volume Usage arguments
+of_kind kinds.Summary arguments = of_nothing Summary arguments
+of_kind kinds.SetLabel arguments = of_label SetLabel arguments
+of_kind kinds.Label arguments = of_volume Label arguments
+
+abbrev pub keyword : Kind → List ℕ
+keyword kinds.MakeVol = codes "makevol"
+keyword kinds.DropVol = codes "dropvol"
+keyword kinds.Create = codes "create"
+keyword kinds.Delete = codes "delete"
+keyword kinds.Seal = codes "seal"
+keyword kinds.Unseal = codes "unseal"
+keyword kinds.Write = codes "write"
+keyword kinds.Punch = codes "punch"
+keyword kinds.Read = codes "read"
+keyword kinds.List = codes "list"
+keyword kinds.Usage = codes "usage"
+keyword kinds.Summary = codes "summary"
+keyword kinds.SetLabel = codes "setlabel"
+keyword kinds.Label = codes "label"
+
+abbrev pub all_kinds : List Kind
+all_kinds =
+    kinds.MakeVol ∷ kinds.DropVol ∷ kinds.Create ∷ kinds.Delete ∷ kinds.Seal ∷ kinds.Unseal ∷ kinds.Write
+    ∷ kinds.Punch ∷ kinds.Read ∷ kinds.List ∷ kinds.Usage ∷ kinds.Summary ∷ kinds.SetLabel ∷ kinds.Label ∷ []
+
+-- the first of several kinds that has this keyword
+abbrev pub named_among : List Kind → List ℕ → Option Kind
+named_among [] word = None
+named_among (k ∷ ks) word = if bytes_eq word (keyword k) then Some k else named_among ks word
+
+-- the kind that a word names
+unfoldable pub kind_named : List ℕ → Option Kind
+kind_named word = named_among all_kinds word
 
 abbrev pub of_words : List (List ℕ) → Option Msg
 of_words [] = None
-of_words (keyword ∷ arguments) = with_keyword keyword arguments
+of_words (word ∷ arguments) = do
+  kind ← kind_named word
+  of_kind kind arguments
 
 -- The message that a line spells, if it spells one. No line of more than 1,100 bytes does.
 unfoldable pub message_of : List ℕ → Option Msg
 message_of line = if nat_lt 1100 (length line) then None else of_words (words line)
 
 -- ---- by the message: how its line is put together
-
-abbrev pub keyword : Msg → List ℕ
-keyword (MakeVol a v) = codes "makevol"
-keyword (Create a v f) = codes "create"
-keyword (Write a v f b content) = codes "write"
-keyword (Read a v f b) = codes "read"
-
--- the numbers of a message: aggregate, volume, file, block, as far as it has them
-abbrev pub numbers : Msg → List ℕ
-numbers (MakeVol a v) = a ∷ v ∷ []
-numbers (Create a v f) = a ∷ v ∷ f ∷ []
-numbers (Write a v f b content) = a ∷ v ∷ f ∷ b ∷ []
-numbers (Read a v f b) = a ∷ v ∷ f ∷ b ∷ []
 
 -- two digits for each byte, in either case
 abbrev pub AreDigitsOf : List ℕ → List ℕ → Type 0
@@ -103,19 +147,20 @@ AreDigitsOf (high ∷ low ∷ digits) (byte ∷ bytes) =
     (h : ℕ) × (l : ℕ) × (hex_digit_value high ≡ Some h) × (hex_digit_value low ≡ Some l) × (byte ≡ h * 16 + l) × AreDigitsOf digits bytes
 AreDigitsOf _ _ = ⊥
 
--- The digits say the block: its bytes up to some place, from 1 to 512, and all behind that are zeros.
-abbrev pub SaysBlock : List ℕ → Block → Type 0
-SaysBlock digits content = (bytes : List ℕ) × AreDigitsOf digits bytes × (1 ≤ length bytes) × (length bytes ≤ 512) × (content.0 ≡ padded 512 bytes)
+-- The digits say so many bytes: one at least, and zeros behind those that have digits.
+abbrev pub SaysBytes : ℕ → List ℕ → List ℕ → Type 0
+SaysBytes size digits whole = (bytes : List ℕ) × AreDigitsOf digits bytes × (1 ≤ length bytes) × (length bytes ≤ size) × (whole ≡ padded size bytes)
 
 -- what stands behind the numbers of a message
 abbrev pub IsData : Msg → List (List ℕ) → Type 0
-IsData (Write a v f b content) data' = (digits : List ℕ) × (data' ≡ digits ∷ []) × SaysBlock digits content
-IsData _ data' = data' ≡ []
+IsData (Write a v f b content) behind = (digits : List ℕ) × (behind ≡ digits ∷ []) × SaysBytes 512 digits content.0
+IsData (SetLabel a v bytes) behind = (digits : List ℕ) × (behind ≡ digits ∷ []) × SaysBytes 32 digits bytes
+IsData _ behind = behind ≡ []
 
 -- The line spells the message: its keyword, its numbers in decimal and its data, parted by single spaces.
 pub record Spells (line : List ℕ) (m : Msg) : Type 0 where
   pub words_behind : List (List ℕ)
-  pub parts : line ≡ join_with_byte 32 (keyword m ∷ map decimal (numbers m) ++ words_behind)
+  pub parts : line ≡ join_with_byte 32 (keyword (kind m) ∷ map decimal (numbers m) ++ words_behind)
   pub fits : AllByRecursion (λ n. n < 65536) (numbers m)
   pub content : IsData m words_behind
   pub short : length line ≤ 1100

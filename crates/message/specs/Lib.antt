@@ -1,4 +1,5 @@
 pub mod Lines
+pub mod Messages
 pub mod Grammar
 pub mod Replies
 pub mod Reader

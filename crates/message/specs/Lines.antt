@@ -1,5 +1,5 @@
 -- The lines of an input, the words of a line, and what a word says.
-use Rattle.std.specs.Prelude.{ℕ, ◌-◌, Bool, ◌&&◌, ◌||◌, not, ◌==◌, nat_lt, nat_le, List, [], ◌∷◌, ◌++◌, length, replicate, slice_index, if◌then◌else◌, Option, Some, None, Result, Ok, Err}
+use Rattle.std.specs.Prelude.{◌≡◌, ℕ, ◌-◌, ◌*◌, ◌<◌, Bool, ◌&&◌, ◌||◌, not, ◌==◌, nat_lt, nat_le, List, [], ◌∷◌, ◌++◌, length, replicate, slice_index, if◌then◌else◌, Option, Some, None, option_map, Result, Ok, Err}
 use Rattle.std.specs.Str.{all_ascii_digits}
 use Rattle.std.specs.Str.Parse.{digits_value}
 use Rattle.hex.specs.Hex.{decode_of}
@@ -33,10 +33,18 @@ number word = if is_numeral word && nat_lt (digits_value 10 word) 65536 then Som
 abbrev pub padded : ℕ → List ℕ → List ℕ
 padded size bytes = bytes ++ replicate (size - length bytes) 0
 
-abbrev pub block_with : Result (List ℕ) FromHexError → Option Block
-block_with (Ok bytes) = Some (record { 0 = padded 512 bytes })
-block_with (Err e) = None
+abbrev pub padded_with : ℕ → Result (List ℕ) FromHexError → Option (List ℕ)
+padded_with size (Ok bytes) = Some (padded size bytes)
+padded_with size (Err e) = None
 
--- the block that a word says: 2 to 1024 hexadecimal digits, two for each byte
+-- the bytes that a word says: hexadecimal digits, two for each byte, at least one byte and at most so many, and zeros behind them
+unfoldable pub bytes_said : ℕ → List ℕ → Option (List ℕ)
+bytes_said size word = if nat_le 2 (length word) && nat_le (length word) (2 * size) then padded_with size (decode_of word) else None
+
+-- the block that a word says
 unfoldable pub block : List ℕ → Option Block
-block word = if nat_le 2 (length word) && nat_le (length word) 1024 then block_with (decode_of word) else None
+block word = option_map (λ bytes. record { 0 = bytes }) (bytes_said 512 word)
+
+-- the label that a word says
+unfoldable pub label : List ℕ → Option (List ℕ)
+label word = bytes_said 32 word

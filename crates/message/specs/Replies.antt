@@ -1,10 +1,12 @@
 -- The line of each reply.
-use Rattle.std.specs.Prelude.{ℕ, ◌==◌, List, [], ◌∷◌, ◌++◌, codes, if◌then◌else◌}
+use Rattle.std.specs.Prelude.{◌≡◌, ℕ, zero, suc, ◌+◌, ◌==◌, List, [], ◌∷◌, ◌++◌, take, drop, length, codes, if◌then◌else◌, Bool}
+use Rattle.std.specs.Fmt.{decimal}
+use Rattle.std.specs.Int.{bit_at}
 use Rattle.hex.specs.Hex.{encode_lower}
 use Rattle.message.specs.declared.Refusal.{Refusal}
 use Rattle.message.specs.declared.Refusal.TheVariants.{Range, Volume, Exists, Sealed, File, Space}
 use Rattle.message.specs.declared.Reply.{Reply}
-use Rattle.message.specs.declared.Reply.TheVariants.{Done, Hole, Block as Found, Refused}
+use Rattle.message.specs.declared.Reply.TheVariants.{Done, Hole, Block as Found, Files, Usage, Summary, Refused, Label}
 
 -- a byte in front of others, unless it is a zero in front of nothing
 abbrev pub before : ℕ → List ℕ → List ℕ
@@ -33,11 +35,31 @@ reason Sealed = codes "sealed"
 reason File = codes "file"
 reason Space = codes "space"
 
+-- whether a file is one of these: file f is bit f of the number
+abbrev pub has_file : ℕ → ℕ → Bool
+has_file files f = bit_at files f == 1
+
+-- a space and a number
+abbrev pub spaced : ℕ → List ℕ
+spaced n = 32 ∷ decimal n
+
+-- for each of the files below a number, in ascending order, a space and its number
+abbrev pub files_below : ℕ → ℕ → List ℕ
+files_below files zero = []
+files_below files (suc f) = files_below files f ++ (if has_file files f then spaced f else [])
+
+unfoldable pub files_text : ℕ → List ℕ
+files_text files = files_below files 64
+
 -- what a reply says
 abbrev pub reply_text : Reply → List ℕ
 reply_text Done = codes "done"
 reply_text Hole = codes "hole"
 reply_text (Found content) = codes "block " ++ shown content.0
+reply_text (Files files) = codes "files" ++ files_text files
+reply_text (Usage files blocks sealed) = codes "usage" ++ spaced files ++ spaced blocks ++ (if sealed then codes " sealed" else codes " open")
+reply_text (Summary volumes files blocks) = codes "summary" ++ spaced volumes ++ spaced files ++ spaced blocks
+reply_text (Label bytes) = codes "label " ++ shown bytes
 reply_text (Refused why) = codes "error " ++ reason why
 
 -- a line of the output: a text and a newline
@@ -50,3 +72,11 @@ reply_line reply = output_line (reply_text reply)
 -- what a line is answered that is no message
 abbrev pub no_message : List ℕ
 no_message = output_line (codes "error line")
+
+-- ---- a line put together in a buffer
+
+-- A text stands behind the first `at` bytes of a buffer, up to `end`, and the others are as they were.
+pub record Appends (old new : List ℕ) (at end : ℕ) (text : List ℕ) : Type 0 where
+  pub ends : end ≡ at + length text
+  pub front : take end new ≡ take at old ++ text
+  pub rest : drop end new ≡ drop end old

@@ -1,6 +1,7 @@
 //! The language of the server: messages as lines come in, replies as lines go out.
 #![tactic(auto)]
 
+mod kinds;
 mod parsing;
 mod printing;
 mod reading;
@@ -29,14 +30,34 @@ pub struct Block(pub [u8; 512]);
 /// block of that file.
 #[derive(Clone, Copy, Debug, PartialEq, Eq)]
 pub enum Msg {
-    /// Makes a volume, without files.
+    /// Makes a volume, without files and with a label of zeros.
     MakeVol(u16, u16),
+    /// Removes a volume, with its files, their blocks and its label.
+    DropVol(u16, u16),
     /// Makes a file, without blocks.
     Create(u16, u16, u16),
+    /// Removes a file and its blocks.
+    Delete(u16, u16, u16),
+    /// Seals a volume: it can't be changed any more.
+    Seal(u16, u16),
+    /// Unseals a volume.
+    Unseal(u16, u16),
     /// Puts a block into a file.
     Write(u16, u16, u16, u16, Block),
+    /// Removes a block from a file.
+    Punch(u16, u16, u16, u16),
     /// Asks for a block of a file.
     Read(u16, u16, u16, u16),
+    /// Asks which files a volume has.
+    List(u16, u16),
+    /// Asks how much a volume holds, and whether it is sealed.
+    Usage(u16, u16),
+    /// Asks how much all volumes hold.
+    Summary,
+    /// Sets the label of a volume.
+    SetLabel(u16, u16, [u8; 32]),
+    /// Asks for the label of a volume.
+    Label(u16, u16),
 }
 
 /// Why a message was refused.
@@ -65,6 +86,22 @@ pub enum Reply {
     Hole,
     /// The block.
     Block(Block),
+    /// The files of the volume: file `f` is bit `f` of the number.
+    Files(u64),
+    /// How much the volume holds, and whether it is sealed.
+    Usage {
+        files: u32,
+        blocks: u32,
+        sealed: bool,
+    },
+    /// How much all volumes hold, and how many they are.
+    Summary {
+        volumes: u32,
+        files: u32,
+        blocks: u32,
+    },
     /// The message was refused, and changed nothing.
     Refused(Refusal),
+    /// The label of the volume.
+    Label([u8; 32]),
 }

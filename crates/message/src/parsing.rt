@@ -2,11 +2,29 @@
 
 ghost use Rattle.std.specs.Prelude.{◌≡◌, ℕ, ◌∷◌, [], ◌↔◌, MatchOption, option_map};
 ghost use Rattle.message.specs.declared.Msg.{Msg};
-ghost use Rattle.message.specs.declared.Msg.TheVariants.{Write as write};
-ghost use Rattle.message.specs.Lines.{words, number, block};
-ghost use Rattle.message.specs.Grammar.{message_of, Spells, first_number, of_volume, of_file, of_block, of_data};
+ghost use Rattle.message.specs.declared.Msg.TheVariants.{Write as write, SetLabel as set_label};
+ghost use Rattle.message.specs.Lines.{words, number, block, bytes_said};
+ghost use Rattle.message.specs.Grammar.{message_of, Spells, first_number, of_kind, of_volume, of_file, of_block, of_data, of_label, keyword, kind_named};
 
-use crate::{BLOCK_SIZE, Block, LONGEST_LINE, Msg};
+use crate::{Block, LONGEST_LINE, Msg};
+use affinity::Kind;
+
+const KINDS: [Kind; 14] = [
+    Kind::MakeVol,
+    Kind::DropVol,
+    Kind::Create,
+    Kind::Delete,
+    Kind::Seal,
+    Kind::Unseal,
+    Kind::Write,
+    Kind::Punch,
+    Kind::Read,
+    Kind::List,
+    Kind::Usage,
+    Kind::Summary,
+    Kind::SetLabel,
+    Kind::Label,
+];
 
 /// The message that a line spells, the line given without its newline; `None` where it spells none.
 pub fn parse_line(line: &[u8]) -> Option<Msg>
@@ -16,17 +34,67 @@ pub fn parse_line(line: &[u8]) -> Option<Msg>
     if line.len() > LONGEST_LINE {
         return None;
     }
-    let (keyword, arguments) = split_at_space(line)?;
-    if keyword == b"makevol".as_slice() {
-        volume_numbers(arguments).map(|(a, v)| Msg::MakeVol(a, v))
-    } else if keyword == b"create".as_slice() {
-        file_numbers(arguments).map(|(a, v, f)| Msg::Create(a, v, f))
-    } else if keyword == b"write".as_slice() {
-        write_message(arguments)
-    } else if keyword == b"read".as_slice() {
-        block_numbers(arguments).map(|(a, v, f, b)| Msg::Read(a, v, f, b))
-    } else {
-        None
+    match split_at_space(line) {
+        Some((word, arguments)) => of_kind(kind_named(word)?, arguments),
+        None => match kind_named(line)? {
+            Kind::Summary => Some(Msg::Summary),
+            _ => None,
+        },
+    }
+}
+
+// The kind that a word names.
+fn kind_named(word: &[u8]) -> Option<Kind>
+    ensures { result ≡ kind_named word.now }
+{
+    for kind in KINDS {
+        if word == keyword(kind) {
+            return Some(kind);
+        }
+    }
+    None
+}
+
+fn keyword(kind: Kind) -> &'static [u8]
+    ensures { result.now ≡ keyword kind }
+{
+    match kind {
+        Kind::MakeVol => b"makevol",
+        Kind::DropVol => b"dropvol",
+        Kind::Create => b"create",
+        Kind::Delete => b"delete",
+        Kind::Seal => b"seal",
+        Kind::Unseal => b"unseal",
+        Kind::Write => b"write",
+        Kind::Punch => b"punch",
+        Kind::Read => b"read",
+        Kind::List => b"list",
+        Kind::Usage => b"usage",
+        Kind::Summary => b"summary",
+        Kind::SetLabel => b"setlabel",
+        Kind::Label => b"label",
+    }
+}
+
+// The message of a kind and what stands behind the space after its keyword.
+fn of_kind(kind: Kind, line: &[u8]) -> Option<Msg>
+    ensures { result ≡ of_kind kind (words line.now) }
+{
+    match kind {
+        Kind::MakeVol => volume_numbers(line).map(|(a, v)| Msg::MakeVol(a, v)),
+        Kind::DropVol => volume_numbers(line).map(|(a, v)| Msg::DropVol(a, v)),
+        Kind::Create => file_numbers(line).map(|(a, v, f)| Msg::Create(a, v, f)),
+        Kind::Delete => file_numbers(line).map(|(a, v, f)| Msg::Delete(a, v, f)),
+        Kind::Seal => volume_numbers(line).map(|(a, v)| Msg::Seal(a, v)),
+        Kind::Unseal => volume_numbers(line).map(|(a, v)| Msg::Unseal(a, v)),
+        Kind::Write => write_message(line),
+        Kind::Punch => block_numbers(line).map(|(a, v, f, b)| Msg::Punch(a, v, f, b)),
+        Kind::Read => block_numbers(line).map(|(a, v, f, b)| Msg::Read(a, v, f, b)),
+        Kind::List => volume_numbers(line).map(|(a, v)| Msg::List(a, v)),
+        Kind::Usage => volume_numbers(line).map(|(a, v)| Msg::Usage(a, v)),
+        Kind::Summary => None,
+        Kind::SetLabel => label_message(line),
+        Kind::Label => volume_numbers(line).map(|(a, v)| Msg::Label(a, v)),
     }
 }
 
@@ -56,7 +124,7 @@ fn block_numbers(line: &[u8]) -> Option<(u16, u16, u16, u16)>
     Some((aggregate, volume, file, block))
 }
 
-// The message of the words behind `write`.
+// The message of what stands behind `write`.
 fn write_message(line: &[u8]) -> Option<Msg>
     ensures { result ≡ of_data write (words line.now) }
 {
@@ -64,7 +132,16 @@ fn write_message(line: &[u8]) -> Option<Msg>
     let (volume, behind) = number_before_space(behind)?;
     let (file, behind) = number_before_space(behind)?;
     let (block, behind) = number_before_space(behind)?;
-    Some(Msg::Write(aggregate, volume, file, block, content(behind)?))
+    Some(Msg::Write(aggregate, volume, file, block, Block(bytes_said(behind)?)))
+}
+
+// The message of what stands behind `setlabel`.
+fn label_message(line: &[u8]) -> Option<Msg>
+    ensures { result ≡ of_label set_label (words line.now) }
+{
+    let (aggregate, behind) = number_before_space(line)?;
+    let (volume, behind) = number_before_space(behind)?;
+    Some(Msg::SetLabel(aggregate, volume, bytes_said(behind)?))
 }
 
 // The number that stands before the first space of a line, and what stands behind that.
@@ -110,15 +187,15 @@ fn number(word: &[u8]) -> Option<u16>
     u16::try_from(value).ok()
 }
 
-// The block that a word says.
-fn content(digits: &[u8]) -> Option<Block>
-    ensures { result ≡ block digits.now }
+// The bytes that a word says in hexadecimal digits, and zeros behind them.
+fn bytes_said<const N: usize>(digits: &[u8]) -> Option<[u8; N]>
+    ensures { result ≡ bytes_said N digits.now }
 {
     let size = digits.len() / 2;
-    if size == 0 || size > BLOCK_SIZE {
+    if size == 0 || size > N {
         return None;
     }
-    let mut bytes = [0; 512];
+    let mut bytes = [0; N];
     hex::decode_to_slice(digits, &mut bytes[..size]).ok()?;
-    Some(Block(bytes))
+    Some(bytes)
 }

@@ -1,10 +1,12 @@
 //! What a reply says.
 
-ghost use Rattle.std.specs.Prelude.{◌≡◌, ◌≤◌, ◌++◌, EachIndex, IsTrue, drop, length, slice_index, take};
-ghost use Rattle.message.specs.Replies.{at_least_one, no_message, reply_line, without_zeros};
-ghost use Rattle.message.specs.declared.Reply.TheVariants.{Refused, Block as found};
+ghost use Rattle.std.specs.Prelude.{◌≡◌, ◌≤◌, ◌+◌, ◌*◌, length, take, drop, codes};
+ghost use Rattle.hex.specs.Hex.{encode_lower};
+ghost use Rattle.message.specs.Replies.{Appends, at_least_one, no_message, output_line, reply_line, reply_text, shown, spaced, without_zeros, reason};
+ghost use Rattle.message.specs.declared.Reply.TheVariants.{Files as files_reply, Usage as usage_reply, Summary as summary_reply};
 
-use crate::{Block, Refusal, Reply};
+use crate::{Refusal, Reply};
+use itoa::Buffer;
 
 /// Writes the line of a reply, its newline included, into the front of `out`, and gives the
 /// line's length in bytes. What lies behind the line stays as it was.
@@ -14,12 +16,8 @@ pub fn write_reply(reply: &Reply, out: &mut [u8; 1031]) -> usize
     ensures rest { drop result out.new ≡ drop result out.old }
     ensures bound { result ≤ 1031 }
 {
-    match reply {
-        Reply::Done => write_text(b"done\n", out),
-        Reply::Hole => write_text(b"hole\n", out),
-        Reply::Block(block) => write_block(block, out),
-        Reply::Refused(why) => write_text(refusal_line(*why), out),
-    }
+    let end = write_text(reply, out);
+    append(b"\n", out, end)
 }
 
 /// The line, its newline included, that answers a line that is no message.
@@ -29,79 +27,135 @@ pub fn no_message_line() -> &'static [u8]
     b"error line\n"
 }
 
-fn refusal_line(why: Refusal) -> &'static [u8]
-    ensures line { result.now ≡ reply_line (Refused why) }
-    ensures bound { length result.now ≤ 13 }
+// Writes what a reply says into the front of `out`, and gives its length.
+fn write_text(reply: &Reply, out: &mut [u8; 1031]) -> usize
+    ensures text { Appends out.old out.new 0 result (reply_text reply.now) }
+    ensures bound { result ≤ 1030 }
 {
-    match why {
-        Refusal::Range => b"error range\n",
-        Refusal::Volume => b"error volume\n",
-        Refusal::Exists => b"error exists\n",
-        Refusal::Sealed => b"error sealed\n",
-        Refusal::File => b"error file\n",
-        Refusal::Space => b"error space\n",
+    match reply {
+        Reply::Done => append(b"done", out, 0),
+        Reply::Hole => append(b"hole", out, 0),
+        Reply::Block(block) => {
+            let end = append(b"block ", out, 0);
+            append_shown(&block.0, out, end)
+        }
+        Reply::Files(files) => write_files(*files, out),
+        Reply::Usage {
+            files,
+            blocks,
+            sealed,
+        } => write_usage(*files, *blocks, *sealed, out),
+        Reply::Summary {
+            volumes,
+            files,
+            blocks,
+        } => write_summary(*volumes, *files, *blocks, out),
+        Reply::Label(label) => {
+            let end = append(b"label ", out, 0);
+            append_shown(label, out, end)
+        }
+        Reply::Refused(why) => {
+            let end = append(b"error ", out, 0);
+            append(reason(*why), out, end)
+        }
     }
 }
 
-// Writes a text into the front of `out`, and gives its length.
-fn write_text(text: &[u8], out: &mut [u8; 1031]) -> usize
-    requires { length text.now ≤ 1031 }
-    ensures length { result ≡ length text.now }
-    ensures text { out.new ≡ text.now ++ drop (length text.now) out.old }
+fn reason(why: Refusal) -> &'static [u8]
+    ensures text { result.now ≡ reason why }
+    ensures bound { length result.now ≤ 6 }
 {
-    out[..text.len()].copy_from_slice(text);
-    text.len()
+    match why {
+        Refusal::Range => b"range",
+        Refusal::Volume => b"volume",
+        Refusal::Exists => b"exists",
+        Refusal::Sealed => b"sealed",
+        Refusal::File => b"file",
+        Refusal::Space => b"space",
+    }
 }
 
-// Writes the line of a block into the front of `out`, and gives its length.
-fn write_block(block: &Block, out: &mut [u8; 1031]) -> usize
-    ensures length { result ≡ length (reply_line (found block.now)) }
-    ensures line { take result out.new ≡ reply_line (found block.now) }
-    ensures rest { drop result out.new ≡ drop result out.old }
-    ensures bound { result ≤ 1031 }
+fn write_files(files: u64, out: &mut [u8; 1031]) -> usize
+    ensures text { Appends out.old out.new 0 result (reply_text (files_reply files)) }
+    ensures bound { result ≤ 1030 }
 {
-    let bytes = &block.0[..shown_size(&block.0)];
-    let end = 6 + 2 * bytes.len();
-    out[..6].copy_from_slice(b"block ");
-    hex::encode_to_slice(bytes, &mut out[6..end]).unwrap();
-    out[end] = b'\n';
-    end + 1
+    let mut end = append(b"files", out, 0);
+    for file in 0..64u32 {
+        if (files >> file) & 1 == 1 {
+            end = append_number(file, out, end);
+        }
+    }
+    end
 }
 
-// How many bytes of a block its line shows: those up to the last that isn't 0, and one where all
-// are 0.
-fn shown_size(bytes: &[u8; 512]) -> usize
+fn write_usage(files: u32, blocks: u32, sealed: bool, out: &mut [u8; 1031]) -> usize
+    ensures text { Appends out.old out.new 0 result (reply_text (usage_reply files blocks sealed)) }
+    ensures bound { result ≤ 1030 }
+{
+    let end = append(b"usage", out, 0);
+    let end = append_number(files, out, end);
+    let end = append_number(blocks, out, end);
+    if sealed {
+        append(b" sealed", out, end)
+    } else {
+        append(b" open", out, end)
+    }
+}
+
+fn write_summary(volumes: u32, files: u32, blocks: u32, out: &mut [u8; 1031]) -> usize
+    ensures text { Appends out.old out.new 0 result (reply_text (summary_reply volumes files blocks)) }
+    ensures bound { result ≤ 1030 }
+{
+    let end = append(b"summary", out, 0);
+    let end = append_number(volumes, out, end);
+    let end = append_number(files, out, end);
+    append_number(blocks, out, end)
+}
+
+// Writes a text behind the first `at` bytes, and gives where it ends.
+fn append(text: &[u8], out: &mut [u8; 1031], at: usize) -> usize
+    requires { at + length text.now ≤ 1031 }
+    ensures { Appends out.old out.new at result text.now }
+{
+    let end = at + text.len();
+    out[at..end].copy_from_slice(text);
+    end
+}
+
+// Writes a space and a number behind the first `at` bytes, and gives where they end.
+fn append_number(n: u32, out: &mut [u8; 1031], at: usize) -> usize
+    requires { at + 11 ≤ 1031 }
+    ensures text { Appends out.old out.new at result (spaced n) }
+    ensures bound { result ≤ at + 11 }
+{
+    let mut digits = Buffer::new();
+    let end = append(b" ", out, at);
+    append(digits.format(n).as_bytes(), out, end)
+}
+
+// Writes the digits that show some bytes behind the first `at` bytes, and gives where they end.
+fn append_shown(bytes: &[u8], out: &mut [u8; 1031], at: usize) -> usize
+    requires some { 1 ≤ length bytes.now }
+    requires room { at + 2 * length bytes.now ≤ 1030 }
+    ensures text { Appends out.old out.new at result (shown bytes.now) }
+    ensures bound { result ≤ 1030 }
+{
+    let bytes = &bytes[..shown_size(bytes)];
+    let end = at + 2 * bytes.len();
+    hex::encode_to_slice(bytes, &mut out[at..end]).unwrap();
+    end
+}
+
+// How many of the bytes are shown: those up to the last that isn't 0, and one where all are 0.
+fn shown_size(bytes: &[u8]) -> usize
+    requires { 1 ≤ length bytes.now }
     ensures shown { take result bytes.now ≡ at_least_one (without_zeros bytes.now) }
     ensures some { 1 ≤ result }
-    ensures bound { result ≤ 512 }
+    ensures bound { result ≤ length bytes.now }
 {
-    let mut size = size_in_pieces(bytes);
+    let mut size = bytes.len();
     while size > 1 && bytes[size - 1] == 0 {
         size -= 1;
     }
     size
-}
-
-// A size behind which the bytes are zeros, found by pieces of 64, which is faster than one by one.
-fn size_in_pieces(bytes: &[u8; 512]) -> usize
-    ensures same { without_zeros (take result bytes.now) ≡ without_zeros bytes.now }
-    ensures some { 1 ≤ result }
-    ensures bound { result ≤ 512 }
-{
-    let mut size = bytes.len();
-    while size > 64 && are_zeros(&bytes[size - 64..size]) {
-        size -= 64;
-    }
-    size
-}
-
-// Without a branch for each byte.
-fn are_zeros(bytes: &[u8]) -> bool
-    ensures { IsTrue result → EachIndex bytes.now (λ k. slice_index bytes.now k ≡ 0) }
-{
-    let mut bits = 0;
-    for byte in bytes {
-        bits |= *byte;
-    }
-    bits == 0
 }

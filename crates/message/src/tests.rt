@@ -164,3 +164,105 @@ fn writes_a_full_block(rt: HostRuntime) {
     }
     assert_eq!(rt; out[1030], b'\n');
 }
+
+// A label that begins with these bytes, with zeros behind them.
+fn label_of(front: &[u8]) -> [u8; 32] {
+    let mut bytes = [0; 32];
+    for (place, byte) in bytes.iter_mut().zip(front) {
+        *place = *byte;
+    }
+    bytes
+}
+
+#[test]
+fn reads_each_kind(rt: HostRuntime) {
+    let rows = [
+        ("dropvol 1 2", Msg::DropVol(1, 2), [1, 2, 0, 0]),
+        ("delete 1 2 3", Msg::Delete(1, 2, 3), [1, 2, 3, 0]),
+        ("seal 1 2", Msg::Seal(1, 2), [1, 2, 0, 0]),
+        ("unseal 1 2", Msg::Unseal(1, 2), [1, 2, 0, 0]),
+        ("punch 1 2 3 4", Msg::Punch(1, 2, 3, 4), [1, 2, 3, 4]),
+        ("list 1 2", Msg::List(1, 2), [1, 2, 0, 0]),
+        ("usage 1 2", Msg::Usage(1, 2), [1, 2, 0, 0]),
+        ("summary", Msg::Summary, [0, 0, 0, 0]),
+        (
+            "setlabel 0 0 6162",
+            Msg::SetLabel(0, 0, label_of(b"ab")),
+            [0, 0, 0, 0],
+        ),
+        ("label 3 4", Msg::Label(3, 4), [3, 4, 0, 0]),
+    ];
+    for (line, message, numbers) in rows.iter() {
+        assert_eq!(rt; parse_line(line.as_bytes()), Some(*message), "at {line}");
+        assert_eq!(rt; message.numbers(), *numbers, "at {line}");
+    }
+    let refused = [
+        "summary 0",
+        "summary ",
+        "list 0",
+        "seal 0 0 0",
+        "setlabel 0 0",
+        "setlabel 0 0 6",
+        "setlabel 0 0 ",
+        "label 0 0 61",
+        "Summary",
+    ];
+    for line in refused {
+        assert_eq!(rt; parse_line(line.as_bytes()), None, "at {line}");
+    }
+}
+
+#[test]
+fn a_label_has_at_most_32_bytes(rt: HostRuntime) {
+    let front = b"setlabel 0 0 ";
+    let mut line = [b'1'; 79];
+    for (place, byte) in line.iter_mut().zip(front) {
+        *place = *byte;
+    }
+    assert_eq!(rt;
+        parse_line(&line[..77]),
+        Some(Msg::SetLabel(0, 0, [17; 32]))
+    );
+    assert_eq!(rt; parse_line(&line), None);
+}
+
+#[test]
+fn writes_each_reply(rt: HostRuntime) {
+    let rows = [
+        (Reply::Files(0), "files\n"),
+        (Reply::Files(3), "files 0 1\n"),
+        (Reply::Files(1 << 63), "files 63\n"),
+        (
+            Reply::Usage {
+                files: 2,
+                blocks: 1,
+                sealed: false,
+            },
+            "usage 2 1 open\n",
+        ),
+        (
+            Reply::Usage {
+                files: 64,
+                blocks: 4294967295,
+                sealed: true,
+            },
+            "usage 64 4294967295 sealed\n",
+        ),
+        (
+            Reply::Summary {
+                volumes: 1,
+                files: 2,
+                blocks: 10,
+            },
+            "summary 1 2 10\n",
+        ),
+        (Reply::Label([0; 32]), "label 00\n"),
+        (Reply::Label(label_of(b"ab")), "label 6162\n"),
+    ];
+    for (reply, line) in rows.iter() {
+        let mut out = [7; 1031];
+        let size = write_reply(reply, &mut out);
+        assert_eq!(rt; &out[..size], line.as_bytes());
+        assert!(rt; out[size..].iter().all(|byte| *byte == 7));
+    }
+}

@@ -1,90 +1,39 @@
--- The blocks of each stripe, counted, where one block comes or goes.
-use Rattle.std.proofs.Common.{◌≡◌, ℕ, ◌+◌, ◌<◌, Bool, true, false, cond, Some, refl, ap, sym, ◌∙◌, subst, arith}
-use Rattle.std.specs.Prelude.{◌&&◌, ◌==◌, Option, None, is_some, unwrap_or}
-use Rattle.std.specs.BTreeMap.{is_at}
-use Rattle.std.proofs.lemmas.Bool.{eqb-true, true≢false, false_from_ne_true}
+-- How great the counts of a state can get, and how they add up.
+use Rattle.std.proofs.Common.{◌≡◌, ℕ, zero, suc, ◌+◌, ◌*◌, ◌/◌, ◌^◌, ◌<◌, ◌≤◌, Bool, sym, ◌∙◌, arith}
+use Rattle.std.specs.Prelude.{◌&&◌, ◌==◌, if◌then◌else◌, is_some}
+use Rattle.std.proofs.lemmas.Nat.{mod_below}
 use Rattle.affinity.specs.declared.sizes.Geometry.{Geometry}
 use Rattle.affinity.specs.Geometry.{group}
-use Rattle.plain.specs.State.{State, BlockKey, sum_below, one_if, count_below, group_count, is_block}
-use Rattle.plain.specs.Server.{StripeKey, is_stripe, by_file}
-use Rattle.plain.proofs.Keys.{at_file, the_file, the_block, itself, picks_file, other_file, other_place}
-use Rattle.plain.proofs.Sums.{sum_same, sum_one_more, sum_zero}
+use Rattle.plain.specs.State.{State, sum_below, one_if, file_count, block_count, group_count, over_volumes}
+use Rattle.plain.specs.Serial.{file_bits}
+use Rattle.plain.proofs.Sums.{sum_below-le_times, count_below-le, sum_below-same, sum_below-swap, sum_below_at}
 
--- states that have blocks at the same keys count alike
-pub same_counts : (g : Geometry) (x y : State) → ((k : BlockKey) → is_some (y.blocks k) ≡ is_some (x.blocks k)) → (a v s : ℕ) → group_count g y a v s ≡ group_count g x a v s
-same_counts g x y same a v s = λ i. sum_below g.files (λ f. count_below g.blocks (λ b. (group g f b == s) && same (a, v, f, b) i))
+-- ---- bounds
 
--- y has one block more than x, at (a, v, f, b)
-module _ (g : Geometry) (x y : State) (a v f b : ℕ) (others : (k : BlockKey) → is_block a v f b k ≡ false → is_some (y.blocks k) ≡ is_some (x.blocks k)) where
-  abbrev counted : State → ℕ → ℕ → ℕ → ℕ → ℕ → ℕ
-  counted z a' v' s f' b' = one_if ((group g f' b' == s) && is_some (z.blocks (a', v', f', b')))
+pub file_count-le : (g : Geometry) (x : State) (a v : ℕ) → file_count g x a v ≤ g.files
+file_count-le g x a v = count_below-le g.files (λ f. x.files (a, v, f))
 
-  -- another place counts as before
-  elsewhere : (a' v' s f' b' : ℕ) → is_block a v f b (a', v', f', b') ≡ false → counted y a' v' s f' b' ≡ counted x a' v' s f' b'
-  elsewhere a' v' s f' b' other = λ i. one_if ((group g f' b' == s) && others (a', v', f', b') other i)
+pub block_count-le : (g : Geometry) (x : State) (a v : ℕ) → block_count g x a v ≤ g.files * g.blocks
+block_count-le g x a v = sum_below-le_times g.files g.blocks _ (λ f lt. count_below-le g.blocks (λ b. is_some (x.blocks (a, v, f, b))))
 
-  -- so does each place of another stripe
-  in_other_stripe : (a' v' s f' b' : ℕ) → is_stripe a v (group g f b) (a', v', s) ≡ false → counted y a' v' s f' b' ≡ counted x a' v' s f' b'
-  in_other_stripe a' v' s f' b' other =
-      elim (group g f' b' == s) as (λ t. (group g f' b' == s) ≡ t → one_if (t && is_some (y.blocks (a', v', f', b'))) ≡ one_if (t && is_some (x.blocks (a', v', f', b')))) [
-        | false ↦ λ e. refl
-        | true ↦ λ e.
-            let not_it : is_block a v f b (a', v', f', b') ≡ false = false_from_ne_true _ (λ is.
-            let k = the_block a v f b (a', v', f', b') is in
-            let here : (a, v, group g f b) ≡ (a', v', s) = (λ i. ((k i).0, (k i).1, group g (k i).2 (k i).3)) ∙ (λ i. (a', v', eqb-true (group g f' b') s e i)) in
-            true≢false (sym (picks_file a v (group g f b)) ∙ ap (is_stripe a v (group g f b)) here ∙ other)) in
-            λ i. one_if (others (a', v', f', b') not_it i)
-      ] refl
+pub over_volumes-le : (g : Geometry) (c : ℕ) (f : ℕ → ℕ → ℕ) → ((a v : ℕ) → f a v ≤ c) → over_volumes g f ≤ g.aggregates * (g.volumes * c)
+over_volumes-le g c f each = sum_below-le_times g.aggregates (g.volumes * c) _ (λ a lt. sum_below-le_times g.volumes c _ (λ v lt. each a v))
 
-  at_its_stripe : f < g.files → b < g.blocks → is_some (x.blocks (a, v, f, b)) ≡ false → is_some (y.blocks (a, v, f, b)) ≡ true
-      → group_count g y a v (group g f b) ≡ group_count g x a v (group g f b) + 1
-  at_its_stripe in_files in_blocks absent there =
-      let s = group g f b in
-      sum_one_more g.files f _ _ in_files
-      (λ f' ne. sum_same g.blocks _ _ (λ b'. elsewhere a v s f' b' (other_file a v f a v f' b b' ne)))
-      (sum_one_more g.blocks b _ _ in_blocks (λ b' ne. elsewhere a v s f b' (other_place a v f a v f b b' ne))
-      ((λ i. one_if (itself s i && there i)) ∙ (λ i. one_if (sym (itself s) i && sym absent i) + 1)))
+-- a number of n bits
+bits-lt : (n : ℕ) (has : ℕ → Bool) → sum_below n (λ i. if has i then 2 ^ i else 0) < 2 ^ n
+bits-lt zero has = omega arith
+bits-lt (suc n) has = grind (arith, bits-lt n has)
 
-  -- its stripe has one block more, and each other stripe as many
-  pub one_more : f < g.files → b < g.blocks → is_some (x.blocks (a, v, f, b)) ≡ false → is_some (y.blocks (a, v, f, b)) ≡ true
-      → (k : StripeKey) → group_count g y k.0 k.1 k.2 ≡ group_count g x k.0 k.1 k.2 + one_if (is_stripe a v (group g f b) k)
-  one_more in_files in_blocks absent there k =
-      elim (is_stripe a v (group g f b) k) as (λ t. is_stripe a v (group g f b) k ≡ t → group_count g y k.0 k.1 k.2 ≡ group_count g x k.0 k.1 k.2 + one_if t) [
-        | false ↦ λ other.
-            let same : group_count g y k.0 k.1 k.2 ≡ group_count g x k.0 k.1 k.2 = sum_same g.files _ _ (λ f'. sum_same g.blocks _ _ (λ b'. in_other_stripe k.0 k.1 k.2 f' b' other)) in
-            omega (arith, same)
-        | true ↦ λ is. subst (λ (k : StripeKey). group_count g y k.0 k.1 k.2 ≡ group_count g x k.0 k.1 k.2 + 1) (the_file a v (group g f b) k is) (at_its_stripe in_files in_blocks absent there)
-      ] refl
+pub file_bits-lt : (g : Geometry) (x : State) (a v : ℕ) → file_bits g x a v < 2 ^ g.files
+file_bits-lt g x a v = bits-lt g.files (λ f. x.files (a, v, f))
 
--- ---- the numbers that are noted
+-- ---- the blocks of a volume lie in its stripes
 
-module _ (old new : StripeKey → Option ℕ) (a v s count : ℕ) (updates : (k : StripeKey) → new k ≡ cond (is_at (by_file (a, v, s)) k) (Some count) (old k)) where
-  at_key : (k : StripeKey) → unwrap_or (new k) 0 ≡ cond (is_stripe a v s k) count (unwrap_or (old k) 0)
-  at_key k = ap (λ o. unwrap_or o 0) (updates k ∙ ap (λ t. cond t (Some count) (old k)) (at_file a v s k)) ∙ split (is_stripe a v s k)
-    where
-      split : (t : Bool) → unwrap_or (cond t (Some count) (old k)) 0 ≡ cond t count (unwrap_or (old k) 0)
-      split true = refl
-      split false = refl
+pub group-lt : (g : Geometry) (f b : ℕ) → group g f b < g.stripes
+group-lt g f b = mod_below (f + b / g.width) g.stripes (omega (arith, g.stripes_range.0))
 
-  -- one more is noted at the key
-  pub noted_one_more : count ≡ unwrap_or (old (a, v, s)) 0 + 1 → (k : StripeKey) → unwrap_or (new k) 0 ≡ unwrap_or (old k) 0 + one_if (is_stripe a v s k)
-  noted_one_more more k = at_key k ∙ elim (is_stripe a v s k) as (λ t. is_stripe a v s k ≡ t → cond t count (unwrap_or (old k) 0) ≡ unwrap_or (old k) 0 + one_if t) [
-    | false ↦ λ e. omega arith
-    | true ↦ λ e. more ∙ ap (λ k. unwrap_or (old k) 0 + 1) (the_file a v s k e)
-  ] refl
-
-  -- the same is noted as before
-  pub noted_same : count ≡ unwrap_or (old (a, v, s)) 0 → (k : StripeKey) → unwrap_or (new k) 0 ≡ unwrap_or (old k) 0
-  noted_same same k = at_key k ∙ elim (is_stripe a v s k) as (λ t. is_stripe a v s k ≡ t → cond t count (unwrap_or (old k) 0) ≡ unwrap_or (old k) 0) [
-    | false ↦ λ e. refl
-    | true ↦ λ e. same ∙ ap (λ k. unwrap_or (old k) 0) (the_file a v s k e)
-  ] refl
-
--- where there is no block, none is counted
-pub none_counted : (g : Geometry) (x : State) → ((k : BlockKey) → x.blocks k ≡ None) → (a v s : ℕ) → group_count g x a v s ≡ 0
-none_counted g x none a v s =
-    sum_same g.files _ (λ f. 0) (λ f. sum_same g.blocks _ (λ b. 0) (λ b. (λ i. one_if ((group g f b == s) && is_some (none (a, v, f, b) i))) ∙ never (group g f b == s)) ∙ sum_zero g.blocks) ∙ sum_zero g.files
-  where
-    never : (t : Bool) → one_if (t && false) ≡ 0
-    never true = refl
-    never false = refl
+pub block_count-by_stripe : (g : Geometry) (x : State) (a v : ℕ) → block_count g x a v ≡ sum_below g.stripes (group_count g x a v)
+block_count-by_stripe g x a v =
+    sum_below-same g.files _ _ (λ f lt. sum_below-same g.blocks _ _ (λ b lt. sym (sum_below_at g.stripes (group g f b) (is_some (x.blocks (a, v, f, b))) (group-lt g f b)))
+    ∙ sum_below-swap g.blocks g.stripes (λ b s. one_if ((group g f b == s) && is_some (x.blocks (a, v, f, b)))))
+    ∙ sum_below-swap g.files g.stripes (λ f s. sum_below g.blocks (λ b. one_if ((group g f b == s) && is_some (x.blocks (a, v, f, b)))))

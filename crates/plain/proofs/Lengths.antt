@@ -14,7 +14,7 @@ use Rattle.affinity.specs.declared.sizes.Geometry.{Geometry}
 use Rattle.plain.specs.State.{VolumeKey, FileKey, BlockKey, sum_below, one_if, is_volume, is_file, is_block}
 use Rattle.plain.specs.Server.{by_volume, by_file, by_block}
 use Rattle.plain.proofs.Keys.{at_volume, at_file, at_block, the_volume, the_file, the_block, picks_volume, picks_file, picks_block}
-use Rattle.plain.proofs.Sums.{sum_same, sum_add, sum_zero, sum_pick}
+use Rattle.plain.proofs.ServerSums.{sum_same, sum_add, sum_zero, sum_pick}
 
 -- ---- a list of keys, by a sum over all keys that are in range
 

@@ -5,7 +5,7 @@ use Rattle.std.specs.Cmp.{nat_eq_equiv}
 use Rattle.affinity.specs.declared.sizes.Geometry.{Geometry}
 use Rattle.affinity.specs.Geometry.{group}
 use Rattle.plain.specs.State.{State, sum_below, one_if, count_below, group_count}
-use Rattle.plain.proofs.Sums.{sum_same, sum_swap, sum_pick}
+use Rattle.plain.proofs.ServerSums.{sum_same, sum_swap, sum_pick}
 
 group_below : (g : Geometry) (f b : ℕ) → group g f b < g.stripes
 group_below g f b = let range = g.stripes_range in omega arith

@@ -4,12 +4,12 @@ use Rattle.std.specs.Prelude.{None, is_some, if◌then◌else◌}
 use Rattle.affinity.specs.declared.sizes.Geometry.{Geometry}
 use Rattle.affinity.specs.Geometry.{group}
 use Rattle.message.specs.declared.Block.{Block}
-use Rattle.message.specs.declared.Msg.TheVariants.{Write}
+use Rattle.message.specs.declared.Msg.TheVariants.{Write, Punch}
 use Rattle.plain.specs.State.{State, BlockKey, one_if, group_count, is_block}
 use Rattle.plain.specs.Serial.{effect}
-use Rattle.plain.specs.Server.{StripeKey, is_stripe, without_block}
+use Rattle.plain.specs.Server.{StripeKey, is_stripe}
 use Rattle.plain.proofs.Keys.{the_block, picks_block}
-use Rattle.plain.proofs.Counts.{same_counts, one_more}
+use Rattle.plain.proofs.ServerCounts.{same_counts, one_more}
 
 -- what is noted by stripe is what a state has
 abbrev pub AreCounts : Geometry → (StripeKey → ℕ) → State → Type 0
@@ -33,10 +33,10 @@ module _ (x : State) (a v f b : ℕ) (content : Block) where
   ] refl
 
   -- a new block that is taken out again leaves what was
-  pub taken_back : x.blocks (a, v, f, b) ≡ None → without_block written a v f b ≡ x
+  pub taken_back : x.blocks (a, v, f, b) ≡ None → effect written (Punch a v f b) ≡ x
   taken_back none = λ i. record x { blocks = λ k. at k i }
     where
-      at : (k : BlockKey) → (without_block written a v f b).blocks k ≡ x.blocks k
+      at : (k : BlockKey) → (effect written (Punch a v f b)).blocks k ≡ x.blocks k
       at k = elim (is_block a v f b k) as (λ t. is_block a v f b k ≡ t → (if t then None else if t then Some content else x.blocks k) ≡ x.blocks k) [
         | true ↦ λ is. sym none ∙ ap x.blocks (the_block a v f b k is)
         | false ↦ λ e. refl

@@ -1,6 +1,10 @@
 pub mod State
 pub mod Serial
-pub mod Output
+pub mod Shares
+pub mod Order
+pub mod Laws
 pub mod Server
+pub mod Removals
+pub mod Output
 pub mod Waiting
 pub mod Progress

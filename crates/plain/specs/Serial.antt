@@ -1,41 +1,53 @@
 -- What each message means: its tests, its effect and its reply; and lists of messages, one after the other.
-use Rattle.std.specs.Prelude.{ℕ, Bool, true, false, not, ◌||◌, ◌&&◌, nat_lt, List, [], ◌∷◌, find, Option, Some, None, is_some}
+use Rattle.std.specs.Prelude.{ℕ, ◌^◌, Bool, true, false, not, ◌||◌, ◌&&◌, nat_lt, List, [], ◌∷◌, find, replicate, unwrap_or, if◌then◌else◌, Option, Some, None, is_some}
 use Rattle.affinity.specs.declared.sizes.Geometry.{Geometry}
 use Rattle.affinity.specs.Geometry.{group}
+use Rattle.affinity.specs.Kind.{is_changing}
 use Rattle.message.specs.declared.Block.{Block}
 use Rattle.message.specs.declared.Msg.{Msg}
-use Rattle.message.specs.declared.Msg.TheVariants.{MakeVol, Create, Write, Read}
+use Rattle.message.specs.declared.Msg.TheVariants.{MakeVol, DropVol, Create, Delete, Seal, Unseal, Write, Punch, Read, List as ListFiles, Usage as AskUsage, Summary as AskSummary, SetLabel, Label as AskLabel}
 use Rattle.message.specs.declared.Refusal.{Refusal}
 use Rattle.message.specs.declared.Refusal.TheVariants.{Range, Volume, Exists, Sealed, File, Space}
 use Rattle.message.specs.declared.Reply.{Reply}
-use Rattle.message.specs.declared.Reply.TheVariants.{Done, Hole, Block as Found, Refused}
-use Rattle.message.specs.Grammar.{numbers}
-use Rattle.plain.specs.State.{State, BlockKey, adding, setting, is_volume, is_file, is_block, group_count}
+use Rattle.message.specs.declared.Reply.TheVariants.{Done, Hole, Block as Found, Files, Usage, Summary, Refused, Label}
+use Rattle.message.specs.Messages.{kind, is_in_range}
+use Rattle.plain.specs.State.{State, BlockKey, adding, dropping, setting, clearing, is_volume, is_file, is_block, is_file_of, is_block_of, is_block_of_file, sum_below, one_if, file_count, block_count, group_count, over_volumes}
 
 -- ---- the tests
-
--- each number is below its limit
-abbrev pub are_below : List ℕ → List ℕ → Bool
-are_below [] limits = true
-are_below (n ∷ ns) [] = false
-are_below (n ∷ ns) (limit ∷ limits) = nat_lt n limit && are_below ns limits
-
-abbrev pub is_in_range : Geometry → Msg → Bool
-is_in_range g m = are_below (numbers m) (g.aggregates ∷ g.volumes ∷ g.files ∷ g.blocks ∷ [])
 
 -- what a message speaks of: its volume, its file and its block, where a number that it doesn't have is 0
 abbrev pub key : Msg → BlockKey
 key (MakeVol a v) = (a, v, 0, 0)
+key (DropVol a v) = (a, v, 0, 0)
 key (Create a v f) = (a, v, f, 0)
+key (Delete a v f) = (a, v, f, 0)
+key (Seal a v) = (a, v, 0, 0)
+key (Unseal a v) = (a, v, 0, 0)
 key (Write a v f b content) = (a, v, f, b)
+key (Punch a v f b) = (a, v, f, b)
 key (Read a v f b) = (a, v, f, b)
+key (ListFiles a v) = (a, v, 0, 0)
+key (AskUsage a v) = (a, v, 0, 0)
+key AskSummary = (0, 0, 0, 0)
+key (SetLabel a v bytes) = (a, v, 0, 0)
+key (AskLabel a v) = (a, v, 0, 0)
 
 -- the tests of each kind, in order
 abbrev pub tests : Msg → List Refusal
 tests (MakeVol a v) = Range ∷ Exists ∷ []
+tests (DropVol a v) = Range ∷ Volume ∷ Sealed ∷ []
 tests (Create a v f) = Range ∷ Volume ∷ Sealed ∷ Exists ∷ []
+tests (Delete a v f) = Range ∷ Volume ∷ Sealed ∷ File ∷ []
+tests (ListFiles a v) = Range ∷ Volume ∷ []
+tests (Seal a v) = Range ∷ Volume ∷ []
+tests (Unseal a v) = Range ∷ Volume ∷ []
+tests (AskUsage a v) = Range ∷ Volume ∷ []
 tests (Write a v f b content) = Range ∷ Volume ∷ Sealed ∷ File ∷ Space ∷ []
+tests (Punch a v f b) = Range ∷ Volume ∷ Sealed ∷ File ∷ []
 tests (Read a v f b) = Range ∷ Volume ∷ File ∷ []
+tests AskSummary = []
+tests (SetLabel a v bytes) = Range ∷ Volume ∷ Sealed ∷ []
+tests (AskLabel a v) = Range ∷ Volume ∷ []
 
 -- whether what the message makes is there already
 abbrev pub exists : State → Msg → Bool
@@ -58,21 +70,49 @@ refusal g x m = find (λ test. not (passes g x m test)) (tests m)
 
 -- ---- the step
 
+-- the label of a volume to which none was given
+abbrev pub no_label : List ℕ
+no_label = replicate 32 0
+
 -- the state after a message that passes its tests
 abbrev pub effect : State → Msg → State
-effect x (MakeVol a v) = record x { made = adding (is_volume a v) x.made }
+effect x (MakeVol a v) = record x { made = adding (is_volume a v) x.made; labels = setting (is_volume a v) no_label x.labels }
+effect x (DropVol a v) = record {
+  made = dropping (is_volume a v) x.made;
+  sealed = dropping (is_volume a v) x.sealed;
+  files = dropping (is_file_of a v) x.files;
+  blocks = clearing (is_block_of a v) x.blocks;
+  labels = clearing (is_volume a v) x.labels;
+}
 effect x (Create a v f) = record x { files = adding (is_file a v f) x.files }
+effect x (Delete a v f) = record x { files = dropping (is_file a v f) x.files; blocks = clearing (is_block_of_file a v f) x.blocks }
+effect x (Seal a v) = record x { sealed = adding (is_volume a v) x.sealed }
+effect x (Unseal a v) = record x { sealed = dropping (is_volume a v) x.sealed }
 effect x (Write a v f b content) = record x { blocks = setting (is_block a v f b) content x.blocks }
+effect x (Punch a v f b) = record x { blocks = clearing (is_block a v f b) x.blocks }
+effect x (SetLabel a v bytes) = record x { labels = setting (is_volume a v) bytes x.labels }
 effect x (Read a v f b) = x
+effect x (ListFiles a v) = x
+effect x (AskUsage a v) = x
+effect x AskSummary = x
+effect x (AskLabel a v) = x
 
 abbrev pub block_reply : Option Block → Reply
 block_reply None = Hole
 block_reply (Some content) = Found content
 
+-- the number whose bits are the files of a volume
+abbrev pub file_bits : Geometry → State → ℕ → ℕ → ℕ
+file_bits g x a v = sum_below g.files (λ f. if x.files (a, v, f) then 2 ^ f else 0)
+
 -- the reply to a message that passes its tests
-abbrev pub answer : State → Msg → Reply
-answer x (Read a v f b) = block_reply (x.blocks (a, v, f, b))
-answer x _ = Done
+abbrev pub answer : Geometry → State → Msg → Reply
+answer g x (Read a v f b) = block_reply (x.blocks (a, v, f, b))
+answer g x (ListFiles a v) = Files (file_bits g x a v)
+answer g x (AskUsage a v) = Usage (file_count g x a v) (block_count g x a v) (x.sealed (a, v))
+answer g x AskSummary = Summary (over_volumes g (λ a v. one_if (x.made (a, v)))) (over_volumes g (file_count g x)) (over_volumes g (block_count g x))
+answer g x (AskLabel a v) = Label (unwrap_or (x.labels (a, v)) no_label)
+answer g x _ = Done
 
 abbrev pub outcome : Option Refusal → Reply → State → State → Reply × State
 outcome None reply new old = (reply, new)
@@ -80,7 +120,7 @@ outcome (Some why) reply new old = (Refused why, old)
 
 -- the reply and the new state: a refusal changes nothing
 abbrev pub step : Geometry → State → Msg → Reply × State
-step g x m = outcome (refusal g x m) (answer x m) (effect x m) x
+step g x m = outcome (refusal g x m) (answer g x m) (effect x m) x
 
 abbrev pub reply_to : Geometry → State → Msg → Reply
 reply_to g x m = (step g x m).0
@@ -97,3 +137,13 @@ fold g x (m ∷ ms) = fold g (after g x m) ms
 abbrev pub replies : Geometry → State → List Msg → List Reply
 replies g x [] = []
 replies g x (m ∷ ms) = reply_to g x m ∷ replies g (after g x m) ms
+
+-- ---- which messages are logged
+
+abbrev pub is_done : Reply → Bool
+is_done Done = true
+is_done _ = false
+
+-- a changing message that was carried out
+abbrev pub is_loggable : Msg → Reply → Bool
+is_loggable m reply = is_changing (kind m) && is_done reply

@@ -1,14 +1,12 @@
 -- What the maps of a server stand for.
-use Rattle.std.specs.Prelude.{◌≡◌, ℕ, Bool, false, ◌&&◌, ◌==◌, unwrap_or}
+use Rattle.std.specs.Prelude.{◌≡◌, ℕ, Bool, ◌&&◌, ◌==◌, unwrap_or}
 use Rattle.std.specs.Ordering.{nat_cmp, ordering_then}
 use Rattle.std.specs.declared.cmp.Ordering.{Ordering}
 use Rattle.std.specs.BTreeSet as set
 use Rattle.std.specs.BTreeMap as map
 use Rattle.affinity.specs.declared.sizes.Geometry.{Geometry}
-use Rattle.message.specs.declared.Msg.{Msg}
-use Rattle.message.specs.declared.Msg.TheVariants.{Write}
 use Rattle.plain.specs.declared.server.Server.{Server}
-use Rattle.plain.specs.State.{State, IsState, IsBlock, VolumeKey, FileKey, BlockKey, clearing, is_block, group_count}
+use Rattle.plain.specs.State.{State, IsState, VolumeKey, FileKey, BlockKey, group_count}
 
 -- ---- the orders of the keys
 
@@ -25,14 +23,11 @@ by_block x y = ordering_then (by_file (x.0, x.1, x.2) (y.0, y.1, y.2)) (nat_cmp 
 abbrev pub state_of : Server → State
 state_of server = record {
   made = set.contains by_volume server.made;
-  sealed = λ k. false;
+  sealed = set.contains by_volume server.sealed;
   files = set.contains by_file server.files;
   blocks = map.get by_block server.blocks;
+  labels = map.get by_volume server.labels;
 }
-
--- the state without a block
-abbrev pub without_block : State → ℕ → ℕ → ℕ → ℕ → State
-without_block x a v f b = record x { blocks = clearing (is_block a v f b) x.blocks }
 
 -- ---- the blocks of each stripe (a, v, s)
 
@@ -49,11 +44,6 @@ noted server k = unwrap_or (map.get by_file server.used k) 0
 -- The number noted for each stripe is that of its blocks.
 abbrev pub IsCounted : Geometry → Server → Type 0
 IsCounted g server = (k : StripeKey) → noted server k ≡ group_count g (state_of server) k.0 k.1 k.2
-
--- what a write puts into a file is a block
-abbrev pub HasBlock : Msg → Type 0
-HasBlock (Write a v f b content) = IsBlock content
-HasBlock _ = Unit {0}
 
 -- The server's state is one of those that there are, and its numbers are right.
 pub record IsSound (g : Geometry) (server : Server) : Type 0 where

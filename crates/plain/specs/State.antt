@@ -1,9 +1,9 @@
 -- What a server keeps. A set is its test, and a map its look-up.
-use Rattle.std.specs.Prelude.{◌≡◌, ℕ, zero, suc, ◌+◌, ◌<◌, ◌≤◌, Bool, true, false, not, ◌&&◌, ◌||◌, ◌==◌, length, if◌then◌else◌, Option, Some, None, is_some, IfSome}
-use Rattle.std.specs.List.{AllByRecursion}
+use Rattle.std.specs.Prelude.{◌≡◌, ℕ, zero, suc, ◌+◌, ◌<◌, ◌≤◌, Bool, true, false, not, ◌&&◌, ◌||◌, ◌==◌, List, if◌then◌else◌, Option, Some, None, is_some, IfSome}
 use Rattle.affinity.specs.declared.sizes.Geometry.{Geometry}
 use Rattle.affinity.specs.Geometry.{group}
 use Rattle.message.specs.declared.Block.{Block}
+use Rattle.message.specs.Messages.{IsBlock, AreBytes}
 
 -- ---- sets and maps
 
@@ -47,17 +47,27 @@ is_file a v f k = (a == k.0) && (v == k.1) && (f == k.2)
 abbrev pub is_block : ℕ → ℕ → ℕ → ℕ → BlockKey → Bool
 is_block a v f b k = (a == k.0) && (v == k.1) && (f == k.2) && (b == k.3)
 
--- ---- the state: which volumes are made, which are sealed, which files there are, and the blocks
+abbrev pub is_file_of : ℕ → ℕ → FileKey → Bool
+is_file_of a v k = (a == k.0) && (v == k.1)
+
+abbrev pub is_block_of : ℕ → ℕ → BlockKey → Bool
+is_block_of a v k = (a == k.0) && (v == k.1)
+
+abbrev pub is_block_of_file : ℕ → ℕ → ℕ → BlockKey → Bool
+is_block_of_file a v f k = (a == k.0) && (v == k.1) && (f == k.2)
+
+-- ---- the state: which volumes are made, which are sealed, which files there are, the blocks, and the labels of the volumes
 
 pub record State : Type 0 where
   pub made : Set VolumeKey
   pub sealed : Set VolumeKey
   pub files : Set FileKey
   pub blocks : Map BlockKey Block
+  pub labels : Map VolumeKey (List ℕ)
 
 -- the state in which there is nothing
 abbrev pub empty : State
-empty = record { made = λ k. false; sealed = λ k. false; files = λ k. false; blocks = λ k. None }
+empty = record { made = λ k. false; sealed = λ k. false; files = λ k. false; blocks = λ k. None; labels = λ k. None }
 
 -- ---- counts
 
@@ -74,21 +84,29 @@ one_if false = 0
 abbrev pub count_below : ℕ → (ℕ → Bool) → ℕ
 count_below n passes = sum_below n (λ i. one_if (passes i))
 
--- how many blocks of a volume lie in a stripe
+-- the files of a volume, its blocks, and its blocks of one stripe
+abbrev pub file_count : Geometry → State → ℕ → ℕ → ℕ
+file_count g x a v = count_below g.files (λ f. x.files (a, v, f))
+
+abbrev pub block_count : Geometry → State → ℕ → ℕ → ℕ
+block_count g x a v = sum_below g.files (λ f. count_below g.blocks (λ b. is_some (x.blocks (a, v, f, b))))
+
 abbrev pub group_count : Geometry → State → ℕ → ℕ → ℕ → ℕ
 group_count g x a v s = sum_below g.files (λ f. count_below g.blocks (λ b. (group g f b == s) && is_some (x.blocks (a, v, f, b))))
 
+-- the sum over all volumes
+abbrev pub over_volumes : Geometry → (ℕ → ℕ → ℕ) → ℕ
+over_volumes g f = sum_below g.aggregates (λ a. sum_below g.volumes (λ v. f a v))
+
 -- ---- which states there are
 
--- 512 bytes
-abbrev pub IsBlock : Block → Type 0
-IsBlock content = (length content.0 ≡ 512) × AllByRecursion (λ b. b < 256) content.0
-
--- All numbers are in range, only volumes that are made are sealed or have files, only files have blocks, a block is 512 bytes, and no stripe has more blocks than its quota.
+-- All numbers are in range; only volumes that are made are sealed or have files, and each of them has a label; only files have blocks; a block is 512 bytes and a label 32; and no stripe has more blocks than its quota.
 pub record IsState (g : Geometry) (x : State) : Type 0 where
   pub made : (k : VolumeKey) → x.made k ≡ true → (k.0 < g.aggregates) × (k.1 < g.volumes)
   pub sealed : (k : VolumeKey) → x.sealed k ≡ true → x.made k ≡ true
   pub files : (k : FileKey) → x.files k ≡ true → (k.2 < g.files) × (x.made (k.0, k.1) ≡ true)
   pub blocks : (k : BlockKey) → is_some (x.blocks k) ≡ true → (k.3 < g.blocks) × (x.files (k.0, k.1, k.2) ≡ true)
+  pub labels : (k : VolumeKey) → is_some (x.labels k) ≡ x.made k
   pub content : (k : BlockKey) → IfSome (x.blocks k) IsBlock
+  pub label_content : (k : VolumeKey) → IfSome (x.labels k) (AreBytes 32)
   pub quota : (a v s : ℕ) → group_count g x a v s ≤ g.quota

@@ -1,10 +1,12 @@
 //! The serial server: what every message means, one after the other.
 #![tactic(auto)]
 
+pub mod laws;
 mod output;
 mod server;
 mod serving;
-#[cfg(test)]
-mod tests;
 
 pub use serving::{PlainFault, serve_plain};
+
+#[cfg(test)]
+mod tests;

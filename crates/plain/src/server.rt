@@ -9,16 +9,26 @@ use message::{Block, Msg, Reply};
 use std::alloc::{AllocError, Global};
 use std::collections::{BTreeMap, BTreeSet};
 
+mod blocks;
 mod effects;
+mod known;
 mod lookups;
 mod refusals;
+mod removals;
 mod replies;
+mod totals;
 
 /// The state of a serial server.
 #[derive(Drop)]
 pub(crate) struct Server {
     /// The volumes that are made.
     made: BTreeSet<(u16, u16)>,
+
+    /// The volumes that are sealed.
+    sealed: BTreeSet<(u16, u16)>,
+
+    /// The label of each volume that is made.
+    labels: BTreeMap<(u16, u16), [u8; 32]>,
 
     /// The files that there are, by volume.
     files: BTreeSet<(u16, u16, u16)>,
@@ -39,6 +49,8 @@ impl Server {
     {
         Server {
             made: BTreeSet::new(alloc),
+            sealed: BTreeSet::new(alloc),
+            labels: BTreeMap::new(alloc),
             files: BTreeSet::new(alloc),
             blocks: BTreeMap::new(alloc),
             used: BTreeMap::new(alloc),
@@ -56,7 +68,8 @@ impl Server {
         if let Some(why) = self.refusal(g, m) {
             return Ok(Reply::Refused(why));
         }
-        let reply = self.reply(m);
+        known::know_message(m);
+        let reply = self.reply(g, m);
         self.apply(g, m)?;
         Ok(reply)
     }

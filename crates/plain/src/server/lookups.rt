@@ -11,6 +11,13 @@ impl Server {
         self.made.contains(&(a, v))
     }
 
+    /// Whether a volume is sealed.
+    pub(super) fn is_sealed(&self, a: u16, v: u16) -> bool
+        ensures { result ≡ (state_of self.now).sealed (a, v) }
+    {
+        self.sealed.contains(&(a, v))
+    }
+
     /// Whether there is a file.
     pub(super) fn has_file(&self, a: u16, v: u16, f: u16) -> bool
         ensures { result ≡ (state_of self.now).files (a, v, f) }

@@ -1,15 +1,17 @@
-ghost use Rattle.std.specs.Prelude.{◌≡◌};
+ghost use Rattle.std.specs.Prelude.{◌≡◌, None};
+ghost use Rattle.affinity.specs.declared.sizes.Geometry.{Geometry};
 ghost use Rattle.message.specs.declared.Msg.{Msg};
-ghost use Rattle.plain.specs.Serial.{answer};
-ghost use Rattle.plain.specs.Server.{state_of};
+ghost use Rattle.plain.specs.Serial.{refusal, answer};
+ghost use Rattle.plain.specs.Server.{state_of, IsSound};
 
 use super::Server;
+use affinity::Geometry;
 use message::{Msg, Reply};
 
 impl Server {
     /// What a read of a block gives.
     pub(super) fn read_block(&self, a: u16, v: u16, f: u16, b: u16) -> Reply
-        ensures { result ≡ answer (state_of self.now) (Msg.Read a v f b) }
+        ensures { (g : Geometry) → result ≡ answer g (state_of self.now) (Msg.Read a v f b) }
     {
         match self.blocks.get(&(a, v, f, b)) {
             Some(content) => Reply::Block(*content),
@@ -17,13 +19,37 @@ impl Server {
         }
     }
 
+    /// The label of a volume.
+    pub(super) fn label_of(&self, a: u16, v: u16) -> Reply
+        ensures { (g : Geometry) → result ≡ answer g (state_of self.now) (Msg.Label a v) }
+    {
+        match self.labels.get(&(a, v)) {
+            Some(bytes) => Reply::Label(*bytes),
+            None => Reply::Label([0; 32]),
+        }
+    }
+
     /// The reply to a message that passes its tests.
-    pub(super) fn reply(&self, m: &Msg) -> Reply
-        ensures { result ≡ answer (state_of self.now) m.now }
+    pub(super) fn reply(&self, g: &Geometry, m: &Msg) -> Reply
+        requires passed { refusal g.now (state_of self.now) m.now ≡ None }
+        requires sound { IsSound g.now self.now }
+        ensures { result ≡ answer g.now (state_of self.now) m.now }
     {
         match m {
-            Msg::MakeVol(..) | Msg::Create(..) | Msg::Write(..) => Reply::Done,
             Msg::Read(a, v, f, b) => self.read_block(*a, *v, *f, *b),
+            Msg::List(a, v) => self.list_files(g, *a, *v),
+            Msg::Usage(a, v) => self.usage_of(g, *a, *v),
+            Msg::Summary => self.summary_of(g),
+            Msg::Label(a, v) => self.label_of(*a, *v),
+            Msg::MakeVol(..)
+            | Msg::DropVol(..)
+            | Msg::Create(..)
+            | Msg::Delete(..)
+            | Msg::Seal(..)
+            | Msg::Unseal(..)
+            | Msg::Write(..)
+            | Msg::Punch(..)
+            | Msg::SetLabel(..) => Reply::Done,
         }
     }
 }

@@ -75,6 +75,57 @@ fn answers_each_line_with_a_line(rt: HostRuntime) -> Result<(), Fail> {
     Ok(())
 }
 
+const EACH_KIND: &[u8] = b"makevol 0 0
+create 0 0 0
+create 0 0 1
+write 0 0 0 0 6162
+list 0 0
+usage 0 0
+summary
+setlabel 0 0 6162
+label 0 0
+seal 0 0
+write 0 0 0 1 61
+usage 0 0
+unseal 0 0
+punch 0 0 0 0
+read 0 0 0 0
+delete 0 0 1
+list 0 0
+dropvol 0 0
+label 0 0
+summary";
+
+const EACH_REPLY: &str = "done
+done
+done
+done
+files 0 1
+usage 2 1 open
+summary 1 2 1
+done
+label 6162
+done
+error sealed
+usage 2 1 sealed
+done
+done
+hole
+done
+files 0
+done
+error volume
+summary 0 0 0
+";
+
+#[test]
+fn answers_each_kind(rt: HostRuntime) -> Result<(), Fail> {
+    let ended = serve(rt.alloc(), EACH_KIND)?;
+    assert_eq!(rt; ended.status, 0);
+    assert_eq!(rt; text(ended.output.as_slice()), EACH_REPLY);
+    Ok(())
+}
+
 #[test]
 fn the_options_give_the_ranges(rt: HostRuntime) -> Result<(), Fail> {
     let rows = [

@@ -1,9 +1,10 @@
-use Rattle.std.proofs.Common.{◌≡◌, ℕ, List, Option, Some, codes, sym, ◌∙◌, rules}
-use Rattle.std.specs.Prelude.{◌↔◌, option_map}
+use Rattle.std.proofs.Common.{◌≡◌, ℕ, List, [], Option, Some, None, ap, sym, ◌∙◌}
+use Rattle.std.specs.Prelude.{◌↔◌}
+use Rattle.affinity.specs.declared.kinds.Kind.{Kind}
 use Rattle.message.specs.declared.Msg.{Msg}
-use Rattle.message.specs.declared.Msg.TheVariants.{MakeVol, Create, Read}
-use Rattle.message.specs.Grammar.{message_of, Spells}
-use Rattle.message.proofs.Keywords.{too_long, one_word, with_first_word, differs, no_keyword}
+use Rattle.message.specs.Lines.{words}
+use Rattle.message.specs.Grammar.{message_of, Spells, of_kind}
+use Rattle.message.proofs.Keywords.{too_long, with_kind, without_kind, needs_words}
 use Rattle.message.proofs.Spelling.{read_iff_spelled}
 use Rattle.message.proofs.parsing.parse_line.Goals as goal
 
@@ -14,41 +15,36 @@ both line r e = record { value = e; exact = read_iff_spelled line r e }
 pub returns-then-line-gt-LONGEST_LINE : goal.returns-then-line-gt-LONGEST_LINE
 returns-then-line-gt-LONGEST_LINE c = both c.args.line.now _ (too_long c.args.line.now c.if-line-gt-LONGEST_LINE.true)
 
-pub returns-in_err-keyword : goal.returns-in_err-keyword
-returns-in_err-keyword c = both c.args.line.now _ (c.from_residual.ensures ∙ sym (one_word c.args.line.now c.if-line-gt-LONGEST_LINE.false c.in_err-keyword.ensures))
+pub returns-in_err-kind_named-in-Some : goal.returns-in_err-kind_named-in-Some
+returns-in_err-kind_named-in-Some c =
+    let s = c.in-Some in
+    both c.args.line.now _ (c.from_residual.ensures
+    ∙ sym (without_kind c.args.line.now s.word.now (words s.arguments.now) c.if-line-gt-LONGEST_LINE.false s.ensures c.in_err-kind_named-in-Some.ensures))
 
-pub returns-then-eq : goal.returns-then-eq
-returns-then-eq c =
-    let k = c.in_ok-keyword in
-    let line = with_first_word c.args.line.now k.keyword.now k.arguments.now _ (codes "makevol") c.if-line-gt-LONGEST_LINE.false k.ensures c.as_slice.ensures c.if-eq.ensures in
-    let made : c.map.result ≡ option_map (λ p. MakeVol p.0 p.1) c.volume_numbers.result = search rules in
-    both c.args.line.now _ (made ∙ sym (c.volume_numbers.ensures MakeVol) ∙ sym line)
+pub returns-in_ok-kind_named-in-Some : goal.returns-in_ok-kind_named-in-Some
+returns-in_ok-kind_named-in-Some c =
+    let s = c.in-Some in
+    let k = c.in_ok-kind_named-in-Some in
+    both c.args.line.now _ (c.of_kind.ensures
+    ∙ sym (with_kind c.args.line.now s.word.now (words s.arguments.now) k.field-0 c.if-line-gt-LONGEST_LINE.false s.ensures k.ensures))
 
-pub returns-then-eq-2 : goal.returns-then-eq-2
-returns-then-eq-2 c =
-    let k = c.in_ok-keyword in
-    let line = with_first_word c.args.line.now k.keyword.now k.arguments.now _ (codes "create") c.if-line-gt-LONGEST_LINE.false k.ensures c.as_slice-else-eq.ensures c.if-eq-2.ensures in
-    let made : c.map-then-eq-2.result ≡ option_map (λ p. Create p.0 p.1 p.2) c.file_numbers.result = search rules in
-    both c.args.line.now _ (made ∙ sym (c.file_numbers.ensures Create) ∙ sym line)
+pub returns-in_err-kind_named-in-None : goal.returns-in_err-kind_named-in-None
+returns-in_err-kind_named-in-None c =
+    both c.args.line.now _ (c.from_residual-in_err-kind_named-in-None.ensures
+    ∙ sym (without_kind c.args.line.now c.args.line.now [] c.if-line-gt-LONGEST_LINE.false c.in-None.ensures c.in_err-kind_named-in-None.ensures))
 
-pub returns-then-eq-3 : goal.returns-then-eq-3
-returns-then-eq-3 c =
-    let k = c.in_ok-keyword in
-    let line = with_first_word c.args.line.now k.keyword.now k.arguments.now _ (codes "write") c.if-line-gt-LONGEST_LINE.false k.ensures c.as_slice-else-eq-2.ensures c.if-eq-3.ensures in
-    both c.args.line.now _ (c.write_message.ensures ∙ sym line)
+pub returns-in-Summary : goal.returns-in-Summary
+returns-in-Summary c =
+    let k = c.in_ok-kind_named-in-None in
+    both c.args.line.now _ (sym (
+    with_kind c.args.line.now c.args.line.now [] k.field-0 c.if-line-gt-LONGEST_LINE.false c.in-None.ensures k.ensures
+    ∙ ap (λ (kind : Kind). of_kind kind []) c.in-Summary.is
+    ))
 
-pub returns-then-eq-4 : goal.returns-then-eq-4
-returns-then-eq-4 c =
-    let k = c.in_ok-keyword in
-    let line = with_first_word c.args.line.now k.keyword.now k.arguments.now _ (codes "read") c.if-line-gt-LONGEST_LINE.false k.ensures c.as_slice-else-eq-3.ensures c.if-eq-4.ensures in
-    let made : c.map-then-eq-4.result ≡ option_map (λ p. Read p.0 p.1 p.2 p.3) c.block_numbers.result = search rules in
-    both c.args.line.now _ (made ∙ sym (c.block_numbers.ensures Read) ∙ sym line)
-
-pub returns-else-eq-4 : goal.returns-else-eq-4
-returns-else-eq-4 c =
-    let k = c.in_ok-keyword in
-    both c.args.line.now _ (sym (no_keyword c.args.line.now k.keyword.now k.arguments.now c.if-line-gt-LONGEST_LINE.false k.ensures
-    (differs k.keyword.now _ (codes "makevol") c.as_slice.ensures c.if-eq.ensures)
-    (differs k.keyword.now _ (codes "create") c.as_slice-else-eq.ensures c.if-eq-2.ensures)
-    (differs k.keyword.now _ (codes "write") c.as_slice-else-eq-2.ensures c.if-eq-3.ensures)
-    (differs k.keyword.now _ (codes "read") c.as_slice-else-eq-3.ensures c.if-eq-4.ensures)))
+pub returns-in_default : goal.returns-in_default
+returns-in_default c =
+    let k = c.in_ok-kind_named-in-None in
+    both c.args.line.now _ (sym (
+    with_kind c.args.line.now c.args.line.now [] k.field-0 c.if-line-gt-LONGEST_LINE.false c.in-None.ensures k.ensures
+    ∙ needs_words k.field-0 c.in_default.not-Summary
+    ))

@@ -1,4 +1,4 @@
-use Rattle.std.proofs.Common.{◌≡◌, ◌≤◌, take}
+use Rattle.std.proofs.Common.{◌≡◌, ◌≤◌, take, length}
 use Rattle.message.specs.Replies.{without_zeros}
 use Rattle.message.proofs.printing.shown_size.Given as goal
 
@@ -6,7 +6,7 @@ abbrev pub invariant-loop-size : goal.invariant-loop-size
 invariant-loop-size l = record {
   shown : without_zeros (take l.size l.bytes) ≡ without_zeros l.bytes;
   some : 1 ≤ l.size;
-  bound : l.size ≤ 512;
+  bound : l.size ≤ length l.bytes;
 }
 
 abbrev pub decreases-loop-size : goal.decreases-loop-size

@@ -1,15 +1,17 @@
-use Rattle.std.proofs.Common.{rules, sym, subst}
+use Rattle.std.proofs.Common.{rules, ◌≡◌, ap, sym, ◌∙◌, subst, None}
 use Rattle.plain.specs.State.{IsState}
-use Rattle.plain.specs.Serial.{tests, passes}
+use Rattle.plain.specs.Serial.{refusal, answer, effect, outcome}
 use Rattle.plain.specs.Server.{state_of}
-use Rattle.plain.proofs.Kept.{passed, effect_kept}
+use Rattle.plain.proofs.Kept.{step_kept}
 use Rattle.plain.proofs.server.Server.answer.Goals as goal
 
 pub returns-clause-sound : goal.returns-clause-sound
 returns-clause-sound c =
+    let g = c.args.g.now in
+    let m = c.args.m.now in
     let x = state_of c.args.self.now in
+    let passed : refusal g x m ≡ None = search rules in
     record {
-      state = subst (IsState c.args.g.now) (sym c.in_ok-apply.ensures.state)
-          (effect_kept c.args.g.now x c.requires.sound.state c.args.m.now c.apply.ensures.block (passed (passes c.args.g.now x c.args.m.now) (tests c.args.m.now) (search rules)));
+      state = subst (IsState g) (sym (c.in_ok-apply.ensures.state ∙ ap (λ r. (outcome r (answer g x m) (effect x m) x).1) (sym passed))) (step_kept g x m c.requires.sound.state c.know_message.ensures);
       counted = c.apply.ensures.counted;
     }

@@ -4,7 +4,7 @@ use Rattle.std.specs.BTreeMap as map
 use Rattle.std.specs.BTreeMap.{is_at}
 use Rattle.std.specs.Map.{lookup}
 use Rattle.plain.specs.Server.{StripeKey, by_file}
-use Rattle.plain.proofs.Counts.{noted_one_more}
+use Rattle.plain.proofs.ServerCounts.{noted_one_more}
 use Rattle.plain.proofs.server.Server.note_one_more.Goals as goal
 
 -- what is noted in a map is what is noted in its entries

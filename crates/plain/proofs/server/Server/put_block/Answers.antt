@@ -2,7 +2,9 @@ use Rattle.std.proofs.Common.{◌≡◌, ◌+◌, Bool, true, false, Some, None,
 use Rattle.std.specs.Prelude.{not, is_some, unwrap_or, Option}
 use Rattle.std.specs.BTreeMap as map
 use Rattle.plain.specs.State.{one_if}
-use Rattle.plain.specs.Server.{is_stripe, state_of, noted, without_block, by_file}
+use Rattle.message.specs.declared.Msg.TheVariants.{Punch}
+use Rattle.plain.specs.Serial.{effect}
+use Rattle.plain.specs.Server.{is_stripe, state_of, noted, by_file}
 use Rattle.plain.proofs.Writes.{AreCounts, replaced_counts, added_counts, taken_back}
 use Rattle.plain.proofs.server.Server.put_block.Goals as goal
 
@@ -37,7 +39,7 @@ returns-in-Err-clause-unchanged c =
     let x = state_of c.args.self.now in
     let absent : is_some (x.blocks (c.args.a, c.args.v, c.args.f, c.args.b)) ≡ false = not_swap _ _ c.in_ok-is_new.ensures.new ∙ ap not c.if-not-is_new.false in
     c.clear_block.ensures.state
-    ∙ ap (λ y. without_block y c.args.a c.args.v c.args.f c.args.b) (c.note_one_more.ensures.state ∙ c.in_ok-is_new.ensures.state)
+    ∙ ap (λ y. effect y (Punch c.args.a c.args.v c.args.f c.args.b)) (c.note_one_more.ensures.state ∙ c.in_ok-is_new.ensures.state)
     ∙ taken_back x c.args.a c.args.v c.args.f c.args.b c.args.content.now (is_none _ absent)
 
 pub returns-in-Err-clause-counted : goal.returns-in-Err-clause-counted

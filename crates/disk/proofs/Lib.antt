@@ -1,0 +1,8 @@
+pub mod Calls
+mod Crashes
+pub mod Leaves
+pub mod Moments
+pub mod Outside
+pub mod Overlays
+mod Rows
+mod Spans

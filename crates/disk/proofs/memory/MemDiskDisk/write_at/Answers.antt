@@ -1,0 +1,36 @@
+use Rattle.std.proofs.Common.{refl, sym, subst, arith}
+use Rattle.std.proofs.lemmas.Grind.{common_steps}
+use Rattle.disk.specs.Device.{Medium}
+use Rattle.disk.specs.Span.{HoldsLoose}
+use Rattle.disk.proofs.Spans.{holds_lost, holds_written}
+use Rattle.disk.proofs.memory.MemDiskDisk.write_at.Goals as goal
+
+pub invariant_of-self : goal.invariant_of-self
+invariant_of-self c =
+    let self = c.args.self.now in
+    let span = c.with-self.result in
+    record {
+      now_is = grind (arith, common_steps);
+      loose_is = grind (arith, common_steps);
+      kept_size = grind (arith, common_steps);
+      asked_size = grind (arith, common_steps);
+      loose_size = grind (arith, common_steps);
+      holds_loose = subst (λ (m : Medium). HoldsLoose span.start span.end m self.kept.items) (sym c.note.ensures)
+          (holds_lost self.span.start self.span.end span.start span.end c.args.at _ self.shadow.medium self.kept.items self.span.ordered (omega (arith, c.in_ok-start.ensures.start, c.in_ok-start.ensures.inside)) (omega (arith, c.in_ok-start.ensures.start, c.in_ok-start.ensures.inside)) (omega (arith, c.in_ok-start.ensures.start, c.in_ok-start.ensures.inside)) c.with-self.ensures.holds_old self.holds_loose);
+      fits = grind (arith, common_steps);
+    }
+
+pub invariant_of-self-2 : goal.invariant_of-self-2
+invariant_of-self-2 c =
+    let self = c.args.self.now in
+    let span = c.with-self.result in
+    record {
+      now_is = grind (arith, common_steps);
+      loose_is = grind (arith, common_steps);
+      kept_size = grind (arith, common_steps);
+      asked_size = grind (arith, common_steps);
+      loose_size = grind (arith, common_steps);
+      holds_loose = subst (λ (m : Medium). HoldsLoose span.start span.end m self.kept.items) (sym c.note-2.ensures)
+          (holds_written self.span.start self.span.end span.start span.end c.args.at _ self.shadow.medium self.kept.items self.span.ordered (omega (arith, c.in_ok-start.ensures.start, c.in_ok-start.ensures.inside)) (omega (arith, c.in_ok-start.ensures.start, c.in_ok-start.ensures.inside)) (omega (arith, c.in_ok-start.ensures.start, c.in_ok-start.ensures.inside)) c.with-self.ensures.holds_old self.holds_loose c.args.bytes.now refl);
+      fits = grind (arith, common_steps);
+    }

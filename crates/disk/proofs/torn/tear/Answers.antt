@@ -1,0 +1,17 @@
+use Rattle.std.proofs.Common.{arith}
+use Rattle.disk.specs.Torn.{torn_byte}
+use Rattle.disk.proofs.Crashes.{torn_more, kept_more}
+use Rattle.disk.proofs.torn.tear.Goals as goal
+use Rattle.disk.proofs.torn.tear.Goals.{then-is_loose, else-is_loose}
+
+pub loop-i-preserved : goal.loop-i-preserved
+loop-i-preserved c =
+    let put = torn_byte c.args.kind.now c.args.kept.now c.args.asked.now in
+    elim c.if-is_loose.branch [
+      | then-is_loose w ↦
+          let more = torn_more put c.loop-i.i c.loop-i.below c.args.loose.now c.loop-i.bytes (omega arith) (omega arith) w.if-is_loose.true in
+          record { few = omega arith; torn = cc }
+      | else-is_loose w ↦
+          let more = kept_more put c.loop-i.i c.loop-i.below c.args.loose.now c.loop-i.bytes (omega arith) (omega arith) w.if-is_loose.false in
+          record { few = omega arith; torn = cc }
+    ]

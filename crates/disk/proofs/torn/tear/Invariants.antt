@@ -1,0 +1,10 @@
+use Rattle.std.proofs.Common.{◌≡◌, ◌≤◌}
+use Rattle.disk.specs.Torn.{torn_byte, torn_from}
+use Rattle.disk.proofs.Crashes.{torn_so_far}
+use Rattle.disk.proofs.torn.tear.Given as goal
+
+abbrev pub invariant-loop-i : goal.invariant-loop-i
+invariant-loop-i l = record {
+  few : l.below ≤ l.i;
+  torn : torn_so_far (torn_byte l.kind l.kept l.asked) l.i l.below l.loose l.bytes ≡ torn_from (torn_byte l.kind l.kept l.asked) 0 0 l.loose l.initial.bytes;
+}

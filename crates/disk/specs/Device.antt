@@ -1,0 +1,104 @@
+-- A device of bytes: what its calls do to it, and what a crash may leave of it.
+use Rattle.std.specs.Prelude.{◌≡◌, ℕ, zero, suc, ◌+◌, Bool, true, false, List, [], ◌∷◌, length, take, drop, replicate, slice_range, Result, Ok, Err, OnOk, IsErrOf}
+use Rattle.disk.specs.declared.fault.DiskFault.{DiskFault}
+use Rattle.disk.specs.declared.fault.DiskFault.TheVariants.{OutOfRange, Device}
+
+-- A device at one moment: what a read gives, and for each place whether it is loose, that is, written since the
+-- last sync that succeeded.
+pub record Moment : Type 0 where
+  pub now : List ℕ
+  pub loose : List Bool
+
+-- A device as contracts see it. `past` has the moments before this one, the newest first, and `faults` counts how
+-- often the device has failed. Both are for contracts alone: no memory holds them, and they have no greatest value.
+pub record Medium : Type 0 where
+  pub now : List ℕ
+  pub loose : List Bool
+  pub past : List Moment
+  pub faults : ℕ
+
+-- A crash leaves any bytes at the loose places and keeps all others. It changes no length. A place past the end of
+-- the marks counts as loose.
+abbrev pub MayLeave : List ℕ → List Bool → List ℕ → Type 0
+MayLeave [] loose [] = Unit {0}
+MayLeave [] loose (x ∷ c) = ⊥
+MayLeave (b ∷ now) loose [] = ⊥
+MayLeave (b ∷ now) [] (x ∷ c) = MayLeave now [] c
+MayLeave (b ∷ now) (true ∷ loose) (x ∷ c) = MayLeave now loose c
+MayLeave (b ∷ now) (false ∷ loose) (x ∷ c) = (x ≡ b) × MayLeave now loose c
+
+-- what a crash may leave of the device as it stands
+abbrev pub Leaves : Medium → List ℕ → Type 0
+Leaves m c = MayLeave m.now m.loose c
+
+-- nothing is loose
+abbrev pub IsCalm : Medium → Type 0
+IsCalm m = m.loose ≡ replicate (length m.now) false
+
+-- the list with these items from a place on; what would lie past its end is left out
+abbrev pub overlaid : {X : Type 0} → List X → ℕ → List X → List X
+overlaid [] at items = []
+overlaid (x ∷ xs) zero [] = x ∷ xs
+overlaid (x ∷ xs) zero (y ∷ items) = y ∷ overlaid xs zero items
+overlaid (x ∷ xs) (suc at) items = x ∷ overlaid xs at items
+
+-- the marks after a write of n bytes
+abbrev pub marked : List Bool → ℕ → ℕ → List Bool
+marked loose at n = overlaid loose at (replicate n true)
+
+-- two lists of one length that differ at most in n places from this one on
+pub record SameOutside {X : Type 0} (at n : ℕ) (old new : List X) : Type 0 where
+  pub before : take at new ≡ take at old
+  pub after : drop (at + n) new ≡ drop (at + n) old
+  pub size : length new ≡ length old
+
+-- every moment so far, this one first
+abbrev pub moments : Medium → List Moment
+moments m = record { now = m.now; loose = m.loose } ∷ m.past
+
+-- a device that has just been made, with these bytes
+abbrev pub begun : List ℕ → Medium
+begun bytes = record { now = bytes; loose = replicate (length bytes) false; past = []; faults = 0 }
+
+-- after a write
+abbrev pub written : ℕ → List ℕ → Medium → Medium
+written at bytes m = record { now = overlaid m.now at bytes; loose = marked m.loose at (length bytes); past = moments m; faults = m.faults }
+
+-- after a sync: a crash leaves what a read gives
+abbrev pub synced : Medium → Medium
+synced m = record { now = m.now; loose = replicate (length m.now) false; past = moments m; faults = m.faults }
+
+-- after a read or a sync that failed
+abbrev pub failed : Medium → Medium
+failed m = record { now = m.now; loose = m.loose; past = m.past; faults = m.faults + 1 }
+
+-- A write of n bytes failed: its range counts as written, and what a read gives there is open.
+pub record FailsToWrite (at n : ℕ) (old new : Medium) : Type 0 where
+  pub bytes : SameOutside at n old.now new.now
+  pub loose : new.loose ≡ marked old.loose at n
+  pub past : new.past ≡ moments old
+  pub faults : new.faults ≡ old.faults + 1
+
+-- a read into `out`, of a device that keeps its bytes
+pub record Reads (at : ℕ) (out : List ℕ) (result : Result (Unit {0}) DiskFault) (old new : Medium) : Type 0 where
+  pub ok : OnOk result ((new ≡ old) × (out ≡ slice_range old.now at (at + length out)))
+  pub outside : IsErrOf result OutOfRange → new ≡ old
+  pub device : IsErrOf result Device → new ≡ failed old
+
+-- a write, of a device that keeps its bytes
+pub record Writes (at : ℕ) (bytes : List ℕ) (result : Result (Unit {0}) DiskFault) (old new : Medium) : Type 0 where
+  pub ok : OnOk result (new ≡ written at bytes old)
+  pub outside : IsErrOf result OutOfRange → new ≡ old
+  pub device : IsErrOf result Device → FailsToWrite at (length bytes) old new
+
+-- a sync, of a device that keeps its bytes
+pub record Syncs (result : Result (Unit {0}) DiskFault) (old new : Medium) : Type 0 where
+  pub ok : OnOk result (new ≡ synced old)
+  pub outside : IsErrOf result OutOfRange → ⊥
+  pub device : IsErrOf result Device → new ≡ failed old
+
+-- A call adds one to the count of failures exactly where it answers `Device`.
+abbrev pub Counts : {T : Type 0} → Result T DiskFault → ℕ → ℕ → Type 0
+Counts (Ok _) old new = new ≡ old
+Counts (Err OutOfRange) old new = new ≡ old
+Counts (Err Device) old new = new ≡ old + 1

@@ -1,0 +1,9 @@
+pub mod Device
+pub mod Fuse
+pub mod Memory
+pub mod Moments
+pub mod RealFile
+pub mod Sealing
+pub mod Shadow
+pub mod Span
+pub mod Torn

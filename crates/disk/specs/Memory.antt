@@ -1,0 +1,67 @@
+-- A device in memory as contracts see it, and what each call and a crash make of it.
+use Rattle.std.specs.Prelude.{ℕ, ◌+◌, ◌-◌, ◌^◌, min, if◌then◌else◌, nat_lt, List, length, Result, Ok, Err}
+use Rattle.disk.specs.declared.fault.DiskFault.{DiskFault}
+use Rattle.disk.specs.declared.fault.DiskFault.TheVariants.{OutOfRange, Device}
+use Rattle.disk.specs.declared.fuse.Fuse.{Fuse}
+use Rattle.disk.specs.declared.fuse.Fuse.TheVariants.{Off}
+use Rattle.disk.specs.declared.torn.Torn.{Torn}
+use Rattle.disk.specs.declared.memory.MemDisk.{MemDisk}
+use Rattle.disk.specs.Device.{Medium, begun, overlaid, written, synced, failed}
+use Rattle.disk.specs.Shadow.{lost}
+use Rattle.disk.specs.Fuse.{is_blown, burned}
+use Rattle.disk.specs.Torn.{torn_byte, torn_from}
+
+pub record Memory : Type 0 where
+  pub medium : Medium
+  -- what the last sync left
+  pub kept : List ℕ
+  -- at a loose place, the byte that was last asked to be written there
+  pub asked : List ℕ
+  pub fuse : Fuse
+  -- the reads, writes and syncs so far
+  pub calls : ℕ
+
+abbrev pub memory_of : MemDisk → Memory
+memory_of d = record { medium = d.shadow.medium; kept = d.kept.items; asked = d.asked.items; fuse = d.meter.fuse; calls = d.meter.calls }
+
+abbrev pub medium_of : MemDisk → Medium
+medium_of d = d.shadow.medium
+
+-- a device that has just been made, with these bytes
+abbrev pub made : List ℕ → Memory
+made bytes = record { medium = begun bytes; kept = bytes; asked = bytes; fuse = Off; calls = 0 }
+
+-- one call more that the fuses count
+abbrev pub counted : Memory → Memory
+counted m = record m { fuse = burned m.fuse; calls = min (m.calls + 1) (2 ^ 64 - 1) }
+
+-- the answer to a call for n bytes from this place on
+abbrev pub answer : ℕ → ℕ → Memory → Result (Unit {0}) DiskFault
+answer at n m =
+    if nat_lt (length m.medium.now) (at + n) then Err OutOfRange
+    else if is_blown m.fuse then Err Device
+    else Ok tt
+
+abbrev pub after_read : Result (Unit {0}) DiskFault → Memory → Memory
+after_read (Ok _) m = counted m
+after_read (Err OutOfRange) m = m
+after_read (Err Device) m = record (counted m) { medium = failed m.medium }
+
+-- A write that fails changes nothing that a read gives.
+abbrev pub after_write : Result (Unit {0}) DiskFault → ℕ → List ℕ → Memory → Memory
+after_write (Ok _) at bytes m = record (counted m) { medium = written at bytes m.medium; asked = overlaid m.asked at bytes }
+after_write (Err OutOfRange) at bytes m = m
+after_write (Err Device) at bytes m = record (counted m) { medium = lost at (length bytes) m.medium; asked = overlaid m.asked at bytes }
+
+abbrev pub after_sync : Result (Unit {0}) DiskFault → Memory → Memory
+after_sync (Ok _) m = record (counted m) { medium = synced m.medium; kept = m.medium.now }
+after_sync (Err OutOfRange) m = m
+after_sync (Err Device) m = record (counted m) { medium = failed m.medium }
+
+-- what a crash of this kind leaves
+abbrev pub crashed : Torn → Memory → List ℕ
+crashed kind m = torn_from (torn_byte kind m.kept m.asked) 0 0 m.medium.loose m.medium.now
+
+-- the device after it
+abbrev pub after_crash : Torn → Memory → Memory
+after_crash kind m = record (made (crashed kind m)) { asked = m.asked }

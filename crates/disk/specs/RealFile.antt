@@ -1,0 +1,27 @@
+-- A file as a device.
+use Rattle.std.specs.Prelude.{◌≡◌, ◌+◌, ℕ, List, length, slice_range}
+use Rattle.std.specs.declared.io.ErrorKind.{ErrorKind}
+use Rattle.std.specs.declared.io.ErrorKind.TheVariants.{OutOfMemory as NoMemory}
+use Rattle.disk.specs.declared.file.FileDisk.{FileDisk}
+use Rattle.disk.specs.Device.{Medium}
+use Rattle.disk.specs.declared.fault.FileFault.{FileFault}
+use Rattle.disk.specs.declared.fault.FileFault.TheVariants.{Device, OutOfMemory}
+
+-- Whether files keep their bytes as a device does. No contract can say so, so this stays a fact that nothing above
+-- this file can see into: what is promised under it is promised of no real file.
+pub FileKeeps : Type 0
+FileKeeps = ⊥
+
+-- If they do, a read gives what was written there.
+pub read_gives : FileKeeps → (at : ℕ) (out now : List ℕ) → out ≡ slice_range now at (at + length out)
+unfolding FileKeeps
+read_gives keeps at out now = absurd keeps
+
+-- a file as contracts see it
+abbrev pub file_medium : FileDisk → Medium
+file_medium d = d.shadow.medium
+
+-- the fault that is told of an error of the system
+abbrev pub fault_of : ErrorKind → FileFault
+fault_of NoMemory = OutOfMemory
+fault_of _ = Device

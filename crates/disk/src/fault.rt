@@ -1,0 +1,17 @@
+/// What a call of a device answers where it does not do what it was asked.
+#[derive(Clone, Copy, Debug, PartialEq, Eq)]
+pub enum DiskFault {
+    /// The range leaves the device, which was not touched.
+    OutOfRange,
+    /// The device failed during the call.
+    Device,
+}
+
+/// Why a file could not be made or opened as a device.
+#[derive(Clone, Copy, Debug, PartialEq, Eq)]
+pub enum FileFault {
+    /// The system refused.
+    Device,
+    /// There was no memory for it.
+    OutOfMemory,
+}

@@ -1,0 +1,219 @@
+ghost use Rattle.std.specs.Prelude.{◌≡◌, ◌+◌, ◌<◌, ◌^◌, ◌↔◌, length, IfOk, IsErrOf, replicate};
+ghost use Rattle.disk.specs.declared.fault.DiskFault.TheVariants.{OutOfRange};
+ghost use Rattle.disk.specs.declared.fuse.Fuse.TheVariants.{FailAt, StopAt};
+ghost use Rattle.disk.specs.Device.{Leaves, Reads, Writes, Syncs, Counts};
+ghost use Rattle.disk.specs.Span.{HoldsLoose};
+ghost use Rattle.disk.specs.Torn.{HasBytes};
+
+use crate::fuse::{Fuse, Meter};
+use crate::place::{clear, mark, overlay, refresh, start_of};
+use crate::shadow::{BEGUN, FAILED, LOST, SYNCED, Shadow, WRITTEN};
+use crate::span::Span;
+use crate::torn::tear;
+use crate::{Disk, DiskFault, Torn};
+use std::alloc::{AllocError, Global};
+
+/// A device in memory, that can fail and crash on purpose. Only `new` and `of_bytes` take memory.
+#[derive(Drop)]
+pub struct MemDisk {
+    bytes: Vec<u8>,
+    // What the last sync left.
+    kept: Vec<u8>,
+    // At a loose place, the byte that was last asked to be written there.
+    asked: Vec<u8>,
+    loose: Vec<bool>,
+    // Outside it nothing is loose, and `kept` has the same bytes.
+    span: Span,
+    meter: Meter,
+    shadow: Shadow,
+    ghost now_is: { shadow.medium.now ≡ bytes.items },
+    ghost loose_is: { shadow.medium.loose ≡ loose.items },
+    ghost kept_size: { length kept.items ≡ length bytes.items },
+    ghost asked_size: { length asked.items ≡ length bytes.items },
+    ghost loose_size: { length loose.items ≡ length bytes.items },
+    ghost holds_loose: { HoldsLoose span.start span.end shadow.medium kept.items },
+    ghost fits: { length shadow.medium.now < 2 ^ 64 },
+}
+
+impl MemDisk {
+    ghost use Rattle.disk.specs.Memory.{memory_of, medium_of, made, after_crash};
+
+    /// A device of zeros.
+    pub fn new(alloc: Global, len: u64) -> Result<MemDisk, AllocError>
+        ensures { IfOk result (λ d. memory_of d ≡ made (replicate len 0)) }
+    {
+        let len = len as usize;
+        let bytes = vec![in alloc; 0u8; len]?;
+        let kept = vec![in alloc; 0u8; len]?;
+        let asked = vec![in alloc; 0u8; len]?;
+        let loose = vec![in alloc; false; len]?;
+        let mut shadow = Shadow::new();
+        shadow.note(&[BEGUN, 0], &bytes);
+        Ok(MemDisk {
+            bytes,
+            kept,
+            asked,
+            loose,
+            span: Span::none(),
+            meter: Meter::new(),
+            shadow,
+        })
+    }
+
+    /// A device of these bytes, all of them synced.
+    pub fn of_bytes(alloc: Global, bytes: Vec<u8>) -> Result<MemDisk, AllocError>
+        ensures { IfOk result (λ d. memory_of d ≡ made bytes.items) }
+    {
+        let kept = bytes.to_vec(alloc)?;
+        let asked = bytes.to_vec(alloc)?;
+        let loose = vec![in alloc; false; bytes.len()]?;
+        let mut shadow = Shadow::new();
+        shadow.note(&[BEGUN, 0], &bytes);
+        Ok(MemDisk {
+            bytes,
+            kept,
+            asked,
+            loose,
+            span: Span::none(),
+            meter: Meter::new(),
+            shadow,
+        })
+    }
+
+    /// What a read of all of it gives.
+    pub fn bytes(&self) -> &[u8]
+        ensures { result.now ≡ (medium_of self.now).now }
+    {
+        self.bytes.as_slice()
+    }
+
+    /// Lets the n-th call from now on fail, and later ones go on. The fuse that was set before counts no more.
+    pub fn fail_at(&mut self, n: u64)
+        requires { 0 < n }
+        ensures { memory_of self.new ≡ record (memory_of self.old) { fuse = FailAt n } }
+    {
+        self.meter.fuse = Fuse::FailAt(n);
+    }
+
+    /// Lets the n-th call from now on fail, and all later ones. The fuse that was set before counts no more.
+    pub fn stop_at(&mut self, n: u64)
+        requires { 0 < n }
+        ensures { memory_of self.new ≡ record (memory_of self.old) { fuse = StopAt n } }
+    {
+        self.meter.fuse = Fuse::StopAt(n);
+    }
+
+    /// The device after a crash, with its fuses off and no calls. It takes no memory.
+    pub fn crash(self, torn: Torn) -> MemDisk
+        requires { HasBytes torn }
+        ensures after { memory_of result ≡ after_crash torn (memory_of self) }
+        ensures may { Leaves (medium_of self) (medium_of result).now }
+    {
+        let MemDisk {
+            mut bytes,
+            mut kept,
+            asked,
+            mut loose,
+            span: _,
+            meter: _,
+            shadow: _,
+        } = self;
+        tear(&torn, &kept, &asked, &loose, &mut bytes);
+        kept.copy_from_slice(&bytes);
+        loose.fill(false);
+        let mut shadow = Shadow::new();
+        shadow.note(&[BEGUN, 0], &bytes);
+        MemDisk {
+            bytes,
+            kept,
+            asked,
+            loose,
+            span: Span::none(),
+            meter: Meter::new(),
+            shadow,
+        }
+    }
+
+    /// The reads, writes and syncs since it was made, up to the greatest `u64`. A call that answered `OutOfRange`
+    /// is not among them.
+    pub fn calls(&self) -> u64
+        ensures { result ≡ (memory_of self.now).calls }
+    {
+        self.meter.calls
+    }
+}
+
+impl Disk for MemDisk {
+    ghost use Rattle.disk.specs.Memory.{memory_of, medium_of, answer, after_read, after_write, after_sync};
+
+    ghost medium = { medium_of };
+
+    ghost keeps = { Unit {0} };
+
+    fn len(&self) -> u64 {
+        self.bytes.len() as u64
+    }
+
+    fn read_at(&mut self, at: u64, out: &mut [u8]) -> Result<(), DiskFault>
+        ensures outside { IsErrOf result OutOfRange ↔ length (medium_of self.old).now < at + length out.old }
+        ensures untouched { IsErrOf result OutOfRange → self.new ≡ self.old }
+        ensures unread { IsErrOf result OutOfRange → out.new ≡ out.old }
+        ensures counts { Counts result (medium_of self.old).faults (medium_of self.new).faults }
+        ensures len { length (medium_of self.new).now ≡ length (medium_of self.old).now }
+        ensures reads { Unit {0} → Reads at out.new result (medium_of self.old) (medium_of self.new) }
+        ensures answer { result ≡ answer at (length out.old) (memory_of self.old) }
+        ensures after { memory_of self.new ≡ after_read result (memory_of self.old) }
+    {
+        let start = start_of(self.len(), at, out.len())?;
+        if self.meter.spend() {
+            self.shadow.note(&[FAILED, at], &[]);
+            return Err(DiskFault::Device);
+        }
+        out.copy_from_slice(&self.bytes[start..start + out.len()]);
+        Ok(())
+    }
+
+    fn write_at(&mut self, at: u64, bytes: &[u8]) -> Result<(), DiskFault>
+        ensures outside { IsErrOf result OutOfRange ↔ length (medium_of self.old).now < at + length bytes.now }
+        ensures untouched { IsErrOf result OutOfRange → self.new ≡ self.old }
+        ensures counts { Counts result (medium_of self.old).faults (medium_of self.new).faults }
+        ensures len { length (medium_of self.new).now ≡ length (medium_of self.old).now }
+        ensures writes { Unit {0} → Writes at bytes.now result (medium_of self.old) (medium_of self.new) }
+        ensures answer { result ≡ answer at (length bytes.now) (memory_of self.old) }
+        ensures after { memory_of self.new ≡ after_write result at bytes.now (memory_of self.old) }
+    {
+        let start = start_of(self.len(), at, bytes.len())?;
+        let fails = self.meter.spend();
+        self.span = self.span.with(start, start + bytes.len());
+        overlay(&mut self.asked, start, bytes);
+        mark(&mut self.loose, start, bytes.len());
+        if fails {
+            self.shadow.note(&[LOST, at], bytes);
+            return Err(DiskFault::Device);
+        }
+        overlay(&mut self.bytes, start, bytes);
+        self.shadow.note(&[WRITTEN, at], bytes);
+        Ok(())
+    }
+
+    fn sync(&mut self) -> Result<(), DiskFault>
+        ensures inside { IsErrOf result OutOfRange → ⊥ }
+        ensures counts { Counts result (medium_of self.old).faults (medium_of self.new).faults }
+        ensures len { length (medium_of self.new).now ≡ length (medium_of self.old).now }
+        ensures syncs { Unit {0} → Syncs result (medium_of self.old) (medium_of self.new) }
+        ensures answer { result ≡ answer 0 0 (memory_of self.old) }
+        ensures after { memory_of self.new ≡ after_sync result (memory_of self.old) }
+    {
+        if self.meter.spend() {
+            self.shadow.note(&[FAILED, 0], &[]);
+            return Err(DiskFault::Device);
+        }
+        refresh(&mut self.kept, &self.bytes, self.span);
+        clear(&mut self.loose, self.span);
+        self.span = Span::none();
+        self.shadow.note(&[SYNCED, 0], &[]);
+        Ok(())
+    }
+
+    ghost fits = { λ d. d.fits };
+}

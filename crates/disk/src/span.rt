@@ -1,0 +1,37 @@
+//! A range that holds all places that are loose, so that a sync looks at no more than these.
+ghost use Rattle.std.specs.Prelude.{◌≡◌, ◌⊎◌, ◌≤◌, ◌==◌, if◌then◌else◌, max, min};
+
+#[derive(Clone, Copy, Debug)]
+pub struct Span {
+    pub start: usize,
+    pub end: usize,
+    ghost ordered: { start ≤ end },
+}
+
+impl Span {
+    pub fn none() -> Span
+        ensures start { result.start ≡ 0 }
+        ensures end { result.end ≡ 0 }
+    {
+        Span { start: 0, end: 0 }
+    }
+
+    /// The least span that holds this one and the places from `start` to `end`. Where this one is empty, it is those
+    /// alone.
+    pub fn with(self, start: usize, end: usize) -> Span
+        requires { start ≤ end }
+        ensures holds_new { (result.start ≤ start) × (end ≤ result.end) }
+        ensures holds_old { (self.start ≡ self.end) ⊎ ((result.start ≤ self.start) × (self.end ≤ result.end)) }
+        ensures within { result.end ≤ max self.end end }
+        ensures from { result.start ≡ (if self.start == self.end then start else min self.start start) }
+        ensures to { result.end ≡ (if self.start == self.end then end else max self.end end) }
+    {
+        if self.start == self.end {
+            return Span { start, end };
+        }
+        Span {
+            start: self.start.min(start),
+            end: self.end.max(end),
+        }
+    }
+}

@@ -1,0 +1,39 @@
+use super::*;
+use std::alloc::{AllocError, Global};
+
+mod files;
+mod fuses;
+mod sealing;
+mod tearing;
+
+#[derive(Drop)]
+enum Call {
+    /// Reads this many bytes from this place on.
+    Read(u64, usize),
+    Write(u64, &'static [u8]),
+    Sync,
+}
+
+const FINE: Result<(), DiskFault> = Ok(());
+
+const OUTSIDE: Result<(), DiskFault> = Err(DiskFault::OutOfRange);
+
+const FAULT: Result<(), DiskFault> = Err(DiskFault::Device);
+
+/// Makes these calls, and gives what each answered.
+fn answers<D: Disk>(
+    alloc: Global,
+    disk: &mut D,
+    calls: &[Call],
+) -> Result<Vec<Result<(), DiskFault>>, AllocError> {
+    let mut answers = Vec::new(alloc);
+    for call in calls {
+        let answer = match call {
+            Call::Read(at, n) => disk.read_at(*at, &mut vec![in alloc; 0; *n]?),
+            Call::Write(at, bytes) => disk.write_at(*at, bytes),
+            Call::Sync => disk.sync(),
+        };
+        answers.push(answer)?;
+    }
+    Ok(answers)
+}

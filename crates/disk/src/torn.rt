@@ -1,0 +1,49 @@
+ghost use Rattle.std.specs.Prelude.{◌≡◌, ◌<◌, length};
+ghost use Rattle.disk.specs.Torn.{HasBytes, torn_byte, torn_from};
+
+/// What a crash leaves at the places that were written, also by a write that failed, and not synced since.
+#[derive(Debug, Drop)]
+pub enum Torn {
+    /// The bytes of the last sync.
+    Old,
+    /// The bytes that were last asked to be written there.
+    New,
+    /// This byte.
+    Fill(u8),
+    /// These bytes, from the lowest such place upward, and again from the first when they end.
+    Mixed(Vec<u8>),
+}
+
+impl Torn {
+    /// The byte that it puts at the loose place i, with k loose places below it.
+    fn byte(&self, kept: &[u8], asked: &[u8], i: usize, k: usize) -> u8
+        requires has_bytes { HasBytes self.now }
+        requires in_kept { i < length kept.now }
+        requires in_asked { i < length asked.now }
+        ensures { result ≡ torn_byte self.now kept.now asked.now i k }
+    {
+        match self {
+            Torn::Old => kept[i],
+            Torn::New => asked[i],
+            Torn::Fill(byte) => *byte,
+            Torn::Mixed(pattern) => pattern[k % pattern.len()],
+        }
+    }
+}
+
+/// Puts at each loose place of these bytes what such a crash leaves there.
+pub fn tear(kind: &Torn, kept: &[u8], asked: &[u8], loose: &[bool], bytes: &mut [u8])
+    requires has_bytes { HasBytes kind.now }
+    requires kept { length kept.now ≡ length bytes.old }
+    requires asked { length asked.now ≡ length bytes.old }
+    requires loose { length loose.now ≡ length bytes.old }
+    ensures { bytes.new ≡ torn_from (torn_byte kind.now kept.now asked.now) 0 0 loose.now bytes.old }
+{
+    let mut below = 0;
+    for (i, is_loose) in loose.iter().enumerate() {
+        if *is_loose {
+            bytes[i] = kind.byte(kept, asked, i, below);
+            below += 1;
+        }
+    }
+}

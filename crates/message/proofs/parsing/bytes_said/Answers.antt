@@ -1,0 +1,15 @@
+use Rattle.std.proofs.Common.{◌≡◌, ℕ, ◌/◌, length, sym, ap, ◌∙◌, refl, arith, inl, inr}
+use Rattle.message.proofs.Blocks.{no_bytes, bytes_decoded, bytes_not_decoded}
+use Rattle.message.proofs.parsing.bytes_said.Goals as goal
+
+pub returns-then-size-eq0 : goal.returns-then-size-eq0
+returns-then-size-eq0 g c = sym (no_bytes g.row.N c.args.digits.now (λ bytes h.
+    let low = h.low in
+    let high = h.high in
+    elim c.then-size-eq0.either [ inl none ↦ absurd (omega arith) | inr many ↦ absurd (omega arith) ]))
+
+pub returns-in_err-ok : goal.returns-in_err-ok
+returns-in_err-ok g c = c.from_residual.ensures ∙ sym (bytes_not_decoded g.row.N c.args.digits.now (length c.args.digits.now / 2) c.decode_to_slice.result c.decode_to_slice.new.out refl (omega arith) c.decode_to_slice.ensures.value c.in_err-ok.ensures.value)
+
+pub returns : goal.returns
+returns g c = sym (bytes_decoded g.row.N c.args.digits.now (length c.args.digits.now / 2) c.decode_to_slice.result c.decode_to_slice.new.out c.in_ok-ok.field-0 refl (omega arith) (omega arith) c.decode_to_slice.ensures.value c.in_ok-ok.ensures.value)

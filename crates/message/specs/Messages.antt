@@ -1,0 +1,77 @@
+-- What a message is: its kind and its numbers.
+use Rattle.std.specs.Prelude.{◌≡◌, ℕ, ◌<◌, Bool, List, [], ◌∷◌, length}
+use Rattle.std.specs.List.{AllByRecursion}
+use Rattle.affinity.specs.declared.kinds.Kind.{Kind}
+use Rattle.affinity.specs.declared.kinds.Kind.TheVariants as kinds
+use Rattle.affinity.specs.declared.sizes.Geometry.{Geometry}
+use Rattle.affinity.specs.Place.{is_in_range as numbers_are_in_range, place as place_of}
+use Rattle.affinity.specs.Path.{Path}
+use Rattle.message.specs.declared.Block.{Block}
+use Rattle.message.specs.declared.Msg.{Msg}
+use Rattle.message.specs.declared.Msg.TheVariants.{MakeVol, DropVol, Create, Delete, Seal, Unseal, Write, Punch, Read, List as ListFiles, Usage, Summary, SetLabel, Label}
+
+abbrev pub kind : Msg → Kind
+kind (MakeVol a v) = kinds.MakeVol
+kind (DropVol a v) = kinds.DropVol
+kind (Create a v f) = kinds.Create
+kind (Delete a v f) = kinds.Delete
+kind (Seal a v) = kinds.Seal
+kind (Unseal a v) = kinds.Unseal
+kind (Write a v f b content) = kinds.Write
+kind (Punch a v f b) = kinds.Punch
+kind (Read a v f b) = kinds.Read
+kind (ListFiles a v) = kinds.List
+kind (Usage a v) = kinds.Usage
+kind Summary = kinds.Summary
+kind (SetLabel a v bytes) = kinds.SetLabel
+kind (Label a v) = kinds.Label
+
+-- the numbers of a message: aggregate, volume, file, block, as far as it has them
+abbrev pub numbers : Msg → List ℕ
+numbers (MakeVol a v) = a ∷ v ∷ []
+numbers (DropVol a v) = a ∷ v ∷ []
+numbers (Create a v f) = a ∷ v ∷ f ∷ []
+numbers (Delete a v f) = a ∷ v ∷ f ∷ []
+numbers (Seal a v) = a ∷ v ∷ []
+numbers (Unseal a v) = a ∷ v ∷ []
+numbers (Write a v f b content) = a ∷ v ∷ f ∷ b ∷ []
+numbers (Punch a v f b) = a ∷ v ∷ f ∷ b ∷ []
+numbers (Read a v f b) = a ∷ v ∷ f ∷ b ∷ []
+numbers (ListFiles a v) = a ∷ v ∷ []
+numbers (Usage a v) = a ∷ v ∷ []
+numbers Summary = []
+numbers (SetLabel a v bytes) = a ∷ v ∷ []
+numbers (Label a v) = a ∷ v ∷ []
+
+-- four numbers, with zeros for those that it doesn't have
+abbrev pub filled : List ℕ → List ℕ
+filled [] = 0 ∷ 0 ∷ 0 ∷ 0 ∷ []
+filled (a ∷ []) = a ∷ 0 ∷ 0 ∷ 0 ∷ []
+filled (a ∷ v ∷ []) = a ∷ v ∷ 0 ∷ 0 ∷ []
+filled (a ∷ v ∷ f ∷ []) = a ∷ v ∷ f ∷ 0 ∷ []
+filled (a ∷ v ∷ f ∷ b ∷ more) = a ∷ v ∷ f ∷ b ∷ []
+
+abbrev pub four_numbers : Msg → List ℕ
+four_numbers m = filled (numbers m)
+
+-- each number that the message has is below its limit
+abbrev pub is_in_range : Geometry → Msg → Bool
+is_in_range g m = numbers_are_in_range g (kind m) (four_numbers m)
+
+-- the place of a message in the tree of affinities
+abbrev pub place : Geometry → Msg → Path
+place g m = place_of g (kind m) (four_numbers m)
+
+-- so many bytes
+abbrev pub AreBytes : ℕ → List ℕ → Type 0
+AreBytes size bytes = (length bytes ≡ size) × AllByRecursion (λ b. b < 256) bytes
+
+-- a block has 512 bytes
+abbrev pub IsBlock : Block → Type 0
+IsBlock content = AreBytes 512 content.0
+
+-- What a message carries are bytes, as many as there should be.
+abbrev pub IsMessage : Msg → Type 0
+IsMessage (Write a v f b content) = IsBlock content
+IsMessage (SetLabel a v bytes) = AreBytes 32 bytes
+IsMessage _ = Unit {0}

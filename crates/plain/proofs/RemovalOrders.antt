@@ -1,0 +1,88 @@
+-- The keys of a file, or of a volume, stand next to each other in the order of the keys.
+use Rattle.std.proofs.Common.{◌≡◌, ℕ, ◌<◌, true, false, List, ◌∷◌, refl, ap, sym, ◌∙◌, subst, arith}
+use Rattle.std.specs.Prelude.{is_some}
+use Rattle.std.specs.Ordering.{nat_cmp, ordering_then, ordering_reverse, is_eq, is_gt, MatchOrdering}
+use Rattle.std.specs.Cmp.{IsTotalOrder, nat_cmp_total, on_total, then_total, ranks}
+use Rattle.std.specs.declared.cmp.Ordering.{Ordering}
+use Rattle.std.specs.declared.cmp.Ordering.TheVariants.{Less, Equal, Greater}
+use Rattle.std.specs.declared.ops.Bound.TheVariants.{Included, Unbounded}
+use Rattle.std.specs.BTreeMap as map
+use Rattle.std.specs.BTreeSet as set
+use Rattle.std.specs.BTreeMap.{BTreeMap}
+use Rattle.std.specs.BTreeSet.{BTreeSet}
+use Rattle.std.specs.BTreeMap.Range.{IsLeBy, IsRangeOf}
+use Rattle.std.proofs.lemmas.Bool.{true≢false, false_from_ne_true}
+use Rattle.plain.specs.State.{VolumeKey, FileKey, BlockKey, is_file_of, is_block_of_file}
+use Rattle.plain.specs.Server.{by_volume, by_file, by_block}
+use Rattle.plain.proofs.Keys.{at_volume, at_file, the_volume, the_file}
+
+-- ---- an order by a first part, and then by a second one
+
+first_part : (r s : Ordering) → is_gt (ordering_then r s) ≡ false → is_gt r ≡ false
+first_part Less s h = refl
+first_part Equal s h = refl
+first_part Greater s h = h
+
+both_ways : (r s : Ordering) → r ≡ ordering_reverse s → is_gt r ≡ false → is_gt s ≡ false → is_eq r ≡ true
+both_ways r Less e h k = absurd (true≢false (sym (ap is_gt e) ∙ h))
+both_ways r Equal e h k = ap is_eq e
+both_ways r Greater e h k = absurd (true≢false k)
+
+none_below_zero : (n : ℕ) → is_gt (nat_cmp 0 n) ≡ false
+none_below_zero n = by (nat_cmp 0 n) (ranks 0 n)
+  where
+    by : (r : Ordering) → MatchOrdering r (0 < n) (0 ≡ n) (n < 0) → is_gt r ≡ false
+    by Less h = refl
+    by Equal h = refl
+    by Greater h = absurd (omega (arith, h))
+
+from_tied : (r : Ordering) (n : ℕ) → is_eq r ≡ true → is_gt (ordering_then r (nat_cmp 0 n)) ≡ false
+from_tied Less n e = refl
+from_tied Equal n e = none_below_zero n
+from_tied Greater n e = absurd (true≢false (sym e))
+
+volume_total : IsTotalOrder by_volume
+volume_total = then_total (on_total (λ (k : VolumeKey). k.0) nat_cmp_total) (on_total (λ (k : VolumeKey). k.1) nat_cmp_total)
+
+file_total : IsTotalOrder by_file
+file_total = then_total (on_total (λ (k : FileKey). (k.0, k.1)) volume_total) (on_total (λ (k : FileKey). k.2) nat_cmp_total)
+
+-- ---- the blocks of a file
+
+-- the first key that a file can have is up to each block of the file
+first_of_file : (a v f : ℕ) (q : BlockKey) → is_block_of_file a v f q ≡ true → IsLeBy by_block (a, v, f, 0) q
+first_of_file a v f q e = from_tied (by_file (a, v, f) (q.0, q.1, q.2)) q.3 (at_file a v f (q.0, q.1, q.2) ∙ e)
+
+-- a key between the two is a block of the file
+within_file : (a v f : ℕ) (k q : BlockKey) → IsLeBy by_block (a, v, f, 0) k → IsLeBy by_block k q → is_block_of_file a v f q ≡ true → is_block_of_file a v f k ≡ true
+within_file a v f k q from to e =
+    let here : FileKey = (k.0, k.1, k.2) in
+    let after = first_part (by_file (a, v, f) here) (nat_cmp 0 k.3) from in
+    let before = subst (λ (p : FileKey). is_gt (by_file here p) ≡ false) (sym (the_file a v f (q.0, q.1, q.2) e)) (first_part (by_file here (q.0, q.1, q.2)) (nat_cmp k.3 q.3) to) in
+    sym (at_file a v f here) ∙ both_ways (by_file (a, v, f) here) (by_file here (a, v, f)) (file_total.antisymm (a, v, f) here) after before
+
+-- where the first key from there on is no block of the file, the file has none
+pub no_block_of_file : {X : Type 0} (m : BTreeMap BlockKey X) (r rest : List (BlockKey × X)) (a v f : ℕ) (k : BlockKey) (x : X) → IsRangeOf by_block (Included (a, v, f, 0)) Unbounded m r → r ≡ (k, x) ∷ rest
+    → (◌≡◌ {A = FileKey} (a, v, f) (k.0, k.1, k.2) → ⊥) → (q : BlockKey) → is_block_of_file a v f q ≡ true → is_some (map.get by_block m q) ≡ false
+no_block_of_file m r rest a v f k x h e other q of = false_from_ne_true _ (λ there.
+    let at = subst (IsRangeOf by_block (Included (a, v, f, 0)) Unbounded m) e h in
+    other (the_file a v f (k.0, k.1, k.2) (within_file a v f k q at.1.0.0 (at.2 q (first_of_file a v f q of, tt) there) of)))
+
+-- ---- the files of a volume
+
+first_of_volume : (a v : ℕ) (q : FileKey) → is_file_of a v q ≡ true → IsLeBy by_file (a, v, 0) q
+first_of_volume a v q e = from_tied (by_volume (a, v) (q.0, q.1)) q.2 (at_volume a v (q.0, q.1) ∙ e)
+
+within_volume : (a v : ℕ) (k q : FileKey) → IsLeBy by_file (a, v, 0) k → IsLeBy by_file k q → is_file_of a v q ≡ true → is_file_of a v k ≡ true
+within_volume a v k q from to e =
+    let here : VolumeKey = (k.0, k.1) in
+    let after = first_part (by_volume (a, v) here) (nat_cmp 0 k.2) from in
+    let before = subst (λ (p : VolumeKey). is_gt (by_volume here p) ≡ false) (sym (the_volume a v (q.0, q.1) e)) (first_part (by_volume here (q.0, q.1)) (nat_cmp k.2 q.2) to) in
+    sym (at_volume a v here) ∙ both_ways (by_volume (a, v) here) (by_volume here (a, v)) (volume_total.antisymm (a, v) here) after before
+
+-- where the first key from there on is no file of the volume, the volume has none
+pub no_file_of_volume : (s : BTreeSet FileKey) (r rest : List FileKey) (a v : ℕ) (k : FileKey) → set.IsKeyRangeOf by_file (Included (a, v, 0)) Unbounded s r → r ≡ k ∷ rest
+    → (◌≡◌ {A = VolumeKey} (a, v) (k.0, k.1) → ⊥) → (q : FileKey) → is_file_of a v q ≡ true → set.contains by_file s q ≡ false
+no_file_of_volume s r rest a v k h e other q of = false_from_ne_true _ (λ there.
+    let at = subst (set.IsKeyRangeOf by_file (Included (a, v, 0)) Unbounded s) e h in
+    other (the_volume a v (k.0, k.1) (within_volume a v k q at.1.0.0 (at.2 q (first_of_volume a v q of, tt) there) of)))

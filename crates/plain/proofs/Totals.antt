@@ -1,0 +1,82 @@
+-- The totals of a volume and of the whole server.
+use Rattle.std.proofs.Common.{◌≡◌, ℕ, zero, suc, ◌+◌, ◌*◌, ◌^◌, ◌<◌, ◌≤◌, Bool, ap, sym, add-one, arith}
+use Rattle.std.specs.Prelude.{if◌then◌else◌}
+use Rattle.std.specs.BTreeSet as set
+use Rattle.std.specs.BTreeMap as map
+use Rattle.std.proofs.lemmas.Nat.{mul-le}
+use Rattle.std.proofs.Math.Nat.{pow-le-pow_right}
+use Rattle.affinity.specs.declared.sizes.Geometry.{Geometry}
+use Rattle.plain.specs.declared.server.Server.{Server}
+use Rattle.plain.specs.State.{State, IsState, sum_below, one_if, file_count, block_count, group_count, over_volumes}
+use Rattle.plain.specs.Server.{state_of, by_volume, by_file, by_block}
+use Rattle.plain.proofs.Sums.{one_if-le, sum_below-le_times}
+use Rattle.plain.proofs.Counts.{file_count-le, block_count-le, over_volumes-le}
+use Rattle.plain.proofs.Lengths.{volumes_length, files_length, blocks_length}
+
+-- ---- a sum, one number further
+
+pub sum_step : (n : ℕ) (h : ℕ → ℕ) → sum_below (n + 1) h ≡ sum_below n h + h n
+sum_step n h = ap (λ k. sum_below k h) (add-one n)
+
+-- ---- the bits of the files
+
+-- what a number adds to a set's bits: its own bit, where it is in the set
+abbrev pub bit_if : (ℕ → Bool) → ℕ → ℕ
+bit_if has i = if has i then 2 ^ i else 0
+
+bits_below : (n : ℕ) (has : ℕ → Bool) → sum_below n (bit_if has) < 2 ^ n
+bits_below zero has = omega arith
+bits_below (suc n) has = grind (arith, bits_below n has)
+
+twice : (n : ℕ) → 2 ^ n + 2 ^ n ≡ 2 ^ (suc n)
+twice n = omega arith
+
+-- there is room for one more bit below the 64th
+pub bits_room : (n : ℕ) (has : ℕ → Bool) → n < 64 → sum_below n (bit_if has) + 2 ^ n < 2 ^ 64
+bits_room n has lt =
+    let below = bits_below n has in
+    let top : 2 ^ (suc n) ≤ 2 ^ 64 = pow-le-pow_right {n = 2} (omega arith) {i = suc n} {j = 64} (omega arith) in
+    let double = twice n in
+    omega arith
+
+-- ---- the blocks of a volume
+
+pub groups-le : (g : Geometry) (x : State) → IsState g x → (a v n : ℕ) → sum_below n (group_count g x a v) ≤ n * 64
+groups-le g x is a v n = sum_below-le_times n 64 _ (λ s lt. let few = is.quota a v s in let range = g.quota_range in omega arith)
+
+-- ---- the whole server
+
+small : (g : Geometry) (c : ℕ) → g.aggregates * (g.volumes * c) ≤ 4 * (8 * c)
+small g c = mul-le g.aggregates (g.volumes * c) 4 (8 * c) g.aggregates_range.1 (mul-le g.volumes c 8 c g.volumes_range.1 (omega arith))
+
+module _ (g : Geometry) (server : Server) (is : IsState g (state_of server)) where
+  pub volumes_total : set.IsOrdered by_volume server.made → set.btree_set_len server.made ≡ over_volumes g (λ a v. one_if ((state_of server).made (a, v)))
+  volumes_total ordered = sym (volumes_length g server.made ordered is.made)
+
+  pub files_total : set.IsOrdered by_file server.files → set.btree_set_len server.files ≡ over_volumes g (file_count g (state_of server))
+  files_total ordered = sym (files_length g server.files ordered (λ k has. let there = is.files k has in let volume = is.made (k.0, k.1) there.1 in (volume.0, volume.1, there.0)))
+
+  pub blocks_total : map.IsOrdered by_block server.blocks → map.btree_map_len server.blocks ≡ over_volumes g (block_count g (state_of server))
+  blocks_total ordered = sym (blocks_length g server.blocks ordered (λ k has.
+      let there = is.blocks k has in
+      let file = is.files (k.0, k.1, k.2) there.1 in
+      let volume = is.made (k.0, k.1) file.1 in
+      (volume.0, volume.1, file.0, there.0)))
+
+pub volumes-few : (g : Geometry) (x : State) → over_volumes g (λ a v. one_if (x.made (a, v))) < 2 ^ 32
+volumes-few g x = let most = over_volumes-le g 1 (λ a v. one_if (x.made (a, v))) (λ a v. one_if-le (x.made (a, v))) in let range = small g 1 in omega arith
+
+pub files-few : (g : Geometry) (x : State) → over_volumes g (file_count g x) < 2 ^ 32
+files-few g x =
+    let most = over_volumes-le g 64 (file_count g x) (λ a v. let few = file_count-le g x a v in let range = g.files_range in omega arith) in
+    let range = small g 64 in
+    omega arith
+
+pub blocks-few : (g : Geometry) (x : State) → over_volumes g (block_count g x) < 2 ^ 32
+blocks-few g x =
+    let most = over_volumes-le g 16384 (block_count g x) (λ a v.
+    let few = block_count-le g x a v in
+    let range : g.files * g.blocks ≤ 64 * 256 = mul-le g.files g.blocks 64 256 g.files_range.1 g.blocks_range.1 in
+    omega arith) in
+    let range = small g 16384 in
+    omega arith

@@ -1,0 +1,26 @@
+use Rattle.std.proofs.Common.{◌≡◌, arith, ap, sym, ◌∙◌, subst}
+use Rattle.plain.specs.State.{IsState, one_if, is_block_of_file, is_block}
+use Rattle.plain.specs.Server.{state_of}
+use Rattle.plain.specs.Removals.{without_blocks}
+use Rattle.plain.proofs.Removals.{clearing_kept, block_before_others, nothing_cleared}
+use Rattle.plain.proofs.server.Server.clear_file.Goals as goal
+
+pub loop-b-preserved : goal.loop-b-preserved
+loop-b-preserved c =
+    let x = state_of c.loop-b.self in
+    record {
+      sound = record {
+        state = subst (IsState c.args.g.now) (sym c.remove_block.ensures.state) (clearing_kept c.args.g.now (is_block c.args.a c.args.v c.args.f c.in-Some.b) x c.loop-b.invariant.sound.state);
+        counted = c.remove_block.ensures.counted;
+      };
+      same = ap (without_blocks (is_block_of_file c.args.a c.args.v c.args.f)) c.remove_block.ensures.state ∙ block_before_others x c.args.a c.args.v c.args.f c.in-Some.b ∙ c.loop-b.invariant.same;
+      files = c.remove_block.ensures.files ∙ c.loop-b.invariant.files;
+    }
+
+pub loop-b-smaller : goal.loop-b-smaller
+loop-b-smaller c =
+    let one : one_if _ ≡ 1 = ap one_if c.in-Some.ensures.found in
+    omega (arith, one, c.remove_block.ensures.len)
+
+pub returns-clause-state : goal.returns-clause-state
+returns-clause-state c = sym (nothing_cleared (is_block_of_file c.args.a c.args.v c.args.f) (state_of c.loop-b.self) c.in_default.ensures.none) ∙ c.loop-b.invariant.same

@@ -1,0 +1,16 @@
+use Rattle.std.proofs.Common.{◌≡◌}
+use Rattle.std.specs.BTreeMap.{btree_map_len}
+use Rattle.plain.specs.State.{is_block_of_file}
+use Rattle.plain.specs.Server.{state_of, IsSound}
+use Rattle.plain.specs.Removals.{without_blocks}
+use Rattle.plain.proofs.server.Server.clear_file.Given as goal
+
+abbrev pub invariant-loop-b : goal.invariant-loop-b
+invariant-loop-b l = record {
+  sound : IsSound l.g l.self;
+  same : without_blocks (is_block_of_file l.a l.v l.f) (state_of l.self) ≡ without_blocks (is_block_of_file l.a l.v l.f) (state_of l.initial.self);
+  files : l.self.files ≡ l.initial.self.files;
+}
+
+abbrev pub decreases-loop-b : goal.decreases-loop-b
+decreases-loop-b l = btree_map_len l.self.blocks

@@ -1,0 +1,114 @@
+ghost use Rattle.std.specs.Prelude.{◌≡◌, ◌+◌, ◌<◌, true, false, is_some, IfSome, IfNone};
+ghost use Rattle.std.specs.BTreeMap.{btree_map_len};
+ghost use Rattle.std.specs.BTreeSet.{btree_set_len};
+ghost use Rattle.affinity.specs.declared.sizes.Geometry.{Geometry};
+ghost use Rattle.message.specs.declared.Msg.{Msg};
+ghost use Rattle.plain.specs.State.{FileKey, BlockKey, one_if, is_block_of_file, is_file_of};
+ghost use Rattle.plain.specs.Serial.{effect};
+ghost use Rattle.plain.specs.Server.{StripeKey, is_stripe, state_of, noted, IsCounted, IsSound};
+ghost use Rattle.plain.specs.Removals.{without_blocks, without_files};
+
+use super::Server;
+use affinity::{Geometry, group_of};
+
+impl Server {
+    /// Notes one block less of a stripe.
+    fn note_one_less(&mut self, a: u16, v: u16, s: u16)
+        requires some { 0 < noted self.old (a, v, s) }
+        ensures noted { (k : StripeKey) → noted self.new k + one_if (is_stripe a v s k) ≡ noted self.old k }
+        ensures state { state_of self.new ≡ state_of self.old }
+        ensures blocks { self.new.blocks ≡ self.old.blocks }
+        ensures files { self.new.files ≡ self.old.files }
+    {
+        if let Some(count) = self.used.get_mut(&(a, v, s)) {
+            *count -= 1;
+        }
+    }
+
+    /// Takes a block out of its file, where there is one.
+    pub(super) fn remove_block(&mut self, g: &Geometry, a: u16, v: u16, f: u16, b: u16)
+        requires sound { IsSound g.now self.old }
+        ensures state { state_of self.new ≡ effect (state_of self.old) (Msg.Punch a v f b) }
+        ensures counted { IsCounted g.now self.new }
+        ensures len { btree_map_len self.new.blocks + one_if (is_some ((state_of self.old).blocks (a, v, f, b))) ≡ btree_map_len self.old.blocks }
+        ensures files { self.new.files ≡ self.old.files }
+    {
+        if self.blocks.remove(&(a, v, f, b)).is_some() {
+            self.note_one_less(a, v, group_of(g, f, b));
+        }
+    }
+
+    /// The number of a block of the file, where it has one.
+    fn next_block_of_file(&self, a: u16, v: u16, f: u16) -> Option<u16>
+        ensures found { IfSome result (λ b. is_some ((state_of self.now).blocks (a, v, f, b)) ≡ true) }
+        ensures none { IfNone result ((k : BlockKey) → is_block_of_file a v f k ≡ true → is_some ((state_of self.now).blocks k) ≡ false) }
+    {
+        let (key, _) = self.blocks.range((a, v, f, 0)..).next()?;
+        let (of_a, of_v, of_f, b) = *key;
+        if of_a == a && of_v == v && of_f == f {
+            Some(b)
+        } else {
+            None
+        }
+    }
+
+    /// Takes all its blocks out of a file.
+    fn clear_file(&mut self, g: &Geometry, a: u16, v: u16, f: u16)
+        requires sound { IsSound g.now self.old }
+        ensures state { state_of self.new ≡ without_blocks (is_block_of_file a v f) (state_of self.old) }
+        ensures counted { IsCounted g.now self.new }
+        ensures files { self.new.files ≡ self.old.files }
+    {
+        while let Some(b) = self.next_block_of_file(a, v, f) {
+            self.remove_block(g, a, v, f, b);
+        }
+    }
+
+    /// Removes a file with its blocks. It takes no memory.
+    pub(super) fn remove_file(&mut self, g: &Geometry, a: u16, v: u16, f: u16)
+        requires sound { IsSound g.now self.old }
+        ensures state { state_of self.new ≡ effect (state_of self.old) (Msg.Delete a v f) }
+        ensures counted { IsCounted g.now self.new }
+        ensures len { btree_set_len self.new.files + one_if ((state_of self.old).files (a, v, f)) ≡ btree_set_len self.old.files }
+    {
+        self.clear_file(g, a, v, f);
+        self.files.remove(&(a, v, f));
+    }
+
+    /// The number of a file of the volume, where it has one.
+    fn next_file_of_volume(&self, a: u16, v: u16) -> Option<u16>
+        ensures found { IfSome result (λ f. (state_of self.now).files (a, v, f) ≡ true) }
+        ensures none { IfNone result ((k : FileKey) → is_file_of a v k ≡ true → (state_of self.now).files k ≡ false) }
+    {
+        let key = self.files.range((a, v, 0)..).next()?;
+        let (of_a, of_v, f) = *key;
+        if of_a == a && of_v == v {
+            Some(f)
+        } else {
+            None
+        }
+    }
+
+    /// Removes all files of a volume, with their blocks.
+    fn remove_files(&mut self, g: &Geometry, a: u16, v: u16)
+        requires sound { IsSound g.now self.old }
+        ensures state { state_of self.new ≡ without_files a v (state_of self.old) }
+        ensures counted { IsCounted g.now self.new }
+    {
+        while let Some(f) = self.next_file_of_volume(a, v) {
+            self.remove_file(g, a, v, f);
+        }
+    }
+
+    /// Removes a volume with all that it has. It takes no memory.
+    pub(super) fn remove_volume(&mut self, g: &Geometry, a: u16, v: u16)
+        requires sound { IsSound g.now self.old }
+        ensures state { state_of self.new ≡ effect (state_of self.old) (Msg.DropVol a v) }
+        ensures counted { IsCounted g.now self.new }
+    {
+        self.remove_files(g, a, v);
+        self.made.remove(&(a, v));
+        self.sealed.remove(&(a, v));
+        self.labels.remove(&(a, v));
+    }
+}

@@ -1,0 +1,80 @@
+ghost use Rattle.std.specs.Prelude.{◌≡◌};
+ghost use Rattle.affinity.specs.declared.sizes.Geometry.{Geometry};
+ghost use Rattle.message.specs.declared.Msg.{Msg};
+ghost use Rattle.plain.specs.State.{file_count, block_count};
+ghost use Rattle.plain.specs.Serial.{answer};
+ghost use Rattle.plain.specs.Server.{state_of, IsSound};
+
+use super::Server;
+use affinity::Geometry;
+use message::{Msg, Reply};
+
+impl Server {
+    /// Which files a volume has: file `f` is bit `f` of the number.
+    pub(super) fn list_files(&self, g: &Geometry, a: u16, v: u16) -> Reply
+        ensures { result ≡ answer g.now (state_of self.now) (Msg.List a v) }
+    {
+        let mut bits = 0;
+        for f in 0..g.files {
+            if self.files.contains(&(a, v, f)) {
+                bits += 1u64 << f;
+            }
+        }
+        Reply::Files(bits)
+    }
+
+    /// How many files a volume has.
+    fn files_of(&self, g: &Geometry, a: u16, v: u16) -> u32
+        ensures { result ≡ file_count g.now (state_of self.now) a v }
+    {
+        let mut total = 0;
+        for f in 0..g.files {
+            if self.files.contains(&(a, v, f)) {
+                total += 1;
+            }
+        }
+        total
+    }
+
+    /// How many blocks a volume has: those that are noted for its stripes.
+    fn blocks_of(&self, g: &Geometry, a: u16, v: u16) -> u32
+        requires sound { IsSound g.now self.now }
+        ensures { result ≡ block_count g.now (state_of self.now) a v }
+    {
+        let mut total = 0;
+        for s in 0..g.stripes {
+            if let Some(count) = self.used.get(&(a, v, s)) {
+                total += u32::from(*count);
+            }
+        }
+        total
+    }
+
+    /// How much a volume holds, and whether it is sealed.
+    pub(super) fn usage_of(&self, g: &Geometry, a: u16, v: u16) -> Reply
+        requires sound { IsSound g.now self.now }
+        ensures { result ≡ answer g.now (state_of self.now) (Msg.Usage a v) }
+    {
+        Reply::Usage {
+            files: self.files_of(g, a, v),
+            blocks: self.blocks_of(g, a, v),
+            sealed: self.sealed.contains(&(a, v)),
+        }
+    }
+
+    /// How much all volumes hold, and how many they are. The maps know their own lengths, so this
+    /// looks nothing up.
+    pub(super) fn summary_of(&self, g: &Geometry) -> Reply
+        requires sound { IsSound g.now self.now }
+        ensures { result ≡ answer g.now (state_of self.now) Msg.Summary }
+    {
+        let volumes = self.made.len();
+        let files = self.files.len();
+        let blocks = self.blocks.len();
+        Reply::Summary {
+            volumes: volumes as u32,
+            files: files as u32,
+            blocks: blocks as u32,
+        }
+    }
+}
