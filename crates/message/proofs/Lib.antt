@@ -1,3 +1,4 @@
+mod Rows
 pub mod Words
 pub mod Numbers
 pub mod Blocks
@@ -6,6 +7,8 @@ pub mod Forms
 pub mod Keywords
 pub mod Zeros
 pub mod Assembly
+pub mod Lengths
 pub mod Spelling
+pub mod RecordLemmas
 pub mod ReaderLemmas
 mod ReaderRows

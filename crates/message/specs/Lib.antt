@@ -2,4 +2,5 @@ pub mod Lines
 pub mod Messages
 pub mod Grammar
 pub mod Replies
+pub mod Records
 pub mod Reader

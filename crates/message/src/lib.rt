@@ -5,12 +5,14 @@ mod kinds;
 mod parsing;
 mod printing;
 mod reading;
+mod records;
 #[cfg(test)]
 mod tests;
 
 pub use parsing::parse_line;
 pub use printing::{no_message_line, write_reply};
 pub use reading::{Found, LineReader, ReadFault};
+pub use records::{decode, encode};
 
 /// How many bytes a block has.
 pub const BLOCK_SIZE: usize = 512;

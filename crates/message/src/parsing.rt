@@ -6,25 +6,9 @@ ghost use Rattle.message.specs.declared.Msg.TheVariants.{Write as write, SetLabe
 ghost use Rattle.message.specs.Lines.{words, number, block, bytes_said};
 ghost use Rattle.message.specs.Grammar.{message_of, Spells, first_number, of_kind, of_volume, of_file, of_block, of_data, of_label, keyword, kind_named};
 
+use crate::kinds::KINDS;
 use crate::{Block, LONGEST_LINE, Msg};
 use affinity::Kind;
-
-const KINDS: [Kind; 14] = [
-    Kind::MakeVol,
-    Kind::DropVol,
-    Kind::Create,
-    Kind::Delete,
-    Kind::Seal,
-    Kind::Unseal,
-    Kind::Write,
-    Kind::Punch,
-    Kind::Read,
-    Kind::List,
-    Kind::Usage,
-    Kind::Summary,
-    Kind::SetLabel,
-    Kind::Label,
-];
 
 /// The message that a line spells, the line given without its newline; `None` where it spells none.
 pub fn parse_line(line: &[u8]) -> Option<Msg>

@@ -1,4 +1,5 @@
-use crate::{Block, Msg, Refusal, Reply, no_message_line, parse_line, write_reply};
+use crate::{Block, Msg, Refusal, Reply, decode, encode, no_message_line, parse_line, write_reply};
+use affinity::Geometry;
 
 // A block that begins with these bytes, with zeros behind them.
 fn block_of(front: &[u8]) -> Block {
@@ -264,5 +265,48 @@ fn writes_each_reply(rt: HostRuntime) {
         let size = write_reply(reply, &mut out);
         assert_eq!(rt; &out[..size], line.as_bytes());
         assert!(rt; out[size..].iter().all(|byte| *byte == 7));
+    }
+}
+
+// A record that begins with these bytes, with zeros behind them.
+fn record_of(front: &[u8]) -> [u8; 520] {
+    let mut bytes = [0; 520];
+    for (place, byte) in bytes.iter_mut().zip(front) {
+        *place = *byte;
+    }
+    bytes
+}
+
+#[test]
+fn records_have_one_spelling(rt: HostRuntime) {
+    let g = Geometry::default();
+    let mut out = [7; 520];
+    encode(&Msg::MakeVol(0, 0), &mut out);
+    assert_eq!(rt; out.as_slice(), record_of(&[1]).as_slice());
+    encode(&Msg::Write(0, 0, 1, 2, block_of(b"ab")), &mut out);
+    let write = [7, 0, 0, 1, 2, 0, 0, 0, 0x61, 0x62];
+    assert_eq!(rt; out.as_slice(), record_of(&write).as_slice());
+    encode(&Msg::SetLabel(0, 0, label_of(b"ab")), &mut out);
+    let label = [13, 0, 0, 0, 0, 0, 0, 0, 0x61, 0x62];
+    assert_eq!(rt; out.as_slice(), record_of(&label).as_slice());
+    encode(&Msg::Punch(255, 254, 253, 258), &mut out);
+    let punch = [8, 255, 254, 253, 2, 1];
+    assert_eq!(rt; out.as_slice(), record_of(&punch).as_slice());
+
+    let rows: [(&[u8], Option<Msg>); 11] = [
+        (&[1], Some(Msg::MakeVol(0, 0))),
+        (&[1, 0, 3], Some(Msg::MakeVol(0, 3))),
+        (&write, Some(Msg::Write(0, 0, 1, 2, block_of(b"ab")))),
+        (&label, Some(Msg::SetLabel(0, 0, label_of(b"ab")))),
+        (&[12], Some(Msg::Summary)),
+        (&[14, 0, 1], Some(Msg::Label(0, 1))),
+        (&[1, 0, 4], None),
+        (&[1, 0, 0, 0, 0, 0, 0, 1], None),
+        (&[1, 0, 0, 1], None),
+        (&[15], None),
+        (&[0], None),
+    ];
+    for (front, message) in rows.iter() {
+        assert_eq!(rt; decode(&record_of(front), &g), *message);
     }
 }

@@ -1,4 +1,4 @@
-use Rattle.std.proofs.Common.{◌≡◌, ℕ, drop, None, refl, ap, sym, ◌∙◌, arith}
+use Rattle.std.proofs.Common.{◌≡◌, drop, refl, ap, sym, ◌∙◌, arith}
 use Rattle.message.specs.Grammar.{all_kinds, named_among, kind_named}
 use Rattle.message.proofs.Keywords.{named_here, named_later}
 use Rattle.message.proofs.parsing.kind_named.Goals as goal

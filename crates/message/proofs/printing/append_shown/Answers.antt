@@ -1,7 +1,6 @@
-use Rattle.std.proofs.Common.{◌≡◌, ℕ, ◌+◌, ◌*◌, ◌-◌, List, length, take, sym, ap, ◌∙◌, arith, length-take-le, subst}
+use Rattle.std.proofs.Common.{◌≡◌, ℕ, ◌+◌, ◌*◌, ◌-◌, List, length, take, arith, length-take-le}
 use Rattle.std.proofs.lemmas.Result.{IfOk-at_ok}
 use Rattle.hex.specs.Hex.{encode_lower}
-use Rattle.message.specs.Replies.{shown, Appends}
 use Rattle.message.proofs.Assembly.{appends_part, appends_same, length-lower, shown_by}
 use Rattle.message.proofs.printing.append_shown.Goals as goal
 

@@ -1,5 +1,4 @@
-use Rattle.std.proofs.Common.{◌≡◌, ◌+◌, ◌/◌, ◌^◌, ◌++◌, codes, true, false, sym, ◌∙◌, arith}
-use Rattle.message.specs.Replies.{has_file, files_below}
+use Rattle.std.proofs.Common.{◌≡◌, arith}
 use Rattle.message.proofs.Assembly.{appends_more, appends_same, appends_moved, file_there, file_not_there, all_files, bit_there, bit_not_there}
 use Rattle.message.proofs.printing.write_files.Goals as goal
 use Rattle.message.proofs.printing.write_files.Goals.{then-files-file-eq1, else-files-file-eq1}

@@ -1,6 +1,5 @@
-use Rattle.std.proofs.Common.{List, ℕ, sym, ap, ◌++◌, codes}
+use Rattle.std.proofs.Common.{sym, ap, codes}
 use Rattle.std.specs.Prelude.{if◌then◌else◌}
-use Rattle.message.specs.Replies.{spaced}
 use Rattle.message.proofs.Assembly.{appends_more, appends_same}
 use Rattle.message.proofs.printing.write_usage.Goals as goal
 

@@ -1,0 +1,309 @@
+-- Messages and their records.
+use Rattle.std.proofs.Common.{◌≡◌, ℕ, lit≤, zero, suc, true, cond, ◌+◌, ◌<◌, List, [], ◌∷◌, ◌++◌, length, length-append, length-drop, length-take-le, get_or, take, drop, replicate, Option, Some, None, refl, ap, sym, subst, ◌∙◌, arith}
+use Rattle.std.specs.Prelude.{option_map, slice_index, nat_lt, ◌↔◌, ◌&&◌, ◌==◌}
+use Rattle.std.specs.List.{AllByRecursion}
+use Rattle.std.proofs.lemmas.Bool.{and_parts, ltb-true, eq-eqb, ne_eqb, cond-true, cond-false}
+use Rattle.std.proofs.lemmas.List.{take_at, drop_at, drop-drop, drop_all, drop_more, append-nil}
+use Rattle.std.proofs.lemmas.Option.{same_Some}
+use Rattle.byteorder.specs.Endian.{little_bytes, little_number}
+use Rattle.affinity.specs.declared.kinds.Kind.{Kind}
+use Rattle.affinity.specs.declared.kinds.Kind.TheVariants as kinds
+use Rattle.affinity.specs.declared.sizes.Geometry.{Geometry}
+use Rattle.message.specs.declared.Block.{Block}
+use Rattle.message.specs.declared.Msg.{Msg}
+use Rattle.message.specs.declared.Msg.TheVariants.{MakeVol, DropVol, Create, Delete, Seal, Unseal, Write, Punch, Read, List as ListFiles, Usage, Summary, SetLabel, Label}
+use Rattle.message.specs.Messages.{kind, numbers, filled, four_numbers, is_in_range, AreBytes, IsMessage}
+use Rattle.message.specs.Records.{HasRoom, assembled, data_of, fields_say, head_with, head_of, kind_number, kind_numbered, numbered_among, record_of}
+use Rattle.message.specs.Grammar.{all_kinds}
+use borrow.Rule.Slice.PartMut.{put_mid, post_of}
+
+-- ---- the numbers of a message in range
+
+-- the numbers of a message in range fit the fields of its record
+record Fits (n : List ℕ) : Type 0 where
+  pub room : AllByRecursion (λ x. x < 256) (take 3 n)
+  pub block : get_or n 3 0 < 65536
+
+two_fit : (g : Geometry) (a v : ℕ) → nat_lt a g.aggregates && (nat_lt v g.volumes && true) ≡ true → Fits (a ∷ v ∷ 0 ∷ 0 ∷ [])
+two_fit g a v h =
+    let p = and_parts (nat_lt a g.aggregates) (nat_lt v g.volumes && true) h in
+    let q = and_parts (nat_lt v g.volumes) true p.1 in
+    let a_in = ltb-true a g.aggregates p.0 in
+    let v_in = ltb-true v g.volumes q.0 in
+    let a_max = g.aggregates_range.1 in
+    let v_max = g.volumes_range.1 in
+    record { room = (omega arith, (omega arith, (lit≤ tt, tt))); block = lit≤ tt }
+
+three_fit : (g : Geometry) (a v f : ℕ) → nat_lt a g.aggregates && (nat_lt v g.volumes && (nat_lt f g.files && true)) ≡ true → Fits (a ∷ v ∷ f ∷ 0 ∷ [])
+three_fit g a v f h =
+    let p = and_parts (nat_lt a g.aggregates) (nat_lt v g.volumes && (nat_lt f g.files && true)) h in
+    let q = and_parts (nat_lt v g.volumes) (nat_lt f g.files && true) p.1 in
+    let r = and_parts (nat_lt f g.files) true q.1 in
+    let a_in = ltb-true a g.aggregates p.0 in
+    let v_in = ltb-true v g.volumes q.0 in
+    let f_in = ltb-true f g.files r.0 in
+    let a_max = g.aggregates_range.1 in
+    let v_max = g.volumes_range.1 in
+    let f_max = g.files_range.1 in
+    record { room = (omega arith, (omega arith, (omega arith, tt))); block = lit≤ tt }
+
+four_fit : (g : Geometry) (a v f b : ℕ) → nat_lt a g.aggregates && (nat_lt v g.volumes && (nat_lt f g.files && (nat_lt b g.blocks && true))) ≡ true → Fits (a ∷ v ∷ f ∷ b ∷ [])
+four_fit g a v f b h =
+    let p = and_parts (nat_lt a g.aggregates) (nat_lt v g.volumes && (nat_lt f g.files && (nat_lt b g.blocks && true))) h in
+    let q = and_parts (nat_lt v g.volumes) (nat_lt f g.files && (nat_lt b g.blocks && true)) p.1 in
+    let r = and_parts (nat_lt f g.files) (nat_lt b g.blocks && true) q.1 in
+    let s = and_parts (nat_lt b g.blocks) true r.1 in
+    let a_in = ltb-true a g.aggregates p.0 in
+    let v_in = ltb-true v g.volumes q.0 in
+    let f_in = ltb-true f g.files r.0 in
+    let b_in = ltb-true b g.blocks s.0 in
+    let a_max = g.aggregates_range.1 in
+    let v_max = g.volumes_range.1 in
+    let f_max = g.files_range.1 in
+    let b_max = g.blocks_range.1 in
+    record { room = (omega arith, (omega arith, (omega arith, tt))); block = omega arith }
+
+fits : (g : Geometry) (m : Msg) → is_in_range g m ≡ true → Fits (four_numbers m)
+fits g (MakeVol a v) h = two_fit g a v h
+fits g (DropVol a v) h = two_fit g a v h
+fits g (Create a v f) h = three_fit g a v f h
+fits g (Delete a v f) h = three_fit g a v f h
+fits g (Seal a v) h = two_fit g a v h
+fits g (Unseal a v) h = two_fit g a v h
+fits g (Write a v f b content) h = four_fit g a v f b h
+fits g (Punch a v f b) h = four_fit g a v f b h
+fits g (Read a v f b) h = four_fit g a v f b h
+fits g (ListFiles a v) h = two_fit g a v h
+fits g (Usage a v) h = two_fit g a v h
+fits g Summary h = record { room = (lit≤ tt, (lit≤ tt, (lit≤ tt, tt))); block = lit≤ tt }
+fits g (SetLabel a v bytes) h = two_fit g a v h
+fits g (Label a v) h = two_fit g a v h
+
+-- what encoding asks for holds of each message in range
+pub in_range_has_room : (g : Geometry) (m : Msg) → is_in_range g m ≡ true → HasRoom m
+in_range_has_room g m h = (fits g m h).room
+
+-- ---- a record gives its message back
+
+kind_again : (k : Kind) → kind_numbered (kind_number k) ≡ Some k
+unfolding kind_numbered
+kind_again kinds.MakeVol = refl
+kind_again kinds.DropVol = refl
+kind_again kinds.Create = refl
+kind_again kinds.Delete = refl
+kind_again kinds.Seal = refl
+kind_again kinds.Unseal = refl
+kind_again kinds.Write = refl
+kind_again kinds.Punch = refl
+kind_again kinds.Read = refl
+kind_again kinds.List = refl
+kind_again kinds.Usage = refl
+kind_again kinds.Summary = refl
+kind_again kinds.SetLabel = refl
+kind_again kinds.Label = refl
+
+-- the message of its own kind, numbers and data
+made_again : (m : Msg) → IsMessage m → assembled (kind m) (get_or (four_numbers m) 0 0) (get_or (four_numbers m) 1 0) (get_or (four_numbers m) 2 0) (get_or (four_numbers m) 3 0) (data_of m) ≡ m
+unfolding data_of
+made_again (MakeVol a v) h = refl
+made_again (DropVol a v) h = refl
+made_again (Create a v f) h = refl
+made_again (Delete a v f) h = refl
+made_again (Seal a v) h = refl
+made_again (Unseal a v) h = refl
+made_again (Write a v f b content) h = refl
+made_again (Punch a v f b) h = refl
+made_again (Read a v f b) h = refl
+made_again (ListFiles a v) h = refl
+made_again (Usage a v) h = refl
+made_again Summary h = refl
+made_again (SetLabel a v bytes) h = ap (SetLabel a v) (take_at bytes (replicate 480 0) 32 h.0)
+made_again (Label a v) h = refl
+
+low_byte : (b : ℕ) → b < 65536 → little_number 2 (little_bytes 2 b) ≡ b
+low_byte b h = omega arith
+
+said : (k : Kind) (n bytes : List ℕ) (a v f b : ℕ) → b < 65536 → n ≡ a ∷ v ∷ f ∷ b ∷ [] → fields_say (head_with (kind_number k) n ++ bytes) ≡ Some (assembled k a v f b bytes)
+unfolding fields_say
+said k n bytes a v f b h e =
+    let block = low_byte b h in
+    rw (e, kind_again k) (ap (λ (x : ℕ). Some (assembled k a v f x bytes)) block)
+
+four : (ns : List ℕ) → filled ns ≡ get_or (filled ns) 0 0 ∷ get_or (filled ns) 1 0 ∷ get_or (filled ns) 2 0 ∷ get_or (filled ns) 3 0 ∷ []
+four [] = refl
+four (a ∷ []) = refl
+four (a ∷ v ∷ []) = refl
+four (a ∷ v ∷ f ∷ []) = refl
+four (a ∷ v ∷ f ∷ b ∷ more) = refl
+
+-- the fields of a record say its message
+pub record_says : (g : Geometry) (m : Msg) → IsMessage m → is_in_range g m ≡ true → fields_say (record_of m) ≡ Some m
+record_says g m whole h =
+    said (kind m) (four_numbers m) (data_of m) _ _ _ _ (fits g m h).block (four (numbers m)) ∙ ap Some (made_again m whole)
+
+-- no two messages in range have one record
+pub one_record : (g : Geometry) (m n : Msg) → IsMessage m → IsMessage n → is_in_range g m ≡ true → is_in_range g n ≡ true → record_of m ≡ record_of n → m ≡ n
+one_record g m n m_whole n_whole m_in n_in same = same_Some m n (sym (record_says g m m_whole m_in) ∙ ap fields_say same ∙ record_says g n n_whole n_in)
+
+-- ---- the kinds one after the other
+
+-- the kind at a place of the list
+abbrev kind_at : ℕ → Kind
+kind_at i = get_or all_kinds i kinds.MakeVol
+
+numbered_from : (i n : ℕ) → i < 14 → numbered_among (drop i all_kinds) n ≡ cond (n == kind_number (kind_at i)) (Some (kind_at i)) (numbered_among (drop (i + 1) all_kinds) n)
+numbered_from i n lt = ap (λ ks. numbered_among ks n) (drop_more all_kinds i kinds.MakeVol lt)
+
+pub numbered_here : (i n m : ℕ) → i < 14 → n ≡ m → m ≡ kind_number (kind_at i) → numbered_among (drop i all_kinds) n ≡ Some (kind_at i)
+numbered_here i n m lt is e = numbered_from i n lt ∙ cond-true _ _ _ (eq-eqb n (kind_number (kind_at i)) (is ∙ e))
+
+pub numbered_later : (i n m : ℕ) → i < 14 → (n ≡ m → ⊥) → m ≡ kind_number (kind_at i) → numbered_among (drop i all_kinds) n ≡ numbered_among (drop (i + 1) all_kinds) n
+numbered_later i n m lt is e = numbered_from i n lt ∙ cond-false _ _ _ (ne_eqb n (kind_number (kind_at i)) (λ same. is (same ∙ sym e)))
+
+-- ---- a record put together in a buffer
+
+pub zeros_else : (m : Msg) → ((a v f b : ℕ) (content : Block) → m ≡ Write a v f b content → ⊥) → ((a v : ℕ) (bytes : List ℕ) → m ≡ SetLabel a v bytes → ⊥) → data_of m ≡ replicate 512 0
+unfolding data_of
+zeros_else (MakeVol a v) no_write no_setlabel = refl
+zeros_else (DropVol a v) no_write no_setlabel = refl
+zeros_else (Create a v f) no_write no_setlabel = refl
+zeros_else (Delete a v f) no_write no_setlabel = refl
+zeros_else (Seal a v) no_write no_setlabel = refl
+zeros_else (Unseal a v) no_write no_setlabel = refl
+zeros_else (Write a v f b content) no_write no_setlabel = absurd (no_write a v f b content refl)
+zeros_else (Punch a v f b) no_write no_setlabel = refl
+zeros_else (Read a v f b) no_write no_setlabel = refl
+zeros_else (ListFiles a v) no_write no_setlabel = refl
+zeros_else (Usage a v) no_write no_setlabel = refl
+zeros_else Summary no_write no_setlabel = refl
+zeros_else (SetLabel a v bytes) no_write no_setlabel = absurd (no_setlabel a v bytes refl)
+zeros_else (Label a v) no_write no_setlabel = refl
+
+pub put_together : (out head bytes : List ℕ) (k : ℕ) → length out ≡ 520 → length head ≡ 8 → length bytes ≡ 512 → k ≡ 512 → put_mid 8 k (head ++ post_of 0 8 out) bytes ≡ head ++ bytes
+put_together out head bytes k room h d n =
+    let front : take 8 (head ++ drop 8 out) ≡ head = take_at head (drop 8 out) 8 h in
+    let behind : drop k (drop 8 (head ++ drop 8 out)) ≡ [] = ap (drop k) (drop_at head (drop 8 out) 8 h) ∙ drop-drop k 8 out ∙ drop_all (8 + k) out (omega arith) in
+    (λ i. front i ++ (bytes ++ behind i)) ∙ ap (λ (xs : List ℕ). head ++ xs) (append-nil bytes)
+
+-- ---- what is decoded is a message
+
+bytes_fit : (bytes : List ℕ) → ((i : ℕ) → get_or bytes i 0 < 256) → AllByRecursion (λ b. b < 256) bytes
+bytes_fit [] h = tt
+bytes_fit (b ∷ bytes) h = (h zero, bytes_fit bytes (λ i. h (suc i)))
+
+dropped_fit : (n : ℕ) (bytes : List ℕ) → AllByRecursion (λ b. b < 256) bytes → AllByRecursion (λ b. b < 256) (drop n bytes)
+dropped_fit zero bytes h = h
+dropped_fit (suc n) [] h = tt
+dropped_fit (suc n) (b ∷ bytes) h = dropped_fit n bytes h.1
+
+taken_fit : (n : ℕ) (bytes : List ℕ) → AllByRecursion (λ b. b < 256) bytes → AllByRecursion (λ b. b < 256) (take n bytes)
+taken_fit zero bytes h = tt
+taken_fit (suc n) [] h = tt
+taken_fit (suc n) (b ∷ bytes) h = (h.0, taken_fit n bytes h.1)
+
+assembled_whole : (k : Kind) (a v f b : ℕ) (bytes : List ℕ) → AreBytes 512 bytes → IsMessage (assembled k a v f b bytes)
+assembled_whole kinds.MakeVol a v f b bytes h = tt
+assembled_whole kinds.DropVol a v f b bytes h = tt
+assembled_whole kinds.Create a v f b bytes h = tt
+assembled_whole kinds.Delete a v f b bytes h = tt
+assembled_whole kinds.Seal a v f b bytes h = tt
+assembled_whole kinds.Unseal a v f b bytes h = tt
+assembled_whole kinds.Write a v f b bytes h = h
+assembled_whole kinds.Punch a v f b bytes h = tt
+assembled_whole kinds.Read a v f b bytes h = tt
+assembled_whole kinds.List a v f b bytes h = tt
+assembled_whole kinds.Usage a v f b bytes h = tt
+assembled_whole kinds.Summary a v f b bytes h = tt
+assembled_whole kinds.SetLabel a v f b bytes h = (length-take-le 32 bytes (let len = h.0 in omega arith), taken_fit 32 bytes h.1)
+assembled_whole kinds.Label a v f b bytes h = tt
+
+assembled_room : (k : Kind) (a v f b : ℕ) (bytes : List ℕ) → a < 256 → v < 256 → f < 256 → HasRoom (assembled k a v f b bytes)
+assembled_room kinds.MakeVol a v f b bytes a_fits v_fits f_fits = (a_fits, (v_fits, (lit≤ tt, tt)))
+assembled_room kinds.DropVol a v f b bytes a_fits v_fits f_fits = (a_fits, (v_fits, (lit≤ tt, tt)))
+assembled_room kinds.Create a v f b bytes a_fits v_fits f_fits = (a_fits, (v_fits, (f_fits, tt)))
+assembled_room kinds.Delete a v f b bytes a_fits v_fits f_fits = (a_fits, (v_fits, (f_fits, tt)))
+assembled_room kinds.Seal a v f b bytes a_fits v_fits f_fits = (a_fits, (v_fits, (lit≤ tt, tt)))
+assembled_room kinds.Unseal a v f b bytes a_fits v_fits f_fits = (a_fits, (v_fits, (lit≤ tt, tt)))
+assembled_room kinds.Write a v f b bytes a_fits v_fits f_fits = (a_fits, (v_fits, (f_fits, tt)))
+assembled_room kinds.Punch a v f b bytes a_fits v_fits f_fits = (a_fits, (v_fits, (f_fits, tt)))
+assembled_room kinds.Read a v f b bytes a_fits v_fits f_fits = (a_fits, (v_fits, (f_fits, tt)))
+assembled_room kinds.List a v f b bytes a_fits v_fits f_fits = (a_fits, (v_fits, (lit≤ tt, tt)))
+assembled_room kinds.Usage a v f b bytes a_fits v_fits f_fits = (a_fits, (v_fits, (lit≤ tt, tt)))
+assembled_room kinds.Summary a v f b bytes a_fits v_fits f_fits = (lit≤ tt, (lit≤ tt, (lit≤ tt, tt)))
+assembled_room kinds.SetLabel a v f b bytes a_fits v_fits f_fits = (a_fits, (v_fits, (lit≤ tt, tt)))
+assembled_room kinds.Label a v f b bytes a_fits v_fits f_fits = (a_fits, (v_fits, (lit≤ tt, tt)))
+
+-- what some optional kind makes of the fields
+made : (o : Option Kind) (make : Kind → Msg) (m : Msg) → option_map make o ≡ Some m → (k : Kind) × (m ≡ make k)
+made (Some k) make m h = (k, sym (same_Some _ m h))
+made None make m h = cc h
+
+module _ (bytes : List ℕ) (m : Msg) (size : length bytes ≡ 520) (fit : (i : ℕ) → get_or bytes i 0 < 256) (said : fields_say bytes ≡ Some m) where
+  its_kind : (k : Kind) × (m ≡ assembled k (slice_index bytes 1) (slice_index bytes 2) (slice_index bytes 3) (little_number 2 (take 2 (drop 4 bytes))) (drop 8 bytes))
+  unfolding fields_say
+  its_kind = made (kind_numbered (slice_index bytes 0)) (λ k. assembled k (slice_index bytes 1) (slice_index bytes 2) (slice_index bytes 3) (little_number 2 (take 2 (drop 4 bytes))) (drop 8 bytes)) m said
+
+  pub said_whole : IsMessage m
+  said_whole =
+      let long : length (drop 8 bytes) ≡ 512 = omega (arith, length-drop 8 bytes) in
+      subst IsMessage (sym its_kind.1) (assembled_whole its_kind.0 _ _ _ _ (drop 8 bytes) (long, dropped_fit 8 bytes (bytes_fit bytes fit)))
+
+  pub said_room : HasRoom m
+  said_room = subst HasRoom (sym its_kind.1) (assembled_room its_kind.0 _ _ _ _ (drop 8 bytes) (fit 1) (fit 2) (fit 3))
+
+-- ---- the message in range with a record
+
+-- nothing is decoded where the bytes are no record of a message in range
+abbrev IsDecoded : Geometry → List ℕ → Option Msg → Type 0
+IsDecoded g bytes r = (m : Msg) → IsMessage m → (r ≡ Some m) ↔ ((bytes ≡ record_of m) × (is_in_range g m ≡ true))
+
+pub decodes_none : (g : Geometry) (bytes : List ℕ) (r : Option Msg) → r ≡ None → ((m : Msg) → fields_say bytes ≡ Some m → bytes ≡ record_of m → is_in_range g m ≡ true → ⊥) → IsDecoded g bytes r
+decodes_none g bytes r none h = λ m whole. (
+  (λ e. let f : None ≡ Some m = sym none ∙ e in cc f),
+  (λ p. absurd (h m (ap fields_say p.0 ∙ record_says g m whole p.1) p.0 p.1)),
+)
+
+pub decodes_some : (g : Geometry) (bytes : List ℕ) (n : Msg) → fields_say bytes ≡ Some n → bytes ≡ record_of n → is_in_range g n ≡ true → IsDecoded g bytes (Some n)
+decodes_some g bytes n says is there = λ m whole. (
+  (λ e. let same : n ≡ m = same_Some n m e in (is ∙ ap record_of same, sym (ap (is_in_range g) same) ∙ there)),
+  (λ p. sym says ∙ ap fields_say p.0 ∙ record_says g m whole p.1),
+)
+
+-- ---- the fields as the code reads them
+
+pub no_fields : (bytes : List ℕ) → None ≡ kind_numbered (slice_index bytes 0) → None ≡ fields_say bytes
+unfolding fields_say
+no_fields bytes h =
+    ap (λ (o : Option Kind). option_map (λ k. assembled k (slice_index bytes 1) (slice_index bytes 2) (slice_index bytes 3) (little_number 2 (take 2 (drop 4 bytes))) (drop 8 bytes)) o) h
+
+pub some_fields : (bytes : List ℕ) (k : Kind) (m : Msg) → Some k ≡ kind_numbered (slice_index bytes 0)
+    → m ≡ assembled k (slice_index bytes 1) (slice_index bytes 2) (slice_index bytes 3) (little_number 2 (take 2 (drop 4 bytes))) (drop 8 bytes) → Some m ≡ fields_say bytes
+unfolding fields_say
+some_fields bytes k m h e =
+    ap Some e
+    ∙ ap (λ (o : Option Kind). option_map (λ k. assembled k (slice_index bytes 1) (slice_index bytes 2) (slice_index bytes 3) (little_number 2 (take 2 (drop 4 bytes))) (drop 8 bytes)) o) h
+
+length_filled : (k : ℕ) (ns : List ℕ) → length (head_with k (filled ns)) ≡ 8
+length_filled k [] = refl
+length_filled k (a ∷ []) = refl
+length_filled k (a ∷ v ∷ []) = refl
+length_filled k (a ∷ v ∷ f ∷ []) = refl
+length_filled k (a ∷ v ∷ f ∷ b ∷ more) = refl
+
+pub length_head : (m : Msg) → length (head_of m) ≡ 8
+length_head m = length_filled (kind_number (kind m)) (numbers m)
+
+pub data_of_write : (a v f b : ℕ) (content : Block) → data_of (Write a v f b content) ≡ content.0
+unfolding data_of
+data_of_write a v f b content = refl
+
+pub data_of_setlabel : (a v : ℕ) (bytes : List ℕ) → data_of (SetLabel a v bytes) ≡ bytes ++ replicate 480 0
+unfolding data_of
+data_of_setlabel a v bytes = refl
+
+pub length_behind : (out head : List ℕ) → length out ≡ 520 → length head ≡ 8 → length (take 512 (drop 8 (head ++ drop 8 out))) ≡ 512
+length_behind out head room h =
+    let rest = length-drop 8 (head ++ drop 8 out) in
+    let both = length-append head (drop 8 out) in
+    let behind = length-drop 8 out in
+    length-take-le 512 (drop 8 (head ++ drop 8 out)) (omega arith)

@@ -1,0 +1,11 @@
+use Rattle.std.proofs.Common.{drop, ◌∙◌}
+use Rattle.message.specs.Records.{assembled}
+use Rattle.message.proofs.RecordLemmas.{no_fields, some_fields}
+use Rattle.message.proofs.records.fields_say.Goals as goal
+
+pub returns-in_err-kind : goal.returns-in_err-kind
+returns-in_err-kind c = c.from_residual.ensures ∙ no_fields c.args.bytes.now c.in_err-kind.ensures
+
+pub returns : goal.returns
+returns c = some_fields c.args.bytes.now c.in_ok-kind.kind c.assembled.result c.in_ok-kind.ensures
+    (c.assembled.ensures ∙ (λ i. assembled c.in_ok-kind.kind (c.from.ensures i) (c.from-2.ensures i) (c.from-3.ensures i) (c.read_u16.ensures i) (drop 8 c.args.bytes.now)))

@@ -1,0 +1,80 @@
+-- The records of messages: 520 bytes for each.
+use Rattle.std.specs.Prelude.{ℕ, ◌<◌, List, [], ◌∷◌, ◌++◌, take, drop, replicate, slice_index, ◌==◌, if◌then◌else◌, Option, Some, None, option_map}
+use Rattle.std.specs.List.{AllByRecursion}
+use Rattle.affinity.specs.declared.kinds.Kind.{Kind}
+use Rattle.affinity.specs.declared.kinds.Kind.TheVariants as kinds
+use Rattle.byteorder.specs.Endian.{little_bytes, little_number}
+use Rattle.message.specs.declared.Msg.{Msg}
+use Rattle.message.specs.declared.Msg.TheVariants.{MakeVol, DropVol, Create, Delete, Seal, Unseal, Write, Punch, Read, List as ListFiles, Usage, Summary, SetLabel, Label}
+use Rattle.message.specs.Messages.{kind, four_numbers}
+use Rattle.message.specs.Grammar.{all_kinds}
+
+abbrev pub kind_number : Kind → ℕ
+kind_number kinds.MakeVol = 1
+kind_number kinds.DropVol = 2
+kind_number kinds.Create = 3
+kind_number kinds.Delete = 4
+kind_number kinds.Seal = 5
+kind_number kinds.Unseal = 6
+kind_number kinds.Write = 7
+kind_number kinds.Punch = 8
+kind_number kinds.Read = 9
+kind_number kinds.List = 10
+kind_number kinds.Usage = 11
+kind_number kinds.Summary = 12
+kind_number kinds.SetLabel = 13
+kind_number kinds.Label = 14
+
+-- what stands before the data: a byte for the kind and for the aggregate, the volume and the file, two for the block with the lower one first, and two zeros
+abbrev pub head_with : ℕ → List ℕ → List ℕ
+head_with k (a ∷ v ∷ f ∷ b ∷ []) = k ∷ a ∷ v ∷ f ∷ [] ++ little_bytes 2 b ++ 0 ∷ 0 ∷ []
+head_with k _ = []
+
+abbrev pub head_of : Msg → List ℕ
+head_of m = head_with (kind_number (kind m)) (four_numbers m)
+
+-- the data: the block of a `write`, the label of a `setlabel` and zeros behind it, and zeros for all others
+unfoldable pub data_of : Msg → List ℕ
+data_of (Write a v f b content) = content.0
+data_of (SetLabel a v bytes) = bytes ++ replicate 480 0
+data_of _ = replicate 512 0
+
+abbrev pub record_of : Msg → List ℕ
+record_of m = head_of m ++ data_of m
+
+-- Aggregate, volume and file have room in their bytes.
+abbrev pub HasRoom : Msg → Type 0
+HasRoom m = AllByRecursion (λ n. n < 256) (take 3 (four_numbers m))
+
+-- ---- by the bytes: what the fields say
+
+-- the first of several kinds that has this number
+abbrev pub numbered_among : List Kind → ℕ → Option Kind
+numbered_among [] n = None
+numbered_among (k ∷ ks) n = if n == kind_number k then Some k else numbered_among ks n
+
+unfoldable pub kind_numbered : ℕ → Option Kind
+kind_numbered n = numbered_among all_kinds n
+
+-- the message of a kind with these numbers and data
+abbrev pub assembled : Kind → ℕ → ℕ → ℕ → ℕ → List ℕ → Msg
+assembled kinds.MakeVol a v f b bytes = MakeVol a v
+assembled kinds.DropVol a v f b bytes = DropVol a v
+assembled kinds.Create a v f b bytes = Create a v f
+assembled kinds.Delete a v f b bytes = Delete a v f
+assembled kinds.Seal a v f b bytes = Seal a v
+assembled kinds.Unseal a v f b bytes = Unseal a v
+assembled kinds.Write a v f b bytes = Write a v f b (record { 0 = bytes })
+assembled kinds.Punch a v f b bytes = Punch a v f b
+assembled kinds.Read a v f b bytes = Read a v f b
+assembled kinds.List a v f b bytes = ListFiles a v
+assembled kinds.Usage a v f b bytes = Usage a v
+assembled kinds.Summary a v f b bytes = Summary
+assembled kinds.SetLabel a v f b bytes = SetLabel a v (take 32 bytes)
+assembled kinds.Label a v f b bytes = Label a v
+
+-- the message that the fields of 520 bytes say, whatever stands in those that it doesn't have
+unfoldable pub fields_say : List ℕ → Option Msg
+fields_say bytes =
+    option_map (λ k. assembled k (slice_index bytes 1) (slice_index bytes 2) (slice_index bytes 3) (little_number 2 (take 2 (drop 4 bytes))) (drop 8 bytes))
+    (kind_numbered (slice_index bytes 0))

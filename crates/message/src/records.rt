@@ -1,0 +1,138 @@
+//! Messages as records of 520 bytes.
+
+ghost use Rattle.std.specs.Prelude.{◌≡◌, ◌↔◌, ◌++◌, true, drop, replicate, IfSome, slice_index};
+ghost use Rattle.affinity.specs.declared.kinds.Kind.{Kind};
+ghost use Rattle.message.specs.Messages.{IsMessage, is_in_range};
+ghost use Rattle.message.specs.Records.{HasRoom, assembled, fields_say, head_of, kind_number, kind_numbered, record_of};
+ghost use Rattle.message.specs.declared.Msg.{Msg};
+
+use crate::kinds::KINDS;
+use crate::{Block, Msg};
+use affinity::{Geometry, Kind, place_of};
+use byteorder::{ByteOrder, LittleEndian};
+
+/// Writes the record of a message into `out`, all of it. The message's aggregate, volume and file
+/// are at most 255 each.
+pub fn encode(m: &Msg, out: &mut [u8; 520])
+    requires { HasRoom m.now }
+    ensures { out.new ≡ record_of m.now }
+{
+    out[..8].copy_from_slice(&head_of(m));
+    match m {
+        Msg::Write(_, _, _, _, content) => out[8..].copy_from_slice(&content.0),
+        Msg::SetLabel(_, _, label) => out[8..].copy_from_slice(&label_data(label)),
+        _ => out[8..].copy_from_slice(&[0; 512]),
+    }
+}
+
+/// The message in range whose record these bytes are; `None` where they are no such message's.
+pub fn decode(bytes: &[u8; 520], g: &Geometry) -> Option<Msg>
+    ensures exact { (m : Msg) → IsMessage m → (result ≡ Some m) ↔ ((bytes.now ≡ record_of m) × (is_in_range g.now m ≡ true)) }
+    ensures whole { IfSome result IsMessage }
+{
+    let m = fields_say(bytes)?;
+    place_of(g, m.kind(), m.numbers())?;
+    let mut spelled = [0; 520];
+    encode(&m, &mut spelled);
+    if spelled.as_slice() == bytes.as_slice() {
+        Some(m)
+    } else {
+        None
+    }
+}
+
+// What stands before the data of a record.
+fn head_of(m: &Msg) -> [u8; 8]
+    requires { HasRoom m.now }
+    ensures { result ≡ head_of m.now }
+{
+    let [aggregate, volume, file, block] = m.numbers();
+    let kind = kind_number(m.kind());
+    let mut head = [kind, aggregate as u8, volume as u8, file as u8, 0, 0, 0, 0];
+    LittleEndian::write_u16(&mut head[4..6], block);
+    head
+}
+
+fn label_data(label: &[u8; 32]) -> [u8; 512]
+    ensures { result ≡ label.now ++ replicate 480 0 }
+{
+    let mut bytes = [0; 512];
+    bytes[..32].copy_from_slice(label);
+    bytes
+}
+
+// The message that the fields say, whatever stands in those that it doesn't have.
+fn fields_say(bytes: &[u8; 520]) -> Option<Msg>
+    ensures { result ≡ fields_say bytes.now }
+{
+    let kind = kind_numbered(bytes[0])?;
+    let numbers = [
+        u16::from(bytes[1]),
+        u16::from(bytes[2]),
+        u16::from(bytes[3]),
+        LittleEndian::read_u16(&bytes[4..6]),
+    ];
+    Some(assembled(kind, numbers, bytes))
+}
+
+fn assembled(kind: Kind, numbers: [u16; 4], bytes: &[u8; 520]) -> Msg
+    ensures { let n = numbers in result ≡ assembled kind (slice_index n 0) (slice_index n 1) (slice_index n 2) (slice_index n 3) (drop 8 bytes.now) }
+{
+    let [a, v, f, b] = numbers;
+    match kind {
+        Kind::MakeVol => Msg::MakeVol(a, v),
+        Kind::DropVol => Msg::DropVol(a, v),
+        Kind::Create => Msg::Create(a, v, f),
+        Kind::Delete => Msg::Delete(a, v, f),
+        Kind::Seal => Msg::Seal(a, v),
+        Kind::Unseal => Msg::Unseal(a, v),
+        Kind::Write => {
+            let mut content = [0; 512];
+            content.copy_from_slice(&bytes[8..]);
+            Msg::Write(a, v, f, b, Block(content))
+        }
+        Kind::Punch => Msg::Punch(a, v, f, b),
+        Kind::Read => Msg::Read(a, v, f, b),
+        Kind::List => Msg::List(a, v),
+        Kind::Usage => Msg::Usage(a, v),
+        Kind::Summary => Msg::Summary,
+        Kind::SetLabel => {
+            let mut label = [0; 32];
+            label.copy_from_slice(&bytes[8..40]);
+            Msg::SetLabel(a, v, label)
+        }
+        Kind::Label => Msg::Label(a, v),
+    }
+}
+
+fn kind_number(kind: Kind) -> u8
+    ensures { result ≡ kind_number kind }
+{
+    match kind {
+        Kind::MakeVol => 1,
+        Kind::DropVol => 2,
+        Kind::Create => 3,
+        Kind::Delete => 4,
+        Kind::Seal => 5,
+        Kind::Unseal => 6,
+        Kind::Write => 7,
+        Kind::Punch => 8,
+        Kind::Read => 9,
+        Kind::List => 10,
+        Kind::Usage => 11,
+        Kind::Summary => 12,
+        Kind::SetLabel => 13,
+        Kind::Label => 14,
+    }
+}
+
+fn kind_numbered(number: u8) -> Option<Kind>
+    ensures { result ≡ kind_numbered number }
+{
+    for kind in KINDS {
+        if number == kind_number(kind) {
+            return Some(kind);
+        }
+    }
+    None
+}
