@@ -15,6 +15,8 @@ const QUOTA: u16 = 64;
 #[derive(Default)]
 struct Server {
     made: BTreeSet<(u16, u16)>,
+    sealed: BTreeSet<(u16, u16)>,
+    labels: BTreeMap<(u16, u16), [u8; 32]>,
     files: BTreeSet<(u16, u16, u16)>,
     blocks: BTreeMap<(u16, u16, u16, u16), [u8; 512]>,
     used: BTreeMap<(u16, u16, u16), u16>,
@@ -43,11 +45,11 @@ fn digit(c: u8) -> Option<u8> {
     }
 }
 
-fn block(word: &[u8]) -> Option<[u8; 512]> {
-    if word.len() % 2 != 0 || word.len() < 2 || word.len() > 1024 {
+fn bytes<const N: usize>(word: &[u8]) -> Option<[u8; N]> {
+    if word.len() % 2 != 0 || word.len() < 2 || word.len() > 2 * N {
         return None;
     }
-    let mut block = [0; 512];
+    let mut block = [0; N];
     for (byte, pair) in block.iter_mut().zip(word.chunks_exact(2)) {
         *byte = digit(pair[0])? * 16 + digit(pair[1])?;
     }
@@ -63,100 +65,251 @@ fn numbers<'a, const N: usize>(words: &mut impl Iterator<Item = &'a [u8]>) -> Op
     Some(all)
 }
 
-impl Server {
-    fn make_volume(&mut self, [a, v]: [u16; 2]) -> &'static [u8] {
-        if a >= AGGREGATES || v >= VOLUMES {
-            return b"error range\n";
-        }
-        if !self.made.insert((a, v)) {
-            return b"error exists\n";
-        }
-        b"done\n"
-    }
+type Refusal = &'static [u8];
 
-    fn create(&mut self, [a, v, f]: [u16; 3]) -> &'static [u8] {
-        if a >= AGGREGATES || v >= VOLUMES || f >= FILES {
-            return b"error range\n";
+/// A keyword and bytes as digits, up to the last byte that isn't 0.
+fn shown(keyword: &[u8], content: &[u8], out: &mut impl Write) -> io::Result<()> {
+    let len = content.iter().rposition(|x| *x != 0).map_or(1, |i| i + 1);
+    let mut text = [0; 1031];
+    let mut at = keyword.len();
+    text[..at].copy_from_slice(keyword);
+    for byte in &content[..len] {
+        text[at] = b"0123456789abcdef"[usize::from(byte >> 4)];
+        text[at + 1] = b"0123456789abcdef"[usize::from(byte & 15)];
+        at += 2;
+    }
+    text[at] = b'\n';
+    out.write_all(&text[..at + 1])
+}
+
+impl Server {
+    fn volume(&self, [a, v]: [u16; 2]) -> Result<(), Refusal> {
+        if a >= AGGREGATES || v >= VOLUMES {
+            return Err(b"error range\n");
         }
         if !self.made.contains(&(a, v)) {
-            return b"error volume\n";
+            return Err(b"error volume\n");
         }
-        if !self.files.insert((a, v, f)) {
-            return b"error exists\n";
-        }
-        b"done\n"
+        Ok(())
     }
 
-    fn write(&mut self, [a, v, f, b]: [u16; 4], content: [u8; 512]) -> &'static [u8] {
-        if let Some(refusal) = self.refusal([a, v, f, b]) {
-            return refusal;
+    fn open_volume(&self, [a, v]: [u16; 2]) -> Result<(), Refusal> {
+        self.volume([a, v])?;
+        if self.sealed.contains(&(a, v)) {
+            return Err(b"error sealed\n");
         }
-        let stripe = (f + b / WIDTH) % STRIPES;
-        let used = self.used.entry((a, v, stripe)).or_insert(0);
+        Ok(())
+    }
+
+    fn file(&self, [a, v, f]: [u16; 3]) -> Result<(), Refusal> {
+        if f >= FILES {
+            return Err(b"error range\n");
+        }
+        self.open_volume([a, v])?;
+        if !self.files.contains(&(a, v, f)) {
+            return Err(b"error file\n");
+        }
+        Ok(())
+    }
+
+    fn make_volume(&mut self, [a, v]: [u16; 2]) -> Result<(), Refusal> {
+        if a >= AGGREGATES || v >= VOLUMES {
+            return Err(b"error range\n");
+        }
+        if !self.made.insert((a, v)) {
+            return Err(b"error exists\n");
+        }
+        self.labels.insert((a, v), [0; 32]);
+        Ok(())
+    }
+
+    fn drop_volume(&mut self, [a, v]: [u16; 2]) -> Result<(), Refusal> {
+        self.open_volume([a, v])?;
+        let blocks: Vec<_> = self.blocks.range((a, v, 0, 0)..(a, v + 1, 0, 0)).map(|e| *e.0).collect();
+        for key in blocks {
+            self.clear(key);
+        }
+        let files: Vec<_> = self.files.range((a, v, 0)..(a, v + 1, 0)).copied().collect();
+        for key in files {
+            self.files.remove(&key);
+        }
+        self.made.remove(&(a, v));
+        self.labels.remove(&(a, v));
+        Ok(())
+    }
+
+    fn seal(&mut self, [a, v]: [u16; 2]) -> Result<(), Refusal> {
+        self.volume([a, v])?;
+        self.sealed.insert((a, v));
+        Ok(())
+    }
+
+    fn unseal(&mut self, [a, v]: [u16; 2]) -> Result<(), Refusal> {
+        self.volume([a, v])?;
+        self.sealed.remove(&(a, v));
+        Ok(())
+    }
+
+    fn set_label(&mut self, [a, v]: [u16; 2], label: [u8; 32]) -> Result<(), Refusal> {
+        self.open_volume([a, v])?;
+        self.labels.insert((a, v), label);
+        Ok(())
+    }
+
+    fn create(&mut self, [a, v, f]: [u16; 3]) -> Result<(), Refusal> {
+        if f >= FILES {
+            return Err(b"error range\n");
+        }
+        self.open_volume([a, v])?;
+        if !self.files.insert((a, v, f)) {
+            return Err(b"error exists\n");
+        }
+        Ok(())
+    }
+
+    fn delete(&mut self, [a, v, f]: [u16; 3]) -> Result<(), Refusal> {
+        self.file([a, v, f])?;
+        let blocks: Vec<_> = self.blocks.range((a, v, f, 0)..(a, v, f + 1, 0)).map(|e| *e.0).collect();
+        for key in blocks {
+            self.clear(key);
+        }
+        self.files.remove(&(a, v, f));
+        Ok(())
+    }
+
+    fn clear(&mut self, (a, v, f, b): (u16, u16, u16, u16)) {
+        if self.blocks.remove(&(a, v, f, b)).is_some() {
+            *self.used.entry((a, v, (f + b / WIDTH) % STRIPES)).or_insert(1) -= 1;
+        }
+    }
+
+    fn write(&mut self, [a, v, f, b]: [u16; 4], content: [u8; 512]) -> Result<(), Refusal> {
+        if b >= BLOCKS {
+            return Err(b"error range\n");
+        }
+        self.file([a, v, f])?;
+        let used = self.used.entry((a, v, (f + b / WIDTH) % STRIPES)).or_insert(0);
         if !self.blocks.contains_key(&(a, v, f, b)) {
             if *used >= QUOTA {
-                return b"error space\n";
+                return Err(b"error space\n");
             }
             *used += 1;
         }
         self.blocks.insert((a, v, f, b), content);
-        b"done\n"
+        Ok(())
     }
 
-    fn refusal(&self, [a, v, f, b]: [u16; 4]) -> Option<&'static [u8]> {
-        if a >= AGGREGATES || v >= VOLUMES || f >= FILES || b >= BLOCKS {
-            return Some(b"error range\n");
+    fn punch(&mut self, [a, v, f, b]: [u16; 4]) -> Result<(), Refusal> {
+        if b >= BLOCKS {
+            return Err(b"error range\n");
         }
-        if !self.made.contains(&(a, v)) {
-            return Some(b"error volume\n");
-        }
-        if !self.files.contains(&(a, v, f)) {
-            return Some(b"error file\n");
-        }
-        None
+        self.file([a, v, f])?;
+        self.clear((a, v, f, b));
+        Ok(())
     }
 
-    fn read(&self, key: [u16; 4], out: &mut impl Write) -> io::Result<()> {
-        if let Some(refusal) = self.refusal(key) {
+    fn read(&self, [a, v, f, b]: [u16; 4], out: &mut impl Write) -> io::Result<()> {
+        let found = if f >= FILES || b >= BLOCKS {
+            Err(b"error range\n".as_slice())
+        } else {
+            self.volume([a, v])
+        };
+        if let Err(refusal) = found {
             return out.write_all(refusal);
         }
-        let [a, v, f, b] = key;
-        let Some(content) = self.blocks.get(&(a, v, f, b)) else {
-            return out.write_all(b"hole\n");
-        };
-        let len = content.iter().rposition(|x| *x != 0).map_or(1, |i| i + 1);
-        let mut text = [0; 1031];
-        text[..6].copy_from_slice(b"block ");
-        for (i, byte) in content[..len].iter().enumerate() {
-            text[6 + 2 * i] = b"0123456789abcdef"[usize::from(byte >> 4)];
-            text[7 + 2 * i] = b"0123456789abcdef"[usize::from(byte & 15)];
+        if !self.files.contains(&(a, v, f)) {
+            return out.write_all(b"error file\n");
         }
-        text[6 + 2 * len] = b'\n';
-        out.write_all(&text[..7 + 2 * len])
+        match self.blocks.get(&(a, v, f, b)) {
+            Some(content) => shown(b"block ", content, out),
+            None => out.write_all(b"hole\n"),
+        }
+    }
+
+    /// `list`, `usage` and `label`, which ask of a volume.
+    fn ask(&self, keyword: &[u8], [a, v]: [u16; 2], out: &mut impl Write) -> io::Result<()> {
+        if let Err(refusal) = self.volume([a, v]) {
+            return out.write_all(refusal);
+        }
+        let files = self.files.range((a, v, 0)..(a, v + 1, 0));
+        match keyword {
+            b"list" => {
+                out.write_all(b"files")?;
+                for (_, _, f) in files {
+                    write!(out, " {f}")?;
+                }
+                out.write_all(b"\n")
+            }
+            b"usage" => {
+                let blocks: u16 = self.used.range((a, v, 0)..(a, v + 1, 0)).map(|e| *e.1).sum();
+                let state = if self.sealed.contains(&(a, v)) { "sealed" } else { "open" };
+                writeln!(out, "usage {} {blocks} {state}", files.count())
+            }
+            _ => shown(b"label ", &self.labels[&(a, v)], out),
+        }
+    }
+
+    fn summary(&self, out: &mut impl Write) -> io::Result<()> {
+        writeln!(out, "summary {} {} {}", self.made.len(), self.files.len(), self.blocks.len())
+    }
+
+    /// Carries out a message that changes something; `None` where the words are no such message.
+    fn change<'a>(&mut self, keyword: &[u8], words: &mut impl Iterator<Item = &'a [u8]>) -> Option<Result<(), Refusal>> {
+        match keyword {
+            b"makevol" => only(words).map(|n| self.make_volume(n)),
+            b"dropvol" => only(words).map(|n| self.drop_volume(n)),
+            b"create" => only(words).map(|n| self.create(n)),
+            b"delete" => only(words).map(|n| self.delete(n)),
+            b"punch" => only(words).map(|n| self.punch(n)),
+            b"seal" => only(words).map(|n| self.seal(n)),
+            b"unseal" => only(words).map(|n| self.unseal(n)),
+            b"write" => {
+                let n = numbers(words)?;
+                let content = bytes(words.next()?)?;
+                words.next().is_none().then(|| self.write(n, content))
+            }
+            b"setlabel" => {
+                let n = numbers(words)?;
+                let label = bytes(words.next()?)?;
+                words.next().is_none().then(|| self.set_label(n, label))
+            }
+            _ => None,
+        }
     }
 
     fn answer(&mut self, line: &[u8], out: &mut impl Write) -> io::Result<()> {
         let mut words = line.split(|c| *c == b' ');
         let keyword = words.next().unwrap_or(b"");
-        let reply = match keyword {
-            b"makevol" => numbers(&mut words).filter(|_| words.next().is_none()).map(|n| self.make_volume(n)),
-            b"create" => numbers(&mut words).filter(|_| words.next().is_none()).map(|n| self.create(n)),
-            b"write" => (|| {
-                let n = numbers(&mut words)?;
-                let content = block(words.next()?)?;
-                if words.next().is_some() {
-                    return None;
+        match keyword {
+            b"read" => {
+                if let Some(n) = only(&mut words) {
+                    return self.read(n, out);
                 }
-                Some(self.write(n, content))
-            })(),
-            b"read" => match numbers(&mut words).filter(|_| words.next().is_none()) {
-                Some(n) => return self.read(n, out),
-                None => None,
-            },
-            _ => None,
-        };
-        out.write_all(reply.unwrap_or(b"error line\n"))
+            }
+            b"list" | b"usage" | b"label" => {
+                if let Some(n) = only(&mut words) {
+                    return self.ask(keyword, n, out);
+                }
+            }
+            b"summary" => {
+                if words.next().is_none() {
+                    return self.summary(out);
+                }
+            }
+            _ => {
+                if let Some(end) = self.change(keyword, &mut words) {
+                    return out.write_all(end.err().unwrap_or(b"done\n"));
+                }
+            }
+        }
+        out.write_all(b"error line\n")
     }
+}
+
+/// The numbers, where no further word follows.
+fn only<'a, const N: usize>(words: &mut impl Iterator<Item = &'a [u8]>) -> Option<[u16; N]> {
+    let n = numbers(words)?;
+    words.next().is_none().then_some(n)
 }
 
 fn main() -> io::Result<()> {

@@ -213,18 +213,25 @@ fn reads_each_kind(rt: HostRuntime) {
     }
 }
 
-#[test]
-fn a_label_has_at_most_32_bytes(rt: HostRuntime) {
-    let front = b"setlabel 0 0 ";
-    let mut line = [b'1'; 79];
-    for (place, byte) in line.iter_mut().zip(front) {
+// A line that sets a label by this many digits, and its first bytes.
+fn label_line(digits: usize) -> ([u8; 80], usize) {
+    let mut line = [b'1'; 80];
+    for (place, byte) in line.iter_mut().zip(b"setlabel 0 0 ") {
         *place = *byte;
     }
-    assert_eq!(rt;
-        parse_line(&line[..77]),
-        Some(Msg::SetLabel(0, 0, [17; 32]))
-    );
-    assert_eq!(rt; parse_line(&line), None);
+    (line, digits.saturating_add(13).min(80))
+}
+
+fn read_label(digits: usize) -> Option<Msg> {
+    let (line, size) = label_line(digits);
+    parse_line(line.get(..size)?)
+}
+
+#[test]
+fn a_label_has_at_most_32_bytes(rt: HostRuntime) {
+    assert_eq!(rt; read_label(64), Some(Msg::SetLabel(0, 0, [17; 32])));
+    assert_eq!(rt; read_label(66), None);
+    assert_eq!(rt; read_label(63), None);
 }
 
 #[test]
