@@ -1,7 +1,7 @@
 -- What a reader of lines holds, and what it finds in the bytes that are not yet read.
 use Rattle.std.specs.Prelude.{◌≡◌, ◌≢◌, ℕ, ◌<◌, ◌⊎◌, ◌==◌, ◌&&◌, Bool, true, false, List, [], ◌∷◌, ◌++◌, length, slice_range, if◌then◌else◌, Option, Some, Result, Ok, Err, IsTrue, IfSome, All, Contains}
 use Rattle.std.specs.Option.{option_map}
-use Rattle.std.specs.Io.KnownBytes.{prepend_known}
+use Rattle.std.specs.Io.KnownBytes.{prepend_known, IsAtEnd}
 use Rattle.message.specs.declared.reading.Found.{Found}
 use Rattle.message.specs.declared.reading.Found.TheVariants.{Line, TooLong, End}
 use Rattle.message.specs.declared.reading.ReadFault.{ReadFault}
@@ -66,6 +66,10 @@ has_failed r = r.failed
 -- the reader behind it
 abbrev pub source : {R : Type 0} → LineReader R → R
 source r = r.reader
+
+-- once a read has told the end, the reader behind it has no known byte left
+abbrev pub KnowsEnd : {R : Type 0} → (R → Option (List ℕ)) → LineReader R → Type 0
+KnowsEnd remaining r = IsTrue (has_ended r) → IsAtEnd (remaining (source r))
 
 -- ---- what is found, where the bytes are known
 

@@ -242,7 +242,7 @@ pub struct LineReader<R> {
 }
 
 impl<R: Read> LineReader<R> {
-    ghost use Rattle.message.specs.Reader.{first_line, after_line, IsWithinLine, held_bytes, HoldsEnough, unread, line_of, HoldsLine, has_ended, has_failed, source, LosesFront, Finds, Closes, IsClosed, is_drained};
+    ghost use Rattle.message.specs.Reader.{first_line, after_line, IsWithinLine, held_bytes, HoldsEnough, unread, line_of, HoldsLine, has_ended, has_failed, source, LosesFront, Finds, Closes, IsClosed, is_drained, KnowsEnd};
 
     /// A reader of lines over a reader, before its first read. The buffer has 1,101 bytes at least.
     /// A read fills it as far as the reader gives, so its length is how much is read at a time.
@@ -310,6 +310,7 @@ impl<R: Read> LineReader<R> {
         // Once a read has told the end, no other follows.
         ensures end { result ≡ Ok Found.End → IsTrue (has_ended self.new) }
         ensures told { IsTrue (has_ended self.old) → source self.new ≡ source self.old }
+        ensures at_end { KnowsEnd R.remaining self.old → KnowsEnd R.remaining self.new }
     {
         self.held.forget_line();
         if self.failed {
@@ -317,6 +318,13 @@ impl<R: Read> LineReader<R> {
         }
         self.gather()?;
         self.give()
+    }
+
+    /// Gives back the reader. What was read of it and not given is lost.
+    pub fn into_inner(self) -> R
+        ensures { result ≡ source self }
+    {
+        self.reader
     }
 
     /// Whether a read is needed before it is known what is found.
@@ -345,6 +353,7 @@ impl<R: Read> LineReader<R> {
         ensures lost { OnErr result (IfSome (unread R.remaining self.old)
             (λ bs. LosesFront bs (unread R.remaining self.new))) }
         ensures failed { has_failed self.new ≡ is_err result }
+        ensures at_end { KnowsEnd R.remaining self.new }
         ensures more { OnOk result (IsTrue (has_ended self.new)
             ⊎ (length (held_bytes self.old.held) < length (held_bytes self.new.held))) }
     {
@@ -374,6 +383,7 @@ impl<R: Read> LineReader<R> {
         ensures enough { OnOk result (HoldsEnough self.new) }
         ensures at_once { HoldsLine self.old → self.new ≡ self.old }
         ensures told { IsTrue (has_ended self.old) → self.new ≡ self.old }
+        ensures at_end { KnowsEnd R.remaining self.old → KnowsEnd R.remaining self.new }
     {
         while self.wants_more() {
             self.refill()?;
@@ -392,6 +402,7 @@ impl<R: Read> LineReader<R> {
             (λ bs. LosesFront bs (unread R.remaining self.new)) }
         ensures failed { has_failed self.new ≡ is_err result }
         ensures whole { OnOk result (IsTrue (has_ended self.new) ⊎ HoldsLine self.new) }
+        ensures at_end { KnowsEnd R.remaining self.new }
     {
         for _ in 0..u64::MAX {
             self.held.clear();
@@ -419,6 +430,7 @@ impl<R: Read> LineReader<R> {
         ensures at_once { HoldsLine self.old → source self.new ≡ source self.old }
         ensures ready { HoldsLine self.old → IsOk result }
         ensures told { IsTrue (has_ended self.old) → source self.new ≡ source self.old }
+        ensures at_end { KnowsEnd R.remaining self.old → KnowsEnd R.remaining self.new }
     {
         if !self.ended && !self.held.has_newline() {
             self.skip()?;
@@ -442,6 +454,7 @@ impl<R: Read> LineReader<R> {
         ensures ready { HoldsLine self.old → IsOk result }
         ensures end { result ≡ Ok Found.End → IsTrue (has_ended self.new) }
         ensures told { IsTrue (has_ended self.old) → source self.new ≡ source self.old }
+        ensures at_end { KnowsEnd R.remaining self.old → KnowsEnd R.remaining self.new }
     {
         if self.held.first_len() > LONGEST_LINE {
             self.skip_line()?;

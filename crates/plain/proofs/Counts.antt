@@ -5,7 +5,6 @@ use Rattle.std.proofs.lemmas.Nat.{mod_below}
 use Rattle.affinity.specs.declared.sizes.Geometry.{Geometry}
 use Rattle.affinity.specs.Geometry.{group}
 use Rattle.plain.specs.State.{State, sum_below, one_if, file_count, block_count, group_count, over_volumes}
-use Rattle.plain.specs.Serial.{file_bits}
 use Rattle.plain.proofs.Sums.{sum_below-le_times, count_below-le, sum_below-same, sum_below-swap, sum_below_at}
 
 -- ---- bounds
@@ -20,16 +19,13 @@ pub over_volumes-le : (g : Geometry) (c : ℕ) (f : ℕ → ℕ → ℕ) → ((a
 over_volumes-le g c f each = sum_below-le_times g.aggregates (g.volumes * c) _ (λ a lt. sum_below-le_times g.volumes c _ (λ v lt. each a v))
 
 -- a number of n bits
-bits-lt : (n : ℕ) (has : ℕ → Bool) → sum_below n (λ i. if has i then 2 ^ i else 0) < 2 ^ n
+pub bits-lt : (n : ℕ) (has : ℕ → Bool) → sum_below n (λ i. if has i then 2 ^ i else 0) < 2 ^ n
 bits-lt zero has = omega arith
 bits-lt (suc n) has = grind (arith, bits-lt n has)
 
-pub file_bits-lt : (g : Geometry) (x : State) (a v : ℕ) → file_bits g x a v < 2 ^ g.files
-file_bits-lt g x a v = bits-lt g.files (λ f. x.files (a, v, f))
-
 -- ---- the blocks of a volume lie in its stripes
 
-pub group-lt : (g : Geometry) (f b : ℕ) → group g f b < g.stripes
+group-lt : (g : Geometry) (f b : ℕ) → group g f b < g.stripes
 group-lt g f b = mod_below (f + b / g.width) g.stripes (omega (arith, g.stripes_range.0))
 
 pub block_count-by_stripe : (g : Geometry) (x : State) (a v : ℕ) → block_count g x a v ≡ sum_below g.stripes (group_count g x a v)

@@ -2,7 +2,7 @@
 use Rattle.std.proofs.Common.{◌≡◌, ℕ, zero, suc, ◌+◌, ◌<◌, ◌≤◌, Bool, true, false, List, [], ◌∷◌, Option, refl, ap, sym, subst, ◌⊎◌, inl, inr, ⊎_elim, arith, lit<}
 use Rattle.std.specs.Prelude.{◌&&◌, ◌||◌, not, ◌==◌, nat_lt, if◌then◌else◌, cond, Some, None, find, is_some, IfSome, replicate}
 use Rattle.std.specs.List.{AllByRecursion}
-use Rattle.std.proofs.lemmas.Bool.{and_parts, and_from, or_cases, or_right, eqb-true, ltb-true, true≢false, not_from_false, false_from_ne_true}
+use Rattle.std.proofs.lemmas.Bool.{and_parts, and_from, or_cases, or_right, eqb-true, ltb-true, true≢false, not_from_false}
 use Rattle.affinity.specs.declared.sizes.Geometry.{Geometry}
 use Rattle.affinity.specs.Geometry.{group}
 use Rattle.affinity.specs.Path.{begins, stripe}
@@ -16,8 +16,10 @@ use Rattle.message.specs.Messages.{AreBytes, IsBlock, IsMessage}
 use Rattle.plain.specs.State.{State, IsState, empty, VolumeKey, FileKey, BlockKey, is_volume, is_file, is_block, is_file_of, is_block_of, is_block_of_file, one_if, group_count}
 use Rattle.plain.specs.Serial.{tests, passes, refusal, effect, answer, outcome, after, fold, no_label}
 use Rattle.plain.specs.Laws.{outside}
+use Rattle.plain.specs.Removals.{without_blocks}
 use Rattle.plain.proofs.Effects.{effect_only}
 use Rattle.plain.proofs.Frame.{same_group_count}
+use Rattle.plain.proofs.Keys.{the_volume, the_file, the_block, other_file, other_place}
 use Rattle.plain.proofs.Sums.{sum_below-le, sum_below_one_more, sum_below-zero, one_if-le, one_if_from}
 
 pub empty_is_state : (g : Geometry) → IsState g empty
@@ -60,22 +62,6 @@ two_below g a v rest e =
     (ltb-true _ _ p.0, ltb-true _ _ q.0, q.1)
 
 -- ---- what is picked
-
-the_volume : (a v : ℕ) (k : VolumeKey) → is_volume a v k ≡ true → (a, v) ≡ k
-the_volume a v k e = let p = and_parts (a == k.0) (v == k.1) e in λ i. (eqb-true a k.0 p.0 i, eqb-true v k.1 p.1 i)
-
-the_file : (a v f : ℕ) (k : FileKey) → is_file a v f k ≡ true → (a, v, f) ≡ k
-the_file a v f k e =
-    let p = and_parts ((a == k.0) && (v == k.1)) (f == k.2) e in
-    let q = and_parts (a == k.0) (v == k.1) p.0 in
-    λ i. (eqb-true a k.0 q.0 i, eqb-true v k.1 q.1 i, eqb-true f k.2 p.1 i)
-
-the_block : (a v f b : ℕ) (k : BlockKey) → is_block a v f b k ≡ true → (a, v, f, b) ≡ k
-the_block a v f b k e =
-    let p = and_parts ((a == k.0) && (v == k.1) && (f == k.2)) (b == k.3) e in
-    let q = and_parts ((a == k.0) && (v == k.1)) (f == k.2) p.0 in
-    let r = and_parts (a == k.0) (v == k.1) q.0 in
-    λ i. (eqb-true a k.0 r.0 i, eqb-true v k.1 r.1 i, eqb-true f k.2 q.1 i, eqb-true b k.3 p.1 i)
 
 -- what is there after clearing was not picked, and was there
 not_cleared : {X : Type 0} (b : Bool) (o : Option X) → is_some (if b then None else o) ≡ true → (not b ≡ true) × (is_some o ≡ true)
@@ -125,17 +111,11 @@ module _ (g : Geometry) (x : State) (a v f b : ℕ) (content : Block) where
   other_block : (s f' b' : ℕ) → is_block a v f b (a, v, f', b') ≡ false → one_if ((group g f' b' == s) && is_some (written.blocks (a, v, f', b'))) ≤ one_if ((group g f' b' == s) && is_some (x.blocks (a, v, f', b')))
   other_block s f' b' e = one_if_from _ _ (λ h. subst (λ t. ((group g f' b' == s) && is_some (if t then Some content else x.blocks (a, v, f', b'))) ≡ true) e h)
 
-  other_file : (f' b' : ℕ) → (f' ≡ f → ⊥) → is_block a v f b (a, v, f', b') ≡ false
-  other_file f' b' ne = false_from_ne_true _ (λ e. ne (ap (λ k. k.2) (sym (the_block a v f b (a, v, f', b') e))))
-
-  other_number : (f' b' : ℕ) → (b' ≡ b → ⊥) → is_block a v f b (a, v, f', b') ≡ false
-  other_number f' b' ne = false_from_ne_true _ (λ e. ne (ap (λ k. k.3) (sym (the_block a v f b (a, v, f', b') e))))
-
   -- a write adds one block at most to its stripe
   one_more : (s : ℕ) → group_count g written a v s ≤ group_count g x a v s + 1
   one_more s = sum_below_one_more g.files f _ _
-      (λ f' ne. sum_below-le g.blocks _ _ (λ b' lt. other_block s f' b' (other_file f' b' ne)))
-      (sum_below_one_more g.blocks b _ _ (λ b' ne. other_block s f b' (other_number f b' ne)) (omega (arith, one_if-le ((group g f b == s) && is_some (written.blocks (a, v, f, b))))))
+      (λ f' ne. sum_below-le g.blocks _ _ (λ b' lt. other_block s f' b' (other_file a v f a v f' b b' ne)))
+      (sum_below_one_more g.blocks b _ _ (λ b' ne. other_block s f b' (other_place a v f a v f b b' ne)) (omega (arith, one_if-le ((group g f b == s) && is_some (written.blocks (a, v, f, b))))))
 
   keeps_quota : ((a v s : ℕ) → group_count g x a v s ≤ g.quota) → passes g x (Write a v f b content) Space ≡ true → (a' v' s' : ℕ) → group_count g written a' v' s' ≤ g.quota
   keeps_quota h space a' v' s' =
@@ -159,6 +139,34 @@ module _ (g : Geometry) (x : State) (a v f b : ℕ) (content : Block) where
 -- where blocks were cleared, the quota still holds
 quota_fewer : (g : Geometry) (x y : State) → IsState g x → ((k : BlockKey) → is_some (y.blocks k) ≡ true → is_some (x.blocks k) ≡ true) → (a v s : ℕ) → group_count g y a v s ≤ g.quota
 quota_fewer g x y h less a v s = let few = fewer g x y less a v s in omega (arith, few, h.quota a v s)
+
+-- ---- blocks and files that are taken out
+
+pub clearing_kept : (g : Geometry) (picks : BlockKey → Bool) (x : State) → IsState g x → IsState g (without_blocks picks x)
+clearing_kept g picks x h = record {
+  made = h.made;
+  sealed = h.sealed;
+  files = h.files;
+  blocks = λ k e. h.blocks k (not_cleared (picks k) (x.blocks k) e).1;
+  labels = h.labels;
+  content = λ k. content-cleared IsBlock (picks k) (x.blocks k) (h.content k);
+  label_content = h.label_content;
+  quota = quota_fewer g x (without_blocks picks x) h (λ k e. (not_cleared (picks k) (x.blocks k) e).1);
+}
+
+pub delete_kept : (g : Geometry) (x : State) (a v f : ℕ) → IsState g x → IsState g (effect x (Delete a v f))
+delete_kept g x a v f h =
+    let cleared = clearing_kept g (is_block_of_file a v f) x h in
+    record {
+      made = h.made;
+      sealed = h.sealed;
+      files = λ k e. h.files k (and_parts (not (is_file a v f k)) (x.files k) e).1;
+      blocks = λ k e. let q = not_cleared (is_block_of_file a v f k) (x.blocks k) e in ((h.blocks k q.1).0, and_from (not (is_block_of_file a v f k)) (x.files (k.0, k.1, k.2)) q.0 (h.blocks k q.1).1);
+      labels = h.labels;
+      content = cleared.content;
+      label_content = h.label_content;
+      quota = cleared.quota;
+    }
 
 -- ---- each kind
 
@@ -197,16 +205,7 @@ effect_kept g x h (Create a v f) w p =
       label_content = h.label_content;
       quota = h.quota;
     }
-effect_kept g x h (Delete a v f) w p = record {
-  made = h.made;
-  sealed = h.sealed;
-  files = λ k e. h.files k (and_parts (not (is_file a v f k)) (x.files k) e).1;
-  blocks = λ k e. let q = not_cleared (is_block_of_file a v f k) (x.blocks k) e in ((h.blocks k q.1).0, and_from (not (is_block_of_file a v f k)) (x.files (k.0, k.1, k.2)) q.0 (h.blocks k q.1).1);
-  labels = h.labels;
-  content = λ k. content-cleared IsBlock (is_block_of_file a v f k) (x.blocks k) (h.content k);
-  label_content = h.label_content;
-  quota = quota_fewer g x (effect x (Delete a v f)) h (λ k e. (not_cleared (is_block_of_file a v f k) (x.blocks k) e).1);
-}
+effect_kept g x h (Delete a v f) w p = delete_kept g x a v f h
 effect_kept g x h (Seal a v) w p = record {
   made = h.made;
   sealed = λ k e. ⊎_elim (λ is. subst (λ k. x.made k ≡ true) (the_volume a v k is) p.1.0) (h.sealed k) (or_cases (is_volume a v k) (x.sealed k) e);
@@ -239,16 +238,7 @@ effect_kept g x h (Write a v f b content) w p =
       label_content = h.label_content;
       quota = keeps_quota g x a v f b content h.quota p.1.1.1.1.0;
     }
-effect_kept g x h (Punch a v f b) w p = record {
-  made = h.made;
-  sealed = h.sealed;
-  files = h.files;
-  blocks = λ k e. h.blocks k (not_cleared (is_block a v f b k) (x.blocks k) e).1;
-  labels = h.labels;
-  content = λ k. content-cleared IsBlock (is_block a v f b k) (x.blocks k) (h.content k);
-  label_content = h.label_content;
-  quota = quota_fewer g x (effect x (Punch a v f b)) h (λ k e. (not_cleared (is_block a v f b k) (x.blocks k) e).1);
-}
+effect_kept g x h (Punch a v f b) w p = clearing_kept g (is_block a v f b) x h
 effect_kept g x h (SetLabel a v bytes) w p = record {
   made = h.made;
   sealed = h.sealed;

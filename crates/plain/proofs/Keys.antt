@@ -67,7 +67,7 @@ or_cond : (b c : Bool) → cond b true c ≡ (b || c)
 or_cond true c = refl
 or_cond false c = refl
 
-and_cond : (b c : Bool) → cond b false c ≡ (not b && c)
+pub and_cond : (b c : Bool) → cond b false c ≡ (not b && c)
 and_cond true c = refl
 and_cond false c = refl
 

@@ -14,7 +14,7 @@ use Rattle.affinity.specs.declared.sizes.Geometry.{Geometry}
 use Rattle.plain.specs.State.{VolumeKey, FileKey, BlockKey, sum_below, one_if, is_volume, is_file, is_block}
 use Rattle.plain.specs.Server.{by_volume, by_file, by_block}
 use Rattle.plain.proofs.Keys.{at_volume, at_file, at_block, the_volume, the_file, the_block, picks_volume, picks_file, picks_block}
-use Rattle.plain.proofs.ServerSums.{sum_same, sum_add, sum_zero, sum_pick}
+use Rattle.plain.proofs.Sums.{sum_same, sum_below-add, sum_zero, sum_pick}
 
 -- ---- a list of keys, by a sum over all keys that are in range
 
@@ -92,7 +92,7 @@ module _ (g : Geometry) where
   volumes : IsWhole (eq_by_cmp by_volume) (IsVolumeIn g) (over_volumes g)
   volumes = record {
     nothing = sum_same g.aggregates _ _ (λ a. sum_zero g.volumes) ∙ sum_zero g.aggregates;
-    adds = λ f h. sum_same g.aggregates _ _ (λ a. sum_add g.volumes (λ v. f (a, v)) (λ v. h (a, v))) ∙ sum_add g.aggregates _ _;
+    adds = λ f h. sum_same g.aggregates _ _ (λ a. sum_below-add g.volumes (λ v. f (a, v)) (λ v. h (a, v))) ∙ sum_below-add g.aggregates _ _;
     once = λ e h. (λ i. over_volumes g (λ k. one_if (at_volume k.0 k.1 e i))) ∙ one_volume e h;
     itself = λ k. at_volume k.0 k.1 k ∙ picks_volume k.0 k.1;
     exact = λ j k e. the_volume j.0 j.1 k (sym (at_volume j.0 j.1 k) ∙ e);
@@ -101,7 +101,7 @@ module _ (g : Geometry) where
   files : IsWhole (eq_by_cmp by_file) (IsFileIn g) (over_files g)
   files = record {
     nothing = sum_same g.aggregates _ _ (λ a. sum_same g.volumes _ _ (λ v. sum_zero g.files) ∙ sum_zero g.volumes) ∙ sum_zero g.aggregates;
-    adds = λ f h. sum_same g.aggregates _ _ (λ a. sum_same g.volumes _ _ (λ v. sum_add g.files (λ n. f (a, v, n)) (λ n. h (a, v, n))) ∙ sum_add g.volumes _ _) ∙ sum_add g.aggregates _ _;
+    adds = λ f h. sum_same g.aggregates _ _ (λ a. sum_same g.volumes _ _ (λ v. sum_below-add g.files (λ n. f (a, v, n)) (λ n. h (a, v, n))) ∙ sum_below-add g.volumes _ _) ∙ sum_below-add g.aggregates _ _;
     once = λ e h. (λ i. over_files g (λ k. one_if (at_file k.0 k.1 k.2 e i))) ∙ one_file e h;
     itself = λ k. at_file k.0 k.1 k.2 k ∙ picks_file k.0 k.1 k.2;
     exact = λ j k e. the_file j.0 j.1 j.2 k (sym (at_file j.0 j.1 j.2 k) ∙ e);
@@ -110,7 +110,7 @@ module _ (g : Geometry) where
   blocks : IsWhole (eq_by_cmp by_block) (IsBlockIn g) (over_blocks g)
   blocks = record {
     nothing = sum_same g.aggregates _ _ (λ a. sum_same g.volumes _ _ (λ v. sum_same g.files _ _ (λ f. sum_zero g.blocks) ∙ sum_zero g.files) ∙ sum_zero g.volumes) ∙ sum_zero g.aggregates;
-    adds = λ f h. sum_same g.aggregates _ _ (λ a. sum_same g.volumes _ _ (λ v. sum_same g.files _ _ (λ n. sum_add g.blocks (λ b. f (a, v, n, b)) (λ b. h (a, v, n, b))) ∙ sum_add g.files _ _) ∙ sum_add g.volumes _ _) ∙ sum_add g.aggregates _ _;
+    adds = λ f h. sum_same g.aggregates _ _ (λ a. sum_same g.volumes _ _ (λ v. sum_same g.files _ _ (λ n. sum_below-add g.blocks (λ b. f (a, v, n, b)) (λ b. h (a, v, n, b))) ∙ sum_below-add g.files _ _) ∙ sum_below-add g.volumes _ _) ∙ sum_below-add g.aggregates _ _;
     once = λ e h. (λ i. over_blocks g (λ k. one_if (at_block k.0 k.1 k.2 k.3 e i))) ∙ one_block e h;
     itself = λ k. at_block k.0 k.1 k.2 k.3 k ∙ picks_block k.0 k.1 k.2 k.3;
     exact = λ j k e. the_block j.0 j.1 j.2 j.3 k (sym (at_block j.0 j.1 j.2 j.3 k) ∙ e);

@@ -9,11 +9,9 @@ pub mod Kept
 pub mod Rows
 pub mod Counts
 pub mod Keys
-pub mod ServerSums
 pub mod ServerCounts
 pub mod Writes
 pub mod Lengths
-pub mod Stripes
 pub mod Removals
 pub mod RemovalOrders
 pub mod Totals

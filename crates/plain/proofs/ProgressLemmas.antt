@@ -1,20 +1,19 @@
 -- Each step of the serial server keeps it where it should be.
-use Rattle.std.proofs.Common.{◌≡◌, ◌≢◌, ℕ, ◌+◌, ◌<◌, ◌≤◌, ◌⊎◌, inl, inr, Bool, true, false, cond, List, [], ◌∷◌, ◌++◌, length, take, Option, Some, None, refl, sym, ap, ◌∙◌, arith, subst, append_assoc, append-nil, ⊎_elim}
-use Rattle.std.specs.Prelude.{◌==◌, Contains, IfSome, All, nat_lt, if◌then◌else◌, Result, Ok, Err}
-use Rattle.std.specs.List.{flat_map, AllByRecursion}
+use Rattle.std.proofs.Common.{◌≡◌, ◌≢◌, ℕ, ◌<◌, ◌⊎◌, inl, inr, Bool, true, false, List, [], ◌∷◌, ◌++◌, length, take, Option, Some, None, refl, sym, ap, ◌∙◌, arith, subst, append_assoc, append-nil, ⊎_elim}
+use Rattle.std.specs.Prelude.{◌==◌, Contains, IfSome, if◌then◌else◌}
+use Rattle.std.specs.List.{AllByRecursion}
 use Rattle.std.specs.Io.KnownBytes.{Appends}
 use Rattle.std.proofs.lemmas.List.Concat.{flat_map-append}
 use Rattle.std.proofs.lemmas.List.Elements.{All-from_recursion, recursion_from_All}
 use Rattle.std.proofs.lemmas.Option.{none-some, same_Some, IfSome_then}
 use Rattle.std.proofs.lemmas.Bool.{eqb-true, eq-eqb, lt-ltb, true≢false}
 use Rattle.affinity.specs.declared.sizes.Geometry.{Geometry}
-use Rattle.message.specs.declared.Msg.{Msg}
 use Rattle.message.specs.Lines.{lines, in_first}
 use Rattle.message.specs.Grammar.{message_of}
 use Rattle.message.specs.Reader.{first_line, after_line as behind_line, GivesLine, PassesLine, IsAtEndOf, LosesFront}
 use Rattle.plain.specs.State.{State, empty}
 use Rattle.plain.specs.Output.{answer_line, after_line, after_lines, output_lines, joined, serial_out, with_newlines, HasNoNewline, AnswersWholeLines, IsBeginning, Writes}
-use Rattle.plain.specs.Progress.{Progress, Known, Stands, Goes}
+use Rattle.plain.specs.Progress.{Progress, Stands, Goes}
 
 -- ---- what a writer holds
 
@@ -183,7 +182,7 @@ stands-ends g (Some input) (Some bs) ended x old new h all =
     (h.written, h.appended, p.output ∙ sym (ap (λ z. joined (output_lines g empty z)) (p.to_come ∙ ap (λ z. p.answered ++ z) none_left ∙ append-nil p.answered)))
 
 stands-fails : (g : Geometry) (input rest now_rest : Option (List ℕ)) (ended : Bool) (x : State) (old new : Option (List ℕ)) → Stands g input rest ended x old new → ended ≡ false → IfSome rest (λ bs. LosesFront bs now_rest)
-    → Writes input old new (AnswersWholeLines g)
+    → Writes input old new (AnswersWholeLines g now_rest)
 stands-fails g None rest now_rest ended x old new h going lost = tt
 stands-fails g (Some input) None now_rest ended x old new h going lost = absurd (none-some h.left h.left_is)
 stands-fails g (Some input) (Some bs) now_rest ended x old new h going lost =
@@ -194,8 +193,9 @@ stands-fails g (Some input) (Some bs) now_rest ended x old new h going lost =
       record {
         whole = p.answered;
         begun = lost.got;
-        unread = lost.rest;
+        rest = lost.rest;
         parts = ⊎_elim (λ e. absurd (true≢false (sym e ∙ going))) (λ given. given ∙ ap (λ z. with_newlines p.answered ++ z) (sym same ∙ lost.parts) ∙ sym (append_assoc (with_newlines p.answered) lost.got lost.rest)) p.given;
+        left_is = lost.left_is;
         are_lines = p.are_lines;
         no_line = recursion_from_All (λ b. b ≢ 10) lost.got lost.within_line;
         answered = p.output;
@@ -234,7 +234,7 @@ module _ {g : Geometry} {input rest : Option (List ℕ)} {ended : Bool} {x : Sta
   pub ends : Goes g input rest ended x old new → IfSome rest (λ bs. bs ≡ []) → Writes input old new (λ input' written. written ≡ serial_out g empty input')
   ends h all = stands-ends g input rest ended x old new h.stands all
 
-  pub fails : (now_rest : Option (List ℕ)) → Goes g input rest ended x old new → ended ≡ false → IfSome rest (λ bs. LosesFront bs now_rest) → Writes input old new (AnswersWholeLines g)
+  pub fails : (now_rest : Option (List ℕ)) → Goes g input rest ended x old new → ended ≡ false → IfSome rest (λ bs. LosesFront bs now_rest) → Writes input old new (AnswersWholeLines g now_rest)
   fails now_rest h going lost = stands-fails g input rest now_rest ended x old new h.stands going lost
 
   -- at the end nothing is left

@@ -1,32 +1,26 @@
 -- What is left where blocks, files or a volume are removed.
-use Rattle.std.proofs.Common.{◌≡◌, ℕ, ◌+◌, ◌<◌, ◌≤◌, Bool, true, false, cond, refl, ap, sym, ◌∙◌, subst, arith}
-use Rattle.std.specs.Prelude.{◌&&◌, ◌==◌, not, if◌then◌else◌, Option, None, Some, is_some, IfSome}
+use Rattle.std.proofs.Common.{◌≡◌, ℕ, ◌+◌, ◌<◌, Bool, true, false, cond, refl, ap, sym, ◌∙◌, subst, arith}
+use Rattle.std.specs.Prelude.{◌&&◌, ◌==◌, not, if◌then◌else◌, Option, None, Some, is_some}
 use Rattle.std.specs.BTreeMap.{is_at}
-use Rattle.std.proofs.lemmas.Bool.{and_parts, and_from, true≢false}
+use Rattle.std.proofs.lemmas.Bool.{true≢false}
 use Rattle.affinity.specs.declared.sizes.Geometry.{Geometry}
 use Rattle.affinity.specs.Geometry.{group}
 use Rattle.message.specs.declared.Msg.TheVariants.{Delete, Punch}
-use Rattle.message.specs.Messages.{IsBlock}
 use Rattle.plain.specs.State.{State, IsState, Set, Map, VolumeKey, FileKey, BlockKey, dropping, clearing, is_volume, is_file, is_block, is_file_of, is_block_of, is_block_of_file, one_if, group_count}
 use Rattle.plain.specs.Serial.{effect}
 use Rattle.plain.specs.Server.{StripeKey, is_stripe, by_volume, by_file}
 use Rattle.plain.specs.Removals.{without_blocks, without_files}
-use Rattle.plain.proofs.Keys.{at_volume, at_file, the_block, picks_file, picks_block}
-use Rattle.plain.proofs.Sums.{sum_below-le, one_if_from}
+use Rattle.plain.proofs.Keys.{and_cond, at_volume, at_file, the_block, picks_file, picks_block}
 use Rattle.plain.proofs.ServerCounts.{one_more}
 use Rattle.plain.proofs.Writes.{AreCounts}
 
 -- ---- what answers as a removal says is the set or map without the key
 
-cond_not : (b c : Bool) → cond b false c ≡ (not b && c)
-cond_not true c = refl
-cond_not false c = refl
-
 pub no_label_of : {X : Type 0} (m n : Map VolumeKey X) (a v : ℕ) → ((k : VolumeKey) → n k ≡ cond (is_at (by_volume (a, v)) k) None (m k)) → n ≡ clearing (is_volume a v) m
 no_label_of m n a v h i k = (h k ∙ ap (λ b. cond b None (m k)) (at_volume a v k)) i
 
 pub no_file : (s t : Set FileKey) (a v f : ℕ) → ((k : FileKey) → t k ≡ cond (is_at (by_file (a, v, f)) k) false (s k)) → t ≡ dropping (is_file a v f) s
-no_file s t a v f h i k = (h k ∙ ap (λ b. cond b false (s k)) (at_file a v f k) ∙ cond_not (is_file a v f k) (s k)) i
+no_file s t a v f h i k = (h k ∙ ap (λ b. cond b false (s k)) (at_file a v f k) ∙ and_cond (is_file a v f k) (s k)) i
 
 -- ---- a block that is taken out
 
@@ -106,46 +100,3 @@ no_files_left g x a v h none =
       | true ↦ λ is. sym (none k is)
       | false ↦ λ e. refl
     ] refl
-
--- ---- what holds of each state still does
-
--- what is there after clearing was not picked, and was there
-not_cleared : {X : Type 0} (b : Bool) (o : Option X) → is_some (if b then None else o) ≡ true → (not b ≡ true) × (is_some o ≡ true)
-not_cleared true o e = absurd (true≢false (sym e))
-not_cleared false o e = (refl, e)
-
-still : {X : Type 0} (P : X → Type 0) (b : Bool) (o : Option X) → IfSome o P → IfSome (if b then None else o) P
-still P true o old = tt
-still P false o old = old
-
--- fewer blocks, no greater counts
-fewer : (g : Geometry) (picks : BlockKey → Bool) (x : State) (a v s : ℕ) → group_count g (without_blocks picks x) a v s ≤ group_count g x a v s
-fewer g picks x a v s = sum_below-le g.files _ _ (λ f lt. sum_below-le g.blocks _ _ (λ b lt. one_if_from _ _ (λ e.
-    let p = and_parts (group g f b == s) (is_some ((without_blocks picks x).blocks (a, v, f, b))) e in
-    and_from (group g f b == s) (is_some (x.blocks (a, v, f, b))) p.0 (not_cleared (picks (a, v, f, b)) (x.blocks (a, v, f, b)) p.1).1)))
-
-pub clearing_kept : (g : Geometry) (picks : BlockKey → Bool) (x : State) → IsState g x → IsState g (without_blocks picks x)
-clearing_kept g picks x h = record {
-  made = h.made;
-  sealed = h.sealed;
-  files = h.files;
-  blocks = λ k e. h.blocks k (not_cleared (picks k) (x.blocks k) e).1;
-  labels = h.labels;
-  content = λ k. still IsBlock (picks k) (x.blocks k) (h.content k);
-  label_content = h.label_content;
-  quota = λ a v s. let few = fewer g picks x a v s in omega (arith, few, h.quota a v s);
-}
-
-pub delete_kept : (g : Geometry) (x : State) (a v f : ℕ) → IsState g x → IsState g (effect x (Delete a v f))
-delete_kept g x a v f h =
-    let cleared = clearing_kept g (is_block_of_file a v f) x h in
-    record {
-      made = h.made;
-      sealed = h.sealed;
-      files = λ k e. h.files k (and_parts (not (is_file a v f k)) (x.files k) e).1;
-      blocks = λ k e. let q = not_cleared (is_block_of_file a v f k) (x.blocks k) e in ((h.blocks k q.1).0, and_from (not (is_block_of_file a v f k)) (x.files (k.0, k.1, k.2)) q.0 (h.blocks k q.1).1);
-      labels = h.labels;
-      content = cleared.content;
-      label_content = h.label_content;
-      quota = cleared.quota;
-    }

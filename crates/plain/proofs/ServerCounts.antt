@@ -8,7 +8,7 @@ use Rattle.affinity.specs.Geometry.{group}
 use Rattle.plain.specs.State.{State, BlockKey, sum_below, one_if, count_below, group_count, is_block}
 use Rattle.plain.specs.Server.{StripeKey, is_stripe, by_file}
 use Rattle.plain.proofs.Keys.{at_file, the_file, the_block, itself, picks_file, other_file, other_place}
-use Rattle.plain.proofs.ServerSums.{sum_same, sum_one_more, sum_zero}
+use Rattle.plain.proofs.Sums.{sum_same, sum_one_more, sum_zero}
 
 -- states that have blocks at the same keys count alike
 pub same_counts : (g : Geometry) (x y : State) → ((k : BlockKey) → is_some (y.blocks k) ≡ is_some (x.blocks k)) → (a v s : ℕ) → group_count g y a v s ≡ group_count g x a v s
@@ -71,13 +71,6 @@ module _ (old new : StripeKey → Option ℕ) (a v s count : ℕ) (updates : (k 
   noted_one_more more k = at_key k ∙ elim (is_stripe a v s k) as (λ t. is_stripe a v s k ≡ t → cond t count (unwrap_or (old k) 0) ≡ unwrap_or (old k) 0 + one_if t) [
     | false ↦ λ e. omega arith
     | true ↦ λ e. more ∙ ap (λ k. unwrap_or (old k) 0 + 1) (the_file a v s k e)
-  ] refl
-
-  -- the same is noted as before
-  pub noted_same : count ≡ unwrap_or (old (a, v, s)) 0 → (k : StripeKey) → unwrap_or (new k) 0 ≡ unwrap_or (old k) 0
-  noted_same same k = at_key k ∙ elim (is_stripe a v s k) as (λ t. is_stripe a v s k ≡ t → cond t count (unwrap_or (old k) 0) ≡ unwrap_or (old k) 0) [
-    | false ↦ λ e. refl
-    | true ↦ λ e. same ∙ ap (λ k. unwrap_or (old k) 0) (the_file a v s k e)
   ] refl
 
 -- where there is no block, none is counted

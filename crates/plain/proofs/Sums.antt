@@ -1,6 +1,7 @@
 -- Sums over the numbers below a bound.
 use Rattle.std.proofs.Common.{◌≡◌, ℕ, zero, suc, ◌+◌, ◌*◌, ◌<◌, ◌≤◌, Bool, true, false, refl, ap, sym, ◌∙◌, ⊎_elim, arith}
 use Rattle.std.specs.Prelude.{◌==◌, ◌&&◌}
+use Rattle.std.specs.Cmp.{nat_eq_equiv}
 use Rattle.std.proofs.lemmas.Bool.{cases_eq, eq-eqb, eqb-true, false_from_ne_true}
 use Rattle.plain.specs.State.{sum_below, one_if, count_below}
 
@@ -91,3 +92,26 @@ sum_below_at n t b below =
     let nothing = sum_below-zero n (λ s. 0) (λ s. refl) in
     let here : one_if ((t == t) && b) ≡ one_if b = ap (λ c. one_if (c && b)) (eq-eqb t t refl) in
     omega (arith, changed, nothing, here)
+
+pub sum_same : (n : ℕ) (f h : ℕ → ℕ) → ((i : ℕ) → f i ≡ h i) → sum_below n f ≡ sum_below n h
+sum_same n f h e i = sum_below n (λ k. e k i)
+
+pub sum_zero : (n : ℕ) → sum_below n (λ i. 0) ≡ 0
+sum_zero n = sum_below-zero n (λ i. 0) (λ i. refl)
+
+-- where one summand is greater by one, and all others are the same
+pub sum_one_more : (n j : ℕ) (f h : ℕ → ℕ) → j < n → ((i : ℕ) → (i ≡ j → ⊥) → h i ≡ f i) → h j ≡ f j + 1 → sum_below n h ≡ sum_below n f + 1
+sum_one_more n j f h below others here = let changed = sum_below_changed n j f h below others in omega (arith, changed, here)
+
+-- one number below n is j
+pub sum_pick : (n j : ℕ) → j < n → (p : Bool) → sum_below n (λ i. one_if (p && (i == j))) ≡ one_if p
+sum_pick n j below p = sum_same n _ _ (λ i. ap one_if (turned p i)) ∙ sum_below_at n j p below
+  where
+    swapped : (p q : Bool) → (p && q) ≡ (q && p)
+    swapped true true = refl
+    swapped true false = refl
+    swapped false true = refl
+    swapped false false = refl
+
+    turned : (p : Bool) (i : ℕ) → (p && (i == j)) ≡ ((j == i) && p)
+    turned p i = ap (λ t. p && t) (nat_eq_equiv.symm i j) ∙ swapped p (j == i)

@@ -1,5 +1,5 @@
 -- The totals of a volume and of the whole server.
-use Rattle.std.proofs.Common.{◌≡◌, ℕ, zero, suc, ◌+◌, ◌*◌, ◌^◌, ◌<◌, ◌≤◌, Bool, ap, sym, add-one, arith}
+use Rattle.std.proofs.Common.{◌≡◌, ℕ, suc, ◌+◌, ◌*◌, ◌^◌, ◌<◌, ◌≤◌, Bool, ap, sym, add-one, arith}
 use Rattle.std.specs.Prelude.{if◌then◌else◌}
 use Rattle.std.specs.BTreeSet as set
 use Rattle.std.specs.BTreeMap as map
@@ -10,7 +10,7 @@ use Rattle.plain.specs.declared.server.Server.{Server}
 use Rattle.plain.specs.State.{State, IsState, sum_below, one_if, file_count, block_count, group_count, over_volumes}
 use Rattle.plain.specs.Server.{state_of, by_volume, by_file, by_block}
 use Rattle.plain.proofs.Sums.{one_if-le, sum_below-le_times}
-use Rattle.plain.proofs.Counts.{file_count-le, block_count-le, over_volumes-le}
+use Rattle.plain.proofs.Counts.{bits-lt, file_count-le, block_count-le, over_volumes-le}
 use Rattle.plain.proofs.Lengths.{volumes_length, files_length, blocks_length}
 
 -- ---- a sum, one number further
@@ -24,17 +24,13 @@ sum_step n h = ap (λ k. sum_below k h) (add-one n)
 abbrev pub bit_if : (ℕ → Bool) → ℕ → ℕ
 bit_if has i = if has i then 2 ^ i else 0
 
-bits_below : (n : ℕ) (has : ℕ → Bool) → sum_below n (bit_if has) < 2 ^ n
-bits_below zero has = omega arith
-bits_below (suc n) has = grind (arith, bits_below n has)
-
 twice : (n : ℕ) → 2 ^ n + 2 ^ n ≡ 2 ^ (suc n)
 twice n = omega arith
 
 -- there is room for one more bit below the 64th
 pub bits_room : (n : ℕ) (has : ℕ → Bool) → n < 64 → sum_below n (bit_if has) + 2 ^ n < 2 ^ 64
 bits_room n has lt =
-    let below = bits_below n has in
+    let below = bits-lt n has in
     let top : 2 ^ (suc n) ≤ 2 ^ 64 = pow-le-pow_right {n = 2} (omega arith) {i = suc n} {j = 64} (omega arith) in
     let double = twice n in
     omega arith

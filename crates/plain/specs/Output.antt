@@ -46,12 +46,13 @@ with_newlines ls = flat_map (λ line. line ++ 10 ∷ []) ls
 abbrev pub HasNoNewline : List ℕ → Type 0
 HasNoNewline bytes = AllByRecursion (λ b. b ≢ 10) bytes
 
--- The reader gave some whole lines and a beginning of a further one, and then failed: the whole lines were answered.
-pub record AnswersWholeLines (g : Geometry) (input written : List ℕ) : Type 0 where
+-- What was taken of the input is some whole lines and a beginning of a further one, and this is what is left of it: just the whole lines were answered.
+pub record AnswersWholeLines (g : Geometry) (left : Option (List ℕ)) (input written : List ℕ) : Type 0 where
   pub whole : List (List ℕ)
   pub begun : List ℕ
-  pub unread : List ℕ
-  pub parts : input ≡ with_newlines whole ++ begun ++ unread
+  pub rest : List ℕ
+  pub parts : input ≡ with_newlines whole ++ begun ++ rest
+  pub left_is : left ≡ Some rest
   pub are_lines : AllByRecursion HasNoNewline whole
   pub no_line : HasNoNewline begun
   pub answered : written ≡ joined (output_lines g empty whole)

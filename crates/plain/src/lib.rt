@@ -6,7 +6,7 @@ mod output;
 mod server;
 mod serving;
 
-pub use serving::{PlainFault, serve_plain};
+pub use serving::{PlainFault, serve_from, serve_plain};
 
 #[cfg(test)]
 mod tests;

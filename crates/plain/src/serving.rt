@@ -1,7 +1,7 @@
-ghost use Rattle.std.specs.Prelude.{◌≡◌, ℕ, List, [], Option, false, IfOk, OnOk, IsErrOf, MatchBool};
-ghost use Rattle.std.specs.Io.KnownBytes.{Appends};
+ghost use Rattle.std.specs.Prelude.{◌≡◌, ℕ, List, [], Option, false, IfOk, OnOk, IsErrOf, IsFalse, MatchBool};
+ghost use Rattle.std.specs.Io.KnownBytes.{Appends, IsAtEnd};
 ghost use Rattle.message.specs.Grammar.{message_of};
-ghost use Rattle.message.specs.Reader.{unread, is_drained};
+ghost use Rattle.message.specs.Reader.{unread, is_drained, source, KnowsEnd};
 ghost use Rattle.plain.specs.State.{empty};
 ghost use Rattle.plain.specs.Server.{state_of, IsSound};
 ghost use Rattle.plain.specs.Waiting.{so_far};
@@ -14,6 +14,11 @@ use affinity::Geometry;
 use message::{Found, LONGEST_REPLY, LineReader, no_message_line, parse_line, write_reply};
 use std::alloc::Global;
 use std::io::{Read, Write};
+use std::marker::{Brand, PhantomData};
+
+mod lent;
+
+use lent::answer_lent;
 
 /// Why the serial server ended before the end of its input.
 #[derive(Clone, Copy, Debug, PartialEq, Eq)]
@@ -76,11 +81,14 @@ fn answer_next<R: Read + Drop, W: Write>(
     ensures read { (input start : Option (List ℕ)) → Goes g.now input (unread R.remaining lines.old)
         (is_drained lines.old) (state_of server.old) start (so_far (W.contents w.old) out.old) →
         IsErrOf result PlainFault.Read → Writes input start (so_far (W.contents w.new) out.new)
-        (AnswersWholeLines g.now) }
+        (AnswersWholeLines g.now (R.remaining (source lines.new))) }
     ensures out_of_memory { (input start : Option (List ℕ)) → Goes g.now input (unread R.remaining lines.old)
         (is_drained lines.old) (state_of server.old) start (so_far (W.contents w.old) out.old) →
         IsErrOf result PlainFault.OutOfMemory → Writes input start (so_far (W.contents w.new) out.new)
         (IsBeginning g.now) }
+    ensures knows { KnowsEnd R.remaining lines.old → KnowsEnd R.remaining lines.new }
+    ensures end { KnowsEnd R.remaining lines.old →
+        IfOk result (λ more. IsFalse more → IsAtEnd (R.remaining (source lines.new))) }
 {
     if lines.is_drained() {
         return Ok(false);
@@ -111,12 +119,14 @@ fn answer_all<R: Read + Drop, W: Write>(
     requires sound { IsSound g.now server.old }
     requires fresh { state_of server.old ≡ empty }
     requires begun { is_drained lines.old ≡ false }
+    requires knows { KnowsEnd R.remaining lines.old }
     ensures ok { OnOk result (Writes (unread R.remaining lines.old)
         (so_far (W.contents w.old) out.old) (so_far (W.contents w.new) out.new)
         (λ input written. written ≡ serial_out g.now empty input)) }
+    ensures end { OnOk result (IsAtEnd (R.remaining (source lines.new))) }
     ensures read { IsErrOf result PlainFault.Read → Writes (unread R.remaining lines.old)
         (so_far (W.contents w.old) out.old) (so_far (W.contents w.new) out.new)
-        (AnswersWholeLines g.now) }
+        (AnswersWholeLines g.now (R.remaining (source lines.new))) }
     ensures out_of_memory { IsErrOf result PlainFault.OutOfMemory → Writes (unread R.remaining lines.old)
         (so_far (W.contents w.old) out.old) (so_far (W.contents w.new) out.new)
         (IsBeginning g.now) }
@@ -129,13 +139,48 @@ fn answer_all<R: Read + Drop, W: Write>(
     if lines.is_drained() {
         return Ok(());
     }
-    Err(PlainFault::Read)
+    Err(PlainFault::OutOfMemory)
 }
 
-/// Answers each line of the input with one line of the output, from the empty state on, until the
-/// input ends. What was answered is written before a read that may wait.
+/// Answers each line that a reader has left with one line of the output, from the empty state on,
+/// until the input ends. What was answered is written before a read that may wait.
 ///
-/// For want of memory and after a failed read, what was answered before is still written.
+/// For want of memory and after a failed read, what was answered before is still written. After a
+/// failed read these are the answers to all whole lines that were taken from the reader.
+pub fn serve_from<R: Read, W: Write>(
+    alloc: Global,
+    g: &Geometry,
+    r: &mut R,
+    w: &mut W,
+) -> Result<(), PlainFault>
+    ensures ok { OnOk result (Writes (R.remaining r.old) (W.contents w.old) (W.contents w.new)
+        (λ input written. written ≡ serial_out g.now empty input)) }
+    ensures end { OnOk result (IsAtEnd (R.remaining r.new)) }
+    ensures read { IsErrOf result PlainFault.Read → Writes (R.remaining r.old) (W.contents w.old)
+        (W.contents w.new) (AnswersWholeLines g.now (R.remaining r.new)) }
+    ensures out_of_memory { IsErrOf result PlainFault.OutOfMemory → Writes (R.remaining r.old)
+        (W.contents w.old) (W.contents w.new) (IsBeginning g.now) }
+{
+    let Ok(buffer) = zeros(alloc, PIECE) else {
+        return Err(PlainFault::OutOfMemory);
+    };
+    let Ok(mut out) = Output::new(alloc) else {
+        return Err(PlainFault::OutOfMemory);
+    };
+    let (answered, _back) = answer_lent::<R, W, Brand>(
+        alloc,
+        g,
+        r,
+        buffer,
+        &mut out,
+        w,
+        PhantomData,
+    );
+    out.send(w)?;
+    answered
+}
+
+/// The same over a reader that is given away.
 pub fn serve_plain<R: Read + Drop, W: Write>(
     alloc: Global,
     g: &Geometry,
@@ -145,21 +190,12 @@ pub fn serve_plain<R: Read + Drop, W: Write>(
     ensures ok { OnOk result (Writes (R.remaining r) (W.contents w.old) (W.contents w.new)
         (λ input written. written ≡ serial_out g.now empty input)) }
     ensures read { IsErrOf result PlainFault.Read → Writes (R.remaining r) (W.contents w.old)
-        (W.contents w.new) (AnswersWholeLines g.now) }
+        (W.contents w.new) (λ input written. (left : Option (List ℕ)) × AnswersWholeLines g.now left input written) }
     ensures out_of_memory { IsErrOf result PlainFault.OutOfMemory → Writes (R.remaining r)
         (W.contents w.old) (W.contents w.new) (IsBeginning g.now) }
 {
-    let Ok(buffer) = zeros(alloc, PIECE) else {
-        return Err(PlainFault::OutOfMemory);
-    };
-    let Ok(mut out) = Output::new(alloc) else {
-        return Err(PlainFault::OutOfMemory);
-    };
-    let mut lines = LineReader::new(r, buffer);
-    let mut server = Server::new(alloc);
-    let answered = answer_all(g, &mut lines, &mut server, &mut out, w);
-    out.send(w)?;
-    answered
+    let mut reader = r;
+    serve_from(alloc, g, &mut reader, w)
 }
 
 #[cfg(test)]

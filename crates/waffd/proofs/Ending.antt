@@ -59,18 +59,18 @@ nothing_written g None old = tt
 nothing_written g (Some bytes) old = ([], appends_nothing old, (0, refl))
 
 pub served_nothing : (words : List Text) (g : Geometry) (fault : Fault) (input old : Option (List ℕ)) → AsksPlain words g → IsReason words (by_fault fault)
-    → EndsPlain g (status_of fault) input old old
+    → EndsPlain g (status_of fault) input input old old
 served_nothing words g OutOfMemory input old asks reason = (Err OutOfMemory, refl, nothing_written g input old)
 served_nothing words g GeometryOutOfRange input old asks reason = absurd (reason.1 (subst AreInRange asks.1 (in_range g)))
 served_nothing words g fault input old asks reason = absurd reason
 
 -- ---- what the words ask for is served
 
-pub served : (words : List Text) (request : Request) (g : Geometry) (end : Result (Unit {0}) Fault) (input old new : Option (List ℕ)) → Asks words request → AsksPlain words g
-    → Ends request end input old new → EndsPlain g (status_at end) input old new
-served words (Plain h) g end input old new given asks ends =
-    (end, refl, subst (λ k. Ends (Plain k) end input old new) (same_geometry h g (given.1 ∙ sym asks.1)) ends)
-served words (Help text) g end input old new given asks ends = absurd (subst (IsAmong (kind_of text)) asks.0 given.0)
+pub served : (words : List Text) (request : Request) (g : Geometry) (end : Result (Unit {0}) Fault) (input left old new : Option (List ℕ)) → Asks words request → AsksPlain words g
+    → Ends request end input left old new → EndsPlain g (status_at end) input left old new
+served words (Plain h) g end input left old new given asks ends =
+    (end, refl, subst (λ k. Ends (Plain k) end input left old new) (same_geometry h g (given.1 ∙ sym asks.1)) ends)
+served words (Help text) g end input left old new given asks ends = absurd (subst (IsAmong (kind_of text)) asks.0 given.0)
 
 pub no_mistake : (words : List Text) (g : Geometry) (error : Error) → AsksPlain words g → IsReason words (by_words error) → ⊥
 no_mistake words g error asks reason = subst (IsAmong (kind_of error)) asks.0 reason.0

@@ -8,7 +8,7 @@ ghost use Rattle.affinity.specs.declared.sizes.Geometry.{Geometry};
 
 use crate::faults::Fault;
 use crate::words::{Refusal, Request, read_words};
-use plain::serve_plain;
+use plain::serve_from;
 use std::alloc::Global;
 use std::io::{Read, Write};
 
@@ -22,11 +22,12 @@ pub fn run<R: Read, W: Write>(
     r: &mut R,
     w: &mut W,
 ) -> Result<(), Fault>
-    ensures { Ends request result (R.remaining r.old) (W.contents w.old) (W.contents w.new) }
+    ensures { Ends request result (R.remaining r.old) (R.remaining r.new)
+        (W.contents w.old) (W.contents w.new) }
 {
     match request {
         Request::Help(text) => write!(w, "{text}").map_err(|_| Fault::Write),
-        Request::Plain(geometry) => Ok(serve_plain(alloc, &geometry, &mut *r, w)?),
+        Request::Plain(geometry) => Ok(serve_from(alloc, &geometry, r, w)?),
     }
 }
 
@@ -48,12 +49,15 @@ pub fn command<R: Read, W: Write, E: Write>(
     e: &mut E,
 ) -> u8
     ensures served { (g : Geometry) → AsksPlain (map string_bytes words.now) g
-        → EndsPlain g result (R.remaining r.old) (W.contents w.old) (W.contents w.new) }
+        → EndsPlain g result (R.remaining r.old) (R.remaining r.new)
+        (W.contents w.old) (W.contents w.new) }
     ensures plain { (program : List ℕ) → map string_bytes words.now ≡ program ∷ codes "plain" ∷ []
-        → EndsPlain standard result (R.remaining r.old) (W.contents w.old) (W.contents w.new) }
-    ensures help { AsksHelp (map string_bytes words.now) → EndsHelp result }
+        → EndsPlain standard result (R.remaining r.old) (R.remaining r.new)
+        (W.contents w.old) (W.contents w.new) }
+    ensures help { AsksHelp (map string_bytes words.now)
+        → EndsHelp result × (R.remaining r.new ≡ R.remaining r.old) }
     ensures refused { IsRefused (map string_bytes words.now)
-        → EndsRefused result × (w.new ≡ w.old) }
+        → EndsRefused result × (r.new ≡ r.old) × (w.new ≡ w.old) }
     ensures quiet { result ≡ 0 → e.new ≡ e.old }
 {
     let request = match read_words(alloc, words) {

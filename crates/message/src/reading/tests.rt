@@ -194,3 +194,13 @@ fn says_whether_a_line_is_held(rt: HostRuntime) -> Result<(), Fail> {
     assert!(rt; lines.line().is_empty());
     Ok(())
 }
+
+#[test]
+fn the_reader_is_given_back(rt: HostRuntime) -> Result<(), Fail> {
+    let buffer = vec![in rt.alloc(); 0u8; 1101]?;
+    let mut lines = LineReader::new(in_pieces(b"ab\nc\nd", 5), buffer);
+    assert_eq!(rt; lines.next_line(), Ok(Found::Line));
+    assert_eq!(rt; lines.line(), b"ab".as_slice());
+    assert_eq!(rt; lines.into_inner().at, 5);
+    Ok(())
+}

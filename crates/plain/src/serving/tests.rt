@@ -1,4 +1,4 @@
-use super::{PlainFault, serve_plain};
+use super::{PlainFault, serve_from, serve_plain};
 use affinity::Geometry;
 use std::alloc::{AllocError, Global};
 use std::io;
@@ -114,5 +114,34 @@ fn a_failed_write_is_told(rt: HostRuntime) -> Result<(), Fail> {
         &mut Full,
     );
     assert_eq!(rt; end, Err(PlainFault::Write));
+    Ok(())
+}
+
+#[test]
+fn a_reader_that_is_lent_has_nothing_left(rt: HostRuntime) -> Result<(), Fail> {
+    let mut input = b"makevol 0 0\ncreate 0 0 2".as_slice();
+    let mut output = Vec::new(rt.alloc());
+    let geometry = Geometry::new(SMALL)?;
+    let end = serve_from(rt.alloc(), &geometry, &mut input, &mut output);
+    assert_eq!(rt; end, Ok(()));
+    assert!(rt; input.is_empty());
+    assert_eq!(rt; output.as_slice(), b"done\nerror range\n".as_slice());
+    Ok(())
+}
+
+#[test]
+fn a_reader_that_fails_is_read_no_further(rt: HostRuntime) -> Result<(), Fail> {
+    let mut input = Failing(b"makevol 0 0\ncreate 0 0 2".as_slice());
+    let mut output = Vec::new(rt.alloc());
+    let geometry = Geometry::new(SMALL)?;
+    let end = serve_from(rt.alloc(), &geometry, &mut input, &mut output);
+    assert_eq!(rt; end, Err(PlainFault::Read));
+    assert_eq!(rt; output.as_slice(), b"done\n".as_slice());
+
+    // What is left is answered to the next call, from an empty state on.
+    input.0 = b"makevol 0 0\n".as_slice();
+    let end = serve_from(rt.alloc(), &geometry, &mut input, &mut output);
+    assert_eq!(rt; end, Err(PlainFault::Read));
+    assert_eq!(rt; output.as_slice(), b"done\ndone\n".as_slice());
     Ok(())
 }

@@ -1,9 +1,9 @@
-use Rattle.std.proofs.Common.{◌≡◌, Result, Err, refl, sym, ap, ◌∙◌}
+use Rattle.std.proofs.Common.{◌≡◌, Err, refl, sym, ap, ◌∙◌, subst, ℕ, List, Option}
 use Rattle.std.proofs.lemmas.Result.{err_from_is_err_and}
-use Rattle.message.specs.Reader.{unread, line_of, is_drained}
+use Rattle.std.specs.Prelude.{IfSome}
+use Rattle.message.specs.Reader.{unread, line_of, is_drained, source, LosesFront}
 use Rattle.message.specs.Grammar.{message_of}
 use Rattle.message.specs.Replies.{no_message}
-use Rattle.plain.specs.declared.serving.PlainFault.{PlainFault}
 use Rattle.plain.specs.declared.serving.PlainFault.TheVariants.{OutOfMemory}
 use Rattle.plain.specs.Server.{state_of}
 use Rattle.plain.specs.Output.{answer_line, after_line}
@@ -40,4 +40,7 @@ pub returns-in-Ok-End-clause-goes : goal.returns-in-Ok-End-clause-goes
 returns-in-Ok-End-clause-goes g c = λ input start h. ends_now (unread g.R.Read.remaining c.next_line.new.self) (goes_on h c.in_ok-send_unless.ensures.kept) (rw c.in-Ok-End.field-0-is at c.in-Ok-End.ensures.found)
 
 pub returns-in-Err-clause-read : goal.returns-in-Err-clause-read
-returns-in-Err-clause-read g c = λ input start h _. fails (unread g.R.Read.remaining c.next_line.new.self) (goes_on h c.in_ok-send_unless.ensures.kept) (sym c.if-is_drained.ensures.value) c.in-Err.ensures.found
+returns-in-Err-clause-read g c = λ input start h _.
+    let before = unread g.R.Read.remaining c.args.lines.now in
+    let P : Option (List ℕ) → Type 0 = λ left. IfSome before (λ bs. LosesFront bs left) in
+    fails (g.R.Read.remaining (source c.next_line.new.self)) (goes_on h c.in_ok-send_unless.ensures.kept) (sym c.if-is_drained.ensures.value) (subst P c.in-Err.ensures.lost c.in-Err.ensures.found)

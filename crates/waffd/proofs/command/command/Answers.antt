@@ -16,13 +16,13 @@ returns-in-Err-Fault-clause-served g c = λ geometry asks.
 pub returns-in-Ok-run-clause-served : goal.returns-in-Ok-run-clause-served
 returns-in-Ok-run-clause-served g c = λ geometry asks.
     let words = map string_bytes c.args.words.now in
-    served words c.in-Ok.request geometry (Ok c.in-Ok-run.field-0) (g.R.Read.remaining c.args.r.now) (g.W.Write.contents c.args.w.now) (g.W.Write.contents c.run.new.w) c.in-Ok.ensures.ok asks c.in-Ok-run.ensures
+    served words c.in-Ok.request geometry (Ok c.in-Ok-run.field-0) (g.R.Read.remaining c.args.r.now) (g.R.Read.remaining c.run.new.r) (g.W.Write.contents c.args.w.now) (g.W.Write.contents c.run.new.w) c.in-Ok.ensures.ok asks c.in-Ok-run.ensures
 
 pub returns-in-Err-clause-served : goal.returns-in-Err-clause-served
 returns-in-Err-clause-served g c = λ geometry asks.
     let words = map string_bytes c.args.words.now in
     rw c.report-in-Err.ensures
-    (served words c.in-Ok.request geometry (Err c.in-Err.fault) (g.R.Read.remaining c.args.r.now) (g.W.Write.contents c.args.w.now) (g.W.Write.contents c.run.new.w) c.in-Ok.ensures.ok asks c.in-Err.ensures)
+    (served words c.in-Ok.request geometry (Err c.in-Err.fault) (g.R.Read.remaining c.args.r.now) (g.R.Read.remaining c.run.new.r) (g.W.Write.contents c.args.w.now) (g.W.Write.contents c.run.new.w) c.in-Ok.ensures.ok asks c.in-Err.ensures)
 
 pub returns-in-Ok-run-clause-refused : goal.returns-in-Ok-run-clause-refused
 returns-in-Ok-run-clause-refused g c = λ wrong. absurd (ask_for_nothing (map string_bytes c.args.words.now) c.in-Ok.request c.in-Ok.ensures.ok wrong)

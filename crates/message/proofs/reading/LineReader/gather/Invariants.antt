@@ -1,6 +1,6 @@
 use Rattle.std.proofs.Common.{◌≡◌, ◌-◌, [], false, true, cond, length}
 use Rattle.std.specs.Io.KnownBytes.{Keeps}
-use Rattle.message.specs.Reader.{held_bytes, unread, line_of, HoldsLine, has_ended, has_failed}
+use Rattle.message.specs.Reader.{held_bytes, unread, line_of, HoldsLine, KnowsEnd, has_ended, has_failed}
 use Rattle.message.proofs.reading.LineReader.gather.Given as goal
 
 abbrev pub invariant-loop-self : goal.invariant-loop-self
@@ -10,6 +10,7 @@ invariant-loop-self g l = record {
   bytes : Keeps (unread g.R.Read.remaining l.initial.self) (unread g.R.Read.remaining l.self);
   at_once : HoldsLine l.initial.self → l.self ≡ l.initial.self;
   told : has_ended l.initial.self ≡ true → l.self ≡ l.initial.self;
+  at_end : KnowsEnd g.R.Read.remaining l.initial.self → KnowsEnd g.R.Read.remaining l.self;
 }
 
 -- the reads that may be needed

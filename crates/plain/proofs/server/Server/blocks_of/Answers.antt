@@ -2,7 +2,7 @@ use Rattle.std.proofs.Common.{◌≡◌, arith, ap, sym, ◌∙◌}
 use Rattle.std.specs.Prelude.{unwrap_or, option_copied}
 use Rattle.plain.specs.State.{sum_below, group_count}
 use Rattle.plain.specs.Server.{state_of, noted}
-use Rattle.plain.proofs.Stripes.{stripes_add_up}
+use Rattle.plain.proofs.Counts.{block_count-by_stripe}
 use Rattle.plain.proofs.Totals.{sum_step, groups-le}
 use Rattle.plain.proofs.server.Server.blocks_of.Goals as goal
 use Rattle.plain.proofs.server.Server.blocks_of.Goals.{in-Some, in_default}
@@ -31,4 +31,4 @@ returns c =
     let last : c.loop-s.s ≡ c.args.g.now.stripes = omega arith in
     c.loop-s.invariant
     ∙ ap (λ n. sum_below n (group_count c.args.g.now (state_of c.args.self.now) c.args.a c.args.v)) last
-    ∙ stripes_add_up c.args.g.now (state_of c.args.self.now) c.args.a c.args.v
+    ∙ sym (block_count-by_stripe c.args.g.now (state_of c.args.self.now) c.args.a c.args.v)

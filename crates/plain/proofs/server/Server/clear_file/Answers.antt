@@ -2,7 +2,8 @@ use Rattle.std.proofs.Common.{◌≡◌, arith, ap, sym, ◌∙◌, subst}
 use Rattle.plain.specs.State.{IsState, one_if, is_block_of_file, is_block}
 use Rattle.plain.specs.Server.{state_of}
 use Rattle.plain.specs.Removals.{without_blocks}
-use Rattle.plain.proofs.Removals.{clearing_kept, block_before_others, nothing_cleared}
+use Rattle.plain.proofs.Kept.{clearing_kept}
+use Rattle.plain.proofs.Removals.{block_before_others, nothing_cleared}
 use Rattle.plain.proofs.server.Server.clear_file.Goals as goal
 
 pub loop-b-preserved : goal.loop-b-preserved

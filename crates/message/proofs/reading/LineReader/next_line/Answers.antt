@@ -1,0 +1,24 @@
+use Rattle.std.proofs.Common.{ℕ, List, Option, Some, None, Result, Ok, Err, subst}
+use Rattle.std.specs.Io.KnownBytes.{Keeps}
+use Rattle.message.specs.declared.reading.Found.{Found}
+use Rattle.message.specs.declared.reading.Found.TheVariants.{Line, TooLong, End}
+use Rattle.message.specs.declared.reading.ReadFault.{ReadFault}
+use Rattle.message.specs.Reader.{unread, line_of, Finds}
+use Rattle.message.proofs.reading.LineReader.next_line.Goals as goal
+
+-- nothing is said of bytes that are not known
+of_unknown : (r : Result Found ReadFault) (line : List ℕ) (left : Option (List ℕ)) → Finds r None line left
+of_unknown (Ok Line) line left = tt
+of_unknown (Ok TooLong) line left = tt
+of_unknown (Ok End) line left = tt
+of_unknown (Err fault) line left = tt
+
+of_kept : (a b : Option (List ℕ)) (r : Result Found ReadFault) (line : List ℕ) (left : Option (List ℕ)) → Keeps a b → Finds r b line left → Finds r a line left
+of_kept None b r line left kept h = of_unknown r line left
+of_kept (Some xs) None r line left kept h = absurd kept
+of_kept (Some xs) (Some ys) r line left kept h = subst (λ (zs : List ℕ). Finds r (Some zs) line left) kept h
+
+pub returns-clause-found : goal.returns-clause-found
+returns-clause-found g c =
+    let kept = rw c.forget_line.ensures.bytes at c.in_ok-gather.ensures.bytes in
+    of_kept (unread g.R.Read.remaining c.args.self.now) (unread g.R.Read.remaining c.gather.new.self) c.give.result (line_of c.give.new.self) (unread g.R.Read.remaining c.give.new.self) kept c.give.ensures.found
