@@ -1,5 +1,7 @@
 ghost use Rattle.std.specs.Prelude.{◌≡◌};
 
+mod borders;
+
 use crate::server::Server;
 use affinity::Geometry;
 use message::{Block, Msg, Refusal, Reply};
