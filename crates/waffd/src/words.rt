@@ -12,6 +12,23 @@ use std::alloc::{AllocError, Global};
 /// What help says of the command `plain`.
 const PLAIN: &str = "Answers the messages on standard input, one line each, from an empty state on";
 
+// What help says of the options of a geometry.
+const AGGREGATES: &str = "Aggregates, 1 to 4 [default: 1]";
+
+const VOLUMES: &str = "Volumes of each aggregate, 1 to 8 [default: 4]";
+
+const STRIPES: &str = "Stripes of each volume, 1 to 8 [default: 4]";
+
+const WIDTH: &str = "Blocks in a row in one stripe, 1 to 64 [default: 4]";
+
+const FILES: &str = "Files of each volume, 1 to 64 [default: 16]";
+
+const BLOCKS: &str = "Blocks of each file, 1 to 256 [default: 64]";
+
+const QUOTA: &str = "Blocks that a stripe can hold, 1 to 64 [default: 64]";
+
+const HALF: &str = "Records in each half of the log, 4 to 1024 [default: 256]";
+
 /// What the words ask for.
 #[derive(Drop)]
 pub enum Request {
@@ -73,42 +90,14 @@ fn with_geometry<'a>(
 {
     Command::new(alloc, name)
         .about(about)
-        .arg(number(alloc, "aggregates", "Aggregates, 1 to 4 [default: 1]"))?
-        .arg(number(
-            alloc,
-            "volumes",
-            "Volumes of each aggregate, 1 to 8 [default: 4]",
-        ))?
-        .arg(number(
-            alloc,
-            "stripes",
-            "Stripes of each volume, 1 to 8 [default: 4]",
-        ))?
-        .arg(number(
-            alloc,
-            "width",
-            "Blocks in a row in one stripe, 1 to 64 [default: 4]",
-        ))?
-        .arg(number(
-            alloc,
-            "files",
-            "Files of each volume, 1 to 64 [default: 16]",
-        ))?
-        .arg(number(
-            alloc,
-            "blocks",
-            "Blocks of each file, 1 to 256 [default: 64]",
-        ))?
-        .arg(number(
-            alloc,
-            "quota",
-            "Blocks that a stripe can hold, 1 to 64 [default: 64]",
-        ))?
-        .arg(number(
-            alloc,
-            "half",
-            "Records in each half of the log, 4 to 1024 [default: 256]",
-        ))
+        .arg(number(alloc, "aggregates", AGGREGATES))?
+        .arg(number(alloc, "volumes", VOLUMES))?
+        .arg(number(alloc, "stripes", STRIPES))?
+        .arg(number(alloc, "width", WIDTH))?
+        .arg(number(alloc, "files", FILES))?
+        .arg(number(alloc, "blocks", BLOCKS))?
+        .arg(number(alloc, "quota", QUOTA))?
+        .arg(number(alloc, "half", HALF))
 }
 
 /// The commands of the program, each with its options.
