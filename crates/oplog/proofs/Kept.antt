@@ -1,0 +1,124 @@
+-- What keeps or changes what a device stands for.
+use Rattle.std.proofs.Common.{◌≡◌, ◌≢◌, ◌<◌, ℕ, zero, suc, Bool, true, false, not, ◌&&◌, cond, eqb, nat_le, List, [], ◌∷◌, ◌++◌, length, get_or, Option, Some, None, ⊎_elim, refl, sym, ◌∙◌, ap, subst, arith}
+use Rattle.std.proofs.lemmas.Bool.{cases_eq}
+use Rattle.std.proofs.lemmas.List.{append_assoc, get_or-take}
+use Rattle.oplog.specs.Layout.{Layout, part, device_size, header, root, half, image, other}
+use Rattle.oplog.specs.Front.{chain, front, front_in}
+use Rattle.oplog.specs.Stands.{named_area, current_of, current, in_force, run, is_laid_out, stands_as, stands}
+use Rattle.oplog.specs.Changes.{IsSameBut, HasMore}
+
+named_below : (t : Bool) → cond t 1 0 < 2
+named_below true = omega arith
+named_below false = omega arith
+
+-- the named area is 0 or 1
+pub named_area-below : (g : Layout) (c : List ℕ) → named_area g c < 2
+named_area-below g c = named_below (eqb (get_or (part g root c) 0 0) 1)
+
+current_below : (t : Bool) (n : ℕ) → n < 2 → cond t (other n) n < 2
+current_below true n is_area = omega arith
+current_below false n is_area = is_area
+
+-- and so is the current half
+pub current_of-below : (g : Layout) (n : ℕ) (c : List ℕ) → n < 2 → current_of g n c < 2
+current_of-below g n c is_area = current_below (eqb (chain g n c) 1) n is_area
+
+module _ {S : Type 0} (read : List ℕ → Option S) (apply : S → List ℕ → Option S) (is_header : List ℕ → Bool) where
+  pub run-append : (x : Option S) (rs ss : List (List ℕ)) → run read apply is_header x (rs ++ ss) ≡ run read apply is_header (run read apply is_header x rs) ss
+  run-append None rs ss = refl
+  run-append (Some x) [] ss = refl
+  run-append (Some x) (r ∷ rs) ss = run-append (apply x r) rs ss
+
+  -- ---- one part differs, and what counts of it is the same
+  same_stands : (g : Layout) (n : ℕ) (a c : List ℕ) → is_laid_out read apply is_header g c ≡ is_laid_out read apply is_header g a → part g (image n) c ≡ part g (image n) a → in_force g n c ≡ in_force g n a → stands_as read apply is_header g n c ≡ stands_as read apply is_header g n a
+  same_stands g n a c laid bytes forced = λ i. cond (laid i) (run read apply is_header (read (bytes i)) (forced i)) None
+
+  same_laid : (g : Layout) (a c : List ℕ) → part g header c ≡ part g header a → length c ≡ length a → chain g 0 c ≡ chain g 0 a → chain g 1 c ≡ chain g 1 a → is_laid_out read apply is_header g c ≡ is_laid_out read apply is_header g a
+  same_laid g a c head size first second = λ i. is_header (head i) && nat_le (device_size g) (size i) && not (eqb (first i) 1 && eqb (second i) 1)
+
+  same_forced : (g : Layout) (n : ℕ) (a c : List ℕ) → part g (half n) c ≡ part g (half n) a → part g (half (other n)) c ≡ part g (half (other n)) a → in_force g n c ≡ in_force g n a
+  same_forced g n a c named others =
+      λ i. cond (eqb (get_or (named i) 0 0) 1) (front_in g.slots (named i) ++ front_in g.slots (others i)) (front_in g.slots (named i))
+
+  -- The root zone may hold anything: only the area that it names counts.
+  pub root_kept : (g : Layout) (n : ℕ) (a c : List ℕ) → IsSameBut g root a c → stands_as read apply is_header g n c ≡ stands_as read apply is_header g n a
+  root_kept g n a c same =
+      let of_half : (h : ℕ) → part g (half h) c ≡ part g (half h) a = λ h. same.others (half h) (λ is. omega (arith, is)) in
+      same_stands g n a c
+      (same_laid g a c (same.others header (λ is. omega (arith, is))) same.size (ap (λ (l : List ℕ). get_or l 0 0) (of_half 0)) (ap (λ (l : List ℕ). get_or l 0 0) (of_half 1)))
+      (same.others (image n) (λ is. omega (arith, is))) (same_forced g n a c (of_half n) (of_half (other n)))
+
+  -- So may the image that isn't named.
+  pub image_kept : (g : Layout) (n : ℕ) (a c : List ℕ) → n < 2 → IsSameBut g (image (other n)) a c → stands_as read apply is_header g n c ≡ stands_as read apply is_header g n a
+  image_kept g n a c is_area same =
+      let of_half : (h : ℕ) → h < 2 → part g (half h) c ≡ part g (half h) a = λ h is_half. same.others (half h) (λ is. omega (arith, is)) in
+      same_stands g n a c
+      (same_laid g a c (same.others header (λ is. omega (arith, is))) same.size (ap (λ (l : List ℕ). get_or l 0 0) (of_half 0 (omega arith))) (ap (λ (l : List ℕ). get_or l 0 0) (of_half 1 (omega arith))))
+      (same.others (image n) (λ is. omega (arith, is))) (same_forced g n a c (of_half n is_area) (of_half (other n) (omega arith)))
+
+  -- So may the half that isn't named, while the chain byte of the named one isn't 1.
+  pub half_kept : (g : Layout) (n : ℕ) (a c : List ℕ) → n < 2 → eqb (chain g n a) 1 ≡ false → IsSameBut g (half (other n)) a c → stands_as read apply is_header g n c ≡ stands_as read apply is_header g n a
+  half_kept g n a c is_area no_chain same =
+      let named : part g (half n) c ≡ part g (half n) a = same.others (half n) (λ is. omega (arith, is)) in
+      let no_chain' : eqb (chain g n c) 1 ≡ false = ap (λ (l : List ℕ). eqb (get_or l 0 0) 1) named ∙ no_chain in
+      let one : (m : ℕ) (d : List ℕ) → m < 2 → eqb (chain g m d) 1 ≡ false → not (eqb (chain g 0 d) 1 && eqb (chain g 1 d) 1) ≡ true = one_chain g in
+      let laid : is_laid_out read apply is_header g c ≡ is_laid_out read apply is_header g a =
+      (λ i. is_header (same.others header (λ is. omega (arith, is)) i) && nat_le (device_size g) (same.size i) && (one n c is_area no_chain' ∙ sym (one n a is_area no_chain)) i) in
+      same_stands g n a c laid (same.others (image n) (λ is. omega (arith, is)))
+      ((λ i. cond (no_chain' i) (front g n c ++ front g (other n) c) (front g n c)) ∙ ap (λ (l : List ℕ). front_in g.slots l) named
+      ∙ sym (λ i. cond (no_chain i) (front g n a ++ front g (other n) a) (front g n a)))
+    where
+      one_chain : (g : Layout) (m : ℕ) (d : List ℕ) → m < 2 → eqb (chain g m d) 1 ≡ false → not (eqb (chain g 0 d) 1 && eqb (chain g 1 d) 1) ≡ true
+      one_chain g zero d is_half shut = ap (λ (b : Bool). not (b && eqb (chain g 1 d) 1)) shut
+      one_chain g (suc zero) d is_half shut = ap (λ (b : Bool). not (eqb (chain g 0 d) 1 && b)) shut ∙ never (eqb (chain g 0 d) 1)
+        where
+          never : (b : Bool) → not (b && false) ≡ true
+          never true = refl
+          never false = refl
+      one_chain g (suc (suc m)) d is_half shut = absurd (omega (arith, is_half))
+
+  -- ---- records added to half h
+  module _ (g : Layout) (h : ℕ) (more : List (List ℕ)) (a c : List ℕ) (is_half : h < 2) (has : HasMore g h more a c) where
+    same_chain : (m : ℕ) → m < 2 → chain g m c ≡ chain g m a
+    same_chain m below =
+        ⊎_elim
+        (λ (is : m ≡ h).
+        let own : chain g h c ≡ chain g h a = sym (get_or-take 64 (part g (half h) c) 0 0 (omega arith)) ∙ ap (λ (l : List ℕ). get_or l 0 0) has.area ∙ get_or-take 64 (part g (half h) a) 0 0 (omega arith) in
+        subst (λ (k : ℕ). chain g k c ≡ chain g k a) (sym is) own)
+        (λ (differs : m ≢ h). ap (λ (l : List ℕ). get_or l 0 0) (has.same.others (half m) (λ is. differs (omega (arith, is)))))
+        (cases_eq m h)
+
+    grown_laid : is_laid_out read apply is_header g c ≡ is_laid_out read apply is_header g a
+    grown_laid = same_laid g a c (has.same.others header (λ is. omega (arith, is))) has.same.size (same_chain 0 (omega arith)) (same_chain 1 (omega arith))
+
+    grown_by : (n : ℕ) (t : Bool) → n < 2 → cond t (other n) n ≡ h → cond t (front g n c ++ front g (other n) c) (front g n c) ≡ cond t (front g n a ++ front g (other n) a) (front g n a) ++ more
+    grown_by n true is_area is =
+        let named : front g n c ≡ front g n a = ap (λ (l : List ℕ). front_in g.slots l) (has.same.others (half n) (λ same. omega (arith, same, is))) in
+        let others : front g (other n) c ≡ front g (other n) a ++ more = subst (λ (m : ℕ). front g m c ≡ front g m a ++ more) (sym is) has.front in
+        (λ i. named i ++ others i) ∙ sym (append_assoc (front g n a) (front g (other n) a) more)
+    grown_by n false is_area is = subst (λ (m : ℕ). front g m c ≡ front g m a ++ more) (sym is) has.front
+
+    grown_force : (n : ℕ) → n < 2 → current_of g n a ≡ h → in_force g n c ≡ in_force g n a ++ more
+    grown_force n is_area is =
+        (λ i. cond (eqb (same_chain n is_area i) 1) (front g n c ++ front g (other n) c) (front g n c)) ∙ grown_by n (eqb (chain g n a) 1) is_area is
+
+    run_more : (laid : Bool) (x : Option S) (rs : List (List ℕ)) → cond laid (run read apply is_header x (rs ++ more)) None ≡ run read apply is_header (cond laid (run read apply is_header x rs) None) more
+    run_more true x rs = run-append x rs more
+    run_more false x rs = refl
+
+    grown_as : (n : ℕ) → n < 2 → current_of g n a ≡ h → stands_as read apply is_header g n c ≡ run read apply is_header (stands_as read apply is_header g n a) more
+    grown_as n is_area is =
+        (λ i. cond (grown_laid i) (run read apply is_header (read (has.same.others (image n) (λ same. omega (arith, same)) i)) (grown_force n is_area is i)) None)
+        ∙ run_more (is_laid_out read apply is_header g a) (read (part g (image n) a)) (in_force g n a)
+
+    same_named : named_area g c ≡ named_area g a
+    same_named = ap (λ (l : List ℕ). cond (eqb (get_or l 0 0) 1) 1 0) (has.same.others root (λ is. omega (arith, is)))
+
+    -- They are run on what the device stood for, if half h was the current one, which it stays.
+    pub more_stands : current g a ≡ h → (stands read apply is_header g c ≡ run read apply is_header (stands read apply is_header g a) more) × (current g c ≡ h)
+    more_stands is =
+        let n = named_area g a in
+        let below : named_area g a < 2 = named_area-below g a in (
+          ap (λ (m : ℕ). stands_as read apply is_header g m c) same_named ∙ grown_as (named_area g a) below is,
+          ap (λ (m : ℕ). current_of g m c) same_named ∙ ap (λ (x : ℕ). cond (eqb x 1) (other (named_area g a)) (named_area g a)) (same_chain (named_area g a) below) ∙ is,
+        )

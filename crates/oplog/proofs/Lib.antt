@@ -1,0 +1,16 @@
+pub mod AfterCrash
+mod Answered
+mod Batch
+mod BatchMoments
+pub mod Batches
+mod Gates
+mod InHalf
+pub mod Kept
+mod OneStore
+mod Placed
+pub mod Reading
+pub mod Ready
+pub mod RecordRows
+mod Rows
+pub mod Slices
+mod Staged

@@ -1,0 +1,93 @@
+-- What one write with its sync does to a half's gates or to the root zone.
+use Rattle.std.proofs.Common.{◌≡◌, ℕ, zero, suc, ◌+◌, ◌-◌, ◌<◌, ◌≤◌, cond, eqb, List, [], ◌∷◌, length, take, drop, get_or, replicate, refl, sym, ◌∙◌, ap, subst, arith}
+use Rattle.std.proofs.lemmas.List.{length-replicate, take-take, drop-take, drop-replicate, get_or-take, get_or-drop, get_or-replicate}
+use Rattle.disk.specs.Device.{Medium, SameOutside}
+use Rattle.disk.specs.Moments.{LeavesOnly}
+use Rattle.disk.proofs.Leaves.{calm_range}
+use Rattle.disk.proofs.Moments.{weaker}
+use Rattle.disk.proofs.Outside.{same_drop}
+use Rattle.disk.proofs.Overlays.{overlaid_outside, range-overlaid, length-overlaid, item-overlaid}
+use Rattle.oplog.specs.Layout.{Layout, slice, part, part_at, part_size, half, root, device_size}
+use Rattle.oplog.specs.Front.{open_gates, gates}
+use Rattle.oplog.specs.Changes.{IsSameButGates, IsSameButRoot, After, Cleared, Flipped}
+use Rattle.oplog.specs.Store.{Stored}
+use Rattle.oplog.proofs.Slices.{within, same_but, half_sized, half_inside}
+use Rattle.oplog.proofs.Gates.{open_none}
+
+-- what a write changes at most
+changed : (w0 w1 : Medium) (at : ℕ) (bytes : List ℕ) → Stored at bytes w0 w1 → SameOutside at (length bytes) w0.now w1.now
+changed w0 w1 at bytes stored = subst (λ (l : List ℕ). SameOutside at (length bytes) w0.now l) (sym stored.now) (overlaid_outside w0.now at bytes)
+
+-- ---- zeros over what lies before the records of half h
+module _ (g : Layout) (h at : ℕ) (bytes : List ℕ) (is_half : h < 2) (place : at ≡ part_at g (half h)) (are : bytes ≡ replicate (64 + g.slots) 0) where
+  few : length bytes ≡ 64 + g.slots
+  few = ap length are ∙ length-replicate (64 + g.slots) 0
+
+  gates_alone : (old c : List ℕ) → SameOutside at (length bytes) old c → IsSameButGates g h old c
+  gates_alone old c same =
+      let at0 : at ≡ part_at g (half h) + 0 = omega (arith, place) in
+      let same' = subst (λ (a : ℕ). SameOutside a (length bytes) old c) at0 same in
+      let room : 0 + length bytes ≤ part_size g (half h) = omega (arith, few, half_sized g h is_half) in
+      record {
+        same = same_but g (half h) 0 (length bytes) at old c (omega (arith, is_half)) at0 room same;
+        records = same_drop 0 (length bytes) (part g (half h) old) (part g (half h) c) (within (part_at g (half h)) (part_size g (half h)) 0 (length bytes) old c room same') (64 + g.slots) (omega (arith, few));
+      }
+
+  pub clear_moments : (w0 w1 : Medium) → LeavesOnly w0 w1 (After w0 (SameOutside {X = ℕ} at (length bytes))) → LeavesOnly w0 w1 (After w0 (IsSameButGates g h))
+  clear_moments w0 w1 moments = weaker w0 w1 _ _ moments (λ c after. record { old = after.old; left = after.left; change = gates_alone after.old c after.change })
+
+  module _ (w0 w1 : Medium) (fits : device_size g ≤ length w0.now) (stored : Stored at bytes w0 w1) where
+    zeros : take (64 + g.slots) (part g (half h) w1.now) ≡ replicate (64 + g.slots) 0
+    zeros =
+        take-take (64 + g.slots) (part_size g (half h)) (drop (part_at g (half h)) w1.now) (omega (arith, half_sized g h is_half))
+        ∙ ap (λ (a : ℕ). slice w1.now a (64 + g.slots)) (sym place)
+        ∙ ap (λ (n : ℕ). slice w1.now at n) (sym few)
+        ∙ ap (λ (l : List ℕ). slice l at (length bytes)) stored.now
+        ∙ range-overlaid w0.now at bytes (omega (arith, place, few, fits, half_inside g h is_half))
+        ∙ are
+
+    shut : gates g h w1.now ≡ replicate g.slots 0
+    shut =
+        let count : 64 + g.slots - 64 ≡ g.slots = omega arith in
+        sym (drop-take 64 g.slots (part g (half h) w1.now)) ∙ ap (λ (l : List ℕ). drop 64 l) zeros ∙ drop-replicate 64 (64 + g.slots) 0 ∙ ap (λ (n : ℕ). replicate n 0) count
+
+    long : length w1.now ≡ length w0.now
+    long = ap length stored.now ∙ length-overlaid w0.now at bytes
+
+    pub cleared : Cleared g h w0 w1
+    cleared = record {
+      same = gates_alone w0.now w1.now (changed w0 w1 at bytes stored);
+      zeros = zeros;
+      chain = sym (get_or-take (64 + g.slots) (part g (half h) w1.now) 0 0 (omega arith)) ∙ ap (λ (l : List ℕ). get_or l 0 0) zeros ∙ get_or-replicate (64 + g.slots) 0 0 0 (omega arith);
+      ready = record {
+        used = ap open_gates shut ∙ open_none g.slots;
+        shut = let all : g.slots ≡ g.slots - 0 = omega arith in shut ∙ ap (λ (n : ℕ). replicate n 0) all;
+        calm = calm_range (part_at g (half h)) (part_size g (half h)) w1 stored.calm (omega (arith, long, fits, half_sized g h is_half, half_inside g h is_half));
+      };
+      calm = stored.calm;
+    }
+
+-- ---- the first byte of the root zone
+module _ (g : Layout) (n : ℕ) where
+  root_alone : (old c : List ℕ) → SameOutside 64 1 old c → IsSameButRoot g old c
+  root_alone old c same = record {
+    same = same_but g root 0 1 64 old c (omega arith) refl (omega arith) same;
+    beside = same_drop 0 1 (part g root old) (part g root c) (within 64 64 0 1 old c (omega arith) same) 1 (omega arith);
+  }
+
+  pub root_moments : (w0 w1 : Medium) → LeavesOnly w0 w1 (After w0 (SameOutside {X = ℕ} 64 1)) → LeavesOnly w0 w1 (After w0 (IsSameButRoot g))
+  root_moments w0 w1 moments = weaker w0 w1 _ _ moments (λ c after. record { old = after.old; left = after.left; change = root_alone after.old c after.change })
+
+  named_by : (n b : ℕ) → n < 2 → b ≡ n → ◌≡◌ {A = ℕ} (cond (eqb b 1) 1 0) n
+  named_by zero b is_area is = ap (λ (m : ℕ). cond (eqb m 1) 1 0) is
+  named_by (suc zero) b is_area is = ap (λ (m : ℕ). cond (eqb m 1) 1 0) is
+  named_by (suc (suc n)) b is_area is = absurd (omega (arith, is_area))
+
+  pub named : (w0 w1 : Medium) → n < 2 → device_size g ≤ length w0.now → Stored 64 (n ∷ []) w0 w1 → Flipped g n w0 w1
+  named w0 w1 is_area fits stored = record {
+    same = root_alone w0.now w1.now (changed w0 w1 64 (n ∷ []) stored);
+    named = named_by n (get_or (part g root w1.now) 0 0) is_area
+        (get_or-take 64 (drop 64 w1.now) 0 0 (omega arith) ∙ get_or-drop 64 w1.now 0 0
+        ∙ ap (λ (l : List ℕ). get_or l 64 0) stored.now ∙ item-overlaid w0.now 64 n 0 [] (omega (arith, fits)));
+    calm = stored.calm;
+  }

@@ -1,0 +1,29 @@
+-- A half stays ready while other parts of the device change, and a cleared one is ready when it is named.
+use Rattle.std.proofs.Common.{◌≡◌, ◌≢◌, ◌<◌, ◌≤◌, ℕ, Bool, true, false, cond, List, length, drop, sym, ◌∙◌, ap, subst, arith}
+use Rattle.std.proofs.lemmas.Bool.{eq-eqb}
+use Rattle.disk.specs.Device.{Medium, IsCalm}
+use Rattle.disk.proofs.Leaves.{calm_range}
+use Rattle.oplog.specs.Layout.{Layout, layout_of, part_at, part_size, half, root, other, device_size}
+use Rattle.oplog.specs.Front.{open_gates, gates_in}
+use Rattle.oplog.specs.Changes.{IsSameBut, IsReady, Cleared, Flipped}
+use Rattle.oplog.specs.Log.{Log, flipped}
+use Rattle.oplog.proofs.Slices.{half_sized, half_inside}
+
+pub ready_kept : (g : Layout) (h k p : ℕ) (w w' : Medium) → h < 2 → half h ≢ p → device_size g ≤ length w'.now → IsReady g h k w → IsSameBut g p w.now w'.now → IsCalm w' → IsReady g h k w'
+ready_kept g h k p w w' is_half apart fits ready same calm =
+    let kept = same.others (half h) apart in
+    record {
+      used = ap (λ (l : List ℕ). open_gates (gates_in g.slots l)) kept ∙ ready.used;
+      shut = ap (λ (l : List ℕ). drop k (gates_in g.slots l)) kept ∙ ready.shut;
+      calm = calm_range (part_at g (half h)) (part_size g (half h)) w' calm (omega (arith, fits, half_sized g h is_half, half_inside g h is_half));
+    }
+
+-- The current half was the named one, the other was cleared, and then it was named.
+pub ready_named : (log cleared named : Log) (w0 w1 w2 : Medium) → log.current ≡ log.named → cleared ≡ record log { cleared = true } → named ≡ flipped cleared → device_size (layout_of log.geometry) ≤ length w2.now → Cleared (layout_of log.geometry) (other log.named) w0 w1 → Flipped (layout_of cleared.geometry) (other cleared.named) w1 w2 → IsReady (layout_of named.geometry) named.current named.used w2
+ready_named log cleared named w0 w1 w2 together first second fits clear flip =
+    let follows : flipped (record log { cleared = true }) ≡ record log { named = other log.named; current = other log.named; used = 0; cleared = false } =
+    ap (λ (t : Bool). cond t (record log { named = other log.named; current = other log.named; used = 0; cleared = false }) (record log { named = other log.named; cleared = false })) (eq-eqb log.current log.named together) in
+    let is : named ≡ record log { named = other log.named; current = other log.named; used = 0; cleared = false } = second ∙ ap flipped first ∙ follows in
+    let flip' : Flipped (layout_of log.geometry) (other log.named) w1 w2 = subst (λ (x : Log). Flipped (layout_of x.geometry) (other x.named) w1 w2) first flip in
+    subst (λ (x : Log). IsReady (layout_of x.geometry) x.current x.used w2) (sym is)
+    (ready_kept (layout_of log.geometry) (other log.named) 0 root w1 w2 (omega arith) (λ same. omega (arith, same)) fits clear.ready flip'.same.same flip'.calm)

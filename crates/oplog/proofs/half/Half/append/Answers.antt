@@ -1,0 +1,35 @@
+use Rattle.std.proofs.Common.{◌≡◌, ℕ, ◌+◌, ◌-◌, take, subst, arith, refl}
+use Rattle.std.proofs.lemmas.Grind.{common_steps}
+use Rattle.oplog.specs.Layout.{layout_of}
+use Rattle.oplog.specs.Logged.{records_of}
+use Rattle.oplog.proofs.Batches.{SoFar, begun, messages_moments, messages_more}
+use Rattle.oplog.proofs.half.Half.append.Goals as goal
+
+pub loop-done-init : goal.loop-done-init
+loop-done-init g c = record {
+  inside = omega arith;
+  none = λ _. refl;
+  buffer = refl;
+  len = refl;
+  faults = refl;
+  so_far = λ k. begun (layout_of c.args.self.geometry) c.args.self.number c.args.used (records_of c.args.messages.now) (g.D.Disk.medium c.args.disk.now) (c.requires.ready k);
+}
+
+pub returns-in_err-append_batch-clause-any_moment : goal.returns-in_err-append_batch-clause-any_moment
+returns-in_err-append_batch-clause-any_moment g c = λ k.
+    messages_moments (layout_of c.args.self.geometry) c.args.self.number c.args.used c.loop-done.done (c.min-end.result - c.loop-done.done) c.args.messages.now (omega arith)
+    (g.D.Disk.medium c.args.disk.now) (g.D.Disk.medium c.loop-done.disk) (g.D.Disk.medium c.append_batch.new.disk) (c.loop-done.invariant.so_far k) (c.append_batch.ensures.any_moment k)
+
+pub loop-done-preserved : goal.loop-done-preserved
+loop-done-preserved g c = record {
+  inside = grind (arith, common_steps);
+  none = λ empty. absurd (omega (arith, empty));
+  buffer = grind (arith, common_steps);
+  len = grind (arith, common_steps);
+  faults = grind (arith, common_steps);
+  so_far = λ k.
+      let end : c.loop-done.done + (c.min-end.result - c.loop-done.done) ≡ c.min-end.result = omega arith in
+      subst (λ (j : ℕ). SoFar (layout_of c.args.self.geometry) c.args.self.number c.args.used (records_of (take j c.args.messages.now)) (records_of c.args.messages.now) (g.D.Disk.medium c.args.disk.now) (g.D.Disk.medium c.append_batch.new.disk)) end
+      (messages_more (layout_of c.args.self.geometry) c.args.self.number c.args.used c.loop-done.done (c.min-end.result - c.loop-done.done) c.args.messages.now (omega arith)
+      (g.D.Disk.medium c.args.disk.now) (g.D.Disk.medium c.loop-done.disk) (g.D.Disk.medium c.append_batch.new.disk) (c.loop-done.invariant.so_far k) (c.append_batch.ensures.any_moment k) (c.in_ok-append_batch.ensures.added k));
+}

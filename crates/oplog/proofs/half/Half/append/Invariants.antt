@@ -1,0 +1,18 @@
+use Rattle.std.proofs.Common.{◌≡◌, ◌≤◌, ◌-◌, length, take, vec_len}
+use Rattle.oplog.specs.Layout.{layout_of}
+use Rattle.oplog.specs.Logged.{records_of}
+use Rattle.oplog.proofs.Batches.{SoFar}
+use Rattle.oplog.proofs.half.Half.append.Given as goal
+
+abbrev pub invariant-loop-done : goal.invariant-loop-done
+invariant-loop-done g l = record {
+  inside : l.done ≤ length l.messages;
+  none : length l.messages ≡ 0 → l.disk ≡ l.initial.disk;
+  buffer : vec_len l.buffer ≡ vec_len l.initial.buffer;
+  len : length (g.D.Disk.medium l.disk).now ≡ length (g.D.Disk.medium l.initial.disk).now;
+  faults : (g.D.Disk.medium l.disk).faults ≡ (g.D.Disk.medium l.initial.disk).faults;
+  so_far : g.D.Disk.keeps → SoFar (layout_of l.self.geometry) l.self.number l.used (records_of (take l.done l.messages)) (records_of l.messages) (g.D.Disk.medium l.initial.disk) (g.D.Disk.medium l.disk);
+}
+
+abbrev pub decreases-loop-done : goal.decreases-loop-done
+decreases-loop-done g l = length l.messages - l.done

@@ -1,0 +1,79 @@
+-- How the calls of a log change the bytes of a device, and what a crash leaves while they do.
+use Rattle.std.specs.Prelude.{◌≡◌, ◌≢◌, ◌≤◌, ℕ, ◌+◌, false, List, ◌++◌, length, take, drop, replicate}
+use Rattle.disk.specs.Device.{Medium, Leaves, IsCalm}
+use Rattle.oplog.specs.Layout.{Layout, slice, root, half, part, part_at, part_size, device_size}
+use Rattle.oplog.specs.Stands.{named_area}
+use Rattle.oplog.specs.Front.{chain, gates, front, open_gates, IsShutBehind}
+
+-- ---- from the bytes old to the bytes c
+
+-- No other part differs, nor what lies behind the parts.
+pub record IsSameBut (g : Layout) (p : ℕ) (old c : List ℕ) : Type 0 where
+  pub size : length c ≡ length old
+  pub others : (q : ℕ) → q ≢ p → part g q c ≡ part g q old
+  pub rest : drop (device_size g) c ≡ drop (device_size g) old
+
+-- Only gates and records of half h differ, and these records stand behind its front.
+pub record HasMore (g : Layout) (h : ℕ) (more : List (List ℕ)) (old c : List ℕ) : Type 0 where
+  pub same : IsSameBut g (half h) old c
+  -- its chain byte and the bytes beside it
+  pub area : take 64 (part g (half h) c) ≡ take 64 (part g (half h) old)
+  pub front : front g h c ≡ front g h old ++ more
+
+-- Only the chain byte of half h, the bytes beside it, and its gates differ: its records stay.
+pub record IsSameButGates (g : Layout) (h : ℕ) (old c : List ℕ) : Type 0 where
+  pub same : IsSameBut g (half h) old c
+  pub records : drop (64 + g.slots) (part g (half h) c) ≡ drop (64 + g.slots) (part g (half h) old)
+
+-- Only the first byte of the root zone differs.
+pub record IsSameButRoot (g : Layout) (old c : List ℕ) : Type 0 where
+  pub same : IsSameBut g root old c
+  pub beside : drop 1 (part g root c) ≡ drop 1 (part g root old)
+
+-- ---- what a crash leaves
+
+-- This is what a crash before might have left, changed in this way.
+pub record After (before : Medium) (Change : List ℕ → List ℕ → Type 0) (c : List ℕ) : Type 0 where
+  pub old : List ℕ
+  pub left : Leaves before old
+  pub change : Change old c
+
+-- This is what a crash before might have left, with the first so many of these records added to half h.
+pub record Grew (g : Layout) (h : ℕ) (more : List (List ℕ)) (before : Medium) (c : List ℕ) : Type 0 where
+  pub added : ℕ
+  pub at_most : added ≤ length more
+  pub has : After before (HasMore g h (take added more)) c
+
+-- ---- of a device
+
+-- nothing is loose in this part
+abbrev pub IsCalmIn : Layout → ℕ → Medium → Type 0
+IsCalmIn g p m = slice m.loose (part_at g p) (part_size g p) ≡ replicate (part_size g p) false
+
+-- Half h has k records in its front and gates 0 behind them, and nothing in it is loose.
+pub record IsReady (g : Layout) (h k : ℕ) (m : Medium) : Type 0 where
+  pub used : open_gates (gates g h m.now) ≡ k
+  pub shut : IsShutBehind g h k m.now
+  pub calm : IsCalmIn g (half h) m
+
+-- All of these records were added to half h, behind k others, and none of them is loose.
+pub record HasAll (g : Layout) (h k : ℕ) (more : List (List ℕ)) (old new : Medium) : Type 0 where
+  pub has : HasMore g h more old.now new.now
+  pub ready : IsReady g h (k + length more) new
+  pub left : (c : List ℕ) → Leaves new c → After old (HasMore g h more) c
+  -- nor is anything else, if nothing was
+  pub calm : IsCalm old → IsCalm new
+
+-- The chain byte of half h, the bytes beside it and its gates are 0, and nothing is loose.
+pub record Cleared (g : Layout) (h : ℕ) (old new : Medium) : Type 0 where
+  pub same : IsSameButGates g h old.now new.now
+  pub zeros : take (64 + g.slots) (part g (half h) new.now) ≡ replicate (64 + g.slots) 0
+  pub chain : chain g h new.now ≡ 0
+  pub ready : IsReady g h 0 new
+  pub calm : IsCalm new
+
+-- The root zone names area n, and nothing is loose.
+pub record Flipped (g : Layout) (n : ℕ) (old new : Medium) : Type 0 where
+  pub same : IsSameButRoot g old.now new.now
+  pub named : named_area g new.now ≡ n
+  pub calm : IsCalm new

@@ -1,0 +1,65 @@
+-- A device is six parts in a row: header, root zone, half 0, half 1, image 0, image 1.
+use Rattle.std.specs.Prelude.{ℕ, zero, suc, ◌+◌, ◌-◌, ◌*◌, List, [], ◌∷◌, take, drop, get_or}
+use Rattle.affinity.specs.declared.sizes.Geometry.{Geometry}
+
+-- how many records a half holds, and how many bytes an image has
+pub record Layout : Type 0 where
+  pub slots : ℕ
+  pub image : ℕ
+
+-- n items from a place on
+abbrev pub slice : {X : Type 0} → List X → ℕ → ℕ → List X
+slice xs at n = take n (drop at xs)
+
+-- a chain byte with 63 bytes beside it, a gate for each record, the records
+abbrev pub half_size : ℕ → ℕ
+half_size slots = 64 + (slots + slots * 520)
+
+-- a head, and for each volume a piece of its own and one for each stripe
+unfoldable pub image_size : Geometry → ℕ
+image_size g = 64 + g.aggregates * g.volumes * (64 + g.stripes * (g.quota * 520))
+
+abbrev pub layout_of : Geometry → Layout
+layout_of g = record { slots = g.half; image = image_size g }
+
+-- how many bytes each part has
+abbrev pub sizes : Layout → List ℕ
+sizes g = 64 ∷ 64 ∷ half_size g.slots ∷ half_size g.slots ∷ g.image ∷ g.image ∷ []
+
+-- where the parts of these sizes begin, when they lie in a row
+abbrev pub offset : List ℕ → ℕ → ℕ
+offset [] k = 0
+offset (s ∷ ss) zero = 0
+offset (s ∷ ss) (suc k) = s + offset ss k
+
+abbrev pub part_at : Layout → ℕ → ℕ
+part_at g k = offset (sizes g) k
+
+abbrev pub part_size : Layout → ℕ → ℕ
+part_size g k = get_or (sizes g) k 0
+
+-- the bytes of a part
+abbrev pub part : Layout → ℕ → List ℕ → List ℕ
+part g k c = slice c (part_at g k) (part_size g k)
+
+-- how many bytes all parts have
+abbrev pub device_size : Layout → ℕ
+device_size g = part_at g 6
+
+-- ---- the numbers of the parts
+
+abbrev pub header : ℕ
+header = 0
+
+abbrev pub root : ℕ
+root = 1
+
+abbrev pub half : ℕ → ℕ
+half h = 2 + h
+
+abbrev pub image : ℕ → ℕ
+image i = 4 + i
+
+-- the other one of 0 and 1
+abbrev pub other : ℕ → ℕ
+other h = 1 - h

@@ -1,0 +1,80 @@
+-- A log as contracts see it, and what its calls make of it and answer.
+use Rattle.std.specs.Prelude.{◌≡◌, ◌≢◌, ℕ, ◌+◌, Bool, true, false, ◌&&◌, ◌==◌, if◌then◌else◌, List, Result, Ok, Err}
+use Rattle.affinity.specs.declared.sizes.Geometry.{Geometry}
+use Rattle.message.specs.declared.Msg.{Msg}
+use Rattle.message.specs.Messages.{IsMessage}
+use Rattle.message.specs.Records.{record_of}
+use Rattle.oplog.specs.declared.fault.LogFault.{LogFault}
+use Rattle.oplog.specs.declared.fault.LogFault.TheVariants.{Device, BadRecord}
+use Rattle.oplog.specs.declared.halves.Halves.{Halves}
+use Rattle.oplog.specs.Layout.{other}
+use Rattle.oplog.specs.Logged.{IsLogged}
+
+pub record Log : Type 0 where
+  pub geometry : Geometry
+  -- the half that the root zone names
+  pub named : ℕ
+  -- the half that records are appended to, and how many it has
+  pub current : ℕ
+  pub used : ℕ
+  -- whether the half that isn't named was cleared since it was last named or current
+  pub cleared : Bool
+  -- whether the device has failed in a call
+  pub failed : Bool
+
+abbrev pub log_of : Halves → Log
+log_of h = record { geometry = h.geometry; named = h.named; current = h.current; used = h.used; cleared = h.cleared; failed = h.failed }
+
+-- a log of which nothing is known: half 0 is named and current, and there is no room
+abbrev pub new_log : Geometry → Log
+new_log g = record { geometry = g; named = 0; current = 0; used = g.half; cleared = false; failed = false }
+
+-- with this half named and current, and no room
+abbrev pub renamed : ℕ → Log → Log
+renamed h log = record log {
+  named = h;
+  current = h;
+  used = log.geometry.half;
+  cleared = log.cleared && (h == log.named) && (log.current == log.named);
+}
+
+-- With the other half named. If the current half was the named one, it follows, and has room if it was cleared.
+abbrev pub flipped : Log → Log
+flipped log =
+    if log.current == log.named then record log {
+      named = other log.named;
+      current = other log.named;
+      used = if log.cleared then 0 else log.geometry.half;
+      cleared = false;
+    }
+    else record log { named = other log.named; cleared = false }
+
+-- after a call with this answer: at `Ok` as given
+abbrev pub after : {T : Type 0} → Result T LogFault → Log → Log → Log
+after (Ok _) log done = done
+after (Err Device) log done = record log { failed = true }
+after (Err (BadRecord h i)) log done = log
+
+-- A call adds one to the count of failures exactly where it answers `Device`.
+abbrev pub Counts : {T : Type 0} → Result T LogFault → ℕ → ℕ → Type 0
+Counts (Ok _) old new = new ≡ old
+Counts (Err Device) old new = new ≡ old + 1
+Counts (Err (BadRecord h i)) old new = new ≡ old
+
+-- The answer isn't that a record is bad.
+abbrev pub IsNotBad : {T : Type 0} → Result T LogFault → Type 0
+IsNotBad (Ok _) = Unit {0}
+IsNotBad (Err Device) = Unit {0}
+IsNotBad (Err (BadRecord h i)) = ⊥
+
+-- the answer to a call for record i of half h, where these are its bytes
+abbrev pub IsOfRecord : Geometry → ℕ → ℕ → List ℕ → Result Msg LogFault → Type 0
+IsOfRecord g h i bytes (Ok m) = bytes ≡ record_of m
+IsOfRecord g h i bytes (Err Device) = Unit {0}
+IsOfRecord g h i bytes (Err (BadRecord a b)) = (m : Msg) → IsMessage m → IsLogged g m → bytes ≢ record_of m
+
+-- A bad record is told by its half and its number there.
+abbrev pub IsAbout : ℕ → ℕ → Result Msg LogFault → Type 0
+IsAbout h i (Ok m) = Unit {0}
+IsAbout h i (Err Device) = Unit {0}
+IsAbout h i (Err (BadRecord a b)) = (a ≡ h) × (b ≡ i)

@@ -1,0 +1,8 @@
+/// What a call of a log answers where it could not do what it was asked.
+#[derive(Clone, Copy, Debug, PartialEq, Eq)]
+pub enum LogFault {
+    /// The device failed during the call.
+    Device,
+    /// The bytes of this record, told by its half and its number there, are no changing message in range.
+    BadRecord(usize, usize),
+}

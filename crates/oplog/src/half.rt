@@ -1,0 +1,168 @@
+//! One half of a log: where its parts lie, and how records are added to it.
+ghost use Rattle.std.specs.Prelude.{◌≡◌, ◌+◌, ◌*◌, ◌<◌, ◌≤◌, length, IfOk, OnOk, IsErrOf, min, replicate, vec_len};
+ghost use Rattle.disk.specs.Device.{Counts, moments};
+ghost use Rattle.disk.specs.Moments.{LeavesOnly};
+ghost use Rattle.oplog.specs.Changes.{Grew, HasAll, IsReady};
+ghost use Rattle.oplog.specs.Front.{front, open_gates};
+ghost use Rattle.oplog.specs.Layout.{layout_of, part_at, device_size, half};
+ghost use Rattle.oplog.specs.Logged.{records_of, AreLogged};
+
+use crate::staging::{RECORD_SIZE, stage};
+use crate::store::store;
+use affinity::Geometry;
+use disk::{Disk, DiskFault};
+use message::Msg;
+
+/// How many records a half can hold, at most.
+pub(crate) const MOST_RECORDS: usize = 1024;
+
+/// How many records are written at a time.
+const BATCH: usize = 64;
+
+const OPEN_GATES: [u8; BATCH] = [1; BATCH];
+
+/// What lies before the records of a half, at most.
+const LARGEST_FRONT: usize = 64 + MOST_RECORDS;
+
+const ZEROS: [u8; LARGEST_FRONT] = [0; LARGEST_FRONT];
+
+/// So many zeros.
+pub(crate) fn zeros(count: usize) -> &'static [u8]
+    requires { count ≤ 1088 }
+    ensures { result.now ≡ replicate count 0 }
+{
+    &ZEROS[..count]
+}
+
+// So many open gates.
+fn ones(count: usize) -> &'static [u8]
+    requires { count ≤ 64 }
+    ensures { result.now ≡ replicate count 1 }
+{
+    &OPEN_GATES[..count]
+}
+
+/// A half of a log, by its number and the geometry of the device.
+#[derive(Clone, Copy)]
+pub(crate) struct Half {
+    pub geometry: Geometry,
+    pub number: usize,
+    ghost number_range: { number < 2 },
+}
+
+impl Half {
+    /// How many records it can hold.
+    pub(crate) fn slots(self) -> usize
+        ensures { result ≡ self.geometry.half }
+    {
+        usize::from(self.geometry.half)
+    }
+
+    /// Where its chain byte lies on the device.
+    pub(crate) fn start(self) -> u64
+        ensures { result ≡ part_at (layout_of self.geometry) (half self.number) }
+    {
+        let slots = u64::from(self.geometry.half);
+        if self.number == 0 {
+            128
+        } else {
+            192 + slots + slots * 520
+        }
+    }
+
+    /// Where this gate lies.
+    pub(crate) fn gate_at(self, i: usize) -> u64
+        requires { i ≤ self.geometry.half }
+        ensures { result ≡ part_at (layout_of self.geometry) (half self.number) + (64 + i) }
+    {
+        self.start() + (64 + i as u64)
+    }
+
+    /// Where this record lies.
+    pub(crate) fn record_at(self, i: usize) -> u64
+        requires { i ≤ self.geometry.half }
+        ensures { result ≡ part_at (layout_of self.geometry) (half self.number) + (64 + self.geometry.half + i * 520) }
+    {
+        self.start() + (64 + self.slots() as u64 + i as u64 * 520)
+    }
+
+    // The bodies, a sync, the gates, a sync.
+    fn append_batch<D: Disk>(
+        self,
+        disk: &mut D,
+        used: usize,
+        messages: &[Msg],
+        buffer: &mut Vec<u8>,
+    ) -> Result<(), DiskFault>
+        requires logged { AreLogged self.geometry messages.now }
+        requires batch { length messages.now ≤ 64 }
+        requires room { used + length messages.now ≤ self.geometry.half }
+        requires buffer { length messages.now * 520 ≤ vec_len buffer.old }
+        requires whole { device_size (layout_of self.geometry) ≤ length (D.medium disk.old).now }
+        requires ready { D.keeps → IsReady (layout_of self.geometry) self.number used (D.medium disk.old) }
+        ensures any_moment { D.keeps → LeavesOnly (D.medium disk.old) (D.medium disk.new) (Grew (layout_of self.geometry) self.number (records_of messages.now) (D.medium disk.old)) }
+        ensures added { OnOk result (D.keeps → HasAll (layout_of self.geometry) self.number used (records_of messages.now) (D.medium disk.old) (D.medium disk.new)) }
+        ensures buffer { vec_len buffer.new ≡ vec_len buffer.old }
+        ensures inside { IsErrOf result DiskFault.OutOfRange → ⊥ }
+        ensures counts { Counts result (D.medium disk.old).faults (D.medium disk.new).faults }
+        ensures len { length (D.medium disk.new).now ≡ length (D.medium disk.old).now }
+    {
+        let size = messages.len() * RECORD_SIZE;
+        stage(&self.geometry, messages, buffer);
+        store(disk, self.record_at(used), &buffer.as_slice()[..size])?;
+        store(disk, self.gate_at(used), ones(messages.len()))?;
+        Ok(())
+    }
+
+    /// Adds these messages behind the records in use, as many at a time as the buffer holds.
+    pub(crate) fn append<D: Disk>(
+        self,
+        disk: &mut D,
+        used: usize,
+        messages: &[Msg],
+        buffer: &mut Vec<u8>,
+    ) -> Result<(), DiskFault>
+        requires logged { AreLogged self.geometry messages.now }
+        requires room { used + length messages.now ≤ self.geometry.half }
+        requires buffer { min self.geometry.half 64 * 520 ≤ vec_len buffer.old }
+        requires whole { device_size (layout_of self.geometry) ≤ length (D.medium disk.old).now }
+        requires ready { D.keeps → IsReady (layout_of self.geometry) self.number used (D.medium disk.old) }
+        ensures any_moment { D.keeps → LeavesOnly (D.medium disk.old) (D.medium disk.new) (Grew (layout_of self.geometry) self.number (records_of messages.now) (D.medium disk.old)) }
+        ensures added { OnOk result (D.keeps → HasAll (layout_of self.geometry) self.number used (records_of messages.now) (D.medium disk.old) (D.medium disk.new)) }
+        ensures none { length messages.now ≡ 0 → disk.new ≡ disk.old }
+        ensures buffer { vec_len buffer.new ≡ vec_len buffer.old }
+        ensures inside { IsErrOf result DiskFault.OutOfRange → ⊥ }
+        ensures counts { Counts result (D.medium disk.old).faults (D.medium disk.new).faults }
+        ensures len { length (D.medium disk.new).now ≡ length (D.medium disk.old).now }
+    {
+        let mut done = 0;
+        while done < messages.len() {
+            let end = messages.len().min(done + BATCH);
+            self.append_batch(disk, used + done, &messages[done..end], buffer)?;
+            done = end;
+        }
+        Ok(())
+    }
+
+    /// How many records its open front has. The gates are read into `gates`.
+    pub(crate) fn front<D: Disk>(self, disk: &mut D, gates: &mut [u8]) -> Result<usize, DiskFault>
+        requires size { length gates.old ≡ self.geometry.half }
+        requires whole { device_size (layout_of self.geometry) ≤ length (D.medium disk.old).now }
+        ensures front { IfOk result (λ n. D.keeps → n ≡ length (front (layout_of self.geometry) self.number (D.medium disk.old).now)) }
+        ensures within { IfOk result (λ n. n ≤ self.geometry.half) }
+        ensures untouched { D.keeps → moments (D.medium disk.new) ≡ moments (D.medium disk.old) }
+        ensures inside { IsErrOf result DiskFault.OutOfRange → ⊥ }
+        ensures counts { Counts result (D.medium disk.old).faults (D.medium disk.new).faults }
+        ensures len { length (D.medium disk.new).now ≡ length (D.medium disk.old).now }
+    {
+        disk.read_at(self.gate_at(0), gates)?;
+        Ok(count_open(gates))
+    }
+}
+
+// How many of these are 1 before the first that isn't.
+fn count_open(gates: &[u8]) -> usize
+    ensures { result ≡ open_gates gates.now }
+{
+    gates.iter().take_while(|gate| **gate == 1).count()
+}

@@ -1,0 +1,17 @@
+//! The log of messages on a device: two halves, each with a gate for every record. The records before the first gate
+//! that isn't open are in force.
+//!
+//! `Halves` writes them so that a crash at any moment leaves each front whole, with records at its end or without.
+#![tactic(auto)]
+
+mod fault;
+mod half;
+mod halves;
+mod staging;
+mod store;
+
+pub use fault::LogFault;
+pub use halves::Halves;
+
+#[cfg(test)]
+mod tests;
