@@ -1,0 +1,123 @@
+-- What a level's code does to one child, as a change of the level's nodes.
+use Rattle.std.proofs.Common.{◌≡◌, ℕ, zero, suc, ◌+◌, ◌<◌, true, false, List, [], ◌∷◌, ◌++◌, length, Option, refl, sym, ap, subst, ◌∙◌, arith}
+use Rattle.std.specs.Prelude.{None, Some, is_some, IfSome, IfNone, IfErr, OnOk, slice_index_or, slice_set, Result, Ok, Err}
+use Rattle.std.proofs.lemmas.List.{nil_from_length, length-set, get_or_read}
+use Rattle.affinity.specs.Path.{Path, are_related}
+use Rattle.affinity.specs.declared.sizes.Geometry.{Geometry}
+use Rattle.parcel.specs.Fits.{EachFits, Fits, IsKindOf}
+use Rattle.parcel.specs.Levels.{IsLeafPath, IsRowPath, IsLogicalPath, IsVolumePath, IsRefused, IsTaken, IsPut, IsHandedBack}
+use Rattle.parcel.specs.Nodes.{Node, Nodes, in_child, in_row, in_volume, in_logical, in_label, in_parcels, IsSame, IsTakenOut, IsPutBack}
+use Rattle.parcel.specs.Tree.{IsOut}
+use Rattle.parcel.specs.declared.parts.Label.{Label}
+use Rattle.parcel.specs.declared.parts.Logical.{Logical}
+use Rattle.parcel.specs.declared.parts.Vol.{Vol}
+use Rattle.parcel.specs.declared.parts.Parcels.{Parcels}
+use Rattle.parcel.specs.declared.parts.Parcels.TheVariants as parcels
+use Rattle.parcel.proofs.Rows.{split, rest_of, each_at, each_set, related_below}
+
+-- ---- answers under a test of the result
+
+pub map_none : {X P Q : Type 0} (o : Option X) → (P → Q) → IfNone o P → IfNone o Q
+map_none None f h = f h
+map_none (Some x) f h = tt
+
+pub none_either_way : {X P : Type 0} (o : Option X) → P → IfNone o P
+none_either_way None h = h
+none_either_way (Some x) h = tt
+
+pub map_some : {X : Type 0} {P Q : X → Type 0} (o : Option X) → ((x : X) → P x → Q x) → IfSome o P → IfSome o Q
+map_some None f h = tt
+map_some (Some x) f h = f x h
+
+pub map_ok : {X E P Q R : Type 0} (r : Result X E) → (P → Q → R) → OnOk r P → OnOk r Q → OnOk r R
+map_ok (Ok x) f h k = f h k
+map_ok (Err e) f h k = tt
+
+pub map_err : {X E : Type 0} {P Q : E → Type 0} (r : Result X E) → ((e : E) → P e → Q e) → IfErr r P → IfErr r Q
+map_err (Ok x) f h = tt
+map_err (Err e) f h = f e h
+
+-- ---- a sentence about a child, and the same about its row
+
+pub no_path : (p : Path) → length p < 1 → p ≡ []
+no_path p h = nil_from_length p (omega arith)
+
+pub leaf_path : (p : Path) → IsLeafPath p → p ≡ []
+leaf_path [] h = refl
+leaf_path (x ∷ p) h = absurd h
+
+-- what a child was, by what the index gave
+pub child_read : {X : Type 0} (xs : List (Option X)) (i n : ℕ) (child : Option X) → i < n → length xs ≡ n → child ≡ slice_index_or xs i child → child ≡ slice_index_or xs i None
+child_read xs i n child below count at = get_or_read xs i child (omega arith) at None
+
+pub through : {X : Type 0} (Child Row : Path → Nodes → Nodes → Type 0) (nodes : X → Nodes) (own : Node) (xs : List (Option X)) (p : Path) (child : Option X) (old new after : Nodes)
+    → 0 < length p → old ≡ in_row nodes own xs → child ≡ slice_index_or xs (slice_index_or p 0 0) None
+    → (Child (rest_of p) (in_child nodes (slice_index_or xs (slice_index_or p 0 0) None)) new → Row (slice_index_or p 0 0 ∷ rest_of p) (in_row nodes own xs) after)
+    → Child (rest_of p) (in_child nodes child) new → Row p old after
+through Child Row nodes own xs p child old new after long was at step h =
+    let here : Child (rest_of p) (in_child nodes (slice_index_or xs (slice_index_or p 0 0) None)) new = subst (λ x. Child (rest_of p) (in_child nodes x) new) at h in
+    subst (λ q. Row q old after) (sym (split p long)) (subst (λ o. Row (slice_index_or p 0 0 ∷ rest_of p) o after) (sym was) (step here))
+
+-- ---- a volume, whose children are two
+
+pub path_from : (p : Path) (i : ℕ) → 0 < length p → slice_index_or p 0 0 ≡ i → p ≡ i ∷ rest_of p
+path_from p i long e = split p long ∙ ap (λ k. k ∷ rest_of p) e
+
+module _ (g : Geometry) (w : Vol) (y : Option Logical) where
+  abbrev after_logical : Vol
+  after_logical = record { made = w.made; sealed = w.sealed; logical = y; label = w.label }
+
+  logical_same : IsSame (in_child in_logical w.logical) (in_child in_logical y) → IsSame (in_volume w) (in_volume after_logical)
+  logical_same h [] = refl
+  logical_same h (zero ∷ q) = h q
+  logical_same h (suc zero ∷ q) = refl
+  logical_same h (suc (suc i) ∷ q) = refl
+
+  pub logical_refused : (p : Path) → IsRefused (IsLogicalPath g) p (in_child in_logical w.logical) (in_child in_logical y) → IsRefused (IsVolumePath g) (0 ∷ p) (in_volume w) (in_volume after_logical)
+  logical_refused p h = record { gap = (0 ∷ h.gap.0, h.gap.1, related_below 0 p h.gap.0 h.gap.2, h.gap.3); same = logical_same h.same }
+
+  label_same : (z : Option Label) → IsSame (in_child in_label w.label) (in_child in_label z) → IsSame (in_volume w) (in_volume (record { made = w.made; sealed = w.sealed; logical = w.logical; label = z }))
+  label_same z h [] = refl
+  label_same z h (zero ∷ q) = refl
+  label_same z h (suc zero ∷ q) = h q
+  label_same z h (suc (suc i) ∷ q) = refl
+
+  out_below : (p : Path) → IsOut (0 ∷ p) (in_volume w) → IsOut p (in_child in_logical w.logical)
+  out_below [] h = h.0
+  out_below (i ∷ p) h = h
+
+  pub logical_handed_back : (IsKind : Type 0) (p : Path) (parcels returned : Parcels) → IsHandedBack IsKind p parcels returned (in_child in_logical w.logical) (in_child in_logical y)
+      → IsHandedBack IsKind (0 ∷ p) parcels returned (in_volume w) (in_volume after_logical)
+  logical_handed_back IsKind p parcels returned h = record { back = h.back; why = λ out kind. h.why (out_below p out) kind; same = logical_same h.same }
+
+  pub label_handed_back : (z : Option Label) (IsKind : Type 0) (parcels returned : Parcels) → IsHandedBack IsKind [] parcels returned (in_child in_label w.label) (in_child in_label z)
+      → IsHandedBack IsKind (1 ∷ []) parcels returned (in_volume w) (in_volume (record { made = w.made; sealed = w.sealed; logical = w.logical; label = z }))
+  label_handed_back z IsKind parcels returned h = record { back = h.back; why = λ out kind. h.why out.0 kind; same = label_same z h.same }
+
+pub label_path : (g : Geometry) (p : Path) → 0 < length p → (slice_index_or p 0 0 ≡ 0 → ⊥) → IsVolumePath g p → p ≡ 1 ∷ []
+label_path g [] long other path = absurd (omega arith)
+label_path g (zero ∷ p) long other path = absurd (other refl)
+label_path g (suc zero ∷ p) long other path = ap (λ q. 1 ∷ q) (leaf_path p path)
+label_path g (suc (suc i) ∷ p) long other path = absurd path
+
+pub on_ok : {X E P Q : Type 0} (r : Result X E) → (P → Q) → OnOk r P → OnOk r Q
+on_ok (Ok x) f h = f h
+on_ok (Err e) f h = tt
+
+pub either : {X E P Q R : Type 0} (r : Result X E) → OnOk r P → IfErr r (λ e. Q) → (P → R) → (Q → R) → R
+either (Ok x) ok err f h = f ok
+either (Err e) ok err f h = h err
+
+-- ---- the kind and the fit of parcels don't depend on the numbers of the aggregate and the volume
+
+pub moved_volume : (g : Geometry) (a v b w : ℕ) (q : Path) (p : Parcels) → (IsKindOf (a ∷ v ∷ q) p → Fits g (a ∷ v ∷ q) p) → IsKindOf (b ∷ w ∷ q) p → Fits g (b ∷ w ∷ q) p
+moved_volume g a v b w [] (parcels.Vol x) h k = h tt
+moved_volume g a v b w (zero ∷ []) (parcels.Logical x) h k = h tt
+moved_volume g a v b w (zero ∷ s ∷ []) (parcels.Stripe x) h k = h tt
+moved_volume g a v b w (suc zero ∷ []) (parcels.Label x) h k = h tt
+moved_volume g a v b w q p h k = absurd k
+
+pub moved_aggregate : (g : Geometry) (a b : ℕ) (q : Path) (p : Parcels) → (IsKindOf (a ∷ q) p → Fits g (a ∷ q) p) → IsKindOf (b ∷ q) p → Fits g (b ∷ q) p
+moved_aggregate g a b [] (parcels.Aggr x) h k = h tt
+moved_aggregate g a b (v ∷ q) p h k = moved_volume g a v b v q p h k
+moved_aggregate g a b [] p h k = absurd k

@@ -1,0 +1,18 @@
+pub mod Rows
+pub mod Whole
+pub mod Levels
+pub mod Shows
+pub mod Lending
+pub mod Leaving
+pub mod Starting
+pub mod Serving
+mod Worked
+pub mod StripeEntries
+pub mod StripePlaces
+pub mod OneVolume
+pub mod GroupCounts
+pub mod FileBits
+pub mod StripeRows
+pub mod StripeTotals
+pub mod Summing
+pub mod VolumeRows

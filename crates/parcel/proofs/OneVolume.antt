@@ -1,0 +1,158 @@
+-- Steps in a state in which one volume alone has anything.
+use Rattle.std.proofs.Common.{◌≡◌, ℕ, Bool, true, false, List, Option, Some, None, refl, ap, sym, ◌∙◌}
+use Rattle.std.specs.Prelude.{◌&&◌, ◌||◌, ◌==◌, not, nat_lt, is_some, if◌then◌else◌}
+use Rattle.std.proofs.lemmas.Bool.{eq-eqb}
+use Rattle.affinity.specs.declared.sizes.Geometry.{Geometry}
+use Rattle.affinity.specs.Geometry.{group}
+use Rattle.message.specs.declared.Block.{Block}
+use Rattle.message.specs.declared.Msg.{Msg}
+use Rattle.message.specs.declared.Msg.TheVariants.{Create, Delete, Write, Punch, List as ListFiles, Usage as AskUsage}
+use Rattle.message.specs.declared.Refusal.{Refusal}
+use Rattle.message.specs.declared.Refusal.TheVariants.{Range, Volume, Exists, File, Space}
+use Rattle.message.specs.declared.Reply.{Reply}
+use Rattle.message.specs.declared.Reply.TheVariants.{Refused}
+use Rattle.message.specs.Messages.{is_in_range}
+use Rattle.plain.specs.State.{State, group_count}
+use Rattle.plain.specs.Serial.{refusal, effect, answer, outcome}
+use Rattle.parcel.specs.Run.{IsStep}
+use Rattle.parcel.specs.Steps.{unless, unless_closed, IsStepWithin}
+use Rattle.parcel.specs.Volume.{Facts, facts_if, only}
+
+-- ---- a step, by its refusal
+
+pub refused : (g : Geometry) (x : State) (m : Msg) (why : Refusal) → refusal g x m ≡ Some why → IsStep g x m (Refused why) x
+refused g x m why e = record {
+  reply = λ i. (outcome (sym e i) (answer g x m) (effect x m) x).0;
+  state = λ i. (outcome (sym e i) (answer g x m) (effect x m) x).1;
+}
+
+pub passed : (g : Geometry) (x : State) (m : Msg) (told : Reply) (y : State) → refusal g x m ≡ None → told ≡ answer g x m → y ≡ effect x m → IsStep g x m told y
+passed g x m told y e same new = record {
+  reply = same ∙ (λ i. (outcome (sym e i) (answer g x m) (effect x m) x).0);
+  state = new ∙ (λ i. (outcome (sym e i) (answer g x m) (effect x m) x).1);
+}
+
+-- ---- what the volume has
+
+pub at_volume : (a v : ℕ) (h : Facts) → facts_if ((a == a) && (v == v)) h ≡ h
+at_volume a v h = λ i. facts_if (eq-eqb a a refl i && eq-eqb v v refl i) h
+
+-- the tests of a write, where its stripe has n blocks
+pub write_tests : (g : Geometry) (a v f b : ℕ) (content : Block) (h : Facts) (n : ℕ) → is_in_range g (Write a v f b content) ≡ true → group_count g (only a v h) a v (group g f b) ≡ n
+    → refusal g (only a v h) (Write a v f b content) ≡ unless_closed h.made h.sealed (unless (h.files f) File (unless (is_some (h.blocks f b) || nat_lt n g.quota) Space None))
+write_tests g a v f b content h n range count =
+    let at = at_volume a v h in
+    λ i. unless (range i) Range (unless_closed (at i).made (at i).sealed (unless ((at i).files f) File (unless (is_some ((at i).blocks f b) || nat_lt (count i) g.quota) Space None)))
+
+-- the tests of a message that changes a file
+pub punch_tests : (g : Geometry) (a v f b : ℕ) (h : Facts) → is_in_range g (Punch a v f b) ≡ true
+    → refusal g (only a v h) (Punch a v f b) ≡ unless_closed h.made h.sealed (unless (h.files f) File None)
+punch_tests g a v f b h range = let at = at_volume a v h in λ i. unless (range i) Range (unless_closed (at i).made (at i).sealed (unless ((at i).files f) File None))
+
+pub delete_tests : (g : Geometry) (a v f : ℕ) (h : Facts) → is_in_range g (Delete a v f) ≡ true
+    → refusal g (only a v h) (Delete a v f) ≡ unless_closed h.made h.sealed (unless (h.files f) File None)
+delete_tests g a v f h range = let at = at_volume a v h in λ i. unless (range i) Range (unless_closed (at i).made (at i).sealed (unless ((at i).files f) File None))
+
+pub create_tests : (g : Geometry) (a v f : ℕ) (h : Facts) → is_in_range g (Create a v f) ≡ true
+    → refusal g (only a v h) (Create a v f) ≡ unless_closed h.made h.sealed (unless (not (h.files f)) Exists None)
+create_tests g a v f h range = let at = at_volume a v h in λ i. unless (range i) Range (unless_closed (at i).made (at i).sealed (unless (not ((at i).files f)) Exists None))
+
+pub list_tests : (g : Geometry) (a v : ℕ) (h : Facts) → is_in_range g (ListFiles a v) ≡ true → refusal g (only a v h) (ListFiles a v) ≡ unless h.made Volume None
+list_tests g a v h range = let at = at_volume a v h in λ i. unless (range i) Range (unless (at i).made Volume None)
+
+pub usage_tests : (g : Geometry) (a v : ℕ) (h : Facts) → is_in_range g (AskUsage a v) ≡ true → refusal g (only a v h) (AskUsage a v) ≡ unless h.made Volume None
+usage_tests g a v h range = let at = at_volume a v h in λ i. unless (range i) Range (unless (at i).made Volume None)
+
+-- ---- effects
+
+module _ (h : Facts) where
+  same_made : (k : Facts) → k.made ≡ h.made → (t : Bool) → (facts_if t k).made ≡ (facts_if t h).made
+  same_made k e true = e
+  same_made k e false = refl
+
+  same_sealed : (k : Facts) → k.sealed ≡ h.sealed → (t : Bool) → (facts_if t k).sealed ≡ (facts_if t h).sealed
+  same_sealed k e true = e
+  same_sealed k e false = refl
+
+  same_files : (k : Facts) → k.files ≡ h.files → (t : Bool) → (facts_if t k).files ≡ (facts_if t h).files
+  same_files k e true = e
+  same_files k e false = refl
+
+  same_label : (k : Facts) → k.label ≡ h.label → (t : Bool) → (facts_if t k).label ≡ (facts_if t h).label
+  same_label k e true = e
+  same_label k e false = refl
+
+  same_blocks : (k : Facts) → k.blocks ≡ h.blocks → (t : Bool) → (facts_if t k).blocks ≡ (facts_if t h).blocks
+  same_blocks k e true = e
+  same_blocks k e false = refl
+
+  -- other blocks, and the rest stays
+  module _ (a v : ℕ) (blocks' : ℕ → ℕ → Option Block) where
+    abbrev with_blocks : Facts
+    with_blocks = record h { blocks = blocks' }
+
+    pub effect_write : (f b : ℕ) (content : Block) → ((i j : ℕ) → blocks' i j ≡ (if (f == i) && (b == j) then Some content else h.blocks i j)) → only a v with_blocks ≡ effect (only a v h) (Write a v f b content)
+    effect_write f b content e = λ i. record {
+      made = λ k. same_made with_blocks refl ((a == k.0) && (v == k.1)) i;
+      sealed = λ k. same_sealed with_blocks refl ((a == k.0) && (v == k.1)) i;
+      files = λ k. same_files with_blocks refl ((a == k.0) && (v == k.1)) i k.2;
+      blocks = λ k. blocks ((a == k.0) && (v == k.1)) k.2 k.3 i;
+      labels = λ k. same_label with_blocks refl ((a == k.0) && (v == k.1)) i;
+    }
+      where
+        blocks : (t : Bool) (i j : ℕ) → (facts_if t with_blocks).blocks i j ≡ (if t && (f == i) && (b == j) then Some content else (facts_if t h).blocks i j)
+        blocks true i j = e i j
+        blocks false i j = refl
+
+    pub effect_punch : (f b : ℕ) → ((i j : ℕ) → blocks' i j ≡ (if (f == i) && (b == j) then None else h.blocks i j)) → only a v with_blocks ≡ effect (only a v h) (Punch a v f b)
+    effect_punch f b e = λ i. record {
+      made = λ k. same_made with_blocks refl ((a == k.0) && (v == k.1)) i;
+      sealed = λ k. same_sealed with_blocks refl ((a == k.0) && (v == k.1)) i;
+      files = λ k. same_files with_blocks refl ((a == k.0) && (v == k.1)) i k.2;
+      blocks = λ k. blocks ((a == k.0) && (v == k.1)) k.2 k.3 i;
+      labels = λ k. same_label with_blocks refl ((a == k.0) && (v == k.1)) i;
+    }
+      where
+        blocks : (t : Bool) (i j : ℕ) → (facts_if t with_blocks).blocks i j ≡ (if t && (f == i) && (b == j) then None else (facts_if t h).blocks i j)
+        blocks true i j = e i j
+        blocks false i j = refl
+
+  -- other files, and the rest stays
+  module _ (a v : ℕ) (files' : ℕ → Bool) where
+    abbrev with_files : Facts
+    with_files = record h { files = files' }
+
+    pub effect_create : (f : ℕ) → ((i : ℕ) → files' i ≡ ((f == i) || h.files i)) → only a v with_files ≡ effect (only a v h) (Create a v f)
+    effect_create f e = λ i. record {
+      made = λ k. same_made with_files refl ((a == k.0) && (v == k.1)) i;
+      sealed = λ k. same_sealed with_files refl ((a == k.0) && (v == k.1)) i;
+      files = λ k. files ((a == k.0) && (v == k.1)) k.2 i;
+      blocks = λ k. same_blocks with_files refl ((a == k.0) && (v == k.1)) i k.2 k.3;
+      labels = λ k. same_label with_files refl ((a == k.0) && (v == k.1)) i;
+    }
+      where
+        files : (t : Bool) (j : ℕ) → (facts_if t with_files).files j ≡ ((t && (f == j)) || (facts_if t h).files j)
+        files true j = e j
+        files false j = refl
+
+  -- other files and blocks, and the rest stays
+  module _ (a v : ℕ) (files' : ℕ → Bool) (blocks' : ℕ → ℕ → Option Block) where
+    abbrev with_both : Facts
+    with_both = record h { files = files'; blocks = blocks' }
+
+    pub effect_delete : (f : ℕ) → ((i : ℕ) → files' i ≡ (not (f == i) && h.files i)) → ((i j : ℕ) → blocks' i j ≡ (if f == i then None else h.blocks i j)) → only a v with_both ≡ effect (only a v h) (Delete a v f)
+    effect_delete f e d = λ i. record {
+      made = λ k. same_made with_both refl ((a == k.0) && (v == k.1)) i;
+      sealed = λ k. same_sealed with_both refl ((a == k.0) && (v == k.1)) i;
+      files = λ k. files ((a == k.0) && (v == k.1)) k.2 i;
+      blocks = λ k. blocks ((a == k.0) && (v == k.1)) k.2 k.3 i;
+      labels = λ k. same_label with_both refl ((a == k.0) && (v == k.1)) i;
+    }
+      where
+        files : (t : Bool) (j : ℕ) → (facts_if t with_both).files j ≡ (not (t && (f == j)) && (facts_if t h).files j)
+        files true j = e j
+        files false j = refl
+
+        blocks : (t : Bool) (i j : ℕ) → (facts_if t with_both).blocks i j ≡ (if t && (f == i) then None else (facts_if t h).blocks i j)
+        blocks true i j = d i j
+        blocks false i j = refl

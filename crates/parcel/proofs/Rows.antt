@@ -1,0 +1,153 @@
+-- A row of children: what is known of one child is known of the row, at paths one number longer.
+use Rattle.std.proofs.Common.{◌≡◌, ℕ, zero, suc, ◌+◌, ◌<◌, Bool, true, false, List, [], ◌∷◌, ◌++◌, length, take, drop, Option, refl, sym, ap, subst, ◌∙◌, ⊎_elim, arith}
+use Rattle.std.specs.Prelude.{◌-◌, ◌||◌, ◌&&◌, ◌==◌, None, Some, is_some, IfSome, slice_index_or, slice_set, if◌then◌else◌}
+use Rattle.std.proofs.lemmas.Bool.{and_parts, and_from, or_cases, or_left, or_right, eqb-true, eq-eqb, true≢false}
+use Rattle.std.proofs.lemmas.List.{get_or-set_same, get_or-set_other}
+use Rattle.std.proofs.Math.Seq.{take-length}
+use Rattle.affinity.specs.Path.{Path, begins, are_related}
+use Rattle.parcel.specs.Fits.{EachFits}
+use Rattle.parcel.specs.Levels.{IsRowPath, IsRefused, IsTaken, IsPut, IsHandedBack}
+use Rattle.parcel.specs.Nodes.{Node, Nodes, in_child, in_row, in_parcels, put_at, IsTakenOut, IsPutBack, IsSame}
+use Rattle.parcel.specs.Tree.{IsOut}
+use Rattle.parcel.specs.declared.parts.Parcels.{Parcels}
+
+-- ---- each of a row fits
+
+pub each_at : {X : Type 0} (Fits : ℕ → X → Type 0) (i k : ℕ) (xs : List (Option X)) → EachFits Fits i xs → IfSome (slice_index_or xs k None) (Fits (i + k))
+each_at Fits i k [] h = tt
+each_at Fits i zero (x ∷ xs) h = subst (λ n. IfSome x (Fits n)) (omega arith) h.0
+each_at Fits i (suc k) (x ∷ xs) h = subst (λ n. IfSome (slice_index_or xs k None) (Fits n)) (omega arith) (each_at Fits (suc i) k xs h.1)
+
+pub each_set : {X : Type 0} (Fits : ℕ → X → Type 0) (i k : ℕ) (xs : List (Option X)) (y : Option X) → EachFits Fits i xs → IfSome y (Fits (i + k)) → EachFits Fits i (slice_set xs k y)
+each_set Fits i k [] y h here = h
+each_set Fits i zero (x ∷ xs) y h here = (subst (λ n. IfSome y (Fits n)) (omega arith) here, h.1)
+each_set Fits i (suc k) (x ∷ xs) y h here = (h.0, each_set Fits (suc i) k xs y h.1 (subst (λ n. IfSome y (Fits n)) (omega arith) here))
+
+-- ---- related paths
+
+pub related_below : (i : ℕ) (p q : Path) → are_related p q ≡ true → are_related (i ∷ p) (i ∷ q) ≡ true
+related_below i p q h = ⊎_elim
+    (λ a. or_left _ _ (and_from _ _ (eq-eqb i i refl) a))
+    (λ b. or_right _ _ (and_from _ _ (eq-eqb i i refl) b))
+    (or_cases (begins p q) (begins q p) h)
+
+pub related_first : (i j : ℕ) (p q : Path) → are_related (i ∷ p) (j ∷ q) ≡ true → i ≡ j
+related_first i j p q h = ⊎_elim
+    (λ a. eqb-true i j (and_parts (i == j) (begins p q) a).0)
+    (λ b. sym (eqb-true j i (and_parts (j == i) (begins q p) b).0))
+    (or_cases ((i == j) && begins p q) ((j == i) && begins q p) h)
+
+pub related_rest : (i j : ℕ) (p q : Path) → are_related (i ∷ p) (j ∷ q) ≡ true → are_related p q ≡ true
+related_rest i j p q h = ⊎_elim
+    (λ a. or_left _ _ (and_parts (i == j) (begins p q) a).1)
+    (λ b. or_right _ _ (and_parts (j == i) (begins q p) b).1)
+    (or_cases ((i == j) && begins p q) ((j == i) && begins q p) h)
+
+-- ---- a row after a write
+
+abbrev child_at : {X : Type 0} → List (Option X) → ℕ → Option X
+child_at xs j = slice_index_or xs j None
+
+module _ {X : Type 0} (nodes : X → Nodes) (own : Node) (xs : List (Option X)) (i : ℕ) (y : Option X) (there : i < length xs) where
+  same_there : (j : ℕ) → i ≡ j → slice_index_or (slice_set xs i y) j None ≡ y
+  same_there j e = subst (λ k. slice_index_or (slice_set xs i y) k None ≡ y) e (get_or-set_same xs i y None there)
+
+  taken_cell : (p : Path) (j : ℕ) (q : Path) (b : Bool) → (i == j) ≡ b → IsTakenOut p (in_child nodes (slice_index_or xs i None)) (in_child nodes y)
+      → in_child nodes (slice_index_or (slice_set xs i y) j None) q ≡ (if b && begins p q then None else in_child nodes (slice_index_or xs j None) q)
+  taken_cell p j q true e h =
+      let here : i ≡ j = eqb-true i j e in
+      ap (λ c. in_child nodes c q) (same_there j here) ∙ h q
+      ∙ ap (λ k. if begins p q then None else in_child nodes (slice_index_or xs k None) q) here
+  taken_cell p j q false e h =
+      ap (λ c. in_child nodes c q) (get_or-set_other xs i j y None (λ (s : j ≡ i). true≢false (sym (eq-eqb i j (sym s)) ∙ e)))
+
+  row_taken : (p : Path) → IsTakenOut p (in_child nodes (slice_index_or xs i None)) (in_child nodes y) → IsTakenOut (i ∷ p) (in_row nodes own xs) (in_row nodes own (slice_set xs i y))
+  row_taken p h [] = refl
+  row_taken p h (j ∷ q) = taken_cell p j q (i == j) refl h
+
+  put_cell : (p : Path) (part : Nodes) (j : ℕ) (q : Path) (b : Bool) → (i == j) ≡ b → IsPutBack p part (in_child nodes (slice_index_or xs i None)) (in_child nodes y)
+      → in_child nodes (slice_index_or (slice_set xs i y) j None) q ≡ (if b then put_at p part (in_child nodes (slice_index_or xs j None)) q else in_child nodes (slice_index_or xs j None) q)
+  put_cell p part j q true e h =
+      let here : i ≡ j = eqb-true i j e in
+      ap (λ c. in_child nodes c q) (same_there j here) ∙ h q
+      ∙ ap (λ k. put_at p part (in_child nodes (slice_index_or xs k None)) q) here
+  put_cell p part j q false e h =
+      ap (λ c. in_child nodes c q) (get_or-set_other xs i j y None (λ (s : j ≡ i). true≢false (sym (eq-eqb i j (sym s)) ∙ e)))
+
+  row_put : (p : Path) (part : Nodes) → IsPutBack p part (in_child nodes (slice_index_or xs i None)) (in_child nodes y) → IsPutBack (i ∷ p) part (in_row nodes own xs) (in_row nodes own (slice_set xs i y))
+  row_put p part h [] = refl
+  row_put p part h (j ∷ q) = put_cell p part j q (i == j) refl h
+
+  same_cell : (j : ℕ) (q : Path) (b : Bool) → (i == j) ≡ b → IsSame (in_child nodes (slice_index_or xs i None)) (in_child nodes y)
+      → in_child nodes (slice_index_or (slice_set xs i y) j None) q ≡ in_child nodes (slice_index_or xs j None) q
+  same_cell j q true e h =
+      let here : i ≡ j = eqb-true i j e in
+      ap (λ c. in_child nodes c q) (same_there j here) ∙ h q
+      ∙ ap (λ k. in_child nodes (slice_index_or xs k None) q) here
+  same_cell j q false e h =
+      ap (λ c. in_child nodes c q) (get_or-set_other xs i j y None (λ (s : j ≡ i). true≢false (sym (eq-eqb i j (sym s)) ∙ e)))
+
+  row_same : IsSame (in_child nodes (slice_index_or xs i None)) (in_child nodes y) → IsSame (in_row nodes own xs) (in_row nodes own (slice_set xs i y))
+  row_same h [] = refl
+  row_same h (j ∷ q) = same_cell j q (i == j) refl h
+
+  -- ---- the sentence of a child, and that of its row
+
+  row_all_in : {IsBelow : Path → Type 0} (count : ℕ) (p : Path) → ((q : Path) → IsBelow q → are_related p q ≡ true → is_some (in_child nodes (slice_index_or xs i None) q) ≡ true)
+      → (q : Path) → IsRowPath count IsBelow q → are_related (i ∷ p) q ≡ true → is_some (in_row nodes own xs q) ≡ true
+  row_all_in count p h [] path related = refl
+  row_all_in count p h (j ∷ q) path related =
+      subst (λ k. is_some (in_child nodes (slice_index_or xs k None) q) ≡ true) (related_first i j p q related) (h q path.1 (related_rest i j p q related))
+
+  pub row_refused : (IsBelow : Path → Type 0) (count : ℕ) (p : Path) → i < count → IsRefused IsBelow p (in_child nodes (slice_index_or xs i None)) (in_child nodes y)
+      → IsRefused (IsRowPath count IsBelow) (i ∷ p) (in_row nodes own xs) (in_row nodes own (slice_set xs i y))
+  row_refused IsBelow count p below h = record {
+    gap = (i ∷ h.gap.0, (below, h.gap.1), related_below i p h.gap.0 h.gap.2, h.gap.3);
+    same = row_same h.same;
+  }
+
+  pub row_is_taken : (IsBelow : Path → Type 0) (count : ℕ) (p : Path) (lent : Parcels) → IsTaken IsBelow p lent (in_child nodes (slice_index_or xs i None)) (in_child nodes y)
+      → IsTaken (IsRowPath count IsBelow) (i ∷ p) lent (in_row nodes own xs) (in_row nodes own (slice_set xs i y))
+  row_is_taken IsBelow count p lent h = record {
+    all_in = row_all_in {IsBelow = IsBelow} count p h.all_in;
+    parcels = h.parcels;
+    rest = row_taken p h.rest;
+  }
+
+  row_out : (p : Path) → IsOut p (in_child nodes (slice_index_or xs i None)) → IsOut (i ∷ p) (in_row nodes own xs)
+  row_out [] h = (h, refl)
+  row_out (j ∷ p) h = h
+
+  out_row : (p : Path) → IsOut (i ∷ p) (in_row nodes own xs) → IsOut p (in_child nodes (slice_index_or xs i None))
+  out_row [] h = h.0
+  out_row (j ∷ p) h = h
+
+  pub row_is_put : (p : Path) (parcels : Parcels) → IsPut p parcels (in_child nodes (slice_index_or xs i None)) (in_child nodes y) → IsPut (i ∷ p) parcels (in_row nodes own xs) (in_row nodes own (slice_set xs i y))
+  row_is_put p parcels h = record { out = row_out p h.out; nodes = row_put p (in_parcels parcels) h.nodes }
+
+  pub row_handed_back : (IsKind : Type 0) (p : Path) (parcels back : Parcels) → IsHandedBack IsKind p parcels back (in_child nodes (slice_index_or xs i None)) (in_child nodes y)
+      → IsHandedBack IsKind (i ∷ p) parcels back (in_row nodes own xs) (in_row nodes own (slice_set xs i y))
+  row_handed_back IsKind p parcels back h = record { back = h.back; why = λ out kind. h.why (out_row p out) kind; same = row_same h.same }
+
+-- ---- where there is no row
+
+pub none_refused : {X : Type 0} (nodes : X → Nodes) (IsThere : Path → Type 0) (p : Path) → IsThere [] → IsRefused IsThere p (in_child nodes None) (in_child nodes None)
+none_refused nodes IsThere [] top = record { gap = ([], top, refl, refl); same = λ q. refl }
+none_refused nodes IsThere (i ∷ p) top = record { gap = ([], top, refl, refl); same = λ q. refl }
+
+-- ---- the first of a path, and the rest
+
+-- the path behind its first number, as a slice has it
+abbrev pub rest_of : Path → Path
+rest_of p = take (length p - 1) (drop 1 p)
+
+take_all : (p : Path) → take (suc (length p) - 1) p ≡ p
+take_all p = let e : suc (length p) - 1 ≡ length p = omega arith in ap (λ n. take n p) e ∙ take-length p
+
+pub split : (p : Path) → 0 < length p → p ≡ slice_index_or p 0 0 ∷ rest_of p
+split [] h = absurd (omega arith)
+split (x ∷ p) h = ap (λ q. x ∷ q) (sym (take_all p))
+
+pub row_path : (n : ℕ) (IsBelow : Path → Type 0) (p : Path) → 0 < length p → IsRowPath n IsBelow p → (slice_index_or p 0 0 < n) × IsBelow (rest_of p)
+row_path n IsBelow [] h path = absurd (omega arith)
+row_path n IsBelow (x ∷ p) h path = (path.0, subst IsBelow (sym (take_all p)) path.1)

@@ -1,0 +1,13 @@
+-- What was run at the place of a message fits where it was lent.
+use Rattle.std.proofs.Common.{◌≡◌, subst}
+use Rattle.affinity.specs.declared.sizes.Geometry.{Geometry}
+use Rattle.affinity.specs.Interval.{Interval, IsAffinityOf}
+use Rattle.affinity.specs.Path.{Path}
+use Rattle.affinity.proofs.Preorder.{path_unique}
+use Rattle.message.specs.declared.Msg.{Msg}
+use Rattle.message.specs.Messages.{place}
+use Rattle.parcel.specs.Fits.{Fits, IsKindOf, Suits}
+use Rattle.parcel.specs.declared.parts.Parcels.{Parcels}
+
+pub fits_where_lent : (g : Geometry) (m : Msg) (l : Parcels) (a : Interval) → IsAffinityOf g (place g m) a → Suits g m l → (q : Path) → IsAffinityOf g q a → IsKindOf q l → Fits g q l
+fits_where_lent g m l a h suits q k kind = subst (λ r. Fits g r l) (path_unique g (place g m) q a h k) suits.fits

@@ -1,0 +1,154 @@
+-- Where nothing is made and nothing is out, all fits, all is whole, and the state is empty.
+use Rattle.std.proofs.Common.{◌≡◌, ℕ, zero, suc, ◌<◌, ◌^◌, Bool, true, false, List, [], ◌∷◌, ◌++◌, length, Option, refl, sym, ap, subst, ◌∙◌, arith}
+use Rattle.std.specs.Prelude.{None, Some, is_some, IfSome, slice_index_or}
+use Rattle.std.specs.List.{AllByRecursion}
+use Rattle.std.proofs.lemmas.Bool.{true≢false}
+use Rattle.std.proofs.lemmas.Nat.{pow_pos}
+use Rattle.affinity.specs.declared.sizes.Geometry.{Geometry}
+use Rattle.affinity.specs.Geometry.{group}
+use Rattle.affinity.specs.Interval.{IsPath}
+use Rattle.affinity.specs.Path.{Path}
+use Rattle.plain.specs.State.{State, empty}
+use Rattle.parcel.specs.Stripe.{StripePart, content_at}
+use Rattle.parcel.specs.Shown.{has_bit}
+use Rattle.parcel.specs.Fits.{EachFits, FitsStripe, FitsLogical, FitsVolume, FitsAggregate, FitsRoot, IsWholeChild, IsWholeLogical, IsWholeVolume, IsWholeAggregate, IsWholeRoot}
+use Rattle.parcel.specs.Levels.{IsNewLogical, IsNewVolume, IsNewAggregate, IsNewRoot}
+use Rattle.parcel.specs.Nodes.{Nodes, in_child, in_stripe, in_label, in_logical, in_volume, in_aggregate, in_root, marks_made, marks_sealed, files_have, slots_hold, text_of, state_of}
+use Rattle.parcel.specs.Tree.{IsIn}
+use Rattle.parcel.specs.declared.parts.Label.{Label}
+use Rattle.parcel.specs.declared.parts.Logical.{Logical}
+use Rattle.parcel.specs.declared.parts.Vol.{Vol}
+use Rattle.parcel.specs.declared.parts.Aggr.{Aggr}
+use Rattle.parcel.specs.declared.parts.Root.{Root}
+use Rattle.parcel.proofs.Lending.{root_path}
+use Rattle.parcel.proofs.Shows.{has_none}
+use Rattle.parcel.proofs.Whole.{root_all_in}
+
+-- ---- rows in which each is new
+
+pub all_push : {X : Type 0} (P : X → Type 0) (xs : List X) (x : X) → AllByRecursion P xs → P x → AllByRecursion P (xs ++ x ∷ [])
+all_push P [] x h k = (k, tt)
+all_push P (y ∷ ys) x h k = (h.0, all_push P ys x h.1 k)
+
+each_fits : {X : Type 0} (P : X → Type 0) (Fits : ℕ → X → Type 0) → ((i : ℕ) (x : X) → P x → Fits i x) → (i : ℕ) (xs : List (Option X)) → AllByRecursion (IsWholeChild P) xs → EachFits Fits i xs
+each_fits P Fits f i [] h = tt
+each_fits P Fits f i (None ∷ xs) h = absurd h.0
+each_fits P Fits f i (Some x ∷ xs) h = (f i x h.0, each_fits P Fits f (suc i) xs h.1)
+
+each_whole : {X : Type 0} (P IsWhole : X → Type 0) → ((x : X) → P x → IsWhole x) → (xs : List (Option X)) → AllByRecursion (IsWholeChild P) xs → AllByRecursion (IsWholeChild IsWhole) xs
+each_whole P IsWhole f [] h = tt
+each_whole P IsWhole f (None ∷ xs) h = absurd h.0
+each_whole P IsWhole f (Some x ∷ xs) h = (f x h.0, each_whole P IsWhole f xs h.1)
+
+new_at : {X : Type 0} (P : X → Type 0) (xs : List (Option X)) (i : ℕ) → AllByRecursion (IsWholeChild P) xs → IfSome (slice_index_or xs i None) P
+new_at P [] i h = tt
+new_at P (None ∷ xs) i h = absurd h.0
+new_at P (Some x ∷ xs) zero h = h.0
+new_at P (Some x ∷ xs) (suc i) h = new_at P xs i h.1
+
+-- ---- level by level
+
+module _ (g : Geometry) where
+  abbrev IsNewStripe : StripePart → Type 0
+  IsNewStripe p = p ≡ record { quota = g.quota; entries = [] }
+
+  no_content : (p : StripePart) (f b : ℕ) → IsNewStripe p → content_at p.entries f b ≡ None
+  no_content p f b h = ap (λ z. content_at z.entries f b) h
+
+  stripe_fits : (s : ℕ) (p : StripePart) → IsNewStripe p → FitsStripe g s p
+  stripe_fits s p h = record {
+    quota = ap (λ z. z.quota) h;
+    lies = λ f b there. absurd (true≢false (sym there ∙ ap is_some (no_content p f b h)));
+  }
+
+  logical_fits : (l : Logical) → IsNewLogical g l → FitsLogical g l
+  logical_fits l h = record {
+    files = subst (λ n. n < 2 ^ g.files) (sym h.0) (pow_pos g.files);
+    count = h.1;
+    stripes = each_fits IsNewStripe (FitsStripe g) stripe_fits 0 l.stripes.items h.2;
+  }
+
+  child_fits : (x : Option Logical) → IsWholeChild (IsNewLogical g) x → IfSome x (FitsLogical g)
+  child_fits None h = absurd h
+  child_fits (Some l) h = logical_fits l h
+
+  volume_fits : (w : Vol) → IsNewVolume g w → FitsVolume g w
+  volume_fits w h = record { logical = child_fits w.logical h.logical }
+
+  aggregate_fits : (r : Aggr) → IsNewAggregate g r → FitsAggregate g r
+  aggregate_fits r h = record { count = h.0; volumes = each_fits (IsNewVolume g) (λ v. FitsVolume g) (λ v. volume_fits) 0 r.volumes.items h.1 }
+
+  pub root_fits : (r : Root) → IsNewRoot g r → FitsRoot g r
+  root_fits r h = record { count = h.0; aggregates = each_fits (IsNewAggregate g) (λ a. FitsAggregate g) (λ a. aggregate_fits) 0 r.aggregates.items h.1 }
+
+  logical_is_whole : (x : Option Logical) → IsWholeChild (IsNewLogical g) x → IsWholeChild IsWholeLogical x
+  logical_is_whole None h = absurd h
+  logical_is_whole (Some l) h = each_whole IsNewStripe (λ p. Unit {0}) (λ p k. tt) l.stripes.items h.2
+
+  label_is_whole : (x : Option Label) → IsWholeChild (λ l. l.bytes ≡ None) x → IsWholeChild (λ l. Unit {0}) x
+  label_is_whole None h = absurd h
+  label_is_whole (Some l) h = tt
+
+  volume_is_whole : (w : Vol) → IsNewVolume g w → IsWholeVolume w
+  volume_is_whole w h = (logical_is_whole w.logical h.logical, label_is_whole w.label h.label)
+
+  aggregate_is_whole : (r : Aggr) → IsNewAggregate g r → IsWholeAggregate r
+  aggregate_is_whole r h = each_whole (IsNewVolume g) IsWholeVolume volume_is_whole r.volumes.items h.1
+
+  root_is_whole : (r : Root) → IsNewRoot g r → IsWholeRoot r
+  root_is_whole r h = each_whole (IsNewAggregate g) IsWholeAggregate aggregate_is_whole r.aggregates.items h.1
+
+  pub new_all_in : (r : Root) → IsNewRoot g r → IsIn g [] (in_child in_root (Some r))
+  new_all_in r h q path related = root_all_in g (Some r) (root_fits r h) (root_is_whole r h) q (root_path g q path)
+
+  -- ---- the state
+
+  stripe_empty : (x : Option StripePart) (f b : ℕ) → IfSome x IsNewStripe → slots_hold (in_child in_stripe x []) f b ≡ None
+  stripe_empty None f b h = refl
+  stripe_empty (Some p) f b h = no_content p f b h
+
+  files_empty : (x : Option Logical) (f : ℕ) → IsWholeChild (IsNewLogical g) x → files_have (in_child in_logical x []) f ≡ false
+  files_empty None f h = refl
+  files_empty (Some l) f h = ap (λ n. has_bit n f) h.0 ∙ has_none f
+
+  blocks_empty : (x : Option Logical) (s f b : ℕ) → IsWholeChild (IsNewLogical g) x → slots_hold (in_child in_logical x (s ∷ [])) f b ≡ None
+  blocks_empty None s f b h = refl
+  blocks_empty (Some l) s f b h = stripe_empty (slice_index_or l.stripes.items s None) f b (new_at IsNewStripe l.stripes.items s h.2)
+
+  text_empty : (x : Option Label) → IsWholeChild (λ l. l.bytes ≡ None) x → text_of (in_child in_label x []) ≡ None
+  text_empty None h = refl
+  text_empty (Some l) h = h
+
+  -- the nodes from a volume on hold nothing
+  record IsEmptyAt (n : Nodes) : Type 0 where
+    made : marks_made (n []) ≡ false
+    sealed : marks_sealed (n []) ≡ false
+    files : (f : ℕ) → files_have (n (0 ∷ [])) f ≡ false
+    blocks : (s f b : ℕ) → slots_hold (n (0 ∷ s ∷ [])) f b ≡ None
+    label : text_of (n (1 ∷ [])) ≡ None
+
+  volume_empty : (x : Option Vol) → IfSome x (IsNewVolume g) → IsEmptyAt (in_child in_volume x)
+  volume_empty None h = record { made = refl; sealed = refl; files = λ f. refl; blocks = λ s f b. refl; label = refl }
+  volume_empty (Some w) h = record {
+    made = h.made;
+    sealed = h.sealed;
+    files = λ f. files_empty w.logical f h.logical;
+    blocks = λ s f b. blocks_empty w.logical s f b h.logical;
+    label = text_empty w.label h.label;
+  }
+
+  aggregate_empty : (x : Option Aggr) (v : ℕ) → IfSome x (IsNewAggregate g) → IsEmptyAt (λ q. in_child in_aggregate x (v ∷ q))
+  aggregate_empty None v h = record { made = refl; sealed = refl; files = λ f. refl; blocks = λ s f b. refl; label = refl }
+  aggregate_empty (Some r) v h = volume_empty (slice_index_or r.volumes.items v None) (new_at (IsNewVolume g) r.volumes.items v h.1)
+
+  root_empty : (r : Root) → IsNewRoot g r → (a v : ℕ) → IsEmptyAt (λ q. in_root r (a ∷ v ∷ q))
+  root_empty r h a v = aggregate_empty (slice_index_or r.aggregates.items a None) v (new_at (IsNewAggregate g) r.aggregates.items a h.1)
+
+  pub new_state : (r : Root) → IsNewRoot g r → state_of g (in_child in_root (Some r)) ≡ empty
+  new_state r h i = record {
+    made = λ k. (root_empty r h k.0 k.1).made i;
+    sealed = λ k. (root_empty r h k.0 k.1).sealed i;
+    files = λ k. (root_empty r h k.0 k.1).files k.2 i;
+    blocks = λ k. (root_empty r h k.0 k.1).blocks (group g k.2 k.3) k.2 k.3 i;
+    labels = λ k. (root_empty r h k.0 k.1).label i;
+  }

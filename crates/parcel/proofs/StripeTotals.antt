@@ -1,0 +1,57 @@
+-- The blocks of a volume, counted by its stripes.
+use Rattle.std.proofs.Common.{◌≡◌, ℕ, ◌+◌, ◌<◌, ◌≤◌, false, List, Some, None, refl, ap, sym, ◌∙◌, subst, length, slice_index_or, arith}
+use Rattle.std.specs.Prelude.{Option, IfSome}
+use Rattle.affinity.specs.declared.sizes.Geometry.{Geometry}
+use Rattle.affinity.specs.Geometry.{group}
+use Rattle.message.specs.declared.Block.{Block}
+use Rattle.plain.specs.State.{State, sum_below, one_if, group_count, block_count}
+use Rattle.plain.proofs.ServerSums.{sum_same, sum_zero}
+use Rattle.parcel.specs.Fits.{FitsStripe, EachFits}
+use Rattle.parcel.specs.Shown.{blocks_in, blocks_of}
+use Rattle.parcel.specs.Stripe.{StripePart, IsKept}
+use Rattle.parcel.specs.Totals.{entry_count, file_total, block_total, totals_of, sum_totals}
+use Rattle.parcel.specs.declared.running.totals.Totals.{Totals}
+use Rattle.parcel.specs.Volume.{Facts, nothing, state_by}
+use Rattle.parcel.proofs.GroupCounts.{count_is_length, count_is_none}
+use Rattle.parcel.proofs.StripeRows.{fits_at}
+
+-- a state in which each volume has these blocks
+abbrev pub holding : (ℕ → ℕ → Option Block) → State
+holding blocks = state_by (λ a v. record nothing { blocks = blocks })
+
+-- the blocks of group s are those that lie at place s
+pub count_at : (g : Geometry) (row : List (Option StripePart)) (s : ℕ) (place : Option StripePart) → slice_index_or row s None ≡ place → IfSome place IsKept → IfSome place (FitsStripe g s)
+    → group_count g (holding (blocks_of g row)) 0 0 s ≡ entry_count place
+count_at g row s None at kept fits = count_is_none g s (holding (blocks_of g row)) 0 0 (λ f b e. ap (λ k. blocks_in (slice_index_or row k None) f b) e ∙ ap (λ o. blocks_in o f b) at)
+count_at g row s (Some p) at kept fits = count_is_length g s (holding (blocks_of g row)) 0 0 p kept fits (λ f b e. ap (λ k. blocks_in (slice_index_or row k None) f b) e ∙ ap (λ o. blocks_in o f b) at)
+
+pub few_entries : (g : Geometry) (s : ℕ) (place : Option StripePart) → IfSome place IsKept → IfSome place (FitsStripe g s) → entry_count place ≤ 64
+few_entries g s None kept fits = omega arith
+few_entries g s (Some p) kept fits = let most = g.quota_range.1 in omega (arith, kept.within, fits.quota, most)
+
+pub quota_of : (g : Geometry) (s : ℕ) (place : Option StripePart) → IfSome place (FitsStripe g s) → IfSome place (λ p. p.quota ≤ 64)
+quota_of g s None fits = fits
+quota_of g s (Some p) fits = let most = g.quota_range.1 in omega (arith, fits.quota, most)
+
+-- what lies at a place of the row fits there
+pub stripe_at : (g : Geometry) (row : List (Option StripePart)) → EachFits (FitsStripe g) 0 row → (s : ℕ) → s < length row → (place : Option StripePart) → slice_index_or row s None ≡ place → IfSome place (FitsStripe g s)
+stripe_at g row fits s lt place at =
+    let same : 0 + s ≡ s = omega arith in
+    subst (λ (o : Option StripePart). IfSome o (FitsStripe g s)) at (subst (λ (k : ℕ). IfSome (slice_index_or row s None) (FitsStripe g k)) same (fits_at (FitsStripe g) 0 row fits s lt))
+
+-- where there is none, none is counted
+pub no_files : (g : Geometry) → file_total g (λ f. false) ≡ 0
+no_files g = sum_zero g.files
+
+pub no_blocks : (g : Geometry) → block_total g (λ f b. None) ≡ 0
+no_blocks g = sum_same g.files _ (λ f. 0) (λ f. sum_zero g.blocks) ∙ sum_zero g.files
+
+pub no_totals : (g : Geometry) → record { volumes = 0; files = 0; blocks = 0 } ≡ totals_of g nothing
+no_totals g i = record { volumes = 0; files = sym (no_files g) i; blocks = sym (no_blocks g) i }
+
+pub no_totals_at_all : (g : Geometry) (n : ℕ) → record { volumes = 0; files = 0; blocks = 0 } ≡ sum_totals n (λ v. totals_of g nothing)
+no_totals_at_all g n i = record {
+  volumes = sym (sum_zero n) i;
+  files = sym (sum_same n _ (λ v. 0) (λ v. no_files g) ∙ sum_zero n) i;
+  blocks = sym (sum_same n _ (λ v. 0) (λ v. no_blocks g) ∙ sum_zero n) i;
+}

@@ -1,0 +1,62 @@
+-- Totals of volumes, added up.
+use Rattle.std.proofs.Common.{◌≡◌, ℕ, ◌+◌, ◌*◌, ◌<◌, ◌≤◌, List, Some, None, refl, ap, sym, ◌∙◌, subst, length, slice_index_or, arith}
+use Rattle.std.specs.Prelude.{Option, IfSome, is_some}
+use Rattle.std.proofs.lemmas.Nat.{mul-le}
+use Rattle.affinity.specs.declared.sizes.Geometry.{Geometry}
+use Rattle.plain.specs.State.{sum_below, count_below, one_if}
+use Rattle.plain.proofs.Sums.{one_if-le, count_below-le, sum_below-le_times}
+use Rattle.plain.proofs.Totals.{sum_step}
+use Rattle.parcel.specs.Fits.{EachFits}
+use Rattle.parcel.specs.Totals.{totals_of, sum_totals}
+use Rattle.parcel.specs.Volume.{Facts}
+use Rattle.parcel.specs.declared.running.totals.Totals.{Totals}
+use Rattle.parcel.proofs.StripeRows.{fits_at}
+
+-- no more than so many volumes can hold
+pub record IsFew (n : ℕ) (t : Totals) : Type 0 where
+  pub volumes : t.volumes ≤ n
+  pub files : t.files ≤ n * 64
+  pub blocks : t.blocks ≤ n * 16384
+
+pub few_of_one : (g : Geometry) (h : Facts) → IsFew 1 (totals_of g h)
+few_of_one g h = record {
+  volumes = one_if-le h.made;
+  files = let few = count_below-le g.files h.files in let most = g.files_range.1 in omega arith;
+  blocks =
+      let few : sum_below g.files (λ f. count_below g.blocks (λ b. is_some (h.blocks f b))) ≤ g.files * g.blocks = sum_below-le_times g.files g.blocks _ (λ f lt. count_below-le g.blocks (λ b. is_some (h.blocks f b))) in
+      let most : g.files * g.blocks ≤ 64 * 256 = mul-le g.files g.blocks 64 256 g.files_range.1 g.blocks_range.1 in
+      omega arith;
+}
+
+pub few_of_sum : (n c : ℕ) (each : ℕ → Totals) → c ≤ 8 → ((i : ℕ) → IsFew c (each i)) → IsFew (n * 8) (sum_totals n each)
+few_of_sum n c each le few = record {
+  volumes = sum_below-le_times n 8 _ (λ i lt. let h = (few i).volumes in omega (arith, h, le));
+  files = let most : sum_below n (λ i. (each i).files) ≤ n * 512 = sum_below-le_times n 512 _ (λ i lt. let h = (few i).files in omega (arith, h, le)) in omega (arith, most);
+  blocks = let most : sum_below n (λ i. (each i).blocks) ≤ n * 131072 = sum_below-le_times n 131072 _ (λ i lt. let h = (few i).blocks in omega (arith, h, le)) in omega (arith, most);
+}
+
+-- one more
+pub sum_totals_step : (n : ℕ) (each : ℕ → Totals) (t u r : Totals) → t ≡ sum_totals n each → u ≡ each n → r ≡ record { volumes = t.volumes + u.volumes; files = t.files + u.files; blocks = t.blocks + u.blocks } → r ≡ sum_totals (n + 1) each
+sum_totals_step n each t u r before here added =
+    added
+    ∙ (λ i. record { volumes = (before i).volumes + (here i).volumes; files = (before i).files + (here i).files; blocks = (before i).blocks + (here i).blocks })
+    ∙ (λ i. record { volumes = sym (sum_step n (λ k. (each k).volumes)) i; files = sym (sum_step n (λ k. (each k).files)) i; blocks = sym (sum_step n (λ k. (each k).blocks)) i })
+
+-- what lies at a place of a row fits there
+pub fits_in_place : {X : Type 0} (Fits : ℕ → X → Type 0) (row : List (Option X)) → EachFits Fits 0 row → (s : ℕ) → s < length row → (place : Option X) → slice_index_or row s None ≡ place → IfSome place (Fits s)
+fits_in_place {X} Fits row fits s lt place at =
+    let same : 0 + s ≡ s = omega arith in
+    subst (λ (o : Option X). IfSome o (Fits s)) at (subst (λ (k : ℕ). IfSome (slice_index_or row s None) (Fits k)) same (fits_at Fits 0 row fits s lt))
+
+pub few_of_aggregates : (g : Geometry) (n : ℕ) (facts : ℕ → ℕ → Facts) → IsFew (n * 64) (sum_totals n (λ a. sum_totals g.volumes (λ v. totals_of g (facts a v))))
+few_of_aggregates g n facts = record {
+  volumes = let most : sum_below n (λ a. sum_below g.volumes (λ v. (totals_of g (facts a v)).volumes)) ≤ n * 64 = sum_below-le_times n 64 _ (λ a lt. let h = (each a).volumes in omega (arith, h, range)) in most;
+  files = let most : sum_below n (λ a. sum_below g.volumes (λ v. (totals_of g (facts a v)).files)) ≤ n * 4096 = sum_below-le_times n 4096 _ (λ a lt. let h = (each a).files in omega (arith, h, range)) in omega (arith, most);
+  blocks = let most : sum_below n (λ a. sum_below g.volumes (λ v. (totals_of g (facts a v)).blocks)) ≤ n * 1048576 = sum_below-le_times n 1048576 _ (λ a lt. let h = (each a).blocks in omega (arith, h, range)) in omega (arith, most);
+}
+  where
+    each : (a : ℕ) → IsFew (g.volumes * 8) (sum_totals g.volumes (λ v. totals_of g (facts a v)))
+    each a = few_of_sum g.volumes 1 (λ v. totals_of g (facts a v)) (omega arith) (λ v. few_of_one g (facts a v))
+
+    range : g.volumes ≤ 8
+    range = g.volumes_range.1

@@ -1,0 +1,131 @@
+-- One volume of an aggregate changes, and the others stay.
+use Rattle.std.proofs.Common.{◌≡◌, ℕ, zero, suc, ◌+◌, ◌<◌, Bool, true, false, List, [], ◌∷◌, Some, None, refl, ap, sym, ◌∙◌, length, slice_index_or, slice_set, ⊎_elim, arith}
+use Rattle.std.specs.Prelude.{◌&&◌, ◌||◌, ◌==◌, not, if◌then◌else◌, Option, IfSome}
+use Rattle.std.proofs.lemmas.Bool.{eq-eqb, ne_eqb, cases_eq}
+use Rattle.std.proofs.lemmas.List.{get_or-set_same, get_or-set_other}
+use Rattle.affinity.specs.declared.sizes.Geometry.{Geometry}
+use Rattle.message.specs.declared.Block.{Block}
+use Rattle.message.specs.declared.Msg.TheVariants.{MakeVol, DropVol}
+use Rattle.message.specs.declared.Refusal.TheVariants.{Range, Exists}
+use Rattle.message.specs.Messages.{is_in_range}
+use Rattle.plain.specs.Serial.{refusal, effect, no_label}
+use Rattle.parcel.specs.Fits.{EachFits}
+use Rattle.parcel.specs.Shown.{by_aggregate, by_child, by_volume}
+use Rattle.parcel.specs.Steps.{unless, unless_closed, at_aggregate}
+use Rattle.parcel.specs.Totals.{with_made}
+use Rattle.parcel.specs.Volume.{Facts, nothing, facts_if, state_by}
+use Rattle.parcel.specs.declared.parts.Aggr.{Aggr}
+use Rattle.parcel.specs.declared.parts.Vol.{Vol}
+
+-- ---- the row
+
+pub set_fits : {X : Type 0} (P : X → Type 0) (i : ℕ) (xs : List (Option X)) (v : ℕ) (y : Option X) → EachFits (λ k. P) i xs → IfSome y P → EachFits (λ k. P) i (slice_set xs v y)
+set_fits P i [] v y h fits = tt
+set_fits P i (x ∷ xs) zero y h fits = (fits, h.1)
+set_fits P i (x ∷ xs) (suc v) y h fits = (h.0, set_fits P (suc i) xs v y h.1 fits)
+
+abbrev pub changed_if : (Facts → Facts) → Bool → Facts → Facts
+changed_if change true h = change h
+changed_if change false h = h
+
+pub set_changes : (g : Geometry) (change : Facts → Facts) (xs : List (Option Vol)) (v : ℕ) (y : Option Vol) → v < length xs → by_child (by_volume g) y ≡ change (by_child (by_volume g) (slice_index_or xs v None))
+    → (q : ℕ) → by_child (by_volume g) (slice_index_or (slice_set xs v y) q None) ≡ changed_if change (v == q) (by_child (by_volume g) (slice_index_or xs q None))
+set_changes g change xs v y lt e q =
+    ⊎_elim
+    (λ is.
+    ap (λ k. by_child (by_volume g) (slice_index_or (slice_set xs v y) k None)) (sym is)
+    ∙ ap (by_child (by_volume g)) (get_or-set_same xs v y None lt)
+    ∙ e
+    ∙ ap (λ k. change (by_child (by_volume g) (slice_index_or xs k None))) is
+    ∙ ap (λ t. changed_if change t (by_child (by_volume g) (slice_index_or xs q None))) (sym (eq-eqb v q is)))
+    (λ ne.
+    ap (by_child (by_volume g)) (get_or-set_other xs v q y None (λ is. ne (sym is)))
+    ∙ ap (λ t. changed_if change t (by_child (by_volume g) (slice_index_or xs q None))) (sym (ne_eqb v q ne)))
+    (cases_eq v q)
+
+-- ---- tests and effects
+
+at_itself : (a : ℕ) (h : Facts) → facts_if (a == a) h ≡ h
+at_itself a h i = facts_if (eq-eqb a a refl i) h
+
+pub make_tests : (g : Geometry) (a v : ℕ) (r : Aggr) → is_in_range g (MakeVol a v) ≡ true → refusal g (at_aggregate g a r) (MakeVol a v) ≡ unless (not (by_aggregate g r v).made) Exists None
+make_tests g a v r range = let at = at_itself a (by_aggregate g r v) in λ i. unless (range i) Range (unless (not (at i).made) Exists None)
+
+pub drop_tests : (g : Geometry) (a v : ℕ) (r : Aggr) → is_in_range g (DropVol a v) ≡ true → refusal g (at_aggregate g a r) (DropVol a v) ≡ unless_closed (by_aggregate g r v).made (by_aggregate g r v).sealed None
+drop_tests g a v r range = let at = at_itself a (by_aggregate g r v) in λ i. unless (range i) Range (unless_closed (at i).made (at i).sealed None)
+
+module _ (a v : ℕ) (old new : ℕ → Facts) where
+  pub effect_make : ((q : ℕ) → new q ≡ changed_if with_made (v == q) (old q)) → state_by (λ p q. facts_if (a == p) (new q)) ≡ effect (state_by (λ p q. facts_if (a == p) (old q))) (MakeVol a v)
+  effect_make e i = record {
+    made = λ k. (ap (λ h. (facts_if (a == k.0) h).made) (e k.1) ∙ made (a == k.0) (v == k.1) (old k.1)) i;
+    sealed = λ k. (ap (λ h. (facts_if (a == k.0) h).sealed) (e k.1) ∙ sealed (a == k.0) (v == k.1) (old k.1)) i;
+    files = λ k. (ap (λ h. (facts_if (a == k.0) h).files k.2) (e k.1) ∙ files (a == k.0) (v == k.1) (old k.1) k.2) i;
+    blocks = λ k. (ap (λ h. (facts_if (a == k.0) h).blocks k.2 k.3) (e k.1) ∙ blocks (a == k.0) (v == k.1) (old k.1) k.2 k.3) i;
+    labels = λ k. (ap (λ h. (facts_if (a == k.0) h).label) (e k.1) ∙ label (a == k.0) (v == k.1) (old k.1)) i;
+  }
+    where
+      made : (s t : Bool) (h : Facts) → (facts_if s (changed_if with_made t h)).made ≡ ((s && t) || (facts_if s h).made)
+      made true true h = refl
+      made true false h = refl
+      made false true h = refl
+      made false false h = refl
+
+      sealed : (s t : Bool) (h : Facts) → (facts_if s (changed_if with_made t h)).sealed ≡ (facts_if s h).sealed
+      sealed true true h = refl
+      sealed true false h = refl
+      sealed false t h = refl
+
+      files : (s t : Bool) (h : Facts) (f : ℕ) → (facts_if s (changed_if with_made t h)).files f ≡ (facts_if s h).files f
+      files true true h f = refl
+      files true false h f = refl
+      files false t h f = refl
+
+      blocks : (s t : Bool) (h : Facts) (f b : ℕ) → (facts_if s (changed_if with_made t h)).blocks f b ≡ (facts_if s h).blocks f b
+      blocks true true h f b = refl
+      blocks true false h f b = refl
+      blocks false t h f b = refl
+
+      label : (s t : Bool) (h : Facts) → (facts_if s (changed_if with_made t h)).label ≡ (if s && t then Some no_label else (facts_if s h).label)
+      label true true h = refl
+      label true false h = refl
+      label false true h = refl
+      label false false h = refl
+
+  pub effect_drop : ((q : ℕ) → new q ≡ changed_if (λ h. nothing) (v == q) (old q)) → state_by (λ p q. facts_if (a == p) (new q)) ≡ effect (state_by (λ p q. facts_if (a == p) (old q))) (DropVol a v)
+  effect_drop e i = record {
+    made = λ k. (ap (λ h. (facts_if (a == k.0) h).made) (e k.1) ∙ made (a == k.0) (v == k.1) (old k.1)) i;
+    sealed = λ k. (ap (λ h. (facts_if (a == k.0) h).sealed) (e k.1) ∙ sealed (a == k.0) (v == k.1) (old k.1)) i;
+    files = λ k. (ap (λ h. (facts_if (a == k.0) h).files k.2) (e k.1) ∙ files (a == k.0) (v == k.1) (old k.1) k.2) i;
+    blocks = λ k. (ap (λ h. (facts_if (a == k.0) h).blocks k.2 k.3) (e k.1) ∙ blocks (a == k.0) (v == k.1) (old k.1) k.2 k.3) i;
+    labels = λ k. (ap (λ h. (facts_if (a == k.0) h).label) (e k.1) ∙ label (a == k.0) (v == k.1) (old k.1)) i;
+  }
+    where
+      made : (s t : Bool) (h : Facts) → (facts_if s (changed_if (λ h. nothing) t h)).made ≡ (not (s && t) && (facts_if s h).made)
+      made true true h = refl
+      made true false h = refl
+      made false true h = refl
+      made false false h = refl
+
+      sealed : (s t : Bool) (h : Facts) → (facts_if s (changed_if (λ h. nothing) t h)).sealed ≡ (not (s && t) && (facts_if s h).sealed)
+      sealed true true h = refl
+      sealed true false h = refl
+      sealed false true h = refl
+      sealed false false h = refl
+
+      files : (s t : Bool) (h : Facts) (f : ℕ) → (facts_if s (changed_if (λ h. nothing) t h)).files f ≡ (not (s && t) && (facts_if s h).files f)
+      files true true h f = refl
+      files true false h f = refl
+      files false true h f = refl
+      files false false h f = refl
+
+      blocks : (s t : Bool) (h : Facts) (f b : ℕ) → (facts_if s (changed_if (λ h. nothing) t h)).blocks f b ≡ (if s && t then None else (facts_if s h).blocks f b)
+      blocks true true h f b = refl
+      blocks true false h f b = refl
+      blocks false true h f b = refl
+      blocks false false h f b = refl
+
+      label : (s t : Bool) (h : Facts) → (facts_if s (changed_if (λ h. nothing) t h)).label ≡ (if s && t then None else (facts_if s h).label)
+      label true true h = refl
+      label true false h = refl
+      label false true h = refl
+      label false false h = refl

@@ -1,0 +1,101 @@
+-- Worked examples: one volume with one file, of whose two stripes the first is out.
+use Rattle.std.proofs.Common.{◌≡◌, ℕ, zero, suc, ◌<◌, Bool, true, false, List, [], ◌∷◌, Option, refl, sym, ap, arith}
+use Rattle.std.specs.Prelude.{None, Some, is_some}
+use Rattle.std.proofs.lemmas.Bool.{true≢false}
+use Rattle.affinity.specs.Geometry.{small}
+use Rattle.affinity.specs.Interval.{IsPath}
+use Rattle.affinity.specs.Path.{Path, are_related}
+use Rattle.parcel.specs.Nodes.{Node, Nodes, in_row, put_at, IsTakenOut}
+use Rattle.parcel.specs.Nodes.Node.{Inner, Marks, Files, Slots, Text}
+use Rattle.parcel.specs.Stripe.{StripePart}
+use Rattle.parcel.specs.Tree.{HasGap, IsOut, standing_at}
+
+abbrev no_blocks : StripePart
+no_blocks = record { quota = 2; entries = [] }
+
+-- a node with what is below it: each child is nodes, or out
+abbrev below : Node → List (Option Nodes) → Nodes
+below own children = in_row (λ (n : Nodes). n) own children
+
+abbrev leaf_of : Node → Nodes
+leaf_of own = below own []
+
+abbrev tree_with : Option Nodes → Nodes
+tree_with first = below Inner (Some (below Inner (Some (below (Marks true false)
+    (Some (below (Files 1) (first ∷ Some (leaf_of (Slots no_blocks)) ∷ [])) ∷ Some (leaf_of (Text None)) ∷ [])) ∷ [])) ∷ [])
+
+abbrev whole : Nodes
+whole = tree_with (Some (leaf_of (Slots no_blocks)))
+
+abbrev without_first : Nodes
+without_first = tree_with None
+
+-- the first stripe is out, and the second, the files and the tree are not
+first_is_out : IsOut (0 ∷ 0 ∷ 0 ∷ 0 ∷ []) without_first
+first_is_out = (refl, refl)
+
+second_is_in : IsOut (0 ∷ 0 ∷ 0 ∷ 1 ∷ []) without_first → ⊥
+second_is_in h = true≢false (ap is_some h.0)
+
+files_are_in : IsOut (0 ∷ 0 ∷ 0 ∷ []) without_first → ⊥
+files_are_in h = true≢false (ap is_some h.0)
+
+-- a stripe is not out by itself where its files are out with it
+stripe_of_no_files : IsOut (0 ∷ 0 ∷ 0 ∷ 0 ∷ []) (below Inner (Some (below Inner (Some (below (Marks true false) (None ∷ Some (leaf_of (Text None)) ∷ [])) ∷ [])) ∷ [])) → ⊥
+stripe_of_no_files h = true≢false (sym h.1)
+
+-- what is related to the first stripe or lies above it has a gap
+gap_at_files : HasGap small (0 ∷ 0 ∷ 0 ∷ []) without_first
+gap_at_files = (0 ∷ 0 ∷ 0 ∷ 0 ∷ [], (omega arith, omega arith, omega arith), refl, refl)
+
+gap_at_all : HasGap small [] without_first
+gap_at_all = (0 ∷ 0 ∷ 0 ∷ 0 ∷ [], (omega arith, omega arith, omega arith), refl, refl)
+
+-- the second stripe has none
+no_gap_at_second : (q : Path) → are_related (0 ∷ 0 ∷ 0 ∷ 1 ∷ []) q ≡ true → IsPath small q → without_first q ≡ None → ⊥
+no_gap_at_second [] related path out = true≢false (ap is_some out)
+no_gap_at_second (zero ∷ []) related path out = true≢false (ap is_some out)
+no_gap_at_second (zero ∷ zero ∷ []) related path out = true≢false (ap is_some out)
+no_gap_at_second (zero ∷ zero ∷ zero ∷ []) related path out = true≢false (ap is_some out)
+no_gap_at_second (zero ∷ zero ∷ zero ∷ zero ∷ []) related path out = true≢false (sym related)
+no_gap_at_second (zero ∷ zero ∷ zero ∷ suc zero ∷ []) related path out = true≢false (ap is_some out)
+no_gap_at_second (zero ∷ zero ∷ zero ∷ suc (suc s) ∷ []) related path out = absurd (omega (arith, path.2))
+no_gap_at_second (zero ∷ zero ∷ zero ∷ s ∷ x ∷ q) related path out = absurd path
+no_gap_at_second (zero ∷ zero ∷ suc zero ∷ []) related path out = true≢false (sym related)
+no_gap_at_second (zero ∷ zero ∷ suc zero ∷ x ∷ q) related path out = absurd path
+no_gap_at_second (zero ∷ zero ∷ suc (suc i) ∷ q) related path out = absurd path
+no_gap_at_second (zero ∷ suc v ∷ []) related path out = absurd (omega (arith, path.1))
+no_gap_at_second (zero ∷ suc v ∷ zero ∷ []) related path out = absurd (omega (arith, path.1))
+no_gap_at_second (zero ∷ suc v ∷ zero ∷ s ∷ []) related path out = absurd (omega (arith, path.1))
+no_gap_at_second (zero ∷ suc v ∷ zero ∷ s ∷ x ∷ q) related path out = absurd path
+no_gap_at_second (zero ∷ suc v ∷ suc zero ∷ []) related path out = absurd (omega (arith, path.1))
+no_gap_at_second (zero ∷ suc v ∷ suc zero ∷ x ∷ q) related path out = absurd path
+no_gap_at_second (zero ∷ suc v ∷ suc (suc i) ∷ q) related path out = absurd path
+no_gap_at_second (suc a ∷ []) related path out = absurd (omega (arith, path))
+no_gap_at_second (suc a ∷ v ∷ []) related path out = absurd (omega (arith, path.0))
+no_gap_at_second (suc a ∷ v ∷ zero ∷ []) related path out = absurd (omega (arith, path.0))
+no_gap_at_second (suc a ∷ v ∷ zero ∷ s ∷ []) related path out = absurd (omega (arith, path.0))
+no_gap_at_second (suc a ∷ v ∷ zero ∷ s ∷ x ∷ q) related path out = absurd path
+no_gap_at_second (suc a ∷ v ∷ suc zero ∷ []) related path out = absurd (omega (arith, path.0))
+no_gap_at_second (suc a ∷ v ∷ suc zero ∷ x ∷ q) related path out = absurd path
+no_gap_at_second (suc a ∷ v ∷ suc (suc i) ∷ q) related path out = absurd path
+
+-- the standing: marks and files at a stripe, marks at the files and at the label, nothing above
+standing_at_stripe : standing_at (0 ∷ 0 ∷ 0 ∷ 1 ∷ []) without_first ≡ record { made = true; sealed = false; files = 1 }
+standing_at_stripe = refl
+
+standing_at_files : standing_at (0 ∷ 0 ∷ 0 ∷ []) whole ≡ record { made = true; sealed = false; files = 0 }
+standing_at_files = refl
+
+standing_at_label : standing_at (0 ∷ 0 ∷ 1 ∷ []) without_first ≡ record { made = true; sealed = false; files = 0 }
+standing_at_label = refl
+
+standing_at_volume : standing_at (0 ∷ 0 ∷ []) whole ≡ record { made = false; sealed = false; files = 0 }
+standing_at_volume = refl
+
+-- to put the stripe back gives the whole tree again, at each place
+put_back_stripe : put_at (0 ∷ 0 ∷ 0 ∷ 0 ∷ []) (leaf_of (Slots no_blocks)) without_first (0 ∷ 0 ∷ 0 ∷ 0 ∷ []) ≡ whole (0 ∷ 0 ∷ 0 ∷ 0 ∷ [])
+put_back_stripe = refl
+
+put_back_other : put_at (0 ∷ 0 ∷ 0 ∷ 0 ∷ []) (leaf_of (Slots no_blocks)) without_first (0 ∷ 0 ∷ 0 ∷ 1 ∷ []) ≡ whole (0 ∷ 0 ∷ 0 ∷ 1 ∷ [])
+put_back_other = refl

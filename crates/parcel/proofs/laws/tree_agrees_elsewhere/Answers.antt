@@ -1,0 +1,8 @@
+use Rattle.parcel.proofs.Leaving.{taken_leaves, put_leaves}
+use Rattle.parcel.proofs.laws.tree_agrees_elsewhere.Goals as goal
+
+pub returns-clause-taken_leaves : goal.returns-clause-taken_leaves
+returns-clause-taken_leaves c = taken_leaves
+
+pub returns-clause-put_leaves : goal.returns-clause-put_leaves
+returns-clause-put_leaves c = put_leaves

@@ -1,0 +1,9 @@
+-- So many are made so far, and there is room for the rest.
+use Rattle.std.proofs.Common.{◌≡◌, ◌≤◌, [], length, vec_capacity}
+use Rattle.std.specs.List.{AllByRecursion}
+use Rattle.parcel.specs.Fits.{IsWholeChild}
+use Rattle.parcel.specs.Stripe.{StripePart}
+use Rattle.parcel.proofs.parts.starting.new_logical.Given as goal
+
+abbrev pub invariant-loop : goal.invariant-loop
+invariant-loop l = (length l.stripes.items ≡ l.counter) × AllByRecursion (IsWholeChild (λ (p : StripePart). p ≡ record { quota = l.g.quota; entries = [] })) l.stripes.items × (l.g.stripes ≤ vec_capacity l.stripes)

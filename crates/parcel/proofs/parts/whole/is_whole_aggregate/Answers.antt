@@ -1,0 +1,11 @@
+-- The row is asked child by child.
+use Rattle.std.proofs.Common.{◌∙◌, ap, sym, rules}
+use Rattle.std.proofs.lemmas.Iterator.{YieldsList-from_slice}
+use Rattle.std.proofs.lemmas.Iterator.Search.{all_from_yields_List}
+use borrow.Author.Tests.{tests}
+use Rattle.parcel.specs.Levels.{is_whole_aggregate, is_whole_volume}
+use Rattle.parcel.proofs.parts.whole.is_whole_aggregate.Goals as goal
+
+pub returns-in-Some : goal.returns-in-Some
+returns-in-Some c =
+    all_from_yields_List is_whole_volume _ _ _ c.all.ensures.ran (YieldsList-from_slice c.in-Some.aggregate.volumes.items cc) (λ x b q k. search (rules, tests)) ∙ ap is_whole_aggregate (sym c.in-Some.is)

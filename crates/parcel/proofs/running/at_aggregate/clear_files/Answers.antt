@@ -1,0 +1,26 @@
+use Rattle.std.proofs.Common.{◌≡◌, ◌^◌, ◌<◌, ◌∙◌, length, arith}
+use Rattle.parcel.specs.Dropping.{IsEmptied}
+use Rattle.parcel.specs.Fits.{FitsStripe}
+use Rattle.parcel.proofs.FileBits.{none_below}
+use Rattle.parcel.proofs.StripeRows.{pairs_from_places, still_fit, still_whole, fits_emptied, whole_emptied}
+use Rattle.parcel.proofs.running.at_aggregate.clear_files.Goals as goal
+
+pub returns-clause-fits : goal.returns-clause-fits
+returns-clause-fits c =
+    let old = c.args.logical.now.stripes in
+    let new = c.clear_stripes.new.stripes in
+    let same : length new.items ≡ length old.items = omega (arith, c.clear_stripes.ensures.count, old.ok.0, new.ok.0) in
+    λ g fits. record {
+      files = none_below g.files;
+      count = same ∙ fits.count;
+      stripes = still_fit IsEmptied (FitsStripe g) (fits_emptied g) 0 old.items new.items
+          (pairs_from_places IsEmptied old.items new.items same (λ s lt. c.clear_stripes.ensures.each s (omega (arith, lt, old.ok.0)))) fits.stripes;
+    }
+
+pub returns-clause-whole : goal.returns-clause-whole
+returns-clause-whole c =
+    let old = c.args.logical.now.stripes in
+    let new = c.clear_stripes.new.stripes in
+    let same : length new.items ≡ length old.items = omega (arith, c.clear_stripes.ensures.count, old.ok.0, new.ok.0) in
+    still_whole IsEmptied (λ p. Unit {0}) whole_emptied old.items new.items
+    (pairs_from_places IsEmptied old.items new.items same (λ s lt. c.clear_stripes.ensures.each s (omega (arith, lt, old.ok.0))))

@@ -1,0 +1,40 @@
+use Rattle.std.proofs.Common.{◌≡◌, ◌<◌, false, refl, ap, sym, ◌∙◌, length, slice_index_or, slice_set, arith}
+use Rattle.std.specs.Prelude.{◌==◌, None, not, IfSome}
+use Rattle.std.proofs.lemmas.List.{get_or_read, length-set}
+use Rattle.message.specs.declared.Msg.TheVariants.{DropVol}
+use Rattle.message.specs.declared.Refusal.TheVariants.{Exists}
+use Rattle.parcel.specs.Fits.{FitsVolume}
+use Rattle.parcel.specs.Shown.{by_aggregate, by_child, by_volume}
+use Rattle.parcel.specs.Steps.{unless, unless_closed, at_aggregate}
+use Rattle.parcel.specs.Totals.{with_made}
+use Rattle.parcel.specs.Volume.{nothing}
+use Rattle.parcel.proofs.OneVolume.{passed, refused}
+use Rattle.parcel.proofs.Summing.{fits_in_place}
+use Rattle.parcel.proofs.VolumeRows.{set_fits, set_changes, changed_if, drop_tests, effect_drop}
+use Rattle.parcel.proofs.running.at_aggregate.drop_volume.Goals as goal
+
+pub returns-clause-fits : goal.returns-clause-fits
+returns-clause-fits c =
+    let g = c.args.g.now in
+    let row = c.args.aggregate.now.volumes in
+    let n = c.from-place.result in
+    let below : n < length row.items = omega (arith, c.from-place.ensures, c.requires.volume, c.requires.fits.count) in
+    let at : slice_index_or row.items n None ≡ c.index_mut.result.now = sym (get_or_read row.items _ _ below c.index_mut.ensures.value None) in
+    record {
+      count = length-set row.items n c.clear.new.place ∙ c.requires.fits.count;
+      volumes = set_fits (FitsVolume g) 0 row.items n c.clear.new.place c.requires.fits.volumes (c.clear.ensures.fits g (fits_in_place (λ v. FitsVolume g) row.items c.requires.fits.volumes n below c.index_mut.result.now at));
+    }
+
+pub returns-clause-step : goal.returns-clause-step
+returns-clause-step c =
+    let g = c.args.g.now in
+    let r = c.args.aggregate.now in
+    let row = r.volumes in
+    let v = c.args.v in
+    let n = c.from-place.result in
+    let below : n < length row.items = omega (arith, c.from-place.ensures, c.requires.volume, c.requires.fits.count) in
+    let at : slice_index_or row.items n None ≡ c.index_mut.result.now = sym (get_or_read row.items _ _ below c.index_mut.ensures.value None) in
+    let seen : slice_index_or row.items v None ≡ c.index.result.now = ap (λ k. slice_index_or row.items k None) (sym c.from-place.ensures) ∙ sym (get_or_read row.items _ _ below c.index.ensures None) in
+    λ a range. passed g (at_aggregate g a r) (DropVol a v) _ _ (drop_tests g a v r range ∙ (λ i. unless_closed ((ap (λ o. (by_child (by_volume g) o).made) seen ∙ sym (c.marks-made.ensures.made g)) i) ((ap (λ o. (by_child (by_volume g) o).sealed) seen ∙ sym (c.marks-made.ensures.sealed g)) i) None) ∙ sym c.change_refusal.ensures ∙ c.in_default.is) refl
+    (effect_drop a v (by_aggregate g r) (λ q. by_child (by_volume g) (slice_index_or (slice_set row.items n c.clear.new.place) q None))
+    (λ q. set_changes g (λ h. nothing) row.items n c.clear.new.place below (c.clear.ensures.facts g) q ∙ ap (λ k. changed_if (λ h. nothing) (k == q) (by_aggregate g r q)) c.from-place.ensures))

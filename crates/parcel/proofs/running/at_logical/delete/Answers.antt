@@ -1,0 +1,47 @@
+use Rattle.std.proofs.Common.{◌≡◌, ℕ, ◌<◌, ◌^◌, refl, sym, ◌∙◌, length, arith}
+use Rattle.std.specs.Prelude.{Option}
+use Rattle.affinity.specs.Geometry.{group}
+use Rattle.message.specs.declared.Msg.TheVariants.{Delete}
+use Rattle.plain.proofs.Counts.{group-lt}
+use Rattle.parcel.specs.Dropping.{IsWithoutFile}
+use Rattle.parcel.specs.Fits.{FitsStripe}
+use Rattle.parcel.specs.Shown.{by_logical, blocks_of, has_bit}
+use Rattle.parcel.specs.Volume.{only}
+use Rattle.parcel.proofs.FileBits.{few_bits, without_bit, without_bit_has, without_bit_below}
+use Rattle.parcel.proofs.OneVolume.{passed, delete_tests, effect_delete}
+use Rattle.parcel.proofs.StripeRows.{pairs_from_places, still_fit, still_whole, fits_without_file, whole_without_file, blocks_without_file}
+use Rattle.parcel.proofs.running.at_logical.delete.Goals as goal
+
+pub returns-clause-step : goal.returns-clause-step
+returns-clause-step c =
+    let g = c.args.g.now in
+    let old = c.args.logical.now.stripes in
+    let new = c.drop_file.new.stripes in
+    let h = by_logical g c.args.standing c.args.logical.now in
+    let most = g.files_range.1 in
+    let below : c.args.f < 64 = omega (arith, most, c.requires.file) in
+    λ a v range. passed g (only a v h) (Delete a v c.args.f) _ _ (delete_tests g a v c.args.f h range ∙ sym c.file_change_refusal.ensures ∙ c.in_default.is) refl
+    (effect_delete h a v (has_bit (without_bit c.args.logical.now.files c.args.f)) (blocks_of g new.items) c.args.f
+    (without_bit_has c.args.logical.now.files c.args.f below (few_bits g.files c.args.logical.now.files c.requires.fits.files most))
+    (λ i j. blocks_without_file c.args.f _ _ (c.drop_file.ensures.each (group g i j) (omega (arith, group-lt g i j, c.requires.fits.count, old.ok.0))) i j))
+
+pub returns-clause-fits : goal.returns-clause-fits
+returns-clause-fits c =
+    let g = c.args.g.now in
+    let old = c.args.logical.now.stripes in
+    let new = c.drop_file.new.stripes in
+    let same : length new.items ≡ length old.items = omega (arith, c.drop_file.ensures.count, old.ok.0, new.ok.0) in
+    record {
+      files = without_bit_below g.files c.args.logical.now.files c.args.f c.requires.fits.files;
+      count = same ∙ c.requires.fits.count;
+      stripes = still_fit (IsWithoutFile c.args.f) (FitsStripe g) (fits_without_file g c.args.f) 0 old.items new.items
+          (pairs_from_places (IsWithoutFile c.args.f) old.items new.items same (λ s lt. c.drop_file.ensures.each s (omega (arith, lt, old.ok.0)))) c.requires.fits.stripes;
+    }
+
+pub returns-clause-whole : goal.returns-clause-whole
+returns-clause-whole c =
+    let old = c.args.logical.now.stripes in
+    let new = c.drop_file.new.stripes in
+    let same : length new.items ≡ length old.items = omega (arith, c.drop_file.ensures.count, old.ok.0, new.ok.0) in
+    still_whole (IsWithoutFile c.args.f) (λ p. Unit {0}) (whole_without_file c.args.f) old.items new.items
+    (pairs_from_places (IsWithoutFile c.args.f) old.items new.items same (λ s lt. c.drop_file.ensures.each s (omega (arith, lt, old.ok.0)))) c.requires.whole

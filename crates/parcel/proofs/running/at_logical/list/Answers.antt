@@ -1,0 +1,17 @@
+use Rattle.std.proofs.Common.{◌^◌, refl, ap, sym, ◌∙◌}
+use Rattle.std.specs.Prelude.{if◌then◌else◌}
+use Rattle.message.specs.declared.Msg.TheVariants.{List as ListFiles}
+use Rattle.message.specs.declared.Reply.TheVariants.{Files}
+use Rattle.plain.specs.State.{sum_below}
+use Rattle.parcel.specs.Shown.{by_logical}
+use Rattle.parcel.specs.Volume.{only}
+use Rattle.parcel.proofs.FileBits.{bits_back}
+use Rattle.parcel.proofs.OneVolume.{at_volume, passed, list_tests}
+use Rattle.parcel.proofs.running.at_logical.list.Goals as goal
+
+pub returns : goal.returns
+returns c =
+    let g = c.args.g.now in
+    let h = by_logical g c.args.standing c.args.logical.now in
+    λ a v range. passed g (only a v h) (ListFiles a v) _ _ (list_tests g a v h range ∙ sym c.volume_refusal.ensures ∙ c.in_default.is)
+    (ap Files (sym (bits_back g.files c.args.logical.now.files c.requires.files)) ∙ (λ i. Files (sum_below g.files (λ f. if (sym (at_volume a v h) i).files f then 2 ^ f else 0)))) refl

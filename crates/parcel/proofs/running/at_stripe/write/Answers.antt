@@ -1,0 +1,31 @@
+use Rattle.std.proofs.Common.{◌≡◌, refl, ap, sym, ◌∙◌, length}
+use Rattle.affinity.specs.Geometry.{group}
+use Rattle.message.specs.declared.Msg.TheVariants.{Write}
+use Rattle.plain.specs.State.{group_count}
+use Rattle.parcel.specs.Shown.{by_stripe}
+use Rattle.parcel.specs.Stripe.{content_at}
+use Rattle.parcel.specs.Volume.{only}
+use Rattle.parcel.proofs.GroupCounts.{count_is_length}
+use Rattle.parcel.proofs.OneVolume.{at_volume, refused, passed, write_tests, effect_write}
+use Rattle.parcel.proofs.running.at_stripe.write.Goals as goal
+
+pub returns-in-Some-clause-step : goal.returns-in-Some-clause-step
+returns-in-Some-clause-step c =
+    let g = c.args.g.now in
+    let p = c.args.stripe.now in
+    let s = group g c.args.f c.args.b in
+    let h = by_stripe c.args.standing p in
+    λ a v range.
+    let count : group_count g (only a v h) a v s ≡ length p.entries = count_is_length g s (only a v h) a v p c.write_refusal.ensures.kept c.requires.fits (λ i j _. ap (λ h. h.blocks i j) (at_volume a v h)) in
+    refused g (only a v h) (Write a v c.args.f c.args.b c.args.content.now) _ (write_tests g a v c.args.f c.args.b c.args.content.now h _ range count ∙ sym c.write_refusal.ensures.why ∙ c.in-Some.is)
+
+pub returns-clause-step : goal.returns-clause-step
+returns-clause-step c =
+    let g = c.args.g.now in
+    let p = c.args.stripe.now in
+    let s = group g c.args.f c.args.b in
+    let h = by_stripe c.args.standing p in
+    λ a v range.
+    let count : group_count g (only a v h) a v s ≡ length p.entries = count_is_length g s (only a v h) a v p c.write_refusal.ensures.kept c.requires.fits (λ i j _. ap (λ h. h.blocks i j) (at_volume a v h)) in
+    passed g (only a v h) (Write a v c.args.f c.args.b c.args.content.now) _ _ (write_tests g a v c.args.f c.args.b c.args.content.now h _ range count ∙ sym c.write_refusal.ensures.why ∙ c.in_default.is) refl
+    (effect_write h a v (content_at c.set.new.self.entries) c.args.f c.args.b c.args.content.now c.set.ensures.holds.content)

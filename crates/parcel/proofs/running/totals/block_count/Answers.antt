@@ -1,0 +1,54 @@
+use Rattle.std.proofs.Common.{◌≡◌, ◌<◌, ◌≤◌, ap, sym, ◌∙◌, length, slice_index_or, arith}
+use Rattle.std.specs.Prelude.{None, IfSome}
+use Rattle.std.proofs.lemmas.List.{get_or_read}
+use Rattle.plain.specs.State.{sum_below, group_count}
+use Rattle.plain.proofs.Counts.{block_count-by_stripe}
+use Rattle.plain.proofs.Totals.{sum_step}
+use Rattle.parcel.specs.Fits.{FitsStripe}
+use Rattle.parcel.specs.Shown.{blocks_of}
+use Rattle.parcel.specs.Totals.{entry_count}
+use Rattle.parcel.proofs.StripeTotals.{holding, count_at, few_entries, quota_of, stripe_at}
+use Rattle.parcel.proofs.running.totals.block_count.Goals as goal
+
+pub entry_count-total-requires : goal.entry_count-total-requires
+entry_count-total-requires c =
+    let g = c.args.g.now in
+    let row = c.args.logical.now.stripes in
+    let s = c.loop-s.s in
+    let below : s < length row.items = omega (arith, c.loop-s-test.true, c.len-s-end.ensures, row.ok.0) in
+    let at : slice_index_or row.items s None ≡ c.index.result.now = sym (get_or_read row.items _ _ below c.index.ensures None) in
+    quota_of g s c.index.result.now (stripe_at g row.items c.requires.stripes s below c.index.result.now at)
+
+pub overflow_add-total : goal.overflow_add-total
+overflow_add-total c =
+    let g = c.args.g.now in
+    let row = c.args.logical.now.stripes in
+    let s = c.loop-s.s in
+    let below : s < length row.items = omega (arith, c.loop-s-test.true, c.len-s-end.ensures, row.ok.0) in
+    let at : slice_index_or row.items s None ≡ c.index.result.now = sym (get_or_read row.items _ _ below c.index.ensures None) in
+    let fits : IfSome c.index.result.now (FitsStripe g s) = stripe_at g row.items c.requires.stripes s below c.index.result.now at in
+    let few = few_entries g s c.index.result.now c.entry_count-total.ensures.kept fits in
+    let most = g.stripes_range.1 in
+    omega (arith, few, c.loop-s.invariant.1, c.entry_count-total.ensures.count, c.requires.count)
+
+pub loop-s-preserved : goal.loop-s-preserved
+loop-s-preserved c =
+    let g = c.args.g.now in
+    let row = c.args.logical.now.stripes in
+    let s = c.loop-s.s in
+    let below : s < length row.items = omega (arith, c.loop-s-test.true, c.len-s-end.ensures, row.ok.0) in
+    let at : slice_index_or row.items s None ≡ c.index.result.now = sym (get_or_read row.items _ _ below c.index.ensures None) in
+    let fits : IfSome c.index.result.now (FitsStripe g s) = stripe_at g row.items c.requires.stripes s below c.index.result.now at in
+    let few = few_entries g s c.index.result.now c.entry_count-total.ensures.kept fits in
+    let here = count_at g row.items s c.index.result.now at c.entry_count-total.ensures.kept fits in
+    let step = sum_step s (group_count g (holding (blocks_of g row.items)) 0 0) in
+    (omega (arith, step, here, c.loop-s.invariant.0, c.entry_count-total.ensures.count), omega (arith, few, c.loop-s.invariant.1, c.entry_count-total.ensures.count))
+
+pub returns : goal.returns
+returns c =
+    let g = c.args.g.now in
+    let row = c.args.logical.now.stripes in
+    let last : c.loop-s.s ≡ g.stripes = omega (arith, c.loop-s-test.false, c.len-s-end.ensures, row.ok.0, c.requires.count) in
+    c.loop-s.invariant.0
+    ∙ ap (λ n. sum_below n (group_count g (holding (blocks_of g row.items)) 0 0)) last
+    ∙ sym (block_count-by_stripe g (holding (blocks_of g row.items)) 0 0)

@@ -1,0 +1,30 @@
+use Rattle.std.proofs.Common.{◌≡◌, Bool, true, false, refl, ap, sym, ◌∙◌}
+use mir.Val.{bool_byte}
+use Rattle.plain.specs.State.{one_if}
+use Rattle.parcel.specs.Shown.{files_in, blocks_below}
+use Rattle.parcel.specs.Totals.{file_total, block_total}
+use Rattle.parcel.proofs.StripeTotals.{no_files, no_blocks}
+use Rattle.parcel.proofs.running.totals.volume_totals.Goals as goal
+use Rattle.parcel.proofs.running.totals.volume_totals.Goals.{in-Some, in-None}
+
+byte_is : (t : Bool) → bool_byte t ≡ one_if t
+byte_is true = refl
+byte_is false = refl
+
+pub returns : goal.returns
+returns c =
+    let g = c.args.g.now in
+    let w = c.args.volume.now in
+    let made : c.from.result ≡ one_if w.made = c.from.ensures ∙ byte_is w.made in
+    let both : (c.match-volume.files.0 ≡ file_total g (files_in w.logical)) × (c.match-volume.files.1 ≡ block_total g (blocks_below g w.logical)) =
+    elim c.match-volume.branch [
+      | in-Some b ↦ (
+        ap (λ p. p.0) b.files-is ∙ b.file_count.ensures ∙ ap (λ o. file_total g (files_in o)) (sym b.in-Some.is),
+        ap (λ p. p.1) b.files-is ∙ b.block_count.ensures ∙ ap (λ o. block_total g (blocks_below g o)) (sym b.in-Some.is),
+      )
+      | in-None b ↦ (
+        ap (λ p. p.0) b.files-is ∙ sym (no_files g) ∙ ap (λ o. file_total g (files_in o)) (sym b.in-None.is),
+        ap (λ p. p.1) b.files-is ∙ sym (no_blocks g) ∙ ap (λ o. block_total g (blocks_below g o)) (sym b.in-None.is),
+      )
+    ] in
+    λ i. record { volumes = made i; files = both.0 i; blocks = both.1 i }

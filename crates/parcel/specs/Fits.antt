@@ -1,0 +1,87 @@
+-- Which parcels belong at a path of a geometry.
+use Rattle.std.specs.Prelude.{◌≡◌, ℕ, zero, suc, ◌<◌, ◌^◌, true, List, [], ◌∷◌, length, Option, Some, None, is_some, IfSome}
+use Rattle.std.specs.List.{AllByRecursion}
+use Rattle.affinity.specs.declared.sizes.Geometry.{Geometry}
+use Rattle.affinity.specs.Geometry.{group}
+use Rattle.affinity.specs.Path.{Path}
+use Rattle.message.specs.declared.Msg.{Msg}
+use Rattle.message.specs.Messages.{place, is_in_range}
+use Rattle.parcel.specs.Stripe.{StripePart, content_at}
+use Rattle.parcel.specs.declared.parts.Label.{Label}
+use Rattle.parcel.specs.declared.parts.Logical.{Logical}
+use Rattle.parcel.specs.declared.parts.Vol.{Vol}
+use Rattle.parcel.specs.declared.parts.Aggr.{Aggr}
+use Rattle.parcel.specs.declared.parts.Root.{Root}
+use Rattle.parcel.specs.declared.parts.Parcels.{Parcels}
+use Rattle.parcel.specs.declared.parts.Parcels.TheVariants as parcels
+
+-- Stripe s: it has the quota of the geometry, and each of its blocks is in range and of its group.
+pub record FitsStripe (g : Geometry) (s : ℕ) (p : StripePart) : Type 0 where
+  pub quota : p.quota ≡ g.quota
+  pub lies : (f b : ℕ) → is_some (content_at p.entries f b) ≡ true → (f < g.files) × (b < g.blocks) × (group g f b ≡ s)
+
+-- Each that is in a row, from number i on, fits at its number.
+abbrev pub EachFits : {X : Type 0} → (ℕ → X → Type 0) → ℕ → List (Option X) → Type 0
+EachFits Fits i [] = Unit {0}
+EachFits Fits i (x ∷ xs) = IfSome x (Fits i) × EachFits Fits (suc i) xs
+
+pub record FitsLogical (g : Geometry) (l : Logical) : Type 0 where
+  pub files : l.files < 2 ^ g.files
+  pub count : length l.stripes.items ≡ g.stripes
+  pub stripes : EachFits (FitsStripe g) 0 l.stripes.items
+
+pub record FitsVolume (g : Geometry) (w : Vol) : Type 0 where
+  pub logical : IfSome w.logical (FitsLogical g)
+
+pub record FitsAggregate (g : Geometry) (r : Aggr) : Type 0 where
+  pub count : length r.volumes.items ≡ g.volumes
+  pub volumes : EachFits (λ v. FitsVolume g) 0 r.volumes.items
+
+pub record FitsRoot (g : Geometry) (r : Root) : Type 0 where
+  pub count : length r.aggregates.items ≡ g.aggregates
+  pub aggregates : EachFits (λ a. FitsAggregate g) 0 r.aggregates.items
+
+-- ---- whole: nothing below is out
+
+abbrev pub IsWholeChild : {X : Type 0} → (X → Type 0) → Option X → Type 0
+IsWholeChild IsWhole None = ⊥
+IsWholeChild IsWhole (Some x) = IsWhole x
+
+abbrev pub IsWholeLogical : Logical → Type 0
+IsWholeLogical l = AllByRecursion (IsWholeChild (λ p. Unit {0})) l.stripes.items
+
+abbrev pub IsWholeVolume : Vol → Type 0
+IsWholeVolume w = IsWholeChild IsWholeLogical w.logical × IsWholeChild (λ l. Unit {0}) w.label
+
+abbrev pub IsWholeAggregate : Aggr → Type 0
+IsWholeAggregate r = AllByRecursion (IsWholeChild IsWholeVolume) r.volumes.items
+
+abbrev pub IsWholeRoot : Root → Type 0
+IsWholeRoot r = AllByRecursion (IsWholeChild IsWholeAggregate) r.aggregates.items
+
+-- ---- parcels at a path
+
+-- They are of the kind of the path.
+abbrev pub IsKindOf : Path → Parcels → Type 0
+IsKindOf [] (parcels.Root r) = Unit {0}
+IsKindOf (a ∷ []) (parcels.Aggr r) = Unit {0}
+IsKindOf (a ∷ v ∷ []) (parcels.Vol w) = Unit {0}
+IsKindOf (a ∷ v ∷ zero ∷ []) (parcels.Logical l) = Unit {0}
+IsKindOf (a ∷ v ∷ zero ∷ s ∷ []) (parcels.Stripe p) = Unit {0}
+IsKindOf (a ∷ v ∷ suc zero ∷ []) (parcels.Label l) = Unit {0}
+IsKindOf _ _ = ⊥
+
+-- They are of its kind, whole, and of the geometry.
+abbrev pub Fits : Geometry → Path → Parcels → Type 0
+Fits g [] (parcels.Root r) = FitsRoot g r × IsWholeRoot r
+Fits g (a ∷ []) (parcels.Aggr r) = FitsAggregate g r × IsWholeAggregate r
+Fits g (a ∷ v ∷ []) (parcels.Vol w) = FitsVolume g w × IsWholeVolume w
+Fits g (a ∷ v ∷ zero ∷ []) (parcels.Logical l) = FitsLogical g l × IsWholeLogical l
+Fits g (a ∷ v ∷ zero ∷ s ∷ []) (parcels.Stripe p) = FitsStripe g s p
+Fits g (a ∷ v ∷ suc zero ∷ []) (parcels.Label l) = Unit {0}
+Fits g _ _ = ⊥
+
+-- The message is in range, and the parcels are those of its place.
+pub record Suits (g : Geometry) (m : Msg) (p : Parcels) : Type 0 where
+  pub range : is_in_range g m ≡ true
+  pub fits : Fits g (place g m) p

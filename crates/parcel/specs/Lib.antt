@@ -1,0 +1,13 @@
+pub mod Stripe
+pub mod Places
+pub mod Volume
+pub mod Shown
+pub mod Fits
+pub mod Nodes
+pub mod Tree
+pub mod Run
+pub mod Levels
+pub mod Steps
+pub mod Dropping
+pub mod Totals
+pub mod RunLaws

@@ -1,0 +1,40 @@
+-- What it is to run a message on the parcels of its place.
+use Rattle.std.specs.Prelude.{◌≡◌, ℕ}
+use Rattle.affinity.specs.declared.sizes.Geometry.{Geometry}
+use Rattle.affinity.specs.Path.{Path, are_related}
+use Rattle.message.specs.declared.Msg.{Msg}
+use Rattle.message.specs.declared.Reply.{Reply}
+use Rattle.message.specs.Messages.{place}
+use Rattle.plain.specs.State.{State}
+use Rattle.plain.specs.Serial.{reply_to, after}
+use Rattle.plain.specs.Shares.{AgreeOn}
+use Rattle.parcel.specs.Fits.{Suits}
+use Rattle.parcel.specs.Shown.{shown}
+use Rattle.parcel.specs.declared.parts.Parcels.{Parcels}
+use Rattle.parcel.specs.declared.parts.Standing.{Standing}
+use Rattle.parcel.specs.declared.job.Done.{Done}
+
+-- a message, with a ticket, and what it runs on
+pub record Asked : Type 0 where
+  pub geometry : Geometry
+  pub ticket : ℕ
+  pub message : Msg
+  pub standing : Standing
+  pub parcels : Parcels
+
+-- The step of a message leads from one state to another, and this is its reply.
+pub record IsStep (g : Geometry) (x : State) (m : Msg) (told : Reply) (y : State) : Type 0 where
+  pub reply : told ≡ reply_to g x m
+  pub state : y ≡ after g x m
+
+-- The parcels and the standing show what a state has at a path, below it and above it: they have its share and its standing there.
+abbrev pub Shows : Geometry → Path → Standing → Parcels → State → Type 0
+Shows g p t parcels x = AgreeOn g (are_related p) (shown g p t parcels) x
+
+-- The job was run: in the state that its parcels and standing show, the reply is that of the serial step, and the parcels show the state after it.
+pub record IsRun (job : Asked) (done : Done) : Type 0 where
+  pub ticket : done.ticket ≡ job.ticket
+  pub message : done.message ≡ job.message
+  pub suits : Suits job.geometry job.message done.parcels
+  pub step : let p = place job.geometry job.message in
+      IsStep job.geometry (shown job.geometry p job.standing job.parcels) job.message done.reply (shown job.geometry p job.standing done.parcels)

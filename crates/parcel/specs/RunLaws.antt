@@ -1,0 +1,16 @@
+-- What a run is to any state of which its job had a part.
+use Rattle.std.specs.Prelude.{◌≡◌}
+use Rattle.message.specs.Messages.{place}
+use Rattle.plain.specs.State.{State}
+use Rattle.plain.specs.Serial.{reply_to, after}
+use Rattle.parcel.specs.Run.{Asked, IsRun, Shows}
+use Rattle.parcel.specs.declared.job.Done.{Done}
+
+-- The job was lent from a state: its parcels and standing show what lies there at the message's place, below it and above it.
+abbrev pub IsLentOf : Asked → State → Type 0
+IsLentOf job x = Shows job.geometry (place job.geometry job.message) job.standing job.parcels x
+
+-- The reply is that of the serial step from the state, and with the standing the parcels show the state after it.
+pub record IsSerialStepOf (job : Asked) (done : Done) (x : State) : Type 0 where
+  pub reply : done.reply ≡ reply_to job.geometry x job.message
+  pub shows : Shows job.geometry (place job.geometry job.message) job.standing done.parcels (after job.geometry x job.message)

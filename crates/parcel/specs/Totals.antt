@@ -1,0 +1,34 @@
+-- How much volumes hold, and what a volume has that was just made.
+use Rattle.std.specs.Prelude.{ℕ, Bool, true, length, Option, Some, None, is_some}
+use Rattle.affinity.specs.declared.sizes.Geometry.{Geometry}
+use Rattle.message.specs.declared.Block.{Block}
+use Rattle.plain.specs.State.{sum_below, count_below, one_if}
+use Rattle.plain.specs.Serial.{no_label}
+use Rattle.parcel.specs.Stripe.{StripePart}
+use Rattle.parcel.specs.Volume.{Facts}
+use Rattle.parcel.specs.declared.running.totals.Totals.{Totals}
+
+-- how many blocks lie in a stripe, where it is in
+abbrev pub entry_count : Option StripePart → ℕ
+entry_count None = 0
+entry_count (Some p) = length p.entries
+
+-- how many files of the geometry there are
+abbrev pub file_total : Geometry → (ℕ → Bool) → ℕ
+file_total g files = count_below g.files files
+
+-- how many blocks of the geometry there are
+abbrev pub block_total : Geometry → (ℕ → ℕ → Option Block) → ℕ
+block_total g blocks = sum_below g.files (λ f. count_below g.blocks (λ b. is_some (blocks f b)))
+
+-- how much one volume holds, and whether it is made
+abbrev pub totals_of : Geometry → Facts → Totals
+totals_of g h = record { volumes = one_if h.made; files = file_total g h.files; blocks = block_total g h.blocks }
+
+-- the sums over the numbers below n
+abbrev pub sum_totals : ℕ → (ℕ → Totals) → Totals
+sum_totals n each = record { volumes = sum_below n (λ i. (each i).volumes); files = sum_below n (λ i. (each i).files); blocks = sum_below n (λ i. (each i).blocks) }
+
+-- the volume made, with a label of zeros
+abbrev pub with_made : Facts → Facts
+with_made h = record h { made = true; label = Some no_label }

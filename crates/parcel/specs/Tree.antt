@@ -1,0 +1,72 @@
+-- The tree of a server's parcels, some of which may be out, and what it is to lend and to restore.
+use Rattle.std.specs.Prelude.{◌≡◌, ◌↔◌, ℕ, zero, suc, Bool, true, false, List, [], ◌∷◌, ◌++◌, Option, Some, None, is_some, IfSome}
+use Rattle.affinity.specs.declared.sizes.Geometry.{Geometry}
+use Rattle.affinity.specs.Interval.{IsPath}
+use Rattle.affinity.specs.Path.{Path, begins, are_related, volume, logical}
+use Rattle.plain.specs.State.{State}
+use Rattle.parcel.specs.Fits.{Fits, FitsRoot, IsKindOf}
+use Rattle.parcel.specs.Nodes.{Nodes, in_child, in_root, in_parcels, marks_made, marks_sealed, files_bits, state_of, IsTakenOut, IsPutBack, IsSame}
+use Rattle.plain.specs.Shares.{AgreeOn}
+use Rattle.parcel.specs.Run.{Shows}
+use Rattle.parcel.specs.Shown.{shown}
+use Rattle.parcel.specs.declared.parts.Root.{Root}
+use Rattle.parcel.specs.declared.parts.Parcels.{Parcels}
+use Rattle.parcel.specs.declared.parts.Standing.{Standing}
+
+-- what contracts see of a `Tree`
+pub record Grown : Type 0 where
+  pub geometry : Geometry
+  pub root : Option Root
+
+-- what a tree keeps
+abbrev pub IsGrown : Grown → Type 0
+IsGrown t = IfSome t.root (FitsRoot t.geometry)
+
+abbrev pub in_tree : Grown → Nodes
+in_tree t = in_child in_root t.root
+
+-- the state of all that is in
+abbrev pub state_in : Grown → State
+state_in t = state_of t.geometry (in_tree t)
+
+-- Nothing at this path, above it or below it is out.
+abbrev pub IsIn : Geometry → Path → Nodes → Type 0
+IsIn g p n = (q : Path) → IsPath g q → are_related p q ≡ true → is_some (n q) ≡ true
+
+-- Something at this path, above it or below it is out.
+abbrev pub HasGap : Geometry → Path → Nodes → Type 0
+HasGap g p n = (q : Path) × IsPath g q × (are_related p q ≡ true) × (n q ≡ None)
+
+-- the path of the node above
+abbrev pub above : Path → Path
+above [] = []
+above (x ∷ []) = []
+above (x ∷ y ∷ p) = x ∷ above (y ∷ p)
+
+-- The place is out: it is not there, and the one above it is, or it has none.
+abbrev pub IsOut : Path → Nodes → Type 0
+IsOut [] n = n [] ≡ None
+IsOut (x ∷ p) n = (n (x ∷ p) ≡ None) × (is_some (n (above (x ∷ p))) ≡ true)
+
+-- what a message at a path sees of the nodes above: a stripe the marks and the files of its volume, Volume Logical and Volume Label the marks
+abbrev pub standing_at : Path → Nodes → Standing
+standing_at (a ∷ v ∷ zero ∷ s ∷ _) n = record { made = marks_made (n (volume a v)); sealed = marks_sealed (n (volume a v)); files = files_bits (n (logical a v)) }
+standing_at (a ∷ v ∷ c ∷ []) n = record { made = marks_made (n (volume a v)); sealed = marks_sealed (n (volume a v)); files = 0 }
+standing_at _ n = record { made = false; sealed = false; files = 0 }
+
+-- These parcels, with this standing, were lent from a path: they are what was there, whole, and the rest stays.
+pub record IsLent (g : Geometry) (p : Path) (t : Standing) (lent : Parcels) (old new : Nodes) : Type 0 where
+  pub all_in : IsIn g p old
+  pub fits : Fits g p lent
+  pub parcels : (q : Path) → old (p ++ q) ≡ in_parcels lent q
+  pub standing : t ≡ standing_at p old
+  pub shows : Shows g p t lent (state_of g old)
+  pub rest : IsTakenOut p old new
+
+-- These parcels were put back at a path at which they were out, and the rest stays.
+pub record IsRestored (g : Geometry) (p : Path) (parcels : Parcels) (old new : Nodes) : Type 0 where
+  pub out : IsOut p old
+  pub kind : IsKindOf p parcels
+  pub nodes : IsPutBack p (in_parcels parcels) old new
+  -- what they show is the share there
+  pub share : (t : Standing) → AgreeOn g (begins p) (shown g p t parcels) (state_of g new)

@@ -1,0 +1,18 @@
+//! What a server holds, cut along the tree of affinities: a message runs on the part that was lent
+//! to it, and touches nothing else.
+#![tactic(auto)]
+
+mod job;
+pub mod laws;
+mod parts;
+mod running;
+mod stripe;
+mod tree;
+
+pub use job::{Done, Job, run};
+pub use parts::{Aggr, Label, Logical, Parcels, Root, Standing, Vol};
+pub use stripe::StripeParcel;
+pub use tree::Tree;
+
+#[cfg(test)]
+mod tests;

@@ -1,0 +1,69 @@
+mod above;
+mod putting;
+mod starting;
+mod taking;
+mod whole;
+
+use crate::StripeParcel;
+pub(crate) use above::standing_at;
+pub(crate) use putting::put_at;
+pub(crate) use starting::new_root;
+pub(crate) use taking::take_at;
+
+/// The files of a volume and its stripes.
+#[derive(Drop)]
+pub struct Logical {
+    /// File `f` is bit `f`.
+    pub(crate) files: u64,
+    pub(crate) stripes: Vec<Option<StripeParcel>>,
+}
+
+/// The label of a volume: none where the volume is not made.
+#[derive(Drop)]
+pub struct Label {
+    pub(crate) bytes: Option<[u8; 32]>,
+}
+
+/// A volume: its marks, and below it its files and stripes, and its label.
+#[derive(Drop)]
+pub struct Vol {
+    pub(crate) made: bool,
+    pub(crate) sealed: bool,
+    pub(crate) logical: Option<Logical>,
+    pub(crate) label: Option<Label>,
+}
+
+/// The volumes of an aggregate.
+#[derive(Drop)]
+pub struct Aggr {
+    pub(crate) volumes: Vec<Option<Vol>>,
+}
+
+/// The aggregates of a server.
+#[derive(Drop)]
+pub struct Root {
+    pub(crate) aggregates: Vec<Option<Aggr>>,
+}
+
+/// What lies at one place of the tree and below it. It moves as a handle of a few words, whatever
+/// it holds.
+#[derive(Drop)]
+pub enum Parcels {
+    Root(Root),
+    Aggr(Aggr),
+    Vol(Vol),
+    Logical(Logical),
+    Stripe(StripeParcel),
+    Label(Label),
+}
+
+/// What a message sees of what lies above its place: a message at a stripe the marks of its volume
+/// and its files, one at a Volume Logical or a Volume Label the marks, and any other nothing. What
+/// a place doesn't need is `false` and 0.
+#[derive(Clone, Copy, Debug, PartialEq, Eq)]
+pub struct Standing {
+    pub made: bool,
+    pub sealed: bool,
+    /// File `f` is bit `f`.
+    pub files: u64,
+}

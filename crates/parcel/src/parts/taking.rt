@@ -1,0 +1,200 @@
+//! Parcels are taken out of the tree, level by level. Nothing is taken where something at the path,
+//! above it or below it is out.
+ghost use Rattle.std.specs.Prelude.{◌≡◌, [], ◌∷◌, zero, suc, ℕ, IfNone, IfSome};
+ghost use Rattle.affinity.specs.Interval.{IsPath};
+ghost use Rattle.affinity.specs.Place.{path};
+ghost use Rattle.parcel.specs.Fits.{Fits, FitsStripe, FitsLogical, FitsVolume, FitsAggregate, FitsRoot};
+ghost use Rattle.parcel.specs.Levels.{IsLeafPath, IsLogicalPath, IsVolumePath, IsAggregatePath, IsRootPath, IsRefused, IsTaken};
+ghost use Rattle.parcel.specs.Nodes.{in_child, in_stripe, in_label, in_logical, in_volume, in_aggregate, in_root};
+
+use super::above::path_of;
+use super::whole::{is_whole_aggregate, is_whole_logical, is_whole_root, is_whole_volume};
+use super::{Aggr, Label, Logical, Parcels, Root, Vol};
+use crate::StripeParcel;
+use affinity::{Geometry, Place};
+
+fn take_stripe(place: &mut Option<StripeParcel>) -> Option<Parcels>
+    ensures none { IfNone result (IsRefused IsLeafPath [] (in_child in_stripe place.old) (in_child in_stripe place.new)) }
+    ensures some { IfSome result (λ r. IsTaken IsLeafPath [] r (in_child in_stripe place.old) (in_child in_stripe place.new)) }
+    ensures fits { (g : Geometry) (s : ℕ) → IfSome place.old (FitsStripe g s) → IfSome place.new (FitsStripe g s) }
+    ensures lent { IfSome result (λ r. (g : Geometry) (a v s : ℕ) → IfSome place.old (FitsStripe g s) → Fits g (a ∷ v ∷ zero ∷ s ∷ []) r) }
+{
+    match place.take() {
+        None => None,
+        Some(stripe) => Some(Parcels::Stripe(stripe)),
+    }
+}
+
+fn take_label(place: &mut Option<Label>) -> Option<Parcels>
+    ensures none { IfNone result (IsRefused IsLeafPath [] (in_child in_label place.old) (in_child in_label place.new)) }
+    ensures some { IfSome result (λ r. IsTaken IsLeafPath [] r (in_child in_label place.old) (in_child in_label place.new)) }
+    ensures lent { IfSome result (λ r. (g : Geometry) (a v : ℕ) → Fits g (a ∷ v ∷ suc zero ∷ []) r) }
+{
+    match place.take() {
+        None => None,
+        Some(label) => Some(Parcels::Label(label)),
+    }
+}
+
+fn take_logical(place: &mut Option<Logical>, g: &Geometry, path: &[usize]) -> Option<Parcels>
+    requires path { IsLogicalPath g.now path.now }
+    requires fits { IfSome place.old (FitsLogical g.now) }
+    ensures none { IfNone result (IsRefused (IsLogicalPath g.now) path.now (in_child in_logical place.old) (in_child in_logical place.new)) }
+    ensures some { IfSome result (λ r. IsTaken (IsLogicalPath g.now) path.now r (in_child in_logical place.old) (in_child in_logical place.new)) }
+    ensures fits { IfSome place.new (FitsLogical g.now) }
+    ensures lent { IfSome result (λ r. (a v : ℕ) → Fits g.now (a ∷ v ∷ zero ∷ path.now) r) }
+{
+    match path {
+        [] => take_logical_itself(place, g),
+        [s, ..] => {
+            let s = *s;
+            match place {
+                None => None,
+                Some(logical) => take_stripe(&mut logical.stripes[s]),
+            }
+        }
+    }
+}
+
+fn take_logical_itself(place: &mut Option<Logical>, g: &Geometry) -> Option<Parcels>
+    requires fits { IfSome place.old (FitsLogical g.now) }
+    ensures none { IfNone result (IsRefused (IsLogicalPath g.now) [] (in_child in_logical place.old) (in_child in_logical place.new)) }
+    ensures some { IfSome result (λ r. IsTaken (IsLogicalPath g.now) [] r (in_child in_logical place.old) (in_child in_logical place.new)) }
+    ensures fits { IfSome place.new (FitsLogical g.now) }
+    ensures lent { IfSome result (λ r. (a v : ℕ) → Fits g.now (a ∷ v ∷ zero ∷ []) r) }
+{
+    if !is_whole_logical(place) {
+        return None;
+    }
+    match place.take() {
+        None => None,
+        Some(logical) => Some(Parcels::Logical(logical)),
+    }
+}
+
+fn take_volume(place: &mut Option<Vol>, g: &Geometry, path: &[usize]) -> Option<Parcels>
+    requires path { IsVolumePath g.now path.now }
+    requires fits { IfSome place.old (FitsVolume g.now) }
+    ensures none { IfNone result (IsRefused (IsVolumePath g.now) path.now (in_child in_volume place.old) (in_child in_volume place.new)) }
+    ensures some { IfSome result (λ r. IsTaken (IsVolumePath g.now) path.now r (in_child in_volume place.old) (in_child in_volume place.new)) }
+    ensures fits { IfSome place.new (FitsVolume g.now) }
+    ensures lent { IfSome result (λ r. (a v : ℕ) → Fits g.now (a ∷ v ∷ path.now) r) }
+{
+    match path {
+        [] => take_volume_itself(place, g),
+        [child, rest @ ..] => {
+            let child = *child;
+            match place {
+                None => None,
+                Some(volume) => {
+                    if child == 0 {
+                        take_logical(&mut volume.logical, g, rest)
+                    } else {
+                        take_label(&mut volume.label)
+                    }
+                }
+            }
+        }
+    }
+}
+
+fn take_volume_itself(place: &mut Option<Vol>, g: &Geometry) -> Option<Parcels>
+    requires fits { IfSome place.old (FitsVolume g.now) }
+    ensures none { IfNone result (IsRefused (IsVolumePath g.now) [] (in_child in_volume place.old) (in_child in_volume place.new)) }
+    ensures some { IfSome result (λ r. IsTaken (IsVolumePath g.now) [] r (in_child in_volume place.old) (in_child in_volume place.new)) }
+    ensures fits { IfSome place.new (FitsVolume g.now) }
+    ensures lent { IfSome result (λ r. (a v : ℕ) → Fits g.now (a ∷ v ∷ []) r) }
+{
+    if !is_whole_volume(place) {
+        return None;
+    }
+    match place.take() {
+        None => None,
+        Some(volume) => Some(Parcels::Vol(volume)),
+    }
+}
+
+fn take_aggregate(place: &mut Option<Aggr>, g: &Geometry, path: &[usize]) -> Option<Parcels>
+    requires path { IsAggregatePath g.now path.now }
+    requires fits { IfSome place.old (FitsAggregate g.now) }
+    ensures none { IfNone result (IsRefused (IsAggregatePath g.now) path.now (in_child in_aggregate place.old) (in_child in_aggregate place.new)) }
+    ensures some { IfSome result (λ r. IsTaken (IsAggregatePath g.now) path.now r (in_child in_aggregate place.old) (in_child in_aggregate place.new)) }
+    ensures fits { IfSome place.new (FitsAggregate g.now) }
+    ensures lent { IfSome result (λ r. (a : ℕ) → Fits g.now (a ∷ path.now) r) }
+{
+    match path {
+        [] => take_aggregate_itself(place, g),
+        [v, rest @ ..] => {
+            let v = *v;
+            match place {
+                None => None,
+                Some(aggregate) => take_volume(&mut aggregate.volumes[v], g, rest),
+            }
+        }
+    }
+}
+
+fn take_aggregate_itself(place: &mut Option<Aggr>, g: &Geometry) -> Option<Parcels>
+    requires fits { IfSome place.old (FitsAggregate g.now) }
+    ensures none { IfNone result (IsRefused (IsAggregatePath g.now) [] (in_child in_aggregate place.old) (in_child in_aggregate place.new)) }
+    ensures some { IfSome result (λ r. IsTaken (IsAggregatePath g.now) [] r (in_child in_aggregate place.old) (in_child in_aggregate place.new)) }
+    ensures fits { IfSome place.new (FitsAggregate g.now) }
+    ensures lent { IfSome result (λ r. (a : ℕ) → Fits g.now (a ∷ []) r) }
+{
+    if !is_whole_aggregate(place) {
+        return None;
+    }
+    match place.take() {
+        None => None,
+        Some(aggregate) => Some(Parcels::Aggr(aggregate)),
+    }
+}
+
+fn take_root(place: &mut Option<Root>, g: &Geometry, path: &[usize]) -> Option<Parcels>
+    requires path { IsRootPath g.now path.now }
+    requires fits { IfSome place.old (FitsRoot g.now) }
+    ensures none { IfNone result (IsRefused (IsRootPath g.now) path.now (in_child in_root place.old) (in_child in_root place.new)) }
+    ensures some { IfSome result (λ r. IsTaken (IsRootPath g.now) path.now r (in_child in_root place.old) (in_child in_root place.new)) }
+    ensures fits { IfSome place.new (FitsRoot g.now) }
+    ensures lent { IfSome result (λ r. Fits g.now path.now r) }
+{
+    match path {
+        [] => take_root_itself(place, g),
+        [a, rest @ ..] => {
+            let a = *a;
+            match place {
+                None => None,
+                Some(root) => take_aggregate(&mut root.aggregates[a], g, rest),
+            }
+        }
+    }
+}
+
+fn take_root_itself(place: &mut Option<Root>, g: &Geometry) -> Option<Parcels>
+    requires fits { IfSome place.old (FitsRoot g.now) }
+    ensures none { IfNone result (IsRefused (IsRootPath g.now) [] (in_child in_root place.old) (in_child in_root place.new)) }
+    ensures some { IfSome result (λ r. IsTaken (IsRootPath g.now) [] r (in_child in_root place.old) (in_child in_root place.new)) }
+    ensures fits { IfSome place.new (FitsRoot g.now) }
+    ensures lent { IfSome result (λ r. Fits g.now [] r) }
+{
+    if !is_whole_root(place) {
+        return None;
+    }
+    match place.take() {
+        None => None,
+        Some(root) => Some(Parcels::Root(root)),
+    }
+}
+
+/// Takes out what lies at a place, where nothing there, above or below is out.
+pub(crate) fn take_at(root: &mut Option<Root>, g: &Geometry, place: Place) -> Option<Parcels>
+    requires path { IsPath g.now (path place) }
+    requires fits { IfSome root.old (FitsRoot g.now) }
+    ensures none { IfNone result (IsRefused (IsRootPath g.now) (path place) (in_child in_root root.old) (in_child in_root root.new)) }
+    ensures some { IfSome result (λ r. IsTaken (IsRootPath g.now) (path place) r (in_child in_root root.old) (in_child in_root root.new)) }
+    ensures fits { IfSome root.new (FitsRoot g.now) }
+    ensures lent { IfSome result (λ r. Fits g.now (path place) r) }
+{
+    let (numbers, depth) = path_of(place);
+    take_root(root, g, &numbers[..depth])
+}

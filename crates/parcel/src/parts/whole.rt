@@ -1,0 +1,47 @@
+//! Whether all below a place is in.
+ghost use Rattle.std.specs.Prelude.{◌≡◌};
+ghost use Rattle.parcel.specs.Levels.{is_whole_logical, is_whole_volume, is_whole_aggregate, is_whole_root};
+
+use super::{Aggr, Logical, Root, Vol};
+
+pub(super) fn is_whole_logical(place: &Option<Logical>) -> bool
+    ensures { result ≡ is_whole_logical place.now }
+{
+    match place {
+        None => false,
+        Some(logical) => logical.stripes.iter().all(|stripe| stripe.is_some()),
+    }
+}
+
+pub(super) fn is_whole_volume(place: &Option<Vol>) -> bool
+    ensures { result ≡ is_whole_volume place.now }
+{
+    match place {
+        None => false,
+        Some(volume) => is_whole_logical(&volume.logical) && volume.label.is_some(),
+    }
+}
+
+pub(super) fn is_whole_aggregate(place: &Option<Aggr>) -> bool
+    ensures { result ≡ is_whole_aggregate place.now }
+{
+    match place {
+        None => false,
+        Some(aggregate) => aggregate
+            .volumes
+            .iter()
+            .all(|volume| is_whole_volume(volume)),
+    }
+}
+
+pub(super) fn is_whole_root(place: &Option<Root>) -> bool
+    ensures { result ≡ is_whole_root place.now }
+{
+    match place {
+        None => false,
+        Some(root) => root
+            .aggregates
+            .iter()
+            .all(|aggregate| is_whole_aggregate(aggregate)),
+    }
+}

@@ -1,0 +1,146 @@
+//! Messages at an aggregate: they make and remove volumes.
+
+ghost use Rattle.std.specs.Prelude.{◌≡◌, ℕ, ◌<◌, true, false, slice_index_or, Some, None, IfSome, vec_len};
+ghost use Rattle.affinity.specs.declared.sizes.Geometry.{Geometry};
+ghost use Rattle.message.specs.declared.Msg.{Msg};
+ghost use Rattle.message.specs.Messages.{is_in_range, place};
+ghost use Rattle.parcel.specs.Dropping.{IsEmptied};
+ghost use Rattle.parcel.specs.Fits.{FitsAggregate, FitsLogical, FitsVolume, IsWholeAggregate, IsWholeChild, IsWholeLogical, IsWholeVolume, Suits};
+ghost use Rattle.parcel.specs.Run.{IsStep};
+ghost use Rattle.parcel.specs.Shown.{blocks_of, by_child, by_volume, has_bit, shown};
+ghost use Rattle.parcel.specs.Steps.{at_aggregate};
+ghost use Rattle.parcel.specs.Totals.{with_made};
+ghost use Rattle.parcel.specs.Volume.{nothing};
+ghost use Rattle.parcel.specs.declared.parts.Parcels.{Parcels};
+
+use super::refusals::change_refusal;
+use crate::{Aggr, Label, Logical, Standing, StripeParcel, Vol};
+use affinity::Geometry;
+use message::{Msg, Refusal, Reply};
+
+// Whether the volume at one place is made, and whether it is sealed.
+fn marks(place: &Option<Vol>) -> (bool, bool)
+    ensures made { (g : Geometry) → result.0 ≡ (by_child (by_volume g) place.now).made }
+    ensures sealed { (g : Geometry) → result.1 ≡ (by_child (by_volume g) place.now).sealed }
+{
+    match place {
+        Some(volume) => (volume.made, volume.sealed),
+        None => (false, false),
+    }
+}
+
+// Makes the volume at one place, with a label of zeros.
+fn make(place: &mut Option<Vol>)
+    requires { IsWholeChild IsWholeVolume place.old }
+    ensures facts { (g : Geometry) → by_child (by_volume g) place.new ≡ with_made (by_child (by_volume g) place.old) }
+    ensures whole { IsWholeChild IsWholeVolume place.new }
+    ensures fits { (g : Geometry) → IfSome place.old (FitsVolume g) → IfSome place.new (FitsVolume g) }
+{
+    if let Some(volume) = place {
+        volume.made = true;
+        volume.label = Some(Label {
+            bytes: Some([0; 32]),
+        });
+    }
+}
+
+// Removes all blocks from the stripe at one place, where it is in.
+fn clear_in(place: &mut Option<StripeParcel>)
+    ensures { IsEmptied place.old place.new }
+{
+    if let Some(stripe) = place {
+        stripe.drop_all();
+    }
+}
+
+// Removes all blocks from all stripes.
+fn clear_stripes(stripes: &mut Vec<Option<StripeParcel>>)
+    ensures count { vec_len stripes.new ≡ vec_len stripes.old }
+    ensures each { (s : ℕ) → s < vec_len stripes.old → IsEmptied (slice_index_or stripes.old.items s None) (slice_index_or stripes.new.items s None) }
+{
+    for s in 0..stripes.len() {
+        clear_in(&mut stripes[s]);
+    }
+}
+
+// Removes all files and their blocks.
+fn clear_files(logical: &mut Logical)
+    ensures files { logical.new.files ≡ 0 }
+    ensures blocks { (g : Geometry) (i j : ℕ) → blocks_of g logical.new.stripes.items i j ≡ None }
+    ensures fits { (g : Geometry) → FitsLogical g logical.old → FitsLogical g logical.new }
+    ensures whole { IsWholeLogical logical.old → IsWholeLogical logical.new }
+{
+    logical.files = 0;
+    clear_stripes(&mut logical.stripes);
+}
+
+// Removes the volume at one place, with all that it has.
+fn clear(place: &mut Option<Vol>)
+    requires { IsWholeChild IsWholeVolume place.old }
+    ensures facts { (g : Geometry) → by_child (by_volume g) place.new ≡ nothing }
+    ensures whole { IsWholeChild IsWholeVolume place.new }
+    ensures fits { (g : Geometry) → IfSome place.old (FitsVolume g) → IfSome place.new (FitsVolume g) }
+{
+    if let Some(volume) = place {
+        volume.made = false;
+        volume.sealed = false;
+        if let Some(logical) = &mut volume.logical {
+            clear_files(logical);
+        }
+        volume.label = Some(Label { bytes: None });
+    }
+}
+
+// Makes a volume that isn't there.
+fn make_volume(aggregate: &mut Aggr, g: &Geometry, v: u16) -> Reply
+    requires volume { v < g.now.volumes }
+    requires fits { FitsAggregate g.now aggregate.old }
+    requires whole { IsWholeAggregate aggregate.old }
+    ensures step { (a : ℕ) → is_in_range g.now (Msg.MakeVol a v) ≡ true → IsStep g.now (at_aggregate g.now a aggregate.old) (Msg.MakeVol a v) result (at_aggregate g.now a aggregate.new) }
+    ensures fits { FitsAggregate g.now aggregate.new }
+    ensures whole { IsWholeAggregate aggregate.new }
+{
+    let place = usize::from(v);
+    let (made, _) = marks(&aggregate.volumes[place]);
+    if made {
+        return Reply::Refused(Refusal::Exists);
+    }
+    make(&mut aggregate.volumes[place]);
+    Reply::Done
+}
+
+// Removes a volume with all that it has.
+fn drop_volume(aggregate: &mut Aggr, g: &Geometry, v: u16) -> Reply
+    requires volume { v < g.now.volumes }
+    requires fits { FitsAggregate g.now aggregate.old }
+    requires whole { IsWholeAggregate aggregate.old }
+    ensures step { (a : ℕ) → is_in_range g.now (Msg.DropVol a v) ≡ true → IsStep g.now (at_aggregate g.now a aggregate.old) (Msg.DropVol a v) result (at_aggregate g.now a aggregate.new) }
+    ensures fits { FitsAggregate g.now aggregate.new }
+    ensures whole { IsWholeAggregate aggregate.new }
+{
+    let place = usize::from(v);
+    let (made, sealed) = marks(&aggregate.volumes[place]);
+    if let Some(why) = change_refusal(made, sealed) {
+        return Reply::Refused(why);
+    }
+    clear(&mut aggregate.volumes[place]);
+    Reply::Done
+}
+
+/// Runs a message at an aggregate. It sees nothing of what lies above.
+pub(crate) fn run_at_aggregate(
+    aggregate: &mut Aggr,
+    g: &Geometry,
+    standing: Standing,
+    message: &Msg,
+) -> Reply
+    requires { Suits g.now message.now (Parcels.Aggr aggregate.old) }
+    ensures step { IsStep g.now (shown g.now (place g.now message.now) standing (Parcels.Aggr aggregate.old)) message.now result (shown g.now (place g.now message.now) standing (Parcels.Aggr aggregate.new)) }
+    ensures suits { Suits g.now message.now (Parcels.Aggr aggregate.new) }
+{
+    match message {
+        Msg::MakeVol(_, v) => make_volume(aggregate, g, *v),
+        Msg::DropVol(_, v) => drop_volume(aggregate, g, *v),
+        _ => unreachable!(),
+    }
+}

@@ -1,0 +1,54 @@
+//! Messages at the label of a volume.
+
+ghost use Rattle.std.specs.Prelude.{◌≡◌};
+ghost use Rattle.message.specs.declared.Msg.{Msg};
+ghost use Rattle.message.specs.Messages.{place};
+ghost use Rattle.parcel.specs.Fits.{Suits};
+ghost use Rattle.parcel.specs.Run.{IsStep};
+ghost use Rattle.parcel.specs.Shown.{by_label, shown};
+ghost use Rattle.parcel.specs.Steps.{IsStepWithin};
+ghost use Rattle.parcel.specs.declared.parts.Parcels.{Parcels};
+
+use super::refusals::{change_refusal, volume_refusal};
+use crate::{Label, Standing};
+use affinity::Geometry;
+use message::{Msg, Reply};
+
+// Sets the label.
+fn set_label(label: &mut Label, g: &Geometry, standing: Standing, bytes: &[u8; 32]) -> Reply
+    ensures { IsStepWithin g.now (λ a v. Msg.SetLabel a v bytes.now) (by_label standing label.old) result (by_label standing label.new) }
+{
+    if let Some(why) = change_refusal(standing.made, standing.sealed) {
+        return Reply::Refused(why);
+    }
+    label.bytes = Some(*bytes);
+    Reply::Done
+}
+
+// The label.
+fn get_label(label: &Label, g: &Geometry, standing: Standing) -> Reply
+    ensures { IsStepWithin g.now Msg.Label (by_label standing label.now) result (by_label standing label.now) }
+{
+    if let Some(why) = volume_refusal(standing.made) {
+        return Reply::Refused(why);
+    }
+    Reply::Label(label.bytes.unwrap_or([0; 32]))
+}
+
+/// Runs a message at the label of a volume.
+pub(crate) fn run_at_label(
+    label: &mut Label,
+    g: &Geometry,
+    standing: Standing,
+    message: &Msg,
+) -> Reply
+    requires { Suits g.now message.now (Parcels.Label label.old) }
+    ensures step { IsStep g.now (shown g.now (place g.now message.now) standing (Parcels.Label label.old)) message.now result (shown g.now (place g.now message.now) standing (Parcels.Label label.new)) }
+    ensures suits { Suits g.now message.now (Parcels.Label label.new) }
+{
+    match message {
+        Msg::SetLabel(_, _, bytes) => set_label(label, g, standing, bytes),
+        Msg::Label(..) => get_label(label, g, standing),
+        _ => unreachable!(),
+    }
+}

@@ -1,0 +1,97 @@
+//! Messages at the files of a volume and its stripes: they make, remove and list files.
+
+ghost use Rattle.std.specs.Prelude.{◌≡◌, ℕ, ◌<◌, slice_index_or, None, vec_len};
+ghost use Rattle.message.specs.declared.Msg.{Msg};
+ghost use Rattle.message.specs.Messages.{place};
+ghost use Rattle.parcel.specs.Dropping.{IsWithoutFile};
+ghost use Rattle.parcel.specs.Fits.{FitsLogical, IsWholeLogical, Suits};
+ghost use Rattle.parcel.specs.Run.{IsStep};
+ghost use Rattle.parcel.specs.Shown.{by_logical, shown};
+ghost use Rattle.parcel.specs.Steps.{IsStepWithin};
+ghost use Rattle.parcel.specs.declared.parts.Parcels.{Parcels};
+
+use super::refusals::{create_refusal, file_change_refusal, volume_refusal};
+use crate::{Logical, Standing, StripeParcel};
+use affinity::Geometry;
+use message::{Msg, Reply};
+
+// Makes a file, without blocks.
+fn create(logical: &mut Logical, g: &Geometry, standing: Standing, f: u16) -> Reply
+    requires file { f < g.now.files }
+    requires fits { FitsLogical g.now logical.old }
+    ensures step { IsStepWithin g.now (λ a v. Msg.Create a v f) (by_logical g.now standing logical.old) result (by_logical g.now standing logical.new) }
+    ensures fits { FitsLogical g.now logical.new }
+    ensures stripes { logical.new.stripes ≡ logical.old.stripes }
+{
+    if let Some(why) = create_refusal(standing.made, standing.sealed, logical.files, f) {
+        return Reply::Refused(why);
+    }
+    logical.files |= 1 << f;
+    Reply::Done
+}
+
+// Removes the blocks of a file from the stripe at one place, where it is in.
+fn drop_in(place: &mut Option<StripeParcel>, f: u16)
+    ensures { IsWithoutFile f place.old place.new }
+{
+    if let Some(stripe) = place {
+        stripe.drop_file(f);
+    }
+}
+
+// Removes the blocks of a file from all stripes.
+fn drop_file(stripes: &mut Vec<Option<StripeParcel>>, f: u16)
+    ensures count { vec_len stripes.new ≡ vec_len stripes.old }
+    ensures each { (s : ℕ) → s < vec_len stripes.old → IsWithoutFile f (slice_index_or stripes.old.items s None) (slice_index_or stripes.new.items s None) }
+{
+    for s in 0..stripes.len() {
+        drop_in(&mut stripes[s], f);
+    }
+}
+
+// Removes a file and its blocks.
+fn delete(logical: &mut Logical, g: &Geometry, standing: Standing, f: u16) -> Reply
+    requires file { f < g.now.files }
+    requires fits { FitsLogical g.now logical.old }
+    requires whole { IsWholeLogical logical.old }
+    ensures step { IsStepWithin g.now (λ a v. Msg.Delete a v f) (by_logical g.now standing logical.old) result (by_logical g.now standing logical.new) }
+    ensures fits { FitsLogical g.now logical.new }
+    ensures whole { IsWholeLogical logical.new }
+{
+    if let Some(why) = file_change_refusal(standing.made, standing.sealed, logical.files, f) {
+        return Reply::Refused(why);
+    }
+    logical.files &= !(1 << f);
+    drop_file(&mut logical.stripes, f);
+    Reply::Done
+}
+
+// Which files there are.
+fn list(logical: &Logical, g: &Geometry, standing: Standing) -> Reply
+    requires { FitsLogical g.now logical.now }
+    ensures { IsStepWithin g.now Msg.List (by_logical g.now standing logical.now) result (by_logical g.now standing logical.now) }
+{
+    if let Some(why) = volume_refusal(standing.made) {
+        return Reply::Refused(why);
+    }
+    Reply::Files(logical.files)
+}
+
+/// Runs a message at the files of a volume and its stripes.
+pub(crate) fn run_at_logical(
+    logical: &mut Logical,
+    g: &Geometry,
+    standing: Standing,
+    message: &Msg,
+) -> Reply
+    requires { Suits g.now message.now (Parcels.Logical logical.old) }
+    ensures step { IsStep g.now (shown g.now (place g.now message.now) standing (Parcels.Logical logical.old)) message.now result (shown g.now (place g.now message.now) standing (Parcels.Logical logical.new)) }
+    ensures suits { Suits g.now message.now (Parcels.Logical logical.new) }
+{
+    match message {
+        Msg::Create(_, _, f) => create(logical, g, standing, *f),
+        Msg::Delete(_, _, f) => delete(logical, g, standing, *f),
+        Msg::List(..) => list(logical, g, standing),
+        _ => unreachable!(),
+    }
+}

@@ -1,0 +1,40 @@
+//! Messages at the whole server: they ask how much all volumes hold.
+
+ghost use Rattle.std.specs.Prelude.{◌≡◌};
+ghost use Rattle.message.specs.declared.Msg.{Msg};
+ghost use Rattle.message.specs.Messages.{place};
+ghost use Rattle.parcel.specs.Fits.{FitsRoot, Suits};
+ghost use Rattle.parcel.specs.Run.{IsStep};
+ghost use Rattle.parcel.specs.Shown.{by_root, shown};
+ghost use Rattle.parcel.specs.Volume.{state_by};
+ghost use Rattle.parcel.specs.declared.parts.Parcels.{Parcels};
+
+use super::totals::root_totals;
+use crate::{Root, Standing};
+use affinity::Geometry;
+use message::{Msg, Reply};
+
+// How much all volumes hold, and how many they are.
+fn summary(root: &Root, g: &Geometry) -> Reply
+    requires { FitsRoot g.now root.now }
+    ensures { IsStep g.now (state_by (by_root g.now root.now)) Msg.Summary result (state_by (by_root g.now root.now)) }
+{
+    let totals = root_totals(root, g);
+    Reply::Summary {
+        volumes: totals.volumes,
+        files: totals.files,
+        blocks: totals.blocks,
+    }
+}
+
+/// Runs a message at the whole server. There is nothing above it.
+pub(crate) fn run_at_root(root: &mut Root, g: &Geometry, standing: Standing, message: &Msg) -> Reply
+    requires { Suits g.now message.now (Parcels.Root root.old) }
+    ensures step { IsStep g.now (shown g.now (place g.now message.now) standing (Parcels.Root root.old)) message.now result (shown g.now (place g.now message.now) standing (Parcels.Root root.new)) }
+    ensures suits { Suits g.now message.now (Parcels.Root root.new) }
+{
+    match message {
+        Msg::Summary => summary(root, g),
+        _ => unreachable!(),
+    }
+}

@@ -1,0 +1,77 @@
+//! Messages at a volume: they seal and unseal it, and ask how much it holds.
+
+ghost use Rattle.std.specs.Prelude.{◌≡◌};
+ghost use Rattle.message.specs.declared.Msg.{Msg};
+ghost use Rattle.message.specs.Messages.{place};
+ghost use Rattle.parcel.specs.Fits.{FitsVolume, Suits};
+ghost use Rattle.parcel.specs.Run.{IsStep};
+ghost use Rattle.parcel.specs.Shown.{by_volume, shown};
+ghost use Rattle.parcel.specs.Steps.{IsStepWithin};
+ghost use Rattle.parcel.specs.declared.parts.Parcels.{Parcels};
+
+use super::refusals::volume_refusal;
+use super::totals::volume_totals;
+use crate::{Standing, Vol};
+use affinity::Geometry;
+use message::{Msg, Reply};
+
+// Seals the volume, whether it was sealed or not.
+fn seal(volume: &mut Vol, g: &Geometry) -> Reply
+    ensures step { IsStepWithin g.now Msg.Seal (by_volume g.now volume.old) result (by_volume g.now volume.new) }
+    ensures logical { volume.new.logical ≡ volume.old.logical }
+    ensures label { volume.new.label ≡ volume.old.label }
+{
+    if let Some(why) = volume_refusal(volume.made) {
+        return Reply::Refused(why);
+    }
+    volume.sealed = true;
+    Reply::Done
+}
+
+// Unseals the volume, whether it was sealed or not.
+fn unseal(volume: &mut Vol, g: &Geometry) -> Reply
+    ensures step { IsStepWithin g.now Msg.Unseal (by_volume g.now volume.old) result (by_volume g.now volume.new) }
+    ensures logical { volume.new.logical ≡ volume.old.logical }
+    ensures label { volume.new.label ≡ volume.old.label }
+{
+    if let Some(why) = volume_refusal(volume.made) {
+        return Reply::Refused(why);
+    }
+    volume.sealed = false;
+    Reply::Done
+}
+
+// How much the volume holds, and whether it is sealed.
+fn usage(volume: &Vol, g: &Geometry) -> Reply
+    requires { FitsVolume g.now volume.now }
+    ensures { IsStepWithin g.now Msg.Usage (by_volume g.now volume.now) result (by_volume g.now volume.now) }
+{
+    if let Some(why) = volume_refusal(volume.made) {
+        return Reply::Refused(why);
+    }
+    let totals = volume_totals(volume, g);
+    Reply::Usage {
+        files: totals.files,
+        blocks: totals.blocks,
+        sealed: volume.sealed,
+    }
+}
+
+/// Runs a message at a volume. It sees nothing of what lies above.
+pub(crate) fn run_at_volume(
+    volume: &mut Vol,
+    g: &Geometry,
+    standing: Standing,
+    message: &Msg,
+) -> Reply
+    requires { Suits g.now message.now (Parcels.Vol volume.old) }
+    ensures step { IsStep g.now (shown g.now (place g.now message.now) standing (Parcels.Vol volume.old)) message.now result (shown g.now (place g.now message.now) standing (Parcels.Vol volume.new)) }
+    ensures suits { Suits g.now message.now (Parcels.Vol volume.new) }
+{
+    match message {
+        Msg::Seal(..) => seal(volume, g),
+        Msg::Unseal(..) => unseal(volume, g),
+        Msg::Usage(..) => usage(volume, g),
+        _ => unreachable!(),
+    }
+}

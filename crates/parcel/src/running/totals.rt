@@ -1,0 +1,140 @@
+//! How much volumes hold.
+
+ghost use Rattle.std.specs.Prelude.{◌≡◌, ◌+◌, ◌<◌, ◌≤◌, ◌^◌, IfSome};
+ghost use Rattle.parcel.specs.Fits.{FitsAggregate, FitsLogical, FitsRoot, FitsVolume};
+ghost use Rattle.parcel.specs.Shown.{blocks_of, by_aggregate, by_child, by_root, by_volume, has_bit};
+ghost use Rattle.parcel.specs.Stripe.{IsKept};
+ghost use Rattle.parcel.specs.Totals.{block_total, entry_count, file_total, sum_totals, totals_of};
+ghost use Rattle.plain.specs.State.{sum_below};
+
+use super::refusals::has_file;
+use crate::{Aggr, Logical, Root, StripeParcel, Vol};
+use affinity::Geometry;
+
+/// How many volumes are made, and how many files and blocks they have.
+#[derive(Clone, Copy)]
+pub(crate) struct Totals {
+    pub(crate) volumes: u32,
+    pub(crate) files: u32,
+    pub(crate) blocks: u32,
+}
+
+const NOTHING: Totals = Totals {
+    volumes: 0,
+    files: 0,
+    blocks: 0,
+};
+
+impl Totals {
+    fn plus(self, more: Totals) -> Totals
+        requires volumes { self.volumes + more.volumes < 2 ^ 32 }
+        requires files { self.files + more.files < 2 ^ 32 }
+        requires blocks { self.blocks + more.blocks < 2 ^ 32 }
+        ensures { result ≡ record { volumes = self.volumes + more.volumes; files = self.files + more.files; blocks = self.blocks + more.blocks } }
+    {
+        Totals {
+            volumes: self.volumes + more.volumes,
+            files: self.files + more.files,
+            blocks: self.blocks + more.blocks,
+        }
+    }
+}
+
+// How many files there are.
+fn file_count(files: u64, g: &Geometry) -> u32
+    ensures { result ≡ file_total g.now (has_bit files) }
+{
+    let mut total = 0;
+    for f in 0..g.files {
+        if has_file(files, f) {
+            total += 1;
+        }
+    }
+    total
+}
+
+// How many blocks lie in the stripe at one place, where it is in.
+fn entry_count(place: &Option<StripeParcel>) -> u32
+    requires { IfSome place.now (λ p. p.quota ≤ 64) }
+    ensures count { result ≡ entry_count place.now }
+    ensures kept { IfSome place.now IsKept }
+{
+    match place {
+        Some(stripe) => stripe.len() as u32,
+        None => 0,
+    }
+}
+
+// How many blocks the stripes of a volume have.
+fn block_count(logical: &Logical, g: &Geometry) -> u32
+    requires { FitsLogical g.now logical.now }
+    ensures { result ≡ block_total g.now (blocks_of g.now logical.now.stripes.items) }
+{
+    let mut total = 0;
+    for s in 0..logical.stripes.len() {
+        total += entry_count(&logical.stripes[s]);
+    }
+    total
+}
+
+/// How much a volume holds.
+pub(crate) fn volume_totals(volume: &Vol, g: &Geometry) -> Totals
+    requires { FitsVolume g.now volume.now }
+    ensures { result ≡ totals_of g.now (by_volume g.now volume.now) }
+{
+    let (files, blocks) = match &volume.logical {
+        Some(logical) => (file_count(logical.files, g), block_count(logical, g)),
+        None => (0, 0),
+    };
+    Totals {
+        volumes: u32::from(volume.made),
+        files,
+        blocks,
+    }
+}
+
+// How much the volume at one place holds, where it is in.
+fn volume_in(place: &Option<Vol>, g: &Geometry) -> Totals
+    requires { IfSome place.now (FitsVolume g.now) }
+    ensures { result ≡ totals_of g.now (by_child (by_volume g.now) place.now) }
+{
+    match place {
+        Some(volume) => volume_totals(volume, g),
+        None => NOTHING,
+    }
+}
+
+// How much the volumes of an aggregate hold.
+fn aggregate_totals(aggregate: &Aggr, g: &Geometry) -> Totals
+    requires { FitsAggregate g.now aggregate.now }
+    ensures { result ≡ sum_totals g.now.volumes (λ v. totals_of g.now (by_aggregate g.now aggregate.now v)) }
+{
+    let mut totals = NOTHING;
+    for v in 0..aggregate.volumes.len() {
+        totals = totals.plus(volume_in(&aggregate.volumes[v], g));
+    }
+    totals
+}
+
+// How much the volumes of the aggregate at one place hold, where it is in.
+fn aggregate_in(place: &Option<Aggr>, g: &Geometry) -> Totals
+    requires { IfSome place.now (FitsAggregate g.now) }
+    ensures { result ≡ sum_totals g.now.volumes (λ v. totals_of g.now (by_child (λ r. by_aggregate g.now r v) place.now)) }
+{
+    match place {
+        Some(aggregate) => aggregate_totals(aggregate, g),
+        None => NOTHING,
+    }
+}
+
+/// How much all volumes hold.
+pub(crate) fn root_totals(root: &Root, g: &Geometry) -> Totals
+    requires { FitsRoot g.now root.now }
+    ensures { result ≡ sum_totals g.now.aggregates (λ a. sum_totals g.now.volumes (λ v. totals_of g.now (by_root g.now root.now a v))) }
+{
+    let mut totals = NOTHING;
+    for a in 0..root.aggregates.len() {
+        totals = totals.plus(aggregate_in(&root.aggregates[a], g));
+    }
+    totals
+}

@@ -1,0 +1,4 @@
+mod running;
+mod serving;
+mod stripe;
+mod tree;

@@ -1,0 +1,85 @@
+ghost use Rattle.std.specs.Prelude.{◌≡◌, [], IfOk, IfNone, IfSome, OnOk, IfErr};
+ghost use Rattle.affinity.specs.Interval.{IsAffinity, IsAffinityOf};
+ghost use Rattle.affinity.specs.Path.{Path};
+ghost use Rattle.plain.specs.State.{empty};
+ghost use Rattle.parcel.specs.Fits.{Fits, IsKindOf};
+ghost use Rattle.parcel.specs.Nodes.{IsSame};
+ghost use Rattle.parcel.specs.Tree.{Grown, in_tree, state_in, IsIn, HasGap, IsOut, IsLent, IsRestored};
+
+use crate::parts::{new_root, put_at, standing_at, take_at};
+use crate::{Parcels, Root, Standing};
+use affinity::{Affinity, Geometry};
+use std::alloc::{AllocError, Global};
+use std::marker::Model;
+
+/// All that a server holds, of which parts may be out.
+#[derive(Drop)]
+pub struct Tree {
+    geometry: Geometry,
+    root: Option<Root>,
+}
+
+impl Model for Tree {
+    ghost use Rattle.parcel.specs.Tree.{Grown, IsGrown};
+
+    ghost Value = { Grown };
+
+    ghost view = { λ t. record { geometry = t.geometry; root = t.root } };
+
+    ghost invariant = { λ t. IsGrown (record { geometry = t.geometry; root = t.root }) };
+}
+
+impl Tree {
+    /// The tree in which nothing is made and nothing is out.
+    pub fn new(alloc: Global, g: Geometry) -> Result<Tree, AllocError>
+        ensures geometry { IfOk result (λ t. t.geometry ≡ g) }
+        ensures empty { IfOk result (λ t. state_in t ≡ empty) }
+        ensures all_in { IfOk result (λ t. IsIn g [] (in_tree t)) }
+    {
+        let root = new_root(alloc, &g)?;
+        Ok(Tree {
+            geometry: g,
+            root: Some(root),
+        })
+    }
+
+    /// The numbers of the server.
+    pub fn geometry(&self) -> Geometry
+        ensures { result ≡ self.now.geometry }
+    {
+        self.geometry
+    }
+
+    /// Takes out what lies at an affinity of the tree's geometry and below it, with what a message there sees of the nodes above. None where something at the affinity, above it or below it is out already: then nothing changes.
+    pub fn lend(&mut self, a: Affinity) -> Option<(Standing, Parcels)>
+        requires affinity { IsAffinity self.old.geometry a }
+        ensures geometry { self.new.geometry ≡ self.old.geometry }
+        ensures none { IfNone result ((p : Path) → IsAffinityOf self.old.geometry p a →
+            HasGap self.old.geometry p (in_tree self.old) × IsSame (in_tree self.old) (in_tree self.new)) }
+        ensures some { IfSome result (λ r. (p : Path) → IsAffinityOf self.old.geometry p a →
+            IsLent self.old.geometry p r.0 r.1 (in_tree self.old) (in_tree self.new)) }
+    {
+        let g = self.geometry;
+        let place = a.place(&g);
+        let standing = standing_at(&self.root, place);
+        let parcels = take_at(&mut self.root, &g, place)?;
+        Some((standing, parcels))
+    }
+
+    /// Puts parcels back at an affinity of the tree's geometry. They have to be whole and of this geometry, where they are of the affinity's kind. They come back where that place isn't out, or is out with all that lies above it, and where they are of another kind: then nothing changes.
+    pub fn restore(&mut self, a: Affinity, p: Parcels) -> Result<(), Parcels>
+        requires affinity { IsAffinity self.old.geometry a }
+        requires fits { (q : Path) → IsAffinityOf self.old.geometry q a → IsKindOf q p → Fits self.old.geometry q p }
+        ensures geometry { self.new.geometry ≡ self.old.geometry }
+        ensures ok { OnOk result ((q : Path) → IsAffinityOf self.old.geometry q a →
+            IsRestored self.old.geometry q p (in_tree self.old) (in_tree self.new)) }
+        ensures back { IfErr result (λ back. back ≡ p) }
+        ensures err { IfErr result (λ back. (q : Path) → IsAffinityOf self.old.geometry q a →
+            IsOut q (in_tree self.old) → IsKindOf q p → ⊥) }
+        ensures same { IfErr result (λ back. IsSame (in_tree self.old) (in_tree self.new)) }
+    {
+        let g = self.geometry;
+        let place = a.place(&g);
+        put_at(&mut self.root, &g, place, p)
+    }
+}
