@@ -108,3 +108,54 @@ fn a_stripe_is_full(rt: HostRuntime) -> Result<(), Fail> {
     expect_replies(&rt, &mut tree, &rows);
     Ok(())
 }
+
+#[test]
+fn a_sealed_volume(rt: HostRuntime) -> Result<(), Fail> {
+    let mut tree = Tree::new(rt.alloc(), Geometry::new(SMALL)?)?;
+    let rows = [
+        (Msg::MakeVol(0, 0), Reply::Done),
+        (Msg::MakeVol(0, 0), Reply::Refused(Refusal::Exists)),
+        (Msg::MakeVol(0, 1), Reply::Refused(Refusal::Range)),
+        (Msg::Create(0, 0, 0), Reply::Done),
+        (Msg::Write(0, 0, 0, 0, block(0x61, 0x62)), Reply::Done),
+        (Msg::SetLabel(0, 0, [7; 32]), Reply::Done),
+        (Msg::Seal(0, 0), Reply::Done),
+        (
+            Msg::Write(0, 0, 0, 1, block(0x61, 0)),
+            Reply::Refused(Refusal::Sealed),
+        ),
+        (Msg::Create(0, 0, 0), Reply::Refused(Refusal::Sealed)),
+        (Msg::DropVol(0, 0), Reply::Refused(Refusal::Sealed)),
+        (
+            Msg::SetLabel(0, 0, [8; 32]),
+            Reply::Refused(Refusal::Sealed),
+        ),
+        (Msg::Label(0, 0), Reply::Label([7; 32])),
+        (Msg::Read(0, 0, 0, 0), Reply::Block(block(0x61, 0x62))),
+        (Msg::Seal(0, 0), Reply::Done),
+        (Msg::Unseal(0, 0), Reply::Done),
+        (Msg::DropVol(0, 0), Reply::Done),
+        (Msg::MakeVol(0, 0), Reply::Done),
+        (Msg::List(0, 0), Reply::Files(0)),
+    ];
+    expect_replies(&rt, &mut tree, &rows);
+    Ok(())
+}
+
+#[test]
+fn what_a_volume_has(rt: HostRuntime) -> Result<(), Fail> {
+    let mut tree = Tree::new(rt.alloc(), Geometry::new(SMALL)?)?;
+    let rows = [
+        (Msg::List(0, 0), Reply::Refused(Refusal::Volume)),
+        (Msg::Summary, summary(0, 0, 0)),
+        (Msg::MakeVol(0, 0), Reply::Done),
+        (Msg::Create(0, 0, 0), Reply::Done),
+        (Msg::Create(0, 0, 1), Reply::Done),
+        (Msg::Write(0, 0, 1, 3, block(0x61, 0)), Reply::Done),
+        (Msg::List(0, 0), Reply::Files(3)),
+        (Msg::Usage(0, 0), usage(2, 1, false)),
+        (Msg::Summary, summary(1, 2, 1)),
+    ];
+    expect_replies(&rt, &mut tree, &rows);
+    Ok(())
+}
