@@ -6,7 +6,7 @@ use Rattle.std.proofs.lemmas.Bool.{eqb-true, eq-eqb, ne_eqb, and_parts, false_fr
 use Rattle.affinity.specs.declared.sizes.Geometry.{Geometry}
 use Rattle.affinity.specs.Geometry.{group}
 use Rattle.plain.specs.State.{State, sum_below, one_if, group_count}
-use Rattle.plain.proofs.ServerSums.{sum_same, sum_zero, sum_one_more}
+use Rattle.plain.proofs.Sums.{sum_same, sum_zero, sum_one_more}
 use Rattle.parcel.specs.Fits.{FitsStripe}
 use Rattle.parcel.specs.Stripe.{Entry, StripePart, ComesBefore, IsAscending, IsKept, content_at}
 

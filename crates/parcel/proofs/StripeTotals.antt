@@ -5,7 +5,7 @@ use Rattle.affinity.specs.declared.sizes.Geometry.{Geometry}
 use Rattle.affinity.specs.Geometry.{group}
 use Rattle.message.specs.declared.Block.{Block}
 use Rattle.plain.specs.State.{State, sum_below, one_if, group_count, block_count}
-use Rattle.plain.proofs.ServerSums.{sum_same, sum_zero}
+use Rattle.plain.proofs.Sums.{sum_same, sum_zero}
 use Rattle.parcel.specs.Fits.{FitsStripe, EachFits}
 use Rattle.parcel.specs.Shown.{blocks_in, blocks_of}
 use Rattle.parcel.specs.Stripe.{StripePart, IsKept}

@@ -2,14 +2,13 @@ use Rattle.std.proofs.Common.{◌≡◌, ℕ, ◌<◌, ◌^◌, refl, sym, ◌�
 use Rattle.std.specs.Prelude.{Option}
 use Rattle.affinity.specs.Geometry.{group}
 use Rattle.message.specs.declared.Msg.TheVariants.{Delete}
-use Rattle.plain.proofs.Counts.{group-lt}
 use Rattle.parcel.specs.Dropping.{IsWithoutFile}
 use Rattle.parcel.specs.Fits.{FitsStripe}
 use Rattle.parcel.specs.Shown.{by_logical, blocks_of, has_bit}
 use Rattle.parcel.specs.Volume.{only}
 use Rattle.parcel.proofs.FileBits.{few_bits, without_bit, without_bit_has, without_bit_below}
 use Rattle.parcel.proofs.OneVolume.{passed, delete_tests, effect_delete}
-use Rattle.parcel.proofs.StripeRows.{pairs_from_places, still_fit, still_whole, fits_without_file, whole_without_file, blocks_without_file}
+use Rattle.parcel.proofs.StripeRows.{group-lt, pairs_from_places, still_fit, still_whole, fits_without_file, whole_without_file, blocks_without_file}
 use Rattle.parcel.proofs.running.at_logical.delete.Goals as goal
 
 pub returns-clause-step : goal.returns-clause-step
