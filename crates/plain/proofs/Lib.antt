@@ -15,4 +15,5 @@ pub mod Lengths
 pub mod Removals
 pub mod RemovalOrders
 pub mod Totals
+pub mod Walks
 pub mod ProgressLemmas

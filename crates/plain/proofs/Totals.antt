@@ -1,15 +1,15 @@
 -- The totals of a volume and of the whole server.
-use Rattle.std.proofs.Common.{◌≡◌, ℕ, suc, ◌+◌, ◌*◌, ◌^◌, ◌<◌, ◌≤◌, Bool, ap, sym, add-one, arith}
-use Rattle.std.specs.Prelude.{if◌then◌else◌}
+use Rattle.std.proofs.Common.{◌≡◌, ℕ, ◌+◌, ◌*◌, ◌^◌, ◌<◌, ◌≤◌, ap, sym, add-one, arith}
 use Rattle.std.specs.BTreeSet as set
 use Rattle.std.specs.BTreeMap as map
 use Rattle.std.proofs.lemmas.Nat.{mul-le}
-use Rattle.std.proofs.Math.Nat.{pow-le-pow_right}
+use Rattle.std.proofs.Math.Nat.{pow-le-pow_right, lt_of_not-le}
 use Rattle.affinity.specs.declared.sizes.Geometry.{Geometry}
 use Rattle.plain.specs.declared.server.Server.{Server}
-use Rattle.plain.specs.State.{State, IsState, sum_below, one_if, file_count, block_count, group_count, over_volumes}
+use Rattle.plain.specs.State.{State, IsState, sum_below, one_if, file_count, block_count, over_volumes}
+use Rattle.plain.specs.Serial.{file_bits}
 use Rattle.plain.specs.Server.{state_of, by_volume, by_file, by_block}
-use Rattle.plain.proofs.Sums.{one_if-le, sum_below-le_times}
+use Rattle.plain.proofs.Sums.{one_if-le}
 use Rattle.plain.proofs.Counts.{bits-lt, file_count-le, block_count-le, over_volumes-le}
 use Rattle.plain.proofs.Lengths.{volumes_length, files_length, blocks_length}
 
@@ -18,27 +18,26 @@ use Rattle.plain.proofs.Lengths.{volumes_length, files_length, blocks_length}
 pub sum_step : (n : ℕ) (h : ℕ → ℕ) → sum_below (n + 1) h ≡ sum_below n h + h n
 sum_step n h = ap (λ k. sum_below k h) (add-one n)
 
--- ---- the bits of the files
+-- ---- one volume
 
--- what a number adds to a set's bits: its own bit, where it is in the set
-abbrev pub bit_if : (ℕ → Bool) → ℕ → ℕ
-bit_if has i = if has i then 2 ^ i else 0
+pub bits-few_in_volume : (g : Geometry) (x : State) (a v : ℕ) → file_bits g x a v < 2 ^ 64
+bits-few_in_volume g x a v =
+    let below = bits-lt g.files (λ f. x.files (a, v, f)) in
+    let range = g.files_range in
+    let top : 2 ^ g.files ≤ 2 ^ 64 = pow-le-pow_right {n = 2} (omega arith) {i = g.files} {j = 64} (omega arith) in
+    omega (arith, below, top)
 
-twice : (n : ℕ) → 2 ^ n + 2 ^ n ≡ 2 ^ (suc n)
-twice n = omega arith
-
--- there is room for one more bit below the 64th
-pub bits_room : (n : ℕ) (has : ℕ → Bool) → n < 64 → sum_below n (bit_if has) + 2 ^ n < 2 ^ 64
-bits_room n has lt =
-    let below = bits-lt n has in
-    let top : 2 ^ (suc n) ≤ 2 ^ 64 = pow-le-pow_right {n = 2} (omega arith) {i = suc n} {j = 64} (omega arith) in
-    let double = twice n in
+pub blocks-few_in_volume : (g : Geometry) (x : State) (a v : ℕ) → block_count g x a v ≤ 16384
+blocks-few_in_volume g x a v =
+    let few = block_count-le g x a v in
+    let range : g.files * g.blocks ≤ 64 * 256 = mul-le g.files g.blocks 64 256 g.files_range.1 g.blocks_range.1 in
     omega arith
 
--- ---- the blocks of a volume
-
-pub groups-le : (g : Geometry) (x : State) → IsState g x → (a v n : ℕ) → sum_below n (group_count g x a v) ≤ n * 64
-groups-le g x is a v n = sum_below-le_times n 64 _ (λ s lt. let few = is.quota a v s in let range = g.quota_range in omega arith)
+-- a number whose power of two is less than that of 64
+pub small_power : (k n : ℕ) → 2 ^ k ≤ n → n < 2 ^ 64 → k < 64
+small_power k n le lt = lt_of_not-le (λ from.
+    let more : 2 ^ 64 ≤ 2 ^ k = pow-le-pow_right {n = 2} (omega arith) {i = 64} {j = k} from in
+    omega (arith, le, lt, more))
 
 -- ---- the whole server
 
@@ -70,9 +69,6 @@ files-few g x =
 
 pub blocks-few : (g : Geometry) (x : State) → over_volumes g (block_count g x) < 2 ^ 32
 blocks-few g x =
-    let most = over_volumes-le g 16384 (block_count g x) (λ a v.
-    let few = block_count-le g x a v in
-    let range : g.files * g.blocks ≤ 64 * 256 = mul-le g.files g.blocks 64 256 g.files_range.1 g.blocks_range.1 in
-    omega arith) in
+    let most = over_volumes-le g 16384 (block_count g x) (blocks-few_in_volume g x) in
     let range = small g 16384 in
     omega arith

@@ -10,42 +10,34 @@ use affinity::Geometry;
 use message::{Msg, Reply};
 
 impl Server {
-    /// Which files a volume has: file `f` is bit `f` of the number.
+    /// Which files a volume has: file `f` is bit `f` of the number. It walks these files alone.
     pub(super) fn list_files(&self, g: &Geometry, a: u16, v: u16) -> Reply
         ensures { result ≡ answer g.now (state_of self.now) (Msg.List a v) }
     {
         let mut bits = 0;
-        for f in 0..g.files {
-            if self.files.contains(&(a, v, f)) {
-                bits += 1u64 << f;
-            }
+        for key in self.files.range((a, v, 0)..(a, v, g.files)) {
+            bits += 1u64 << key.2;
         }
         Reply::Files(bits)
     }
 
-    /// How many files a volume has.
+    /// How many files a volume has. It walks these files alone.
     fn files_of(&self, g: &Geometry, a: u16, v: u16) -> u32
         ensures { result ≡ file_count g.now (state_of self.now) a v }
     {
-        let mut total = 0;
-        for f in 0..g.files {
-            if self.files.contains(&(a, v, f)) {
-                total += 1;
-            }
-        }
-        total
+        let files = self.files.range((a, v, 0)..(a, v, g.files)).count();
+        files as u32
     }
 
-    /// How many blocks a volume has: those that are noted for its stripes.
+    /// How many blocks a volume has: those that are noted for its stripes. It walks these notes
+    /// alone.
     fn blocks_of(&self, g: &Geometry, a: u16, v: u16) -> u32
         requires sound { IsSound g.now self.now }
         ensures { result ≡ block_count g.now (state_of self.now) a v }
     {
         let mut total = 0;
-        for s in 0..g.stripes {
-            if let Some(count) = self.used.get(&(a, v, s)) {
-                total += u32::from(*count);
-            }
+        for (_, count) in self.used.range((a, v, 0)..(a, v, g.stripes)) {
+            total += u32::from(*count);
         }
         total
     }

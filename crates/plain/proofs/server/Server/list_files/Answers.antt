@@ -1,13 +1,20 @@
-use Rattle.std.proofs.Common.{◌<◌, arith}
+use Rattle.std.proofs.Common.{◌^◌, ap, ◌∙◌, arith}
 use Rattle.std.proofs.lemmas.Nat.{one_shl}
+use Rattle.plain.specs.State.{FileKey}
 use Rattle.plain.specs.Server.{state_of}
-use Rattle.plain.proofs.Totals.{bits_room}
+use Rattle.plain.proofs.Totals.{bits-few_in_volume, small_power}
+use Rattle.plain.proofs.Walks.{total, bits_walked}
 use Rattle.plain.proofs.server.Server.list_files.Goals as goal
+
+pub loop-key-init : goal.loop-key-init
+loop-key-init c =
+    let all = ap (total (λ (k : FileKey). 2 ^ k.2)) (c.into_iter-key-iterator.ensures.into_iter_gives ∙ c.range-key-items.ensures.between tt)
+    ∙ bits_walked c.args.g.now c.args.self.now c.args.a c.args.v c.range-key-items.ensures.ordered in
+    omega (arith, all)
 
 pub overflow_add-bits : goal.overflow_add-bits
 overflow_add-bits c =
-    let range = c.args.g.now.files_range in
-    let below : c.loop-f.f < 64 = omega arith in
-    let room = bits_room c.loop-f.f (λ f. (state_of c.args.self.now).files (c.args.a, c.args.v, f)) below in
-    let bit = one_shl c.loop-f.f 64 below in
-    omega (arith, c.loop-f.invariant)
+    let few = bits-few_in_volume c.args.g.now (state_of c.args.self.now) c.args.a c.args.v in
+    let left = ap (total (λ (k : FileKey). 2 ^ k.2)) c.in-Some.ensures.steps in
+    let bit = one_shl c.in-Some.key.now.2 64 (small_power c.in-Some.key.now.2 _ (omega (arith, c.loop-key.invariant, left)) few) in
+    omega (arith, c.loop-key.invariant, left, few, bit)

@@ -1,0 +1,169 @@
+-- What a walk over the keys of one volume, in their order, adds up to.
+use Rattle.std.proofs.Common.{◌≡◌, ℕ, ◌+◌, ◌^◌, ◌<◌, Bool, true, false, cond, List, [], ◌∷◌, length, refl, ap, sym, ◌∙◌, subst, arith}
+use Rattle.std.specs.Prelude.{◌&&◌, ◌||◌, not, if◌then◌else◌, map as map_list, filter, Some, unwrap_or}
+use Rattle.std.specs.Ordering.{nat_cmp, ordering_then, is_eq, is_le, eq_by_cmp, MatchOrdering}
+use Rattle.std.specs.Cmp.{ranks}
+use Rattle.std.specs.List.{AllByRecursion, list_any, IsDistinct}
+use Rattle.std.specs.Map.{lookup}
+use Rattle.std.specs.declared.cmp.Ordering.{Ordering}
+use Rattle.std.specs.declared.cmp.Ordering.TheVariants.{Less, Equal, Greater}
+use Rattle.std.specs.declared.ops.Bound.TheVariants.{Included, Excluded}
+use Rattle.std.specs.BTreeMap as map
+use Rattle.std.specs.BTreeMap.{is_at}
+use Rattle.std.specs.BTreeMap.Range.{range_contains, entries_between}
+use Rattle.std.specs.BTreeSet as set
+use Rattle.std.specs.BTreeSet.{BTreeSet}
+use Rattle.std.proofs.lemmas.Bool.{and_parts, true≢false, false_from_ne_true}
+use Rattle.std.proofs.lemmas.Map.Keys.{IsDistinct-from_sorted, IsDistinct-head, IsDistinct-tail}
+use Rattle.affinity.specs.declared.sizes.Geometry.{Geometry}
+use Rattle.plain.specs.declared.server.Server.{Server}
+use Rattle.plain.specs.State.{FileKey, is_file, sum_below, one_if, file_count, block_count}
+use Rattle.plain.specs.Serial.{file_bits}
+use Rattle.plain.specs.Server.{state_of, IsCounted, by_volume, by_file}
+use Rattle.plain.proofs.Keys.{at_volume, at_file, the_volume, the_file, picks_volume, picks_file}
+use Rattle.plain.proofs.Counts.{block_count-by_stripe}
+use Rattle.plain.proofs.Sums.{sum_same, sum_zero, sum_below-same, sum_below_changed}
+
+-- what the elements of a list add up to, each by its weight
+abbrev pub total : {E : Type 0} → (E → ℕ) → List E → ℕ
+total weight [] = 0
+total weight (e ∷ es) = weight e + total weight es
+
+-- ---- the keys from (a, v, 0) on, up to (a, v, n)
+
+not_past : (r s t : Ordering) → (is_le (ordering_then r s) && not (is_le (ordering_then r t))) ≡ true → (is_eq r ≡ true) × (is_le t ≡ false)
+not_past Less s t h = absurd (true≢false (sym h))
+not_past Equal s t h = (refl, is_false (is_le t) (and_parts (is_le s) (not (is_le t)) h).1)
+  where
+    is_false : (b : Bool) → not b ≡ true → b ≡ false
+    is_false true e = absurd (true≢false (sym e))
+    is_false false e = refl
+not_past Greater s t h = absurd (true≢false (sym h))
+
+tied_not_past : (r s t : Ordering) → is_eq r ≡ true → is_le s ≡ true → is_le t ≡ false → (is_le (ordering_then r s) && not (is_le (ordering_then r t))) ≡ true
+tied_not_past Less s t e from past = absurd (true≢false (sym e))
+tied_not_past Equal s t e from past = λ i. from i && not (past i)
+tied_not_past Greater s t e from past = absurd (true≢false (sym e))
+
+zero_up_to : (i : ℕ) → is_le (nat_cmp 0 i) ≡ true
+zero_up_to i = by (nat_cmp 0 i) (ranks 0 i)
+  where
+    by : (r : Ordering) → MatchOrdering r (0 < i) (0 ≡ i) (i < 0) → is_le r ≡ true
+    by Less h = refl
+    by Equal h = refl
+    by Greater h = absurd (omega (arith, h))
+
+below_from : (n i : ℕ) → is_le (nat_cmp n i) ≡ false → i < n
+below_from n i e = by (nat_cmp n i) (ranks n i) e
+  where
+    by : (r : Ordering) → MatchOrdering r (n < i) (n ≡ i) (i < n) → is_le r ≡ false → i < n
+    by Less h e = absurd (true≢false e)
+    by Equal h e = absurd (true≢false e)
+    by Greater h e = h
+
+from_below : (n i : ℕ) → i < n → is_le (nat_cmp n i) ≡ false
+from_below n i lt = by (nat_cmp n i) (ranks n i)
+  where
+    by : (r : Ordering) → MatchOrdering r (n < i) (n ≡ i) (i < n) → is_le r ≡ false
+    by Less h = absurd (omega (arith, h, lt))
+    by Equal h = absurd (omega (arith, h, lt))
+    by Greater h = refl
+
+module _ (a v n : ℕ) where
+  abbrev pub is_between : FileKey → Bool
+  is_between = range_contains by_file (Included (a, v, 0)) (Excluded (a, v, n))
+
+  inside : (k : FileKey) → is_between k ≡ true → (◌≡◌ {A = FileKey} (a, v, k.2) k) × (k.2 < n)
+  inside k e =
+      let parts = not_past (by_volume (a, v) (k.0, k.1)) (nat_cmp 0 k.2) (nat_cmp n k.2) e in
+      let volume = the_volume a v (k.0, k.1) (sym (at_volume a v (k.0, k.1)) ∙ parts.0) in
+      ((λ i. ((volume i).0, (volume i).1, k.2)), below_from n k.2 parts.1)
+
+  between : (i : ℕ) → i < n → is_between (a, v, i) ≡ true
+  between i lt = tied_not_past (by_volume (a, v) (a, v)) (nat_cmp 0 i) (nat_cmp n i) (at_volume a v (a, v) ∙ picks_volume a v) (zero_up_to i) (from_below n i lt)
+
+-- ---- the elements with those keys add up to what lies at each number below n
+
+module _ {E : Type 0} (key : E → FileKey) (weight : E → ℕ) (a v n : ℕ) where
+  -- what lies at the key (a, v, i)
+  abbrev at : ℕ → List E → ℕ
+  at i [] = 0
+  at i (e ∷ es) = cond (is_at (by_file (a, v, i)) (key e)) (weight e) (at i es)
+
+  nothing_at : (i : ℕ) (es : List E) → AllByRecursion (λ k. is_at (by_file (a, v, i)) k ≡ false) (map_list key es) → at i es ≡ 0
+  nothing_at i [] h = refl
+  nothing_at i (e ∷ es) h = ap (λ t. cond t (weight e) (at i es)) h.0 ∙ nothing_at i es h.1
+
+  this_key : (i : ℕ) (k : FileKey) → is_at (by_file (a, v, i)) k ≡ true → ◌≡◌ {A = FileKey} (a, v, i) k
+  this_key i k is = the_file a v i k (sym (at_file a v i k) ∙ is)
+
+  walked : (es : List E) → IsDistinct (eq_by_cmp by_file) (map_list key es) → total weight (filter (λ e. is_between a v n (key e)) es) ≡ sum_below n (λ i. at i es)
+  walked [] d = sym (sum_zero n)
+  walked (e ∷ es) d =
+      let others = filter (λ e. is_between a v n (key e)) es in
+      let rest = walked es (IsDistinct-tail (eq_by_cmp by_file) (key e) (map_list key es) d) in
+      elim (is_between a v n (key e)) as (λ t. is_between a v n (key e) ≡ t → total weight (cond t (e ∷ others) others) ≡ sum_below n (λ i. at i (e ∷ es))) [
+        | true ↦ λ is.
+            let j = (key e).2 in
+            let here = inside a v n (key e) is in
+            let changed = sum_below_changed n j (λ i. at i es) (λ i. at i (e ∷ es)) here.1
+            (λ i ne. ap (λ t. cond t (weight e) (at i es)) (false_from_ne_true _ (λ is. ne (ap (λ k. k.2) (this_key i (key e) is))))) in
+            let none = nothing_at j es (subst (λ (k : FileKey). AllByRecursion (λ d. is_at (by_file k) d ≡ false) (map_list key es)) (sym here.0) (IsDistinct-head (eq_by_cmp by_file) (key e) (map_list key es) d)) in
+            let own : at j (e ∷ es) ≡ weight e = ap (λ t. cond t (weight e) (at j es)) (at_file a v j (key e) ∙ ap (λ k. is_file a v j k) (sym here.0) ∙ picks_file a v j) in
+            omega (arith, changed, none, own, rest)
+        | false ↦ λ other. rest ∙ sum_below-same n _ _ (λ i lt. sym (ap (λ t. cond t (weight e) (at i es))
+            (false_from_ne_true _ (λ is. true≢false (sym (between a v n i lt) ∙ ap (is_between a v n) (this_key i (key e) is) ∙ other)))))
+      ] refl
+
+-- ---- a set of files
+
+same_keys : (ks : List FileKey) → map_list (λ k. k) ks ≡ ks
+same_keys [] = refl
+same_keys (k ∷ ks) = ap (λ rest. k ∷ rest) (same_keys ks)
+
+module _ (weight : ℕ → ℕ) (a v n : ℕ) where
+  in_set : (i : ℕ) (ks : List FileKey) → at (λ k. k) (λ (k : FileKey). weight k.2) a v n i ks ≡ (if list_any (is_at (by_file (a, v, i))) ks then weight i else 0)
+  in_set i [] = refl
+  in_set i (k ∷ ks) = elim (is_at (by_file (a, v, i)) k) as (λ t. is_at (by_file (a, v, i)) k ≡ t → cond t (weight k.2) (at (λ k. k) (λ (k : FileKey). weight k.2) a v n i ks) ≡ (if t || list_any (is_at (by_file (a, v, i))) ks then weight i else 0)) [
+    | true ↦ λ is. ap weight (sym (ap (λ k. k.2) (this_key (λ k. k) (λ (k : FileKey). weight k.2) a v n i k is)))
+    | false ↦ λ other. in_set i ks
+  ] refl
+
+  pub files_walked : (s : BTreeSet FileKey) → set.IsOrdered by_file s
+      → total (λ (k : FileKey). weight k.2) (set.keys_between by_file (Included (a, v, 0)) (Excluded (a, v, n)) s) ≡ sum_below n (λ i. if set.contains by_file s (a, v, i) then weight i else 0)
+  files_walked s ordered =
+      walked (λ k. k) (λ (k : FileKey). weight k.2) a v n s.keys (subst (IsDistinct (eq_by_cmp by_file)) (sym (same_keys s.keys)) (IsDistinct-from_sorted by_file s.keys ordered))
+      ∙ sum_same n _ _ (λ i. in_set i s.keys)
+
+module _ (g : Geometry) (server : Server) (a v : ℕ) where
+  pub bits_walked : set.IsOrdered by_file server.files → total (λ (k : FileKey). 2 ^ k.2) (set.keys_between by_file (Included (a, v, 0)) (Excluded (a, v, g.files)) server.files) ≡ file_bits g (state_of server) a v
+  bits_walked ordered = files_walked (λ i. 2 ^ i) a v g.files server.files ordered
+
+  pub count_walked : set.IsOrdered by_file server.files → length (set.keys_between by_file (Included (a, v, 0)) (Excluded (a, v, g.files)) server.files) ≡ file_count g (state_of server) a v
+  count_walked ordered =
+      let all = files_walked (λ i. 1) a v g.files server.files ordered ∙ sum_same g.files _ _ (λ i. as_one (set.contains by_file server.files (a, v, i))) in
+      sym (one_each (set.keys_between by_file (Included (a, v, 0)) (Excluded (a, v, g.files)) server.files)) ∙ all
+    where
+      as_one : (b : Bool) → (if b then 1 else 0) ≡ one_if b
+      as_one true = refl
+      as_one false = refl
+
+      one_each : (ks : List FileKey) → total (λ (k : FileKey). 1) ks ≡ length ks
+      one_each [] = refl
+      one_each (k ∷ ks) = let rest = one_each ks in omega (arith, rest)
+
+-- ---- the blocks that are noted for the stripes
+
+in_map : (a v n i : ℕ) (es : List (FileKey × ℕ)) → at (λ (e : FileKey × ℕ). e.0) (λ (e : FileKey × ℕ). e.1) a v n i es ≡ unwrap_or (lookup (is_at (by_file (a, v, i))) es) 0
+in_map a v n i [] = refl
+in_map a v n i (e ∷ es) = elim (is_at (by_file (a, v, i)) e.0) as (λ t. cond t e.1 (at (λ (e : FileKey × ℕ). e.0) (λ (e : FileKey × ℕ). e.1) a v n i es) ≡ unwrap_or (cond t (Some e.1) (lookup (is_at (by_file (a, v, i))) es)) 0) [
+  | true ↦ refl
+  | false ↦ in_map a v n i es
+]
+
+pub blocks_walked : (g : Geometry) (server : Server) (a v : ℕ) → IsCounted g server → map.IsOrdered by_file server.used
+    → total (λ (e : FileKey × ℕ). e.1) (entries_between by_file (Included (a, v, 0)) (Excluded (a, v, g.stripes)) server.used.entries) ≡ block_count g (state_of server) a v
+blocks_walked g server a v counted ordered =
+    walked (λ (e : FileKey × ℕ). e.0) (λ (e : FileKey × ℕ). e.1) a v g.stripes server.used.entries (IsDistinct-from_sorted by_file (map.keys server.used) ordered)
+    ∙ sum_same g.stripes _ _ (λ s. in_map a v g.stripes s server.used.entries ∙ counted (a, v, s))
+    ∙ sym (block_count-by_stripe g (state_of server) a v)
