@@ -1,9 +1,8 @@
 -- A row of stripes, each of which becomes another.
-use Rattle.std.proofs.Common.{◌≡◌, ℕ, zero, suc, ◌+◌, ◌/◌, ◌<◌, ◌≤◌, Bool, true, false, List, [], ◌∷◌, Some, None, refl, ap, sym, ◌∙◌, length, slice_index_or, arith}
+use Rattle.std.proofs.Common.{◌≡◌, ℕ, zero, suc, ◌+◌, ◌<◌, ◌≤◌, Bool, true, false, List, [], ◌∷◌, Some, None, refl, ap, sym, ◌∙◌, length, slice_index_or, arith}
 use Rattle.std.specs.Prelude.{◌==◌, if◌then◌else◌, Option, is_some, IfSome}
 use Rattle.std.specs.List.{AllByRecursion}
 use Rattle.std.proofs.lemmas.Bool.{true≢false}
-use Rattle.std.proofs.lemmas.Nat.{mod_below}
 use Rattle.affinity.specs.declared.sizes.Geometry.{Geometry}
 use Rattle.affinity.specs.Geometry.{group}
 use Rattle.message.specs.declared.Block.{Block}
@@ -11,10 +10,6 @@ use Rattle.parcel.specs.Dropping.{IsWithoutFile, IsEmptied}
 use Rattle.parcel.specs.Fits.{FitsStripe, EachFits, IsWholeChild}
 use Rattle.parcel.specs.Shown.{blocks_in}
 use Rattle.parcel.specs.Stripe.{StripePart, NowHolds, content_at}
-
--- each block has its stripe in the row
-pub group-lt : (g : Geometry) (f b : ℕ) → group g f b < g.stripes
-group-lt g f b = mod_below (f + b / g.width) g.stripes (omega (arith, g.stripes_range.0))
 
 -- ---- rows, pair by pair
 

@@ -1,16 +1,19 @@
 -- Totals of volumes, added up.
-use Rattle.std.proofs.Common.{◌≡◌, ℕ, ◌+◌, ◌*◌, ◌<◌, ◌≤◌, List, Some, None, refl, ap, sym, ◌∙◌, subst, length, slice_index_or, arith}
+use Rattle.std.proofs.Common.{◌≡◌, ℕ, ◌+◌, ◌*◌, ◌<◌, ◌≤◌, List, Some, None, refl, ap, sym, ◌∙◌, subst, length, slice_index_or, add-one, arith}
 use Rattle.std.specs.Prelude.{Option, IfSome, is_some}
 use Rattle.std.proofs.lemmas.Nat.{mul-le}
 use Rattle.affinity.specs.declared.sizes.Geometry.{Geometry}
 use Rattle.plain.specs.State.{sum_below, count_below, one_if}
 use Rattle.plain.proofs.Sums.{one_if-le, count_below-le, sum_below-le_times}
-use Rattle.plain.proofs.Totals.{sum_step}
 use Rattle.parcel.specs.Fits.{EachFits}
 use Rattle.parcel.specs.Totals.{totals_of, sum_totals}
 use Rattle.parcel.specs.Volume.{Facts}
 use Rattle.parcel.specs.declared.running.totals.Totals.{Totals}
 use Rattle.parcel.proofs.StripeRows.{fits_at}
+
+-- a sum, one number further
+pub sum_step : (n : ℕ) (h : ℕ → ℕ) → sum_below (n + 1) h ≡ sum_below n h + h n
+sum_step n h = ap (λ k. sum_below k h) (add-one n)
 
 -- no more than so many volumes can hold
 pub record IsFew (n : ℕ) (t : Totals) : Type 0 where

@@ -1,9 +1,9 @@
 -- How great the counts of a state can get, and how they add up.
 use Rattle.std.proofs.Common.{◌≡◌, ℕ, zero, suc, ◌+◌, ◌*◌, ◌/◌, ◌^◌, ◌<◌, ◌≤◌, Bool, sym, ◌∙◌, arith}
 use Rattle.std.specs.Prelude.{◌&&◌, ◌==◌, if◌then◌else◌, is_some}
-use Rattle.std.proofs.lemmas.Nat.{mod_below}
 use Rattle.affinity.specs.declared.sizes.Geometry.{Geometry}
 use Rattle.affinity.specs.Geometry.{group}
+use Rattle.affinity.proofs.Placed.{group_below}
 use Rattle.plain.specs.State.{State, sum_below, one_if, file_count, block_count, group_count, over_volumes}
 use Rattle.plain.proofs.Sums.{sum_below-le_times, count_below-le, sum_below-same, sum_below-swap, sum_below_at}
 
@@ -25,11 +25,8 @@ bits-lt (suc n) has = grind (arith, bits-lt n has)
 
 -- ---- the blocks of a volume lie in its stripes
 
-group-lt : (g : Geometry) (f b : ℕ) → group g f b < g.stripes
-group-lt g f b = mod_below (f + b / g.width) g.stripes (omega (arith, g.stripes_range.0))
-
 pub block_count-by_stripe : (g : Geometry) (x : State) (a v : ℕ) → block_count g x a v ≡ sum_below g.stripes (group_count g x a v)
 block_count-by_stripe g x a v =
-    sum_below-same g.files _ _ (λ f lt. sum_below-same g.blocks _ _ (λ b lt. sym (sum_below_at g.stripes (group g f b) (is_some (x.blocks (a, v, f, b))) (group-lt g f b)))
+    sum_below-same g.files _ _ (λ f lt. sum_below-same g.blocks _ _ (λ b lt. sym (sum_below_at g.stripes (group g f b) (is_some (x.blocks (a, v, f, b))) (group_below g f b)))
     ∙ sum_below-swap g.blocks g.stripes (λ b s. one_if ((group g f b == s) && is_some (x.blocks (a, v, f, b)))))
     ∙ sum_below-swap g.files g.stripes (λ f s. sum_below g.blocks (λ b. one_if ((group g f b == s) && is_some (x.blocks (a, v, f, b)))))

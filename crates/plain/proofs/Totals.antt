@@ -1,22 +1,17 @@
 -- The totals of a volume and of the whole server.
-use Rattle.std.proofs.Common.{◌≡◌, ℕ, ◌+◌, ◌*◌, ◌^◌, ◌<◌, ◌≤◌, ap, sym, add-one, arith}
+use Rattle.std.proofs.Common.{◌≡◌, ℕ, ◌*◌, ◌^◌, ◌<◌, ◌≤◌, sym, arith}
 use Rattle.std.specs.BTreeSet as set
 use Rattle.std.specs.BTreeMap as map
 use Rattle.std.proofs.lemmas.Nat.{mul-le}
 use Rattle.std.proofs.Math.Nat.{pow-le-pow_right, lt_of_not-le}
 use Rattle.affinity.specs.declared.sizes.Geometry.{Geometry}
 use Rattle.plain.specs.declared.server.Server.{Server}
-use Rattle.plain.specs.State.{State, IsState, sum_below, one_if, file_count, block_count, over_volumes}
+use Rattle.plain.specs.State.{State, IsState, one_if, file_count, block_count, over_volumes}
 use Rattle.plain.specs.Serial.{file_bits}
 use Rattle.plain.specs.Server.{state_of, by_volume, by_file, by_block}
 use Rattle.plain.proofs.Sums.{one_if-le}
 use Rattle.plain.proofs.Counts.{bits-lt, file_count-le, block_count-le, over_volumes-le}
 use Rattle.plain.proofs.Lengths.{volumes_length, files_length, blocks_length}
-
--- ---- a sum, one number further
-
-pub sum_step : (n : ℕ) (h : ℕ → ℕ) → sum_below (n + 1) h ≡ sum_below n h + h n
-sum_step n h = ap (λ k. sum_below k h) (add-one n)
 
 -- ---- one volume
 

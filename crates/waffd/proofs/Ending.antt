@@ -1,14 +1,16 @@
 -- How a command ends where it serves nothing, and that words which are wrong ask for nothing.
-use Rattle.std.proofs.Common.{◌≡◌, ◌∙◌, ◌&&◌, refl, sym, subst, inl, inr, ℕ, Bool, List, [], ◌∷◌, true, false, Option, Some, None, append-nil}
+use Rattle.std.proofs.Common.{◌≡◌, ◌∙◌, refl, sym, subst, inl, inr, ℕ, List, [], ◌∷◌, true, false, Option, Some, None}
 use Rattle.std.specs.Prelude.{Err, Result}
 use Rattle.std.specs.List.{list_all}
-use Rattle.std.specs.Io.KnownBytes.{Appends}
+use Rattle.std.proofs.lemmas.Bool.{and_parts}
 use Rattle.affinity.specs.declared.sizes.Geometry.{Geometry}
 use Rattle.affinity.specs.Limits.{AreInRange}
+use Rattle.affinity.proofs.Numbers.{geometry_same}
 use Rattle.clap.specs.Words.{IsAmong, Kinds, Text, kind_of}
 use Rattle.clap.specs.declared.error.kind.ErrorKind.{ErrorKind}
 use Rattle.plain.specs.Output.{Writes, IsBeginning}
-use Rattle.waffd.proofs.Options.{in_range, same_geometry}
+use Rattle.plain.proofs.ProgressLemmas.{appends_nothing}
+use Rattle.waffd.proofs.Options.{in_range}
 use Rattle.waffd.specs.Ends.{Ends, EndsPlain, status_at}
 use Rattle.waffd.specs.Faults.{status_of}
 use Rattle.waffd.specs.Words.{Asks, AsksPlain, IsReason, IsRefused, is_mistake}
@@ -21,15 +23,11 @@ use Rattle.waffd.specs.declared.words.Request.TheVariants.{Help, Plain}
 
 -- ---- words that are wrong
 
-both : (a b : Bool) → (a && b) ≡ true → (a ≡ true) × (b ≡ true)
-both true b h = (refl, h)
-both false b h = cc
-
 mistake_among : (kinds : Kinds) (k : ErrorKind) → list_all is_mistake kinds ≡ true → IsAmong k kinds → is_mistake k ≡ true
 mistake_among [] k all among = absurd among
 mistake_among (x ∷ xs) k all among = elim among [
-  | inl is ↦ rw is (both (is_mistake x) (list_all is_mistake xs) all).0
-  | inr later ↦ mistake_among xs k (both (is_mistake x) (list_all is_mistake xs) all).1 later
+  | inl is ↦ rw is (and_parts (is_mistake x) (list_all is_mistake xs) all).0
+  | inr later ↦ mistake_among xs k (and_parts (is_mistake x) (list_all is_mistake xs) all).1 later
 ]
 
 pub ask_for_nothing : (words : List Text) (request : Request) → Asks words request → IsRefused words → ⊥
@@ -50,10 +48,6 @@ is_told OutOfMemory none = cc
 
 -- ---- want of memory while the words are read
 
-appends_nothing : (old : Option (List ℕ)) → Appends old old []
-appends_nothing None = tt
-appends_nothing (Some xs) = sym (append-nil xs)
-
 nothing_written : (g : Geometry) (input old : Option (List ℕ)) → Writes input old old (IsBeginning g)
 nothing_written g None old = tt
 nothing_written g (Some bytes) old = ([], appends_nothing old, (0, refl))
@@ -69,7 +63,7 @@ served_nothing words g fault input old asks reason = absurd reason
 pub served : (words : List Text) (request : Request) (g : Geometry) (end : Result (Unit {0}) Fault) (input left old new : Option (List ℕ)) → Asks words request → AsksPlain words g
     → Ends request end input left old new → EndsPlain g (status_at end) input left old new
 served words (Plain h) g end input left old new given asks ends =
-    (end, refl, subst (λ k. Ends (Plain k) end input left old new) (same_geometry h g (given.1 ∙ sym asks.1)) ends)
+    (end, refl, subst (λ k. Ends (Plain k) end input left old new) (geometry_same h g (given.1 ∙ sym asks.1)) ends)
 served words (Help text) g end input left old new given asks ends = absurd (subst (IsAmong (kind_of text)) asks.0 given.0)
 
 pub no_mistake : (words : List Text) (g : Geometry) (error : Error) → AsksPlain words g → IsReason words (by_words error) → ⊥

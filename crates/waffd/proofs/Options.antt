@@ -1,10 +1,10 @@
 -- The options of a command, and the numbers that they give.
-use Rattle.std.proofs.Common.{◌≡◌, ◌∙◌, ◌||◌, ◌&&◌, ap, ap₂, refl, sym, subst, true≢false, ℕ, Bool, true, false, List, [], ◌∷◌, length, Option, Some, None, nat_lt, ltb-true, lt-ltb}
+use Rattle.std.proofs.Common.{◌≡◌, ◌∙◌, ◌||◌, ◌&&◌, ap₂, refl, ℕ, Bool, true, false, List, [], ◌∷◌, length, Option, Some, None, nat_lt, ltb-true, lt-ltb}
 use Rattle.std.specs.Prelude.{Result, Ok, Err, option_and_then}
 use Rattle.std.specs.Char.{digit_value}
 use Rattle.std.specs.List.{list_all}
 use Rattle.std.specs.Str.Parse.{AllDigits, ParsesUnsigned, digits_value, without_leading_plus}
-use Rattle.std.proofs.Props.{props}
+use Rattle.std.proofs.lemmas.Bool.{and_parts}
 use Rattle.affinity.specs.declared.sizes.Geometry.{Geometry}
 use Rattle.affinity.specs.Geometry.{numbers_of}
 use Rattle.affinity.specs.Limits.{AreInRange}
@@ -18,10 +18,6 @@ none_or_none p q e = e ∙ ap₂ (λ a b. a || b) p q
 
 -- ---- a number as text
 
-both : (a b : Bool) → (a && b) ≡ true → (a ≡ true) × (b ≡ true)
-both true b e = (refl, e)
-both false b e = absurd (true≢false (sym e))
-
 are_digits : (ds : List ℕ) → AllDigits 10 ds → list_all (λ d. nat_lt (digit_value d) 10) ds ≡ true
 are_digits [] h = refl
 are_digits (d ∷ ds) h = rw (lt-ltb (digit_value d) 10 h.0) (are_digits ds h.1)
@@ -29,7 +25,7 @@ are_digits (d ∷ ds) h = rw (lt-ltb (digit_value d) 10 h.0) (are_digits ds h.1)
 digits_from : (ds : List ℕ) → list_all (λ d. nat_lt (digit_value d) 10) ds ≡ true → AllDigits 10 ds
 digits_from [] e = tt
 digits_from (d ∷ ds) e =
-    let parts = both _ _ e in
+    let parts = and_parts _ _ e in
     (ltb-true _ _ parts.0, digits_from ds parts.1)
 
 abbrev is_number : List ℕ → Bool
@@ -46,47 +42,14 @@ no_number_read E text e h = go (is_number (without_leading_plus text)) refl
     go : (b : Bool) → is_number (without_leading_plus text) ≡ b → None ≡ number_of text
     go false t = rw t refl
     go true t =
-        let outer = both _ _ t in
-        let inner = both _ _ outer.0 in
+        let outer = and_parts _ _ t in
+        let inner = and_parts _ _ outer.0 in
         absurd (h ((ltb-true _ _ inner.0, digits_from (without_leading_plus text) inner.1), ltb-true _ _ outer.1))
 
--- ---- the geometry of eight numbers
-
-module _ {A B : Type 0} (P : A → Type 0) (prop : (x : A) → IsProp (P x)) (f : (x : A) → P x → B) where
-  equal_at : (x y : A) (p : P x) (q : P y) → x ≡ y → f x p ≡ f y q
-  equal_at x y p q e = subst (λ z. (r : P z) → f x p ≡ f z r) e (λ r. ap (f x) (prop x p r)) q
-
-of_numbers : (n : List ℕ) → AreInRange n → Geometry
-of_numbers (a ∷ v ∷ s ∷ w ∷ f ∷ b ∷ q ∷ h ∷ []) r = record {
-  aggregates = a;
-  volumes = v;
-  stripes = s;
-  width = w;
-  files = f;
-  blocks = b;
-  quota = q;
-  half = h;
-  aggregates_range = r.0;
-  volumes_range = r.1;
-  stripes_range = r.2;
-  width_range = r.3;
-  files_range = r.4;
-  blocks_range = r.5;
-  quota_range = r.6;
-  half_range = r.7;
-}
-of_numbers _ r = absurd r
-
-one_proof : (n : List ℕ) → IsProp (AreInRange n)
-one_proof (a ∷ v ∷ s ∷ w ∷ f ∷ b ∷ q ∷ h ∷ []) = hlevel props
-one_proof _ = hlevel props
+-- ---- the numbers of a geometry
 
 pub in_range : (g : Geometry) → AreInRange (numbers_of g)
 in_range g = (g.aggregates_range, g.volumes_range, g.stripes_range, g.width_range, g.files_range, g.blocks_range, g.quota_range, g.half_range)
-
-pub same_geometry : (g h : Geometry) → numbers_of g ≡ numbers_of h → g ≡ h
-unfolding of_numbers in_range
-same_geometry g h e = equal_at AreInRange one_proof of_numbers (numbers_of g) (numbers_of h) (in_range g) (in_range h) e
 
 -- what a typed getter gives for the text of an option, or for none
 pub got_number : (E : Type 0) (gives : List ℕ → Result ℕ E → Type 0) → ((t : List ℕ) (x : Result ℕ E) → gives t x → ParsesUnsigned 16 10 t x)

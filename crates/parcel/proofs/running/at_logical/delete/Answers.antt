@@ -1,6 +1,7 @@
 use Rattle.std.proofs.Common.{◌≡◌, ℕ, ◌<◌, ◌^◌, refl, sym, ◌∙◌, length, arith}
 use Rattle.std.specs.Prelude.{Option}
 use Rattle.affinity.specs.Geometry.{group}
+use Rattle.affinity.proofs.Placed.{group_below}
 use Rattle.message.specs.declared.Msg.TheVariants.{Delete}
 use Rattle.parcel.specs.Dropping.{IsWithoutFile}
 use Rattle.parcel.specs.Fits.{FitsStripe}
@@ -8,7 +9,7 @@ use Rattle.parcel.specs.Shown.{by_logical, blocks_of, has_bit}
 use Rattle.parcel.specs.Volume.{only}
 use Rattle.parcel.proofs.FileBits.{few_bits, without_bit, without_bit_has, without_bit_below}
 use Rattle.parcel.proofs.OneVolume.{passed, delete_tests, effect_delete}
-use Rattle.parcel.proofs.StripeRows.{group-lt, pairs_from_places, still_fit, still_whole, fits_without_file, whole_without_file, blocks_without_file}
+use Rattle.parcel.proofs.StripeRows.{pairs_from_places, still_fit, still_whole, fits_without_file, whole_without_file, blocks_without_file}
 use Rattle.parcel.proofs.running.at_logical.delete.Goals as goal
 
 pub returns-clause-step : goal.returns-clause-step
@@ -22,7 +23,7 @@ returns-clause-step c =
     λ a v range. passed g (only a v h) (Delete a v c.args.f) _ _ (delete_tests g a v c.args.f h range ∙ sym c.file_change_refusal.ensures ∙ c.in_default.is) refl
     (effect_delete h a v (has_bit (without_bit c.args.logical.now.files c.args.f)) (blocks_of g new.items) c.args.f
     (without_bit_has c.args.logical.now.files c.args.f below (few_bits g.files c.args.logical.now.files c.requires.fits.files most))
-    (λ i j. blocks_without_file c.args.f _ _ (c.drop_file.ensures.each (group g i j) (omega (arith, group-lt g i j, c.requires.fits.count, old.ok.0))) i j))
+    (λ i j. blocks_without_file c.args.f _ _ (c.drop_file.ensures.each (group g i j) (omega (arith, group_below g i j, c.requires.fits.count, old.ok.0))) i j))
 
 pub returns-clause-fits : goal.returns-clause-fits
 returns-clause-fits c =

@@ -3,11 +3,11 @@ use Rattle.std.specs.Prelude.{None, IfSome}
 use Rattle.std.proofs.lemmas.List.{get_or_read}
 use Rattle.plain.specs.State.{sum_below, group_count}
 use Rattle.plain.proofs.Counts.{block_count-by_stripe}
-use Rattle.plain.proofs.Totals.{sum_step}
 use Rattle.parcel.specs.Fits.{FitsStripe}
 use Rattle.parcel.specs.Shown.{blocks_of}
 use Rattle.parcel.specs.Totals.{entry_count}
 use Rattle.parcel.proofs.StripeTotals.{holding, count_at, few_entries, quota_of, stripe_at}
+use Rattle.parcel.proofs.Summing.{sum_step}
 use Rattle.parcel.proofs.running.totals.block_count.Goals as goal
 
 pub entry_count-total-requires : goal.entry_count-total-requires
