@@ -48,8 +48,3 @@ unrelated_below p q r h under = false_from_ne_true _ (λ e. ⊎_elim
     (λ below. true≢false (sym (or_left _ _ (begins-trans p r q under below)) ∙ h))
     (λ above. true≢false (sym (beginnings_related p q r under above) ∙ h))
     (or_cases (begins r q) (begins q r) e))
-
--- What lies below one of two unrelated paths is unrelated to what lies below the other.
-pub unrelated_both_below : (p q r s : Path) → are_related p q ≡ false → begins p r ≡ true → begins q s ≡ true → are_related r s ≡ false
-unrelated_both_below p q r s h under beneath =
-    unrelated_turned s r (unrelated_below q r s (unrelated_turned r q (unrelated_below p q r h under)) beneath)

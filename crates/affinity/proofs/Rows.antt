@@ -1,11 +1,12 @@
 -- Worked examples of the definitions.
-use Rattle.std.proofs.Common.{lit≤, ◌≡◌, true, false, [], ◌∷◌, refl}
+use Rattle.std.proofs.Common.{lit≤, ◌≡◌, true, false, [], ◌∷◌, map, refl}
 use Rattle.affinity.specs.Geometry.{small, standard, group}
 use Rattle.affinity.specs.Interval.{interval}
+use Rattle.affinity.specs.Kind.{number_count}
 use Rattle.affinity.specs.declared.sizes.Geometry.{Geometry}
 use Rattle.affinity.specs.Path.{are_related, serial, aggregate, volume, logical, stripe, label}
 use Rattle.affinity.specs.Place.{is_in_range, place}
-use Rattle.affinity.specs.declared.kinds.Kind.TheVariants.{Create, Seal, Write, Summary, SetLabel}
+use Rattle.affinity.specs.declared.kinds.Kind.TheVariants.{MakeVol, DropVol, Create, Delete, Seal, Unseal, Write, Punch, Read, List as ListFiles, Usage, Summary, SetLabel, Label}
 
 -- the stripes of a small server's blocks, and of the standard one's
 first_block : group small 0 0 ≡ 0
@@ -42,13 +43,61 @@ file_behind = refl
 all_unused : is_in_range small Summary (9 ∷ 9 ∷ 9 ∷ 9 ∷ []) ≡ true
 all_unused = refl
 
-place_of_seal : place small Seal (0 ∷ 0 ∷ 9 ∷ 9 ∷ []) ≡ volume 0 0
+-- how many of the four numbers each kind has
+numbers_of_kinds :
+    map number_count (MakeVol ∷ DropVol ∷ Create ∷ Delete ∷ Seal ∷ Unseal ∷ Write ∷ Punch ∷ Read ∷ ListFiles ∷ Usage ∷ Summary ∷ SetLabel ∷ Label ∷ [])
+    ≡ 2 ∷ 2 ∷ 3 ∷ 3 ∷ 2 ∷ 2 ∷ 4 ∷ 4 ∷ 4 ∷ 2 ∷ 2 ∷ 0 ∷ 2 ∷ 2 ∷ []
+numbers_of_kinds = refl
+
+-- each kind's place, by numbers of a server of two aggregates with two volumes each
+abbrev two_of_each : Geometry
+two_of_each = record small {
+  aggregates = 2;
+  volumes = 2;
+  aggregates_range = (lit≤ tt, lit≤ tt);
+  volumes_range = (lit≤ tt, lit≤ tt);
+}
+
+place_of_makevol : place two_of_each MakeVol (1 ∷ 0 ∷ 9 ∷ 9 ∷ []) ≡ aggregate 1
+place_of_makevol = refl
+
+place_of_dropvol : place two_of_each DropVol (0 ∷ 1 ∷ 9 ∷ 9 ∷ []) ≡ aggregate 0
+place_of_dropvol = refl
+
+place_of_create : place two_of_each Create (0 ∷ 1 ∷ 1 ∷ 9 ∷ []) ≡ logical 0 1
+place_of_create = refl
+
+place_of_delete : place two_of_each Delete (1 ∷ 0 ∷ 1 ∷ 9 ∷ []) ≡ logical 1 0
+place_of_delete = refl
+
+place_of_seal : place two_of_each Seal (0 ∷ 1 ∷ 9 ∷ 9 ∷ []) ≡ volume 0 1
 place_of_seal = refl
 
-place_of_write : place small Write (0 ∷ 0 ∷ 1 ∷ 2 ∷ []) ≡ stripe 0 0 1
+place_of_unseal : place two_of_each Unseal (1 ∷ 0 ∷ 9 ∷ 9 ∷ []) ≡ volume 1 0
+place_of_unseal = refl
+
+place_of_write : place two_of_each Write (0 ∷ 1 ∷ 1 ∷ 2 ∷ []) ≡ stripe 0 1 1
 place_of_write = refl
 
-place_of_label : place small SetLabel (0 ∷ 0 ∷ 0 ∷ 0 ∷ []) ≡ label 0 0
+place_of_punch : place two_of_each Punch (1 ∷ 0 ∷ 0 ∷ 3 ∷ []) ≡ stripe 1 0 1
+place_of_punch = refl
+
+place_of_read : place two_of_each Read (1 ∷ 1 ∷ 1 ∷ 3 ∷ []) ≡ stripe 1 1 0
+place_of_read = refl
+
+place_of_list : place two_of_each ListFiles (1 ∷ 0 ∷ 9 ∷ 9 ∷ []) ≡ logical 1 0
+place_of_list = refl
+
+place_of_usage : place two_of_each Usage (0 ∷ 1 ∷ 9 ∷ 9 ∷ []) ≡ volume 0 1
+place_of_usage = refl
+
+place_of_summary : place two_of_each Summary (9 ∷ 9 ∷ 9 ∷ 9 ∷ []) ≡ serial
+place_of_summary = refl
+
+place_of_setlabel : place two_of_each SetLabel (0 ∷ 1 ∷ 9 ∷ 9 ∷ []) ≡ label 0 1
+place_of_setlabel = refl
+
+place_of_label : place two_of_each Label (1 ∷ 0 ∷ 9 ∷ 9 ∷ []) ≡ label 1 0
 place_of_label = refl
 
 -- a label runs beside files and blocks, and not beside its volume
@@ -95,18 +144,8 @@ second_stripe_numbers = refl
 label_numbers : interval small (label 0 0) ≡ record { number = 6; end = 7 }
 label_numbers = refl
 
-two_of_each : Geometry
-two_of_each = record small {
-  aggregates = 2;
-  volumes = 2;
-  aggregates_range = (lit≤ tt, lit≤ tt);
-  volumes_range = (lit≤ tt, lit≤ tt);
-}
-
 last_volume_numbers : interval two_of_each (volume 1 1) ≡ record { number = 18; end = 23 }
-unfolding two_of_each
 last_volume_numbers = refl
 
 last_label_numbers : interval two_of_each (label 1 1) ≡ record { number = 22; end = 23 }
-unfolding two_of_each
 last_label_numbers = refl

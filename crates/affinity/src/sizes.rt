@@ -67,7 +67,7 @@ impl Geometry {
     ghost use Rattle.affinity.specs.Geometry.{numbers_of};
 
     /// The geometry with these numbers: aggregates, volumes, stripes, width, files, blocks, quota
-    /// and half, in this order.
+    /// and half, in this order. `BadGeometry` exactly where one leaves its range.
     pub fn new(n: [u16; 8]) -> Result<Geometry, BadGeometry>
         ensures in_range { IsOk result ↔ AreInRange n }
         ensures same_numbers { IfOk result (λ g. numbers_of g ≡ n) }
