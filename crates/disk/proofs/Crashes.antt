@@ -1,6 +1,6 @@
 -- The loop that tears a device, and that what it leaves is what a crash may leave.
-use Rattle.std.proofs.Common.{◌≡◌, ℕ, ◌+◌, ◌<◌, ◌≤◌, Bool, true, false, List, [], ◌∷◌, ◌++◌, length, take, drop, set, get_or, refl, sym, ◌∙◌, ap, arith, append_assoc}
-use Rattle.std.proofs.lemmas.List.{append-nil, drop_all, drop_more, drop-set-lt, take_all, take_more, take_more_set}
+use Rattle.std.proofs.Common.{◌≡◌, ℕ, ◌+◌, ◌<◌, Bool, true, false, List, [], ◌∷◌, ◌++◌, length, take, drop, set, get_or, refl, sym, ◌∙◌, ap, arith, append_assoc}
+use Rattle.std.proofs.lemmas.List.{drop_more, drop-set-lt, take_more, take_more_set}
 use Rattle.disk.specs.Device.{MayLeave}
 use Rattle.disk.specs.Torn.{torn_from}
 
@@ -31,11 +31,6 @@ module _ (put : ℕ → ℕ → ℕ) (i k : ℕ) (loose : List Bool) (bytes : Li
       ap (λ (l : List ℕ). l ++ behind) (take_more bytes i 0 in_bytes)
       ∙ append_assoc (take i bytes) (get_or bytes i 0 ∷ []) behind
       ∙ ap (λ (l : List ℕ). take i bytes ++ l) (sym now)
-
--- at the end nothing is left to tear
-pub all_torn : (put : ℕ → ℕ → ℕ) (i k : ℕ) (loose : List Bool) (bytes : List ℕ) → length bytes ≤ i → torn_so_far put i k loose bytes ≡ bytes
-all_torn put i k loose bytes late =
-    ap (λ (l : List ℕ). take i bytes ++ torn_from put i k (drop i loose) l) (drop_all i bytes late) ∙ append-nil (take i bytes) ∙ take_all i bytes late
 
 pub torn_leaves : (put : ℕ → ℕ → ℕ) (i k : ℕ) (loose : List Bool) (now : List ℕ) → length loose ≡ length now → MayLeave now loose (torn_from put i k loose now)
 torn_leaves put i k loose [] size = tt

@@ -36,15 +36,6 @@ pub calm_range : (at n : ℕ) (m : Medium) → IsCalm m → at + n ≤ length m.
 calm_range at n m calm inside =
     ap (λ (l : List Bool). take n (drop at l)) calm ∙ ap (λ (l : List Bool). take n l) (drop-replicate at (length m.now) false) ∙ take-replicate n (length m.now - at) false (omega (arith, inside))
 
--- where all is loose, a crash may leave anything of the same length
-pub any_left : (now other : List ℕ) (n : ℕ) (c : List ℕ) → length other ≡ length now → MayLeave now (replicate n true) c → MayLeave other (replicate n true) c
-any_left [] [] n c same left = left
-any_left [] (y ∷ other) n c same left = absurd (omega (arith, same))
-any_left (b ∷ now) [] n c same left = absurd (omega (arith, same))
-any_left (b ∷ now) (y ∷ other) n [] same left = absurd left
-any_left (b ∷ now) (y ∷ other) zero (x ∷ c) same left = any_left now other zero c (omega (arith, same)) left
-any_left (b ∷ now) (y ∷ other) (suc n) (x ∷ c) same left = any_left now other n c (omega (arith, same)) left
-
 no_marks : (n : ℕ) → ◌≡◌ {A = List Bool} (take n []) []
 no_marks n = take_all n [] (omega arith)
 

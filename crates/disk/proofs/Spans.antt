@@ -1,14 +1,10 @@
 -- The range that a sync looks at, after each call.
 use Rattle.std.proofs.Common.{◌≡◌, ◌⊎◌, ℕ, ◌+◌, ◌-◌, ◌≤◌, false, List, length, replicate, sym, subst, arith}
-use Rattle.disk.specs.Device.{Medium, SameOutside, overlaid, marked, begun, written}
+use Rattle.disk.specs.Device.{Medium, SameOutside, overlaid, marked, written}
 use Rattle.disk.specs.Shadow.{lost}
 use Rattle.disk.specs.Span.{HoldsLoose}
-use Rattle.disk.proofs.Outside.{covered, same_all, same_back, same_both, wider}
+use Rattle.disk.proofs.Outside.{covered, same_back, same_both, wider}
 use Rattle.disk.proofs.Overlays.{length-overlaid, overlaid_outside, marked_outside}
-
--- of a device in which nothing is loose
-pub holds_none : (bytes : List ℕ) → HoldsLoose 0 0 (begun bytes) bytes
-holds_none bytes = record { inside = omega arith; kept = same_all 0 0 bytes; marks = same_all 0 0 (replicate (length bytes) false) }
 
 -- The range from a to e grows to the one from b to f, which holds n places from `at` on.
 module _ (a e b f at n : ℕ) (m : Medium) (kept : List ℕ) (ordered : a ≤ e) (from : b ≤ at) (to : at + n ≤ f) (inside : f ≤ length m.now) (grows : (a ≡ e) ⊎ ((b ≤ a) × (e ≤ f))) (holds : HoldsLoose a e m kept) where

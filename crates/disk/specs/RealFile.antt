@@ -7,8 +7,8 @@ use Rattle.disk.specs.Device.{Medium}
 use Rattle.disk.specs.declared.fault.FileFault.{FileFault}
 use Rattle.disk.specs.declared.fault.FileFault.TheVariants.{Device, OutOfMemory}
 
--- Whether files keep their bytes as a device does. No contract can say so, so this stays a fact that nothing above
--- this file can see into: what is promised under it is promised of no real file.
+-- Whether files keep their bytes as a device does. No contract can say so: this is no fact that anything here or above
+-- could ever have, so what is promised under it is promised of no real file.
 pub FileKeeps : Type 0
 FileKeeps = ⊥
 

@@ -37,7 +37,8 @@ pub struct FileDisk {
 impl FileDisk {
     ghost use Rattle.disk.specs.RealFile.{file_medium};
 
-    /// Makes the file anew, of `len` zeros, in place of one that is there.
+    /// Makes the file anew, of `len` zeros, in place of one that is there. `OutOfMemory` where the
+    /// system has no memory for it, and `Device` where it refuses for anything else.
     pub fn create<R: Files<File = File>>(
         rt: &R,
         path: &str,
@@ -56,7 +57,9 @@ impl FileDisk {
         Ok(FileDisk::of_file(file, len))
     }
 
-    /// Opens a file that is there, at the length that it has. What a read gives of it is synced first.
+    /// Opens a file that is there, at the length that it has. What a read gives of it is synced
+    /// first. `OutOfMemory` where the system has no memory for it, and `Device` where it refuses for
+    /// anything else.
     pub fn open<R: Files<File = File>>(rt: &R, path: &str) -> Result<FileDisk, FileFault>
         ensures { IfOk result (λ d. file_medium d ≡ begun (file_medium d).now) }
     {

@@ -3,7 +3,7 @@ ghost use Rattle.std.specs.Prelude.{◌≡◌, ◌+◌, ◌-◌, ◌^◌, min};
 ghost use Rattle.disk.specs.declared.fuse.Fuse.TheVariants.{Off};
 
 #[derive(Clone, Copy, Debug)]
-pub enum Fuse {
+pub(crate) enum Fuse {
     Off,
     /// The call of this number from now on fails, and later ones go on.
     FailAt(u64),
@@ -12,15 +12,15 @@ pub enum Fuse {
 }
 
 #[derive(Clone, Copy, Debug)]
-pub struct Meter {
-    pub fuse: Fuse,
-    pub calls: u64,
+pub(crate) struct Meter {
+    pub(crate) fuse: Fuse,
+    pub(crate) calls: u64,
 }
 
 impl Meter {
     ghost use Rattle.disk.specs.Fuse.{is_blown, burned};
 
-    pub fn new() -> Meter
+    pub(crate) fn new() -> Meter
         ensures { result ≡ record { fuse = Off; calls = 0 } }
     {
         Meter {
@@ -30,7 +30,7 @@ impl Meter {
     }
 
     /// Counts a call, and says whether it is to fail.
-    pub fn spend(&mut self) -> bool
+    pub(crate) fn spend(&mut self) -> bool
         ensures blown { result ≡ is_blown self.old.fuse }
         ensures after { self.new ≡ record { fuse = burned self.old.fuse; calls = min (self.old.calls + 1) (2 ^ 64 - 1) } }
     {

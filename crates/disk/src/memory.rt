@@ -38,29 +38,14 @@ pub struct MemDisk {
 impl MemDisk {
     ghost use Rattle.disk.specs.Memory.{memory_of, medium_of, made, after_crash};
 
-    /// A device of zeros.
+    /// A device of `len` zeros. `AllocError` where there is no memory.
     pub fn new(alloc: Global, len: u64) -> Result<MemDisk, AllocError>
         ensures { IfOk result (λ d. memory_of d ≡ made (replicate len 0)) }
     {
-        let len = len as usize;
-        let bytes = vec![in alloc; 0u8; len]?;
-        let kept = vec![in alloc; 0u8; len]?;
-        let asked = vec![in alloc; 0u8; len]?;
-        let loose = vec![in alloc; false; len]?;
-        let mut shadow = Shadow::new();
-        shadow.note(&[BEGUN, 0], &bytes);
-        Ok(MemDisk {
-            bytes,
-            kept,
-            asked,
-            loose,
-            span: Span::none(),
-            meter: Meter::new(),
-            shadow,
-        })
+        MemDisk::of_bytes(alloc, vec![in alloc; 0u8; len as usize]?)
     }
 
-    /// A device of these bytes, all of them synced.
+    /// A device of these bytes, all of them synced. `AllocError` where there is no memory.
     pub fn of_bytes(alloc: Global, bytes: Vec<u8>) -> Result<MemDisk, AllocError>
         ensures { IfOk result (λ d. memory_of d ≡ made bytes.items) }
     {

@@ -7,7 +7,7 @@ use crate::DiskFault;
 use crate::span::Span;
 
 /// The index of a range of n places from `at` on, where a device of this length has it.
-pub fn start_of(len: u64, at: u64, n: usize) -> Result<usize, DiskFault>
+pub(crate) fn start_of(len: u64, at: u64, n: usize) -> Result<usize, DiskFault>
     ensures outside { IsErrOf result OutOfRange ↔ len < at + n }
     ensures only { IsErrOf result Device → ⊥ }
     ensures start { IfOk result (λ start. start ≡ at) }
@@ -20,7 +20,7 @@ pub fn start_of(len: u64, at: u64, n: usize) -> Result<usize, DiskFault>
 }
 
 /// Writes these bytes from a place on.
-pub fn overlay(bytes: &mut [u8], start: usize, new: &[u8])
+pub(crate) fn overlay(bytes: &mut [u8], start: usize, new: &[u8])
     requires { start + length new.now ≤ length bytes.old }
     ensures len { length bytes.new ≡ length bytes.old }
     ensures written { bytes.new ≡ overlaid bytes.old start new.now }
@@ -29,7 +29,7 @@ pub fn overlay(bytes: &mut [u8], start: usize, new: &[u8])
 }
 
 /// Marks n places from this one on.
-pub fn mark(marks: &mut [bool], start: usize, n: usize)
+pub(crate) fn mark(marks: &mut [bool], start: usize, n: usize)
     requires { start + n ≤ length marks.old }
     ensures len { length marks.new ≡ length marks.old }
     ensures marked { marks.new ≡ marked marks.old start n }
@@ -38,7 +38,7 @@ pub fn mark(marks: &mut [bool], start: usize, n: usize)
 }
 
 /// Makes one row of bytes equal to another, from which it differs in this range alone.
-pub fn refresh(kept: &mut [u8], bytes: &[u8], span: Span)
+pub(crate) fn refresh(kept: &mut [u8], bytes: &[u8], span: Span)
     requires inside { span.end ≤ length bytes.now }
     requires outside { SameOutside span.start (span.end - span.start) bytes.now kept.old }
     ensures { kept.new ≡ bytes.now }
@@ -47,7 +47,7 @@ pub fn refresh(kept: &mut [u8], bytes: &[u8], span: Span)
 }
 
 /// Takes away all marks, of which none lies outside this range.
-pub fn clear(marks: &mut [bool], span: Span)
+pub(crate) fn clear(marks: &mut [bool], span: Span)
     requires inside { span.end ≤ length marks.old }
     requires outside { SameOutside span.start (span.end - span.start) (replicate (length marks.old) false) marks.old }
     ensures { marks.new ≡ replicate (length marks.old) false }

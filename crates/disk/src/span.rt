@@ -2,14 +2,14 @@
 ghost use Rattle.std.specs.Prelude.{◌≡◌, ◌⊎◌, ◌≤◌, ◌==◌, if◌then◌else◌, max, min};
 
 #[derive(Clone, Copy, Debug)]
-pub struct Span {
-    pub start: usize,
-    pub end: usize,
+pub(crate) struct Span {
+    pub(crate) start: usize,
+    pub(crate) end: usize,
     ghost ordered: { start ≤ end },
 }
 
 impl Span {
-    pub fn none() -> Span
+    pub(crate) fn none() -> Span
         ensures start { result.start ≡ 0 }
         ensures end { result.end ≡ 0 }
     {
@@ -18,7 +18,7 @@ impl Span {
 
     /// The least span that holds this one and the places from `start` to `end`. Where this one is empty, it is those
     /// alone.
-    pub fn with(self, start: usize, end: usize) -> Span
+    pub(crate) fn with(self, start: usize, end: usize) -> Span
         requires { start ≤ end }
         ensures holds_new { (result.start ≤ start) × (end ≤ result.end) }
         ensures holds_old { (self.start ≡ self.end) ⊎ ((result.start ≤ self.start) × (self.end ≤ result.end)) }

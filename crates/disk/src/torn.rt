@@ -32,7 +32,7 @@ impl Torn {
 }
 
 /// Puts at each loose place of these bytes what such a crash leaves there.
-pub fn tear(kind: &Torn, kept: &[u8], asked: &[u8], loose: &[bool], bytes: &mut [u8])
+pub(crate) fn tear(kind: &Torn, kept: &[u8], asked: &[u8], loose: &[bool], bytes: &mut [u8])
     requires has_bytes { HasBytes kind.now }
     requires kept { length kept.now ≡ length bytes.old }
     requires asked { length asked.now ≡ length bytes.old }
