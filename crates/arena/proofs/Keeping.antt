@@ -8,10 +8,10 @@ use Rattle.arena.specs.Lists.{times, is_on, without, first_of, behind_in, number
 use Rattle.arena.specs.Linked.{Linked, list_at}
 use Rattle.arena.specs.Row.{Row, capacity_of, value_at, holds, is_lent, listed, moved, after_put, after_lend, after_take, after_move, after_restore, restore_answer, empty_row}
 use Rattle.arena.specs.Kept.{row_of, IsKept, free_in, chains_in}
-use Rattle.arena.proofs.Times.{times-append, times-cons_is, without-absent, without_all-absent, length-once}
+use Rattle.arena.proofs.Times.{times-append, times-cons_is, without-absent, without_all-absent, length-once, length-numbers}
 use Rattle.arena.proofs.Behind.{behind_in-nowhere}
 use Rattle.arena.proofs.Parts.{parted-put, parted-lend, parted-take, parted-move, parted-restore, held-not_free, parted-from, times-tail}
-use Rattle.arena.proofs.Start.{times-numbers, times-high, times-empties, length-numbers}
+use Rattle.arena.proofs.Start.{times-numbers, times-high, times-empties}
 
 abbrev pub linked_as : ℕ → List (List ℕ) → Linked
 linked_as slots lists = record { slots = slots; lists = lists }

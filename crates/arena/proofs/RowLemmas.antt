@@ -1,4 +1,5 @@
--- What a caller needs of the parts of a row, and of the chains after a call.
+-- What a caller needs of the parts of a row, and of the chains after a call. No proof of this crate rests on it: it is
+-- for the crates above that keep what they hold on chains.
 use Rattle.std.proofs.Common.{◌≡◌, ◌≢◌, ℕ, zero, suc, ◌+◌, ◌<◌, ◌≤◌, true, List, [], ◌∷◌, ◌++◌, map, length, refl, sym, ap, ◌∙◌, inl, inr, arith, eqb, Some, slice_index_or, IsOk, eq-eqb}
 use Rattle.std.proofs.lemmas.Bool.{lt-ltb}
 use Rattle.std.proofs.lemmas.Bool.Decides.{leb_tells, eqb_tells}

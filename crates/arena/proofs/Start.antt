@@ -1,11 +1,11 @@
 -- The lists as they are at the start: all slots in order on the first list.
-use Rattle.std.proofs.Common.{◌≡◌, ℕ, zero, suc, ◌+◌, ◌-◌, ◌<◌, ◌≤◌, List, [], ◌∷◌, length, replicate, refl, sym, ap, subst, ◌∙◌, inl, inr, arith}
+use Rattle.std.proofs.Common.{◌≡◌, ℕ, zero, suc, ◌+◌, ◌-◌, ◌<◌, ◌≤◌, List, [], ◌∷◌, replicate, refl, sym, ap, subst, ◌∙◌, inl, inr, arith}
 use Rattle.std.proofs.lemmas.Bool.{lt-ltb, le-ltb, eq-eqb}
 use Rattle.std.proofs.lemmas.Bool.Decides.{nat_tests}
 use Rattle.std.specs.List.{concat}
 use Rattle.arena.specs.Lists.{times, numbers_from}
 use Rattle.arena.specs.Linked.{IsWay, ring, table, rings, IsLinked, next_at_start, previous_at_start}
-use Rattle.arena.proofs.Times.{times-append, times-cons_is, times-cons_other, neq-eqb}
+use Rattle.arena.proofs.Times.{times-append, times-cons_is, times-cons_other, neq-eqb, length-numbers}
 use Rattle.arena.proofs.Ways.{AreSlots, walk-way}
 use Rattle.arena.proofs.Unlinking.{equal_or_not}
 
@@ -34,10 +34,6 @@ times-numbers_in i first (suc count) low high = elim (equal_or_not first i) [
   | inl e ↦ (let more = times-cons_is i first (numbers_from (suc first) count) e in omega arith)
   | inr n ↦ (let same = times-cons_other i first (numbers_from (suc first) count) n in omega (arith, times-numbers_in i (suc first) count (omega arith) (omega arith)))
 ]
-
-pub length-numbers : (first count : ℕ) → length (numbers_from first count) ≡ count
-length-numbers first zero = refl
-length-numbers first (suc count) = omega (arith, length-numbers (suc first) count)
 
 numbers-inside : (first count slots : ℕ) → first + count ≤ slots → AreSlots slots (numbers_from first count)
 numbers-inside first zero slots fit = tt

@@ -42,6 +42,11 @@ pub end-below : (slots : ℕ) (next previous : List ℕ) (list : ℕ) → IsStor
 end-below slots next previous list ok within =
     omega (arith, length-table (ring (λ x. slice_index next x) slots) slots (length next - slots), ok.1.slots_fit)
 
+-- the end of a list that a contract sees
+pub end-there : (slots : ℕ) (next previous : List ℕ) (links : Linked) (list : ℕ) → stored slots next ≡ links → IsStored slots next previous
+    → list < length links.lists → slots + list < length next
+end-there slots next previous links list view ok within = end-below slots next previous list ok (rw (← view) at within)
+
 pub list-below : (slots : ℕ) (next : List ℕ) (list : ℕ) → list < length (stored slots next).lists → list < length next - slots
 list-below slots next list within = omega (arith, length-table (ring (λ x. slice_index next x) slots) slots (length next - slots))
 

@@ -1,14 +1,19 @@
 -- How often a number stands in lists that were joined, or that lost a number.
-use Rattle.std.proofs.Common.{◌≡◌, ◌≢◌, ℕ, zero, suc, ◌+◌, ◌<◌, ◌≤◌, true, false, List, [], ◌∷◌, ◌++◌, map, length, eqb, refl, sym, ap, subst, ◌∙◌, inl, inr, arith, ◌==◌, slice_set, slice_index_or}
+use Rattle.std.proofs.Common.{◌≡◌, ◌≢◌, ℕ, zero, suc, ◌+◌, ◌<◌, ◌≤◌, true, false, List, [], ◌∷◌, ◌++◌, map, length, eqb, refl, sym, ap, ◌∙◌, inl, inr, arith, ◌==◌, slice_set, slice_index_or}
 use Rattle.std.proofs.lemmas.Bool.{eq-eqb}
 use Rattle.std.proofs.lemmas.Bool.Decides.{eqb_tells}
 use Rattle.std.proofs.lemmas.Map.Steps.{length-le_from_distinct_below}
 use Rattle.std.specs.List.{concat, AllByRecursion, IsDistinct, list_any}
-use Rattle.arena.specs.Lists.{times, without}
+use Rattle.arena.specs.Lists.{times, without, numbers_from}
 
 -- numbers that differ
 pub neq-eqb : (a b : ℕ) → a ≢ b → (a == b) ≡ false
 neq-eqb a b other = elim (eqb_tells a b) [ inl e ↦ absurd (other e.1) | inr n ↦ n.0 ]
+
+-- so many numbers in a row
+pub length-numbers : (first count : ℕ) → length (numbers_from first count) ≡ count
+length-numbers first zero = refl
+length-numbers first (suc count) = omega (arith, length-numbers (suc first) count)
 
 -- a number in two lists that were joined
 pub times-append : (i : ℕ) (xs ys : List ℕ) → times i (xs ++ ys) ≡ times i xs + times i ys
@@ -111,14 +116,6 @@ times-at i (ys ∷ lists) (suc k) = omega (arith, times-append i ys (concat list
 pub times-nowhere : (i : ℕ) (xs : List ℕ) → AllByRecursion (λ x. x ≢ i) xs → times i xs ≡ 0
 times-nowhere i [] apart = refl
 times-nowhere i (x ∷ xs) apart = times-cons_other i x xs apart.0 ∙ times-nowhere i xs apart.1
-
--- a number that stands in a list meets what each of its numbers meets
-pub times-member : (P : ℕ → Type 0) (i : ℕ) (xs : List ℕ) → AllByRecursion P xs → 0 < times i xs → P i
-times-member P i [] each some = absurd (omega arith)
-times-member P i (x ∷ xs) each some = elim (eqb_tells x i) [
-  | inl e ↦ subst P e.1 each.0
-  | inr n ↦ times-member P i xs each.1 (let same = times-cons_other i x xs n.1 in omega arith)
-]
 
 apart-from_times : (i : ℕ) (xs : List ℕ) → times i xs ≡ 0 → AllByRecursion (λ y. eqb i y ≡ false) xs
 apart-from_times i [] none = tt

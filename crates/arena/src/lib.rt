@@ -22,7 +22,7 @@ const FREE: usize = 0;
 /// A fixed row of slots. A slot is free, on exactly one chain, or aside: claimed, and on no chain.
 ///
 /// A claimed slot holds a value or has it lent out, and a slot whose value is out is aside.
-/// Each call but `with_capacity` takes constant time and no memory, and leaves all unchanged where it refuses.
+/// Each call but `with_capacity` takes no memory, and leaves all unchanged where it refuses.
 #[derive(Drop)]
 pub struct Arena<T> {
     values: Vec<Option<T>>,
@@ -62,6 +62,7 @@ fn fill<T>(values: &mut Vec<Option<T>>, i: usize, value: T)
     requires empty { slice_index_or values.old.items i None ≡ None }
     ensures { values.new.items ≡ slice_set values.old.items i (Some value) }
 {
+    // An assignment would drop what the slot had, and a `T` need not be one that may be dropped.
     match mem::replace(&mut values[i], Some(value)) {
         None => {}
         Some(_) => unreachable!(),
@@ -71,7 +72,8 @@ fn fill<T>(values: &mut Vec<Option<T>>, i: usize, value: T)
 impl<T> Arena<T> {
     ghost use Rattle.arena.specs.Lends.{lends_get, lends_value};
 
-    /// `slots` free slots in order, and `chains` empty chains, numbered from 0.
+    /// `slots` free slots in order, and `chains` empty chains, numbered from 0. `AllocError` where
+    /// there is no memory.
     pub fn with_capacity(alloc: Global, slots: usize, chains: usize) -> Result<Arena<T>, AllocError>
         requires { slots + chains < usize.MAX }
         ensures row { IfOk result (λ arena. arena ≡ empty_row slots chains) }
@@ -105,9 +107,11 @@ impl<T> Arena<T> {
         self.values.len()
     }
 
-    /// The value in a slot: none where the slot is free, where its value is out, and where there is no slot.
+    /// The value in a slot: none where the slot is free, where its value is out, and where there is
+    /// no slot.
     pub fn get(&self, i: usize) -> Option<&T>
-        ensures { option_copied result ≡ value_at self.now i }
+        ensures parted { IsParted self.now }
+        ensures value { option_copied result ≡ value_at self.now i }
     {
         self.values.get(i)?.as_ref()
     }
@@ -148,7 +152,8 @@ impl<T> Arena<T> {
         self.links.lists() - 1
     }
 
-    /// Puts a value into the first free slot, which is aside then, and answers its number. Where no slot is free it hands the value back.
+    /// Puts a value into the first free slot, which is aside then, and answers its number. Where no
+    /// slot is free it hands the value back.
     pub fn put(&mut self, value: T) -> Result<usize, T>
         ensures answer { result ≡ put_answer self.old value }
         ensures row { self.new ≡ after_put self.old value }
@@ -165,7 +170,8 @@ impl<T> Arena<T> {
 
     /// The first slot of a chain: none where the chain is empty, and where there is no such chain.
     pub fn front(&self, c: usize) -> Option<usize>
-        ensures { result ≡ front_of self.now c }
+        ensures parted { IsParted self.now }
+        ensures slot { result ≡ front_of self.now c }
     {
         if c < self.chains() {
             self.links.first(c + 1)
@@ -174,9 +180,11 @@ impl<T> Arena<T> {
         }
     }
 
-    /// The slot behind this one on its chain: none where it is the last, and where it is on no chain.
+    /// The slot behind this one on its chain: none where it is the last, and where it is on no
+    /// chain.
     pub fn next(&self, i: usize) -> Option<usize>
-        ensures { result ≡ next_of self.now i }
+        ensures parted { IsParted self.now }
+        ensures slot { result ≡ next_of self.now i }
     {
         if self.holds(i) {
             self.links.behind(i)
@@ -185,7 +193,8 @@ impl<T> Arena<T> {
         }
     }
 
-    /// Makes a slot the last of a chain, whether it was on a chain or aside. Answers `false`, and changes nothing, where the slot holds no value or there is no such chain.
+    /// Makes a slot the last of a chain, whether it was on a chain or aside. Answers `false`, and
+    /// changes nothing, where the slot holds no value or there is no such chain.
     pub fn move_to(&mut self, i: usize, c: usize) -> bool
         ensures answer { result ≡ can_move self.old i c }
         ensures row { self.new ≡ after_move self.old i c }
@@ -199,7 +208,8 @@ impl<T> Arena<T> {
         true
     }
 
-    /// Gives the value of a slot out, and takes the slot off its chain. It stays claimed, until `restore` brings the value back. Answers `None`, and changes nothing, where `get` does.
+    /// Gives the value of a slot out, and takes the slot off its chain. It stays claimed, until
+    /// `restore` brings the value back. Answers `None`, and changes nothing, where `get` does.
     pub fn lend(&mut self, i: usize) -> Option<T>
         ensures answer { result ≡ value_at self.old i }
         ensures row { self.new ≡ after_lend self.old i }
@@ -212,7 +222,8 @@ impl<T> Arena<T> {
         self.values[i].take()
     }
 
-    /// Brings a value into a slot whose value is out. The slot stays aside. Anywhere else it hands the value back, and changes nothing.
+    /// Brings a value into a slot whose value is out. The slot stays aside. Anywhere else it hands
+    /// the value back, and changes nothing.
     pub fn restore(&mut self, i: usize, value: T) -> Result<(), T>
         ensures answer { result ≡ restore_answer self.old i value }
         ensures row { self.new ≡ after_restore self.old i value }
@@ -225,7 +236,8 @@ impl<T> Arena<T> {
         Ok(())
     }
 
-    /// Takes the value out of a slot, which becomes the first free one. Answers `None`, and changes nothing, where `get` does.
+    /// Takes the value out of a slot, which becomes the first free one. Answers `None`, and changes
+    /// nothing, where `get` does.
     pub fn take(&mut self, i: usize) -> Option<T>
         ensures answer { result ≡ value_at self.old i }
         ensures row { self.new ≡ after_take self.old i }

@@ -9,7 +9,9 @@ use std::marker::Model;
 
 /// Lists of slots. A slot is on one list, or on none.
 ///
-/// The nodes below `slots` are the slots. Each node above them is both ends of a list, so that a list is a ring, and neither its first nor its last slot is a special case. A slot on no list is its own neighbor.
+/// The nodes below `slots` are the slots. Each node above them is both ends of a list, so that a
+/// list is a ring, and neither its first nor its last slot is a special case. A slot on no list is
+/// its own neighbor.
 #[derive(Drop)]
 pub(crate) struct Links {
     slots: usize,

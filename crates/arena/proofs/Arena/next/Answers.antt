@@ -3,8 +3,8 @@ use Rattle.std.proofs.Common.{◌≡◌, false, is_some, slice_index_or, sym, No
 use Rattle.arena.proofs.Keeping.{behind-empty}
 use Rattle.arena.proofs.Arena.next.Goals as goal
 
-pub returns-else-holds : goal.returns-else-holds
-returns-else-holds g c =
+pub returns-else-holds-clause-slot : goal.returns-else-holds-clause-slot
+returns-else-holds-clause-slot g c =
     let empty : is_some (slice_index_or c.self.inside.values.items c.args.i None) ≡ false = rw (← c.self.view_is) at (sym c.holds.ensures.answer ∙ c.if-holds.false) in
     rw (← c.self.view_is) (sym (behind-empty c.self.inside.values.items c.self.inside.links.slots c.self.inside.links.lists c.self.inside.free
     c.args.i c.self.invariant empty))

@@ -3,19 +3,17 @@ use Rattle.std.proofs.Common.{◌≡◌, ◌+◌, ◌<◌, ℕ, List, ap, arith,
 use Rattle.std.specs.List.{concat}
 use Rattle.arena.specs.Lists.{times}
 use Rattle.arena.specs.Linked.{Linked}
-use Rattle.arena.proofs.Stored.{stored, read_end_back, end-below, IsSound-linked}
+use Rattle.arena.proofs.Stored.{stored, read_end_back, end-below, end-there, IsSound-linked}
 use Rattle.arena.proofs.StoredAppending.{IsStored-appended, lists-appended}
 use Rattle.arena.proofs.links.Links.append.Goals as goal
 
 pub overflow_add-end : goal.overflow_add-end
 overflow_add-end c =
-    let list_within : c.args.list < length (stored c.self.inside.slots c.self.inside.next.items).lists = rw (← c.self.view_is) at c.requires.list_is_there in
-    omega (arith, end-below _ _ _ _ c.self.invariant list_within)
+    omega (arith, end-there _ _ _ _ _ c.self.view_is c.self.invariant c.requires.list_is_there)
 
 pub index-before-requires : goal.index-before-requires
 index-before-requires c =
-    let list_within : c.args.list < length (stored c.self.inside.slots c.self.inside.next.items).lists = rw (← c.self.view_is) at c.requires.list_is_there in
-    omega (arith, end-below _ _ _ _ c.self.invariant list_within)
+    omega (arith, end-there _ _ _ _ _ c.self.view_is c.self.invariant c.requires.list_is_there)
 
 pub index_mut-requires : goal.index_mut-requires
 index_mut-requires c =
@@ -26,8 +24,7 @@ index_mut-requires c =
 
 pub index_mut-requires-4 : goal.index_mut-requires-4
 index_mut-requires-4 c =
-    let list_within : c.args.list < length (stored c.self.inside.slots c.self.inside.next.items).lists = rw (← c.self.view_is) at c.requires.list_is_there in
-    omega (arith, end-below _ _ _ _ c.self.invariant list_within)
+    omega (arith, end-there _ _ _ _ _ c.self.view_is c.self.invariant c.requires.list_is_there)
 
 pub invariant_of-self : goal.invariant_of-self
 invariant_of-self c =

@@ -1,18 +1,16 @@
 -- The first slot of a list is the node behind its end, where that is a slot.
 use Rattle.std.proofs.Common.{◌<◌, ap, sym, ◌∙◌, arith, length}
-use Rattle.arena.proofs.Stored.{stored, read_end, end-below, first-stored}
+use Rattle.arena.proofs.Stored.{stored, read_end, end-there, first-stored}
 use Rattle.arena.proofs.Behind.{slot_or_none, slot_or_none-slot, slot_or_none-end}
 use Rattle.arena.proofs.links.Links.first.Goals as goal
 
 pub overflow_add-self-inside : goal.overflow_add-self-inside
 overflow_add-self-inside c =
-    let list_within : c.args.list < length (stored c.self.inside.slots c.self.inside.next.items).lists = rw (← c.self.view_is) at c.requires in
-    omega (arith, end-below _ _ _ _ c.self.invariant list_within)
+    omega (arith, end-there _ _ _ _ _ c.self.view_is c.self.invariant c.requires)
 
 pub index-first-requires : goal.index-first-requires
 index-first-requires c =
-    let list_within : c.args.list < length (stored c.self.inside.slots c.self.inside.next.items).lists = rw (← c.self.view_is) at c.requires in
-    omega (arith, end-below _ _ _ _ c.self.invariant list_within)
+    omega (arith, end-there _ _ _ _ _ c.self.view_is c.self.invariant c.requires)
 
 pub returns-then-first-self : goal.returns-then-first-self
 returns-then-first-self c =

@@ -8,7 +8,7 @@ use Rattle.parcel.proofs.stripe.StripeParcel.get.Goals as goal
 
 pub returns-in-Ok-clause-content : goal.returns-in-Ok-clause-content
 returns-in-Ok-clause-content c =
-    c.get.ensures ∙ ap (value_at c.self.inside.blocks) c.from.ensures
+    c.get.ensures.value ∙ ap (value_at c.self.inside.blocks) c.from.ensures
     ∙ found-value c.self.inside.blocks c.self.inside.index.items c.args.self.now.entries c.args.f c.args.b c.in-Ok.n c.index.result.now
     c.self.invariant.0 (ap (λ (s : StripePart). s.entries) c.self.view_is) c.in-Ok.ensures.found c.index.ensures
 
