@@ -3,10 +3,10 @@ use Rattle.std.proofs.Common.{◌≡◌, ℕ, List, [], ◌∷◌, Option, Some,
 use Rattle.message.specs.declared.Block.{Block}
 use Rattle.message.specs.declared.Msg.{Msg}
 use Rattle.message.specs.Lines.{words, number, block, label, bytes_said}
-use Rattle.message.proofs.Words.{words_some, only-words}
+use Rattle.message.proofs.Words.{only, only-words, words_some}
 use Rattle.message.proofs.Numbers.{number_no_space}
 use Rattle.message.proofs.Blocks.{block_no_space, label_no_space, bytes_block, no_block, label_bytes}
-use Rattle.message.specs.Grammar.{◌>>=◌, first_number, only, of_volume, of_file, of_block, of_data, of_label, of_nothing}
+use Rattle.message.specs.Grammar.{◌>>=◌, first_number, of_volume, of_file, of_block, of_data, of_label, of_nothing}
 
 -- what the first of several words says as a number goes to k, with the words behind it
 abbrev pub onward : (ℕ → List (List ℕ) → Option Msg) → List (List ℕ) → Option Msg

@@ -1,10 +1,12 @@
 -- The message of a line by its first word.
-use Rattle.std.proofs.Common.{◌≡◌, ℕ, ◌<◌, ◌≤◌, Bool, true, false, cond, List, [], ◌∷◌, length, get_or, drop, ◌+◌, Option, Some, None, refl, ap, sym, ◌∙◌, inl, inr, ◌⊎◌}
-use Rattle.std.specs.Str.{bytes_eq}
-use Rattle.std.proofs.lemmas.Bool.{cond-true, cond-false, lt-ltb, le-ltb}
-use Rattle.std.proofs.lemmas.List.{drop_more}
+use Rattle.std.proofs.Common.{◌≡◌, ℕ, ◌<◌, ◌≤◌, Bool, true, false, cond, zero, suc, lit≤, List, [], ◌∷◌, length, get_or, Option, Some, None, Result, Ok, Err, Bor, subst, refl, ap, sym, ◌∙◌, inl, inr, ◌⊎◌}
+use Rattle.std.specs.Prelude.{◌&&◌, nat_lt, MatchResult}
+use Rattle.std.specs.Result.{result_ok}
+use Rattle.std.specs.Str.{bytes_eq, IsAscii, IsUtf8}
+use Rattle.std.proofs.lemmas.Bool.{and_parts, cond-true, cond-false, lt-ltb, le-ltb, ltb-true}
 use Rattle.std.proofs.lemmas.Option.{same_Some}
 use Rattle.std.proofs.lemmas.Slice.Eq.{bytes_eq-Decides}
+use Rattle.std.proofs.lemmas.Str.{IsUtf8-from_ascii}
 use Rattle.affinity.specs.declared.kinds.Kind.{Kind}
 use Rattle.affinity.specs.declared.kinds.Kind.TheVariants.{MakeVol, DropVol, Create, Delete, Seal, Unseal, Write, Punch, Read, List as ListFiles, Usage, Summary, SetLabel, Label}
 use Rattle.message.specs.Lines.{words}
@@ -77,17 +79,61 @@ keyword_names Summary = refl
 keyword_names SetLabel = refl
 keyword_names Label = refl
 
--- ---- the kinds one after the other
+-- a word that is no keyword names no kind
+pub names_none : (word : List ℕ) → ((k : Kind) → word ≡ keyword k → ⊥) → kind_named word ≡ None
+names_none word none = elim (kind_named word) as (λ o. kind_named word ≡ o → kind_named word ≡ None) [
+  | None ↦ λ e. e
+  | Some k ↦ λ e. absurd (none k (its_keyword word k e))
+] refl
 
--- the kind at a place of the list
-abbrev kind_at : ℕ → Kind
-kind_at i = get_or all_kinds i MakeVol
+-- a word that is a kind's keyword names it
+pub names_it : (word : List ℕ) (k : Kind) → word ≡ keyword k → Some k ≡ kind_named word
+names_it word k is = sym (ap kind_named is ∙ keyword_names k)
 
-named_from : (i : ℕ) (word : List ℕ) → i < 14 → named_among (drop i all_kinds) word ≡ cond (bytes_eq word (keyword (kind_at i))) (Some (kind_at i)) (named_among (drop (i + 1) all_kinds) word)
-named_from i word lt = ap (λ ks. named_among ks word) (drop_more all_kinds i MakeVol lt)
+-- ---- keywords are text
 
-pub named_here : (i : ℕ) (word compared : List ℕ) → i < 14 → true ≡ bytes_eq word compared → compared ≡ keyword (kind_at i) → named_among (drop i all_kinds) word ≡ Some (kind_at i)
-named_here i word compared lt is e = named_from i word lt ∙ cond-true _ _ _ (ap (bytes_eq word) (sym e) ∙ sym is)
+are_ascii : List ℕ → Bool
+are_ascii [] = true
+are_ascii (b ∷ bs) = nat_lt b 128 && are_ascii bs
 
-pub named_later : (i : ℕ) (word compared : List ℕ) → i < 14 → false ≡ bytes_eq word compared → compared ≡ keyword (kind_at i) → named_among (drop i all_kinds) word ≡ named_among (drop (i + 1) all_kinds) word
-named_later i word compared lt is e = named_from i word lt ∙ cond-false _ _ _ (ap (bytes_eq word) (sym e) ∙ sym is)
+found_ascii : (bs : List ℕ) → are_ascii bs ≡ true → IsAscii bs
+unfolding are_ascii
+found_ascii [] h = λ i. lit≤ tt
+found_ascii (b ∷ bs) h =
+    let parts = and_parts (nat_lt b 128) (are_ascii bs) h in
+    λ i. elim i as (λ i. get_or (b ∷ bs) i 0 < 128) [ zero ↦ ltb-true b 128 parts.0 | suc i ↦ found_ascii bs parts.1 i ]
+
+keyword_is_ascii : (k : Kind) → are_ascii (keyword k) ≡ true
+unfolding are_ascii
+keyword_is_ascii MakeVol = refl
+keyword_is_ascii DropVol = refl
+keyword_is_ascii Create = refl
+keyword_is_ascii Delete = refl
+keyword_is_ascii Seal = refl
+keyword_is_ascii Unseal = refl
+keyword_is_ascii Write = refl
+keyword_is_ascii Punch = refl
+keyword_is_ascii Read = refl
+keyword_is_ascii ListFiles = refl
+keyword_is_ascii Usage = refl
+keyword_is_ascii Summary = refl
+keyword_is_ascii SetLabel = refl
+keyword_is_ascii Label = refl
+
+pub keyword_is_text : (k : Kind) → IsUtf8 (keyword k)
+keyword_is_text k = IsUtf8-from_ascii (keyword k) (found_ascii (keyword k) (keyword_is_ascii k))
+
+module _ {E : Type 0} (word : List ℕ) (r : Result (Bor (List ℕ)) E) (Q : E → Type 0) (read : MatchResult r (λ s. (s.now ≡ word) × IsUtf8 word) (λ e. (IsUtf8 word → ⊥) × Q e)) where
+  -- the text that was read of a word is the word
+  pub text_read : (s : Bor (List ℕ)) → Some s ≡ result_ok r → s.now ≡ word
+  text_read s told = elim r as (λ r. MatchResult r (λ s. (s.now ≡ word) × IsUtf8 word) (λ e. (IsUtf8 word → ⊥) × Q e) → Some s ≡ result_ok r → s.now ≡ word) [
+    | Ok t ↦ λ read told. ap (λ b. b.now) (same_Some s t told) ∙ read.0
+    | Err e ↦ λ read told. cc told
+  ] read told
+
+  -- a word that no text was read of names no kind
+  pub no_text : None ≡ result_ok r → kind_named word ≡ None
+  no_text told = elim r as (λ r. MatchResult r (λ s. (s.now ≡ word) × IsUtf8 word) (λ e. (IsUtf8 word → ⊥) × Q e) → None ≡ result_ok r → kind_named word ≡ None) [
+    | Ok t ↦ λ read told. cc told
+    | Err e ↦ λ read told. names_none word (λ k is. read.0 (subst IsUtf8 (sym is) (keyword_is_text k)))
+  ] read told

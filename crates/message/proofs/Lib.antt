@@ -7,7 +7,6 @@ pub mod Forms
 pub mod Keywords
 pub mod Zeros
 pub mod Assembly
-pub mod Lengths
 pub mod Spelling
 pub mod RecordLemmas
 pub mod ReaderLemmas

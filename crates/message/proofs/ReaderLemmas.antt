@@ -9,10 +9,10 @@ use Rattle.std.proofs.lemmas.List.Edits.{length-between, get_or-between, between
 use Rattle.std.proofs.lemmas.List.Elements.{All-nil, All-head, All-tail, All-append, All-from_get_or, All-contains, All-from_recursion, recursion_from_All}
 use Rattle.std.proofs.lemmas.Slice.{between_is}
 use Rattle.std.proofs.lemmas.Option.{none-some, same_Some}
-use Rattle.std.specs.Prelude.{◌&&◌, ◌↔◌}
+use Rattle.std.specs.Prelude.{◌&&◌}
 use Rattle.std.proofs.Math.Seq.{take-add}
 use Rattle.message.specs.Lines.{lines, in_first}
-use Rattle.message.specs.Reader.{first_line, after_line, IsWithinLine, still_to_come, GivesLine, PassesLine, IsAtEndOf, LosesFront, IsClosed, are_none}
+use Rattle.message.specs.Reader.{first_line, after_line, IsWithinLine, still_to_come, GivesLine, PassesLine, LosesFront, IsClosed, are_none}
 
 -- ---- lines and the first line
 
@@ -34,10 +34,6 @@ lines-newline b bs is = cond-true (eqb b 10) ([] ∷ lines bs) (in_first b (line
 lines-other : (b : ℕ) (bs : List ℕ) → b ≢ 10 → lines (b ∷ bs) ≡ in_first b (lines bs)
 lines-other b bs not = cond-false (eqb b 10) ([] ∷ lines bs) (in_first b (lines bs)) (ne_eqb b 10 not)
 
--- no bytes have no lines
-pub lines-nil : lines [] ≡ []
-lines-nil = refl
-
 lines-of_rest : (b : ℕ) (bs : List ℕ) → in_first b (lines bs) ≡ (b ∷ first_line bs) ∷ lines (after_line bs) → lines (b ∷ bs) ≡ first_line (b ∷ bs) ∷ lines (after_line (b ∷ bs))
 lines-of_rest b bs rest = elim (cases_eq b 10) [
   | inl is ↦ lines-newline b bs is ∙ ap (λ l. l ∷ lines bs) (sym (first_line-newline b bs is)) ∙ ap (λ l. first_line (b ∷ bs) ∷ lines l) (sym (after_line-newline b bs is))
@@ -52,21 +48,6 @@ lines-cons b (c ∷ cs) = lines-of_rest b (c ∷ cs) (ap (in_first b) (lines-con
 pub lines-first : (bs : List ℕ) → bs ≢ [] → lines bs ≡ first_line bs ∷ lines (after_line bs)
 lines-first [] some = absurd (some refl)
 lines-first (b ∷ bs) some = lines-cons b bs
-
--- what was found goes on with the lines of the input
-
-pub lines-given : (line bs : List ℕ) (left : Option (List ℕ)) → GivesLine line bs left → lines bs ≡ line ∷ lines (after_line bs)
-lines-given line bs left found = lines-first bs found.more ∙ ap (λ l. l ∷ lines (after_line bs)) (sym found.line_is)
-
-long_some : (bs : List ℕ) → 1100 < length (first_line bs) → bs ≢ []
-long_some [] long = absurd (omega arith)
-long_some (b ∷ bs) long = λ is. cc
-
-pub lines-passed : (bs : List ℕ) (left : Option (List ℕ)) → PassesLine bs left → lines bs ≡ first_line bs ∷ lines (after_line bs)
-lines-passed bs left found = lines-first bs (long_some bs found.long)
-
-pub lines-at_end : (bs : List ℕ) (left : Option (List ℕ)) → IsAtEndOf bs left → lines bs ≡ []
-lines-at_end bs left found = ap lines found.none
 
 -- ---- the first line of bytes that are read in parts
 
@@ -112,7 +93,7 @@ length-first_line (x ∷ xs) ys = elim (cases_eq x 10) [
   | inr not ↦ rw (first_line-other x xs not, first_line-other x (xs ++ ys) not) (omega (arith, length-first_line xs ys))
 ]
 
--- a newline is there, or it is not
+-- a newline is not there and missing at once
 pub Contains-not_within : (xs : List ℕ) → IsWithinLine xs → Contains xs 10 → ⊥
 Contains-not_within xs within there = All-contains NoNewline xs 10 within there refl
 
@@ -174,11 +155,6 @@ after_line-slice xs i k j n low high within none there next =
     ]
 
 -- ---- what is unread
-
-pub IfSome-kept : (a b : Option (List ℕ)) (P : List ℕ → Type 0) → Keeps a b → IfSome b P → IfSome a P
-IfSome-kept None b P keeps h = tt
-IfSome-kept (Some x) None P keeps h = absurd keeps
-IfSome-kept (Some x) (Some y) P keeps h = subst P keeps h
 
 pub LosesFront-kept : (old new : Option (List ℕ)) → Keeps old new → IfSome old (λ bs. LosesFront bs new)
 LosesFront-kept None new keeps = tt
@@ -319,7 +295,8 @@ contains_behind : (xs ys : List ℕ) → Contains ys 10 → Contains (xs ++ ys) 
 contains_behind [] ys found = found
 contains_behind (x ∷ xs) ys found = let more = contains_behind xs ys found in (suc more.0, omega (arith, more.1), more.2)
 
-newline_or_none : (xs : List ℕ) → Contains xs 10 ⊎ IsWithinLine xs
+-- a newline is there, or none is
+pub newline_or_none : (xs : List ℕ) → Contains xs 10 ⊎ IsWithinLine xs
 newline_or_none [] = inr (All-nil (λ b. b ≢ 10))
 newline_or_none (x ∷ xs) = elim (cases_eq x 10) [
   | inl same ↦ inl (0, omega arith, same)
@@ -357,16 +334,3 @@ closed_behind bs (Some rest) drained lost closed = elim closed [
 pub IsClosed-behind : (a b : Option (List ℕ)) (drained : Bool) → IfSome a (λ bs. LosesFront bs b) → IsClosed b drained → IsClosed a drained
 IsClosed-behind None b drained lost closed = tt
 IsClosed-behind (Some bs) b drained lost closed = closed_behind bs b drained lost closed
-
--- a list that a test finds empty
-pub are_none-test : (b : Bool) (xs : List ℕ) → ((b ≡ true) ↔ (xs ≡ [])) → b ≡ are_none xs
-are_none-test true xs h = sym (ap are_none (h.0 refl))
-are_none-test false [] h = h.1 refl
-are_none-test false (x ∷ xs) h = refl
-
--- nothing is to come of a reader that is drained
-pub drained_has_none : (ended : Bool) (held : List ℕ) (known : Option (List ℕ)) → (ended && are_none held) ≡ true → IfSome (prepend_known held (still_to_come ended known)) (λ bs. bs ≡ [])
-drained_has_none false held known h = absurd (false≢true h)
-drained_has_none true [] None h = tt
-drained_has_none true [] (Some more) h = refl
-drained_has_none true (x ∷ xs) known h = absurd (false≢true h)

@@ -1,9 +1,9 @@
 -- Messages and their records.
-use Rattle.std.proofs.Common.{◌≡◌, ℕ, lit≤, zero, suc, true, cond, ◌+◌, ◌<◌, List, [], ◌∷◌, ◌++◌, length, length-append, length-drop, length-take-le, get_or, take, drop, replicate, Option, Some, None, refl, ap, sym, subst, ◌∙◌, arith}
-use Rattle.std.specs.Prelude.{option_map, slice_index, nat_lt, ◌↔◌, ◌&&◌, ◌==◌}
+use Rattle.std.proofs.Common.{◌≡◌, ℕ, lit≤, zero, suc, true, ◌+◌, ◌<◌, List, [], ◌∷◌, ◌++◌, length, length-append, length-drop, length-take-le, get_or, take, drop, replicate, Option, Some, None, refl, ap, sym, subst, ◌∙◌, inl, inr, arith}
+use Rattle.std.specs.Prelude.{option_map, slice_index, nat_lt, ◌↔◌, ◌&&◌}
 use Rattle.std.specs.List.{AllByRecursion}
-use Rattle.std.proofs.lemmas.Bool.{and_parts, ltb-true, eq-eqb, ne_eqb, cond-true, cond-false}
-use Rattle.std.proofs.lemmas.List.{take_at, drop_at, drop-drop, drop_all, drop_more, append-nil}
+use Rattle.std.proofs.lemmas.Bool.{and_parts, ltb-true, eq-eqb, ne_eqb, cases_eq, cond-true, cond-false}
+use Rattle.std.proofs.lemmas.List.{take_at, drop_at, drop-drop, drop_all, append-nil, take-append-drop}
 use Rattle.std.proofs.lemmas.Option.{same_Some}
 use Rattle.byteorder.specs.Endian.{little_bytes, little_number}
 use Rattle.affinity.specs.declared.kinds.Kind.{Kind}
@@ -141,25 +141,6 @@ pub record_says : (g : Geometry) (m : Msg) → IsMessage m → is_in_range g m �
 record_says g m whole h =
     said (kind m) (four_numbers m) (data_of m) _ _ _ _ (fits g m h).block (four (numbers m)) ∙ ap Some (made_again m whole)
 
--- no two messages in range have one record
-pub one_record : (g : Geometry) (m n : Msg) → IsMessage m → IsMessage n → is_in_range g m ≡ true → is_in_range g n ≡ true → record_of m ≡ record_of n → m ≡ n
-one_record g m n m_whole n_whole m_in n_in same = same_Some m n (sym (record_says g m m_whole m_in) ∙ ap fields_say same ∙ record_says g n n_whole n_in)
-
--- ---- the kinds one after the other
-
--- the kind at a place of the list
-abbrev kind_at : ℕ → Kind
-kind_at i = get_or all_kinds i kinds.MakeVol
-
-numbered_from : (i n : ℕ) → i < 14 → numbered_among (drop i all_kinds) n ≡ cond (n == kind_number (kind_at i)) (Some (kind_at i)) (numbered_among (drop (i + 1) all_kinds) n)
-numbered_from i n lt = ap (λ ks. numbered_among ks n) (drop_more all_kinds i kinds.MakeVol lt)
-
-pub numbered_here : (i n m : ℕ) → i < 14 → n ≡ m → m ≡ kind_number (kind_at i) → numbered_among (drop i all_kinds) n ≡ Some (kind_at i)
-numbered_here i n m lt is e = numbered_from i n lt ∙ cond-true _ _ _ (eq-eqb n (kind_number (kind_at i)) (is ∙ e))
-
-pub numbered_later : (i n m : ℕ) → i < 14 → (n ≡ m → ⊥) → m ≡ kind_number (kind_at i) → numbered_among (drop i all_kinds) n ≡ numbered_among (drop (i + 1) all_kinds) n
-numbered_later i n m lt is e = numbered_from i n lt ∙ cond-false _ _ _ (ne_eqb n (kind_number (kind_at i)) (λ same. is (same ∙ sym e)))
-
 -- ---- a record put together in a buffer
 
 pub zeros_else : (m : Msg) → ((a v f b : ℕ) (content : Block) → m ≡ Write a v f b content → ⊥) → ((a v : ℕ) (bytes : List ℕ) → m ≡ SetLabel a v bytes → ⊥) → data_of m ≡ replicate 512 0
@@ -187,7 +168,8 @@ put_together out head bytes k room h d n =
 
 -- ---- what is decoded is a message
 
-bytes_fit : (bytes : List ℕ) → ((i : ℕ) → get_or bytes i 0 < 256) → AllByRecursion (λ b. b < 256) bytes
+-- bytes that are below 256 at each place are so all
+pub bytes_fit : (bytes : List ℕ) → ((i : ℕ) → get_or bytes i 0 < 256) → AllByRecursion (λ b. b < 256) bytes
 bytes_fit [] h = tt
 bytes_fit (b ∷ bytes) h = (h zero, bytes_fit bytes (λ i. h (suc i)))
 
@@ -233,6 +215,42 @@ assembled_room kinds.Summary a v f b bytes a_fits v_fits f_fits = (lit≤ tt, (l
 assembled_room kinds.SetLabel a v f b bytes a_fits v_fits f_fits = (a_fits, (v_fits, (lit≤ tt, tt)))
 assembled_room kinds.Label a v f b bytes a_fits v_fits f_fits = (a_fits, (v_fits, (lit≤ tt, tt)))
 
+kind_assembled : (k : Kind) (a v f b : ℕ) (bytes : List ℕ) → kind (assembled k a v f b bytes) ≡ k
+kind_assembled kinds.MakeVol a v f b bytes = refl
+kind_assembled kinds.DropVol a v f b bytes = refl
+kind_assembled kinds.Create a v f b bytes = refl
+kind_assembled kinds.Delete a v f b bytes = refl
+kind_assembled kinds.Seal a v f b bytes = refl
+kind_assembled kinds.Unseal a v f b bytes = refl
+kind_assembled kinds.Write a v f b bytes = refl
+kind_assembled kinds.Punch a v f b bytes = refl
+kind_assembled kinds.Read a v f b bytes = refl
+kind_assembled kinds.List a v f b bytes = refl
+kind_assembled kinds.Usage a v f b bytes = refl
+kind_assembled kinds.Summary a v f b bytes = refl
+kind_assembled kinds.SetLabel a v f b bytes = refl
+kind_assembled kinds.Label a v f b bytes = refl
+
+-- the kinds and their numbers
+numbered_by : (ks : List Kind) (n : ℕ) (k : Kind) → numbered_among ks n ≡ Some k → n ≡ kind_number k
+numbered_by [] n k h = cc h
+numbered_by (x ∷ ks) n k h = elim (cases_eq n (kind_number x)) [
+  | inl is ↦ is ∙ ap kind_number (same_Some x k (sym (cond-true _ _ _ (eq-eqb n (kind_number x) is)) ∙ h))
+  | inr not ↦ numbered_by ks n k (sym (cond-false _ _ _ (ne_eqb n (kind_number x) not)) ∙ h)
+]
+
+-- a kind's number is its own
+pub numbers_it : (n : ℕ) (k : Kind) → n ≡ kind_number k → Some k ≡ kind_numbered n
+numbers_it n k is = sym (ap kind_numbered is ∙ kind_again k)
+
+-- what is no kind's number
+pub numbers_none : (n : ℕ) → ((k : Kind) → n ≡ kind_number k → ⊥) → kind_numbered n ≡ None
+unfolding kind_numbered
+numbers_none n none = elim (kind_numbered n) as (λ o. kind_numbered n ≡ o → kind_numbered n ≡ None) [
+  | None ↦ λ e. e
+  | Some k ↦ λ e. absurd (none k (numbered_by all_kinds n k e))
+] refl
+
 -- what some optional kind makes of the fields
 made : (o : Option Kind) (make : Kind → Msg) (m : Msg) → option_map make o ≡ Some m → (k : Kind) × (m ≡ make k)
 made (Some k) make m h = (k, sym (same_Some _ m h))
@@ -250,6 +268,28 @@ module _ (bytes : List ℕ) (m : Msg) (size : length bytes ≡ 520) (fit : (i : 
 
   pub said_room : HasRoom m
   said_room = subst HasRoom (sym its_kind.1) (assembled_room its_kind.0 _ _ _ _ (drop 8 bytes) (fit 1) (fit 2) (fit 3))
+
+  by_kind : (k : Kind) → kind m ≡ k → m ≡ assembled k (slice_index bytes 1) (slice_index bytes 2) (slice_index bytes 3) (little_number 2 (take 2 (drop 4 bytes))) (drop 8 bytes)
+  by_kind k is = its_kind.1 ∙ ap (λ k. assembled k (slice_index bytes 1) (slice_index bytes 2) (slice_index bytes 3) (little_number 2 (take 2 (drop 4 bytes))) (drop 8 bytes)) (sym (kind_assembled its_kind.0 _ _ _ _ _) ∙ ap kind (sym its_kind.1) ∙ is)
+
+  pub said_write : kind m ≡ kinds.Write → drop 8 bytes ≡ data_of m
+  unfolding data_of
+  said_write is = sym (ap data_of (by_kind kinds.Write is))
+
+  said_setlabel : kind m ≡ kinds.SetLabel → data_of m ≡ take 32 (drop 8 bytes) ++ replicate 480 0
+  unfolding data_of
+  said_setlabel is = ap data_of (by_kind kinds.SetLabel is)
+
+  -- the data of a label is there where zeros are behind the label
+  pub said_label : kind m ≡ kinds.SetLabel → (drop 40 bytes ≡ replicate 480 0) ↔ (drop 8 bytes ≡ data_of m)
+  said_label is =
+      let rest = drop 8 bytes in
+      let long : length rest ≡ 512 = omega (arith, length-drop 8 bytes) in
+      let behind : drop 32 rest ≡ drop 40 bytes = drop-drop 32 8 bytes in
+      let label : length (take 32 rest) ≡ 32 = length-take-le 32 rest (omega arith) in (
+        (λ zeros. sym (take-append-drop 32 rest) ∙ ap (λ (xs : List ℕ). take 32 rest ++ xs) (behind ∙ zeros) ∙ sym (said_setlabel is)),
+        (λ there. sym behind ∙ ap (drop 32) (there ∙ said_setlabel is) ∙ drop_at (take 32 rest) (replicate 480 0) 32 label),
+      )
 
 -- ---- the message in range with a record
 
@@ -307,3 +347,14 @@ length_behind out head room h =
     let both = length-append head (drop 8 out) in
     let behind = length-drop 8 out in
     length-take-le 512 (drop 8 (head ++ drop 8 out)) (omega arith)
+
+-- ---- the head and the data of a record
+
+pub record_by_parts : (bytes : List ℕ) (m : Msg) → take 8 bytes ≡ head_of m → drop 8 bytes ≡ data_of m → bytes ≡ record_of m
+record_by_parts bytes m head rest = sym (take-append-drop 8 bytes) ∙ (λ i. head i ++ rest i)
+
+pub head_there : (bytes : List ℕ) (m : Msg) → bytes ≡ record_of m → take 8 bytes ≡ head_of m
+head_there bytes m is = ap (take 8) is ∙ take_at (head_of m) (data_of m) 8 (length_head m)
+
+pub data_there : (bytes : List ℕ) (m : Msg) → bytes ≡ record_of m → drop 8 bytes ≡ data_of m
+data_there bytes m is = ap (drop 8) is ∙ drop_at (head_of m) (data_of m) 8 (length_head m)

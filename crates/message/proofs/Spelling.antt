@@ -322,7 +322,3 @@ spelled_is_read line m s = spelled_as line m s ∙ made_again m s.words_behind s
 -- what was read of a line is its message exactly where the line spells it
 pub read_iff_spelled : (line : List ℕ) (r : Option Msg) → r ≡ message_of line → (m : Msg) → (r ≡ Some m) ↔ Spells line m
 read_iff_spelled line r e m = (λ h. read_is_spelled line m (sym e ∙ h), λ s. e ∙ spelled_is_read line m s)
-
--- no line spells two messages
-pub one_message : (line : List ℕ) (m n : Msg) → Spells line m → Spells line n → m ≡ n
-one_message line m n s t = same_Some m n (sym (spelled_is_read line m s) ∙ spelled_is_read line n t)

@@ -1,12 +1,12 @@
 -- A line and its words.
 use Rattle.std.proofs.Common.{◌≡◌, ℕ, zero, suc, ◌+◌, ◌-◌, ◌<◌, ◌≤◌, true, false, cond, eqb, List, [], ◌∷◌, ◌++◌, length, Option, Some, None, length-drop, get_or, take, drop, refl, ap, sym, ◌∙◌, arith}
-use Rattle.std.proofs.lemmas.Bool.{ne_eqb}
+use Rattle.std.proofs.lemmas.Bool.{false_from_ne_true}
 use Rattle.std.proofs.lemmas.List.{take_all, drop_more, take-append-drop}
 use Rattle.std.specs.Prelude.{if◌then◌else◌, ◌==◌}
 use Rattle.std.specs.List.{AllByRecursion, join_with_byte, slice_split, onto_first}
 use Rattle.std.proofs.lemmas.List.Splits.{join_with_byte-slice_split}
+use Rattle.memchr.specs.Find.{Nowhere, Passes, is_byte}
 use Rattle.message.specs.Lines.{words, in_first}
-use Rattle.message.specs.Grammar.{only}
 
 -- no byte of the word is a space
 abbrev pub HasNoSpace : List ℕ → Type 0
@@ -52,12 +52,11 @@ words-join w (v ∷ ws) h = words_space w (join_with_byte 32 (v ∷ ws)) h.0 ∙
 
 -- ---- the first space of a line
 
-pub no_space_more : (w : List ℕ) (i : ℕ) → i < length w → HasNoSpace (take i w) → (get_or w i 0 ≡ 32 → ⊥) → HasNoSpace (take (i + 1) w)
-no_space_more [] i lt h d = absurd (omega arith)
-no_space_more (b ∷ w) zero lt h d = (ne_eqb b 32 d, tt)
-no_space_more (b ∷ w) (suc i) lt h d =
-    let next : suc i + 1 ≡ suc (i + 1) = omega arith in
-    rw next (h.0, no_space_more w i (omega arith) h.1 d)
+-- no byte before the first space is one
+pub none_before : (line : List ℕ) (i : ℕ) → Nowhere (Passes (is_byte 32) line) 0 i → HasNoSpace (take i line)
+none_before line zero h = tt
+none_before [] (suc i) h = tt
+none_before (b ∷ line) (suc i) h = (false_from_ne_true (b == 32) (h 0 (omega arith) (omega arith)), none_before line i (λ k low high. h (suc k) (omega arith) (omega arith)))
 
 pub words_split : (line : List ℕ) (i : ℕ) → i < length line → HasNoSpace (take i line) → get_or line i 0 ≡ 32
     → words line ≡ take i line ∷ words (take (length line - (i + 1)) (drop (i + 1) line))
@@ -71,6 +70,11 @@ pub words_whole : (line : List ℕ) (i : ℕ) → length line ≤ i → HasNoSpa
 words_whole line i h none = words_alone line (let e : take i line ≡ line = take_all i line h in rw e at none)
 
 -- ---- what a whole line says
+
+-- what a word says that stands alone
+abbrev pub only : {A : Type 0} → (List ℕ → Option A) → List (List ℕ) → Option A
+only says (w ∷ []) = says w
+only says _ = None
 
 -- what a line says that says nothing where it has a space
 pub only-words : {A : Type 0} (says : List ℕ → Option A) (line : List ℕ) → ((x : A) → says line ≡ Some x → HasNoSpace line) → only says (words line) ≡ says line

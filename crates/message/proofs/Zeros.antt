@@ -1,6 +1,6 @@
 -- The zeros at the end of a block.
-use Rattle.std.proofs.Common.{◌≡◌, ℕ, ◌+◌, ◌-◌, ◌<◌, ◌≤◌, List, [], ◌∷◌, ◌++◌, length, get_or, take, refl, ap, sym, ◌∙◌, inl, inr, arith}
-use Rattle.std.proofs.lemmas.Bool.{ne_eqb, cond-false, cases_eq}
+use Rattle.std.proofs.Common.{◌≡◌, ℕ, ◌+◌, ◌-◌, ◌<◌, ◌≤◌, List, [], ◌∷◌, ◌++◌, length, get_or, take, refl, ap, sym, ◌∙◌, arith}
+use Rattle.std.proofs.lemmas.Bool.{ne_eqb, cond-false}
 use Rattle.std.proofs.lemmas.List.{take_more}
 use Rattle.message.specs.Replies.{before, without_zeros, at_least_one}
 
@@ -36,11 +36,3 @@ last_stays xs n some h other =
     ap (λ ys. at_least_one (without_zeros ys)) front
     ∙ ap at_least_one (other_stays (take (n - 1) xs) (get_or xs (n - 1) 0) other)
     ∙ some_stays (take (n - 1) xs) (get_or xs (n - 1) 0) ∙ sym front
-
--- nor where it is the only one
-pub only_stays : (xs : List ℕ) → 1 ≤ length xs → at_least_one (without_zeros (take 1 xs)) ≡ take 1 xs
-only_stays [] h = absurd (omega arith)
-only_stays (b ∷ xs) h = elim (cases_eq b 0) [
-  | inl none ↦ rw none refl
-  | inr other ↦ last_stays (b ∷ xs) 1 (omega arith) h other
-]

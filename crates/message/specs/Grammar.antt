@@ -26,11 +26,6 @@ first_number (w ∷ v ∷ ws) = do
   Some (n, v ∷ ws)
 first_number _ = None
 
--- what a word says that stands alone
-abbrev pub only : {A : Type 0} → (List ℕ → Option A) → List (List ℕ) → Option A
-only says (w ∷ []) = says w
-only says _ = None
-
 -- the message with the numbers that these words say, where they are two, three or four
 abbrev pub of_volume : (ℕ → ℕ → Msg) → List (List ℕ) → Option Msg
 of_volume make (a ∷ v ∷ []) = do

@@ -1,9 +1,8 @@
 -- The line of each reply.
-use Rattle.std.specs.Prelude.{◌≡◌, ℕ, zero, suc, ◌+◌, ◌^◌, ◌<◌, ◌==◌, List, [], ◌∷◌, ◌++◌, take, drop, length, codes, if◌then◌else◌, Bool}
+use Rattle.std.specs.Prelude.{◌≡◌, ℕ, zero, suc, ◌+◌, ◌==◌, List, [], ◌∷◌, ◌++◌, take, drop, length, codes, if◌then◌else◌, Bool}
 use Rattle.std.specs.Fmt.{decimal}
 use Rattle.std.specs.Int.{bit_at}
 use Rattle.hex.specs.Hex.{encode_lower}
-use Rattle.message.specs.Messages.{AreBytes, IsBlock}
 use Rattle.message.specs.declared.Refusal.{Refusal}
 use Rattle.message.specs.declared.Refusal.TheVariants.{Range, Volume, Exists, Sealed, File, Space}
 use Rattle.message.specs.declared.Reply.{Reply}
@@ -69,15 +68,6 @@ output_line text = text ++ 10 ∷ []
 
 abbrev pub reply_line : Reply → List ℕ
 reply_line reply = output_line (reply_text reply)
-
--- What a reply carries: numbers of 32 bits, files of 64, a block of 512 bytes and a label of 32.
-abbrev pub IsReply : Reply → Type 0
-IsReply (Found content) = IsBlock content
-IsReply (Files files) = files < 2 ^ 64
-IsReply (Usage files blocks sealed) = (files < 2 ^ 32) × (blocks < 2 ^ 32)
-IsReply (Summary volumes files blocks) = (volumes < 2 ^ 32) × (files < 2 ^ 32) × (blocks < 2 ^ 32)
-IsReply (Label bytes) = AreBytes 32 bytes
-IsReply _ = Unit {0}
 
 -- what a line is answered that is no message
 abbrev pub no_message : List ℕ

@@ -6,23 +6,6 @@ ghost use Rattle.message.specs.Messages.{kind, four_numbers};
 use crate::Msg;
 use affinity::Kind;
 
-pub(crate) const KINDS: [Kind; 14] = [
-    Kind::MakeVol,
-    Kind::DropVol,
-    Kind::Create,
-    Kind::Delete,
-    Kind::Seal,
-    Kind::Unseal,
-    Kind::Write,
-    Kind::Punch,
-    Kind::Read,
-    Kind::List,
-    Kind::Usage,
-    Kind::Summary,
-    Kind::SetLabel,
-    Kind::Label,
-];
-
 impl Msg {
     /// What the message asks for.
     pub fn kind(&self) -> Kind

@@ -14,9 +14,6 @@ pub use printing::{no_message_line, write_reply};
 pub use reading::{Found, LineReader, ReadFault};
 pub use records::{decode, encode};
 
-/// How many bytes a block has.
-pub const BLOCK_SIZE: usize = 512;
-
 /// How many bytes a line of the input may have, its newline apart. A longer one is no message.
 pub const LONGEST_LINE: usize = 1100;
 

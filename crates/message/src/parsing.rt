@@ -4,11 +4,12 @@ ghost use Rattle.std.specs.Prelude.{◌≡◌, ℕ, ◌∷◌, [], ◌↔◌, Ma
 ghost use Rattle.message.specs.declared.Msg.{Msg};
 ghost use Rattle.message.specs.declared.Msg.TheVariants.{Write as write, SetLabel as set_label};
 ghost use Rattle.message.specs.Lines.{words, number, block, bytes_said};
-ghost use Rattle.message.specs.Grammar.{message_of, Spells, first_number, of_kind, of_volume, of_file, of_block, of_data, of_label, keyword, kind_named};
+ghost use Rattle.message.specs.Grammar.{message_of, Spells, first_number, of_kind, of_volume, of_file, of_block, of_data, of_label, kind_named};
 
-use crate::kinds::KINDS;
 use crate::{Block, LONGEST_LINE, Msg};
 use affinity::Kind;
+use memchr::memchr;
+use std::str;
 
 /// The message that a line spells, the line given without its newline; `None` where it spells none.
 pub fn parse_line(line: &[u8]) -> Option<Msg>
@@ -27,40 +28,36 @@ pub fn parse_line(line: &[u8]) -> Option<Msg>
     }
 }
 
-// The kind that a word names.
+/// The kind that a word names. No word that isn't text names one.
 fn kind_named(word: &[u8]) -> Option<Kind>
     ensures { result ≡ kind_named word.now }
 {
-    for kind in KINDS {
-        if word == keyword(kind) {
-            return Some(kind);
-        }
-    }
-    None
+    kind_spelled(str::from_utf8(word).ok()?)
 }
 
-fn keyword(kind: Kind) -> &'static [u8]
-    ensures { result.now ≡ keyword kind }
+fn kind_spelled(word: &str) -> Option<Kind>
+    ensures { result ≡ kind_named word.now }
 {
-    match kind {
-        Kind::MakeVol => b"makevol",
-        Kind::DropVol => b"dropvol",
-        Kind::Create => b"create",
-        Kind::Delete => b"delete",
-        Kind::Seal => b"seal",
-        Kind::Unseal => b"unseal",
-        Kind::Write => b"write",
-        Kind::Punch => b"punch",
-        Kind::Read => b"read",
-        Kind::List => b"list",
-        Kind::Usage => b"usage",
-        Kind::Summary => b"summary",
-        Kind::SetLabel => b"setlabel",
-        Kind::Label => b"label",
+    match word {
+        "makevol" => Some(Kind::MakeVol),
+        "dropvol" => Some(Kind::DropVol),
+        "create" => Some(Kind::Create),
+        "delete" => Some(Kind::Delete),
+        "seal" => Some(Kind::Seal),
+        "unseal" => Some(Kind::Unseal),
+        "write" => Some(Kind::Write),
+        "punch" => Some(Kind::Punch),
+        "read" => Some(Kind::Read),
+        "list" => Some(Kind::List),
+        "usage" => Some(Kind::Usage),
+        "summary" => Some(Kind::Summary),
+        "setlabel" => Some(Kind::SetLabel),
+        "label" => Some(Kind::Label),
+        _ => None,
     }
 }
 
-// The message of a kind and what stands behind the space after its keyword.
+/// The message of a kind and what stands behind the space after its keyword.
 fn of_kind(kind: Kind, line: &[u8]) -> Option<Msg>
     ensures { result ≡ of_kind kind (words line.now) }
 {
@@ -82,7 +79,7 @@ fn of_kind(kind: Kind, line: &[u8]) -> Option<Msg>
     }
 }
 
-// The numbers of an aggregate and a volume.
+/// The numbers of an aggregate and a volume.
 fn volume_numbers(line: &[u8]) -> Option<(u16, u16)>
     ensures { (make : ℕ → ℕ → Msg) → of_volume make (words line.now) ≡ option_map (λ p. make p.0 p.1) result }
 {
@@ -90,7 +87,7 @@ fn volume_numbers(line: &[u8]) -> Option<(u16, u16)>
     Some((aggregate, number(behind)?))
 }
 
-// The numbers of an aggregate, a volume and a file.
+/// The numbers of an aggregate, a volume and a file.
 fn file_numbers(line: &[u8]) -> Option<(u16, u16, u16)>
     ensures { (make : ℕ → ℕ → ℕ → Msg) → of_file make (words line.now) ≡ option_map (λ p. make p.0 p.1 p.2) result }
 {
@@ -99,7 +96,7 @@ fn file_numbers(line: &[u8]) -> Option<(u16, u16, u16)>
     Some((aggregate, volume, file))
 }
 
-// The numbers of an aggregate, a volume, a file and a block.
+/// The numbers of an aggregate, a volume, a file and a block.
 fn block_numbers(line: &[u8]) -> Option<(u16, u16, u16, u16)>
     ensures { (make : ℕ → ℕ → ℕ → ℕ → Msg) → of_block make (words line.now) ≡ option_map (λ p. make p.0 p.1 p.2 p.3) result }
 {
@@ -108,7 +105,7 @@ fn block_numbers(line: &[u8]) -> Option<(u16, u16, u16, u16)>
     Some((aggregate, volume, file, block))
 }
 
-// The message of what stands behind `write`.
+/// The message of what stands behind `write`.
 fn write_message(line: &[u8]) -> Option<Msg>
     ensures { result ≡ of_data write (words line.now) }
 {
@@ -119,7 +116,7 @@ fn write_message(line: &[u8]) -> Option<Msg>
     Some(Msg::Write(aggregate, volume, file, block, Block(bytes_said(behind)?)))
 }
 
-// The message of what stands behind `setlabel`.
+/// The message of what stands behind `setlabel`.
 fn label_message(line: &[u8]) -> Option<Msg>
     ensures { result ≡ of_label set_label (words line.now) }
 {
@@ -128,7 +125,7 @@ fn label_message(line: &[u8]) -> Option<Msg>
     Some(Msg::SetLabel(aggregate, volume, bytes_said(behind)?))
 }
 
-// The number that stands before the first space of a line, and what stands behind that.
+/// The number that stands before the first space of a line, and what stands behind that.
 fn number_before_space(line: &[u8]) -> Option<(u16, &[u8])>
     ensures { first_number (words line.now) ≡ option_map (λ p. (p.0, words p.1.now)) result }
 {
@@ -136,19 +133,15 @@ fn number_before_space(line: &[u8]) -> Option<(u16, &[u8])>
     Some((number(word)?, behind))
 }
 
-// The first word of a line and what stands behind the space after it, where there is a space.
+/// The first word of a line and what stands behind the space after it, where there is a space.
 fn split_at_space(line: &[u8]) -> Option<(&[u8], &[u8])>
     ensures { MatchOption result (words line.now ≡ line.now ∷ []) (λ p. words line.now ≡ p.0.now ∷ words p.1.now) }
 {
-    for (end, byte) in line.iter().enumerate() {
-        if *byte == b' ' {
-            return Some((&line[..end], &line[end + 1..]));
-        }
-    }
-    None
+    let end = memchr(b' ', line)?;
+    Some((&line[..end], &line[end + 1..]))
 }
 
-// The number that a word says.
+/// The number that a word says.
 fn number(word: &[u8]) -> Option<u16>
     ensures { result ≡ number word.now }
 {
@@ -171,7 +164,7 @@ fn number(word: &[u8]) -> Option<u16>
     u16::try_from(value).ok()
 }
 
-// The bytes that a word says in hexadecimal digits, and zeros behind them.
+/// The bytes that a word says in hexadecimal digits, and zeros behind them.
 fn bytes_said<const N: usize>(digits: &[u8]) -> Option<[u8; N]>
     ensures { result ≡ bytes_said N digits.now }
 {

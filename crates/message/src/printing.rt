@@ -27,7 +27,7 @@ pub fn no_message_line() -> &'static [u8]
     b"error line\n"
 }
 
-// Writes what a reply says into the front of `out`, and gives its length.
+/// Writes what a reply says into the front of `out`, and gives its length.
 fn write_text(reply: &Reply, out: &mut [u8; 1031]) -> usize
     ensures text { Appends out.old out.new 0 result (reply_text reply.now) }
     ensures bound { result ≤ 1030 }
@@ -112,7 +112,7 @@ fn write_summary(volumes: u32, files: u32, blocks: u32, out: &mut [u8; 1031]) ->
     append_number(blocks, out, end)
 }
 
-// Writes a text behind the first `at` bytes, and gives where it ends.
+/// Writes a text behind the first `at` bytes, and gives where it ends.
 fn append(text: &[u8], out: &mut [u8; 1031], at: usize) -> usize
     requires { at + length text.now ≤ 1031 }
     ensures { Appends out.old out.new at result text.now }
@@ -122,7 +122,7 @@ fn append(text: &[u8], out: &mut [u8; 1031], at: usize) -> usize
     end
 }
 
-// Writes a space and a number behind the first `at` bytes, and gives where they end.
+/// Writes a space and a number behind the first `at` bytes, and gives where they end.
 fn append_number(n: u32, out: &mut [u8; 1031], at: usize) -> usize
     requires { at + 11 ≤ 1031 }
     ensures text { Appends out.old out.new at result (spaced n) }
@@ -133,7 +133,7 @@ fn append_number(n: u32, out: &mut [u8; 1031], at: usize) -> usize
     append(digits.format(n).as_bytes(), out, end)
 }
 
-// Writes the digits that show some bytes behind the first `at` bytes, and gives where they end.
+/// Writes the digits that show some bytes behind the first `at` bytes, and gives where they end.
 fn append_shown(bytes: &[u8], out: &mut [u8; 1031], at: usize) -> usize
     requires some { 1 ≤ length bytes.now }
     requires room { at + 2 * length bytes.now ≤ 1030 }
@@ -146,7 +146,7 @@ fn append_shown(bytes: &[u8], out: &mut [u8; 1031], at: usize) -> usize
     end
 }
 
-// How many of the bytes are shown: those up to the last that isn't 0, and one where all are 0.
+/// How many of the bytes are shown: those up to the last that isn't 0, and one where all are 0.
 fn shown_size(bytes: &[u8]) -> usize
     requires { 1 ≤ length bytes.now }
     ensures shown { take result bytes.now ≡ at_least_one (without_zeros bytes.now) }

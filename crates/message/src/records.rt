@@ -1,12 +1,11 @@
 //! Messages as records of 520 bytes.
 
-ghost use Rattle.std.specs.Prelude.{◌≡◌, ◌↔◌, ◌++◌, true, drop, replicate, IfSome, slice_index};
+ghost use Rattle.std.specs.Prelude.{◌≡◌, ◌↔◌, ◌++◌, true, Some, drop, replicate, IfSome, IsTrue, slice_index};
 ghost use Rattle.affinity.specs.declared.kinds.Kind.{Kind};
 ghost use Rattle.message.specs.Messages.{IsMessage, is_in_range};
-ghost use Rattle.message.specs.Records.{HasRoom, assembled, fields_say, head_of, kind_number, kind_numbered, record_of};
+ghost use Rattle.message.specs.Records.{HasRoom, assembled, data_of, fields_say, head_of, kind_number, kind_numbered, record_of};
 ghost use Rattle.message.specs.declared.Msg.{Msg};
 
-use crate::kinds::KINDS;
 use crate::{Block, Msg};
 use affinity::{Geometry, Kind, place_of};
 use byteorder::{ByteOrder, LittleEndian};
@@ -32,16 +31,26 @@ pub fn decode(bytes: &[u8; 520], g: &Geometry) -> Option<Msg>
 {
     let m = fields_say(bytes)?;
     place_of(g, m.kind(), m.numbers())?;
-    let mut spelled = [0; 520];
-    encode(&m, &mut spelled);
-    if spelled.as_slice() == bytes.as_slice() {
+    if bytes[..8] == head_of(&m)[..] && has_data_of(bytes, &m) {
         Some(m)
     } else {
         None
     }
 }
 
-// What stands before the data of a record.
+/// Whether what stands behind the head is the data of a message that the fields say.
+fn has_data_of(bytes: &[u8; 520], m: &Msg) -> bool
+    requires { Some m.now ≡ fields_say bytes.now }
+    ensures { IsTrue result ↔ (drop 8 bytes.now ≡ data_of m.now) }
+{
+    match m {
+        Msg::Write(..) => true,
+        Msg::SetLabel(..) => bytes[40..] == [0; 480][..],
+        _ => bytes[8..] == [0; 512][..],
+    }
+}
+
+/// What stands before the data of a record.
 fn head_of(m: &Msg) -> [u8; 8]
     requires { HasRoom m.now }
     ensures { result ≡ head_of m.now }
@@ -61,7 +70,7 @@ fn label_data(label: &[u8; 32]) -> [u8; 512]
     bytes
 }
 
-// The message that the fields say, whatever stands in those that it doesn't have.
+/// The message that the fields say, whatever stands in those that it doesn't have.
 fn fields_say(bytes: &[u8; 520]) -> Option<Msg>
     ensures { result ≡ fields_say bytes.now }
 {
@@ -129,10 +138,21 @@ fn kind_number(kind: Kind) -> u8
 fn kind_numbered(number: u8) -> Option<Kind>
     ensures { result ≡ kind_numbered number }
 {
-    for kind in KINDS {
-        if number == kind_number(kind) {
-            return Some(kind);
-        }
+    match number {
+        1 => Some(Kind::MakeVol),
+        2 => Some(Kind::DropVol),
+        3 => Some(Kind::Create),
+        4 => Some(Kind::Delete),
+        5 => Some(Kind::Seal),
+        6 => Some(Kind::Unseal),
+        7 => Some(Kind::Write),
+        8 => Some(Kind::Punch),
+        9 => Some(Kind::Read),
+        10 => Some(Kind::List),
+        11 => Some(Kind::Usage),
+        12 => Some(Kind::Summary),
+        13 => Some(Kind::SetLabel),
+        14 => Some(Kind::Label),
+        _ => None,
     }
-    None
 }

@@ -1,8 +1,16 @@
-use Rattle.message.proofs.Words.{words_split, words_whole}
+use Rattle.std.proofs.Common.{length, arith}
+use Rattle.std.proofs.lemmas.Bool.{eqb-true}
+use Rattle.message.proofs.Words.{none_before, words_split, words_whole}
 use Rattle.message.proofs.parsing.split_at_space.Goals as goal
 
-pub returns-then-byte-eq32 : goal.returns-then-byte-eq32
-returns-then-byte-eq32 c = words_split c.args.line.now c.loop-end.end c.loop-end-test.true c.loop-end.invariant c.if-byte-eq32.true
+pub returns-in_err-end : goal.returns-in_err-end
+returns-in_err-end c =
+    let line = c.args.line.now in
+    rw c.from_residual.ensures (words_whole line (length line) (omega arith) (none_before line (length line) c.in_err-end.ensures))
 
 pub returns : goal.returns
-returns c = words_whole c.args.line.now c.loop-end.end c.loop-end-test.false c.loop-end.invariant
+returns c =
+    let line = c.args.line.now in
+    let end = c.in_ok-end.end in
+    let found = c.in_ok-end.ensures in
+    words_split line end found.0.high (none_before line end found.0.before) (eqb-true _ 32 found.1)

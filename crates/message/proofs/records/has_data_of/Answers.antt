@@ -1,0 +1,35 @@
+use Rattle.std.proofs.Common.{◌≡◌, ℕ, ◌+◌, Bool, List, length, length-drop, take, drop, replicate, refl, ap, sym, ◌∙◌, arith}
+use Rattle.std.specs.Prelude.{◌↔◌, IsTrue}
+use Rattle.std.specs.Str.{bytes_eq}
+use Rattle.std.proofs.lemmas.List.{take_all}
+use Rattle.std.proofs.lemmas.Slice.Eq.{bytes_eq-Decides}
+use Rattle.message.specs.Messages.{kind}
+use Rattle.message.proofs.RecordLemmas.{said_label, said_write, zeros_else}
+use Rattle.message.proofs.records.has_data_of.Goals as goal
+
+-- whether the bytes from a place on are zeros
+tested : (bytes : List ℕ) (n k : ℕ) (t : Bool) → length bytes ≡ n + k → t ≡ bytes_eq (take k (drop n bytes)) (replicate k 0) → IsTrue t ↔ (drop n bytes ≡ replicate k 0)
+tested bytes n k t size e =
+    let whole : take k (drop n bytes) ≡ drop n bytes = take_all k (drop n bytes) (omega (arith, length-drop n bytes)) in
+    let same = bytes_eq-Decides (take k (drop n bytes)) (replicate k 0) in (
+      (λ is. sym whole ∙ same.0 (sym e ∙ is)),
+      (λ is. e ∙ same.1 (whole ∙ is)),
+    )
+
+pub returns-in-Write : goal.returns-in-Write
+returns-in-Write c = (
+  (λ is. said_write c.args.bytes.now c.args.m.now c.told-bytes c.fits-bytes (sym c.requires) (ap kind c.in-Write.is)),
+  (λ there. refl),
+)
+
+pub returns-in-SetLabel : goal.returns-in-SetLabel
+returns-in-SetLabel c =
+    let zeros = tested c.args.bytes.now 40 480 c.eq.result c.told-bytes c.eq.ensures in
+    let label = said_label c.args.bytes.now c.args.m.now c.told-bytes c.fits-bytes (sym c.requires) (ap kind c.in-SetLabel.is) in
+    ((λ is. label.0 (zeros.0 is)), (λ there. zeros.1 (label.1 there)))
+
+pub returns-in_default : goal.returns-in_default
+returns-in_default c =
+    let zeros = tested c.args.bytes.now 8 512 c.eq-in_default.result c.told-bytes c.eq-in_default.ensures in
+    let none = zeros_else c.args.m.now c.in_default.not-Write c.in_default.not-SetLabel in
+    ((λ is. zeros.0 is ∙ sym none), (λ there. zeros.1 (there ∙ none)))
