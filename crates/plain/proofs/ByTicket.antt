@@ -11,7 +11,7 @@ use Rattle.message.specs.Messages.{place}
 use Rattle.plain.specs.State.{State}
 use Rattle.plain.specs.Serial.{reply_to, after, fold}
 use Rattle.plain.specs.Order.{told, messages, put, by_ticket, IsBefore, KeepsOrder}
-use Rattle.plain.specs.Laws.{SameByTicket, AreInOrder, AreAscending}
+use Rattle.plain.specs.Laws.{SameByTicket, AreInOrder}
 use Rattle.plain.proofs.Frame.{commute}
 
 module _ {A : Type 0} (P : ℕ × A → Type 0) where
@@ -22,6 +22,11 @@ module _ {A : Type 0} (P : ℕ × A → Type 0) where
   pub all-by_ticket : (es : List (ℕ × A)) → AllByRecursion P es → AllByRecursion P (by_ticket es)
   all-by_ticket [] h = h
   all-by_ticket (e ∷ es) h = all-put e (by_ticket es) h.0 (all-by_ticket es h.1)
+
+-- each ticket is less than those after it
+abbrev pub AreAscending : {A : Type 0} → List (ℕ × A) → Type 0
+AreAscending [] = Unit {0}
+AreAscending (e ∷ es) = AllByRecursion (λ d. e.0 < d.0) es × AreAscending es
 
 -- ---- the order by ticket is an order, of the same elements
 

@@ -6,11 +6,13 @@ use Rattle.std.specs.Io.KnownBytes.{Appends}
 use Rattle.std.proofs.lemmas.List.Concat.{flat_map-append}
 use Rattle.std.proofs.lemmas.List.Elements.{All-from_recursion, recursion_from_All}
 use Rattle.std.proofs.lemmas.Option.{none-some, same_Some, IfSome_then}
-use Rattle.std.proofs.lemmas.Bool.{eqb-true, eq-eqb, lt-ltb, true≢false}
+use Rattle.std.proofs.lemmas.Bool.{eqb-true, eq-eqb, true≢false}
 use Rattle.affinity.specs.declared.sizes.Geometry.{Geometry}
-use Rattle.message.specs.Lines.{lines, in_first}
+use Rattle.message.specs.Lines.{lines}
 use Rattle.message.specs.Grammar.{message_of}
 use Rattle.message.specs.Reader.{first_line, after_line as behind_line, GivesLine, PassesLine, IsAtEndOf, LosesFront}
+use Rattle.message.proofs.Keywords.{too_long}
+use Rattle.message.proofs.ReaderLemmas.{lines-first}
 use Rattle.plain.specs.State.{State, empty}
 use Rattle.plain.specs.Output.{answer_line, after_line, after_lines, output_lines, joined, serial_out, with_newlines, HasNoNewline, AnswersWholeLines, IsBeginning, Writes}
 use Rattle.plain.specs.Progress.{Progress, Stands, Goes}
@@ -31,16 +33,6 @@ appends_more : (a b c : Option (List ℕ)) (xs : List ℕ) → Appends a b xs �
 appends_more a b c xs h j = subst (λ (z : List ℕ). Appends a c z) (append-nil xs) (appends_then a b c xs [] h j)
 
 -- ---- lines
-
-step_with : (t : Bool) (b : ℕ) (bs : List ℕ) → (if t then [] ∷ lines bs else in_first b (lines bs)) ≡ (if t then [] else b ∷ first_line bs) ∷ lines (if t then bs else behind_line bs)
-step_with true b bs = refl
-step_with false b [] = refl
-step_with false b (c ∷ cs) = ap (in_first b) (step_with (c == 10) c cs)
-
--- the lines of an input that isn't empty
-lines_step : (bs : List ℕ) → bs ≢ [] → lines bs ≡ first_line bs ∷ lines (behind_line bs)
-lines_step [] h = absurd (h refl)
-lines_step (b ∷ bs) h = step_with (b == 10) b bs
 
 first_with : (b : ℕ) (bs : List ℕ) (t : Bool) → (b == 10) ≡ t → HasNoNewline (first_line bs) → HasNoNewline (if t then [] else b ∷ first_line bs)
 first_with b bs true e h = tt
@@ -114,7 +106,7 @@ answered g input left ended now_ended x y written added p more going stops state
     let l = first_line left in
     record {
       answered = p.answered ++ l ∷ [];
-      to_come = p.to_come ∙ ap (λ z. p.answered ++ z) (lines_step left more) ∙ sym (append_assoc p.answered (l ∷ []) (lines (behind_line left)));
+      to_come = p.to_come ∙ ap (λ z. p.answered ++ z) (lines-first left more) ∙ sym (append_assoc p.answered (l ∷ []) (lines (behind_line left)));
       are_lines = all_and p.answered l p.are_lines (first_has_none left);
       given = ⊎_elim
           (λ found. inr (⊎_elim (λ e. absurd (true≢false (sym e ∙ going))) (λ given. given ∙ ap (λ z. with_newlines p.answered ++ z) (first_ends left found) ∙ sym (newlines-append p.answered l (behind_line left))) p.given))
@@ -150,11 +142,6 @@ stands-goes_line g (Some input) (Some bs) now_rest ended now_ended x y line adde
           (state ∙ ap (λ z. after_line g x (message_of z)) is_first) (output ∙ ap (λ z. answer_line g x (message_of z)) is_first);
     }
 
--- no line of more than 1,100 bytes is a message's
-long_line : (line : List ℕ) → 1100 < length line → message_of line ≡ None
-unfolding message_of
-long_line line h = rw (lt-ltb 1100 (length line) h) refl
-
 stands-goes_long_line : (g : Geometry) (input rest now_rest : Option (List ℕ)) (ended now_ended : Bool) (x : State) (added : List ℕ) (old new newer : Option (List ℕ))
     → Stands g input rest ended x old new → ended ≡ false
     → IfSome rest (λ bs. PassesLine bs now_rest) → IfSome rest (λ bs. Contains bs 10 ⊎ (now_ended ≡ true))
@@ -163,7 +150,7 @@ stands-goes_long_line : (g : Geometry) (input rest now_rest : Option (List ℕ))
 stands-goes_long_line g None None now_rest ended now_ended x added old new newer h going found stops output appended = tt
 stands-goes_long_line g (Some input) None now_rest ended now_ended x added old new newer h going found stops output appended = absurd (none-some h.left h.left_is)
 stands-goes_long_line g input (Some bs) now_rest ended now_ended x added old new newer h going found stops output appended =
-    let none = long_line (first_line bs) found.long in
+    let none = sym (too_long (first_line bs) found.long) in
     stands-goes_line g input (Some bs) now_rest ended now_ended x x (first_line bs) added old new newer h going
     (record { more = λ e. long_of_none bs found.long e; line_is = refl; left_is = found.left_is }) stops (sym (ap (after_line g x) none)) (output ∙ sym (ap (answer_line g x) none)) appended
   where

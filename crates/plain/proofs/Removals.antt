@@ -47,7 +47,7 @@ module _ (g : Geometry) (x : State) (a v f b : ℕ) (in_files : f < g.files) (in
 
 -- ---- blocks that are taken out one by one
 
-is_none : {X : Type 0} (o : Option X) → is_some o ≡ false → None ≡ o
+pub is_none : {X : Type 0} (o : Option X) → is_some o ≡ false → None ≡ o
 is_none None e = refl
 is_none (Some y) e = absurd (true≢false e)
 

@@ -1,56 +1,14 @@
--- Steps that change nothing: those that are refused, and all that aren't logged.
+-- Steps that aren't logged change nothing.
 use Rattle.std.proofs.Common.{◌≡◌, true, false, List, [], ◌∷◌, Option, refl, ap, sym, ◌∙◌}
 use Rattle.std.specs.Prelude.{Some, None, if◌then◌else◌}
 use Rattle.std.proofs.lemmas.Bool.{true≢false}
 use Rattle.affinity.specs.declared.sizes.Geometry.{Geometry}
-use Rattle.message.specs.declared.Block.{Block}
 use Rattle.message.specs.declared.Msg.{Msg}
 use Rattle.message.specs.declared.Msg.TheVariants.{MakeVol, DropVol, Create, Delete, Seal, Unseal, Write, Punch, Read, List as ListFiles, Usage as AskUsage, Summary as AskSummary, SetLabel, Label as AskLabel}
 use Rattle.message.specs.declared.Refusal.{Refusal}
-use Rattle.message.specs.declared.Reply.TheVariants.{Refused}
 use Rattle.plain.specs.State.{State}
-use Rattle.plain.specs.Serial.{refusal, effect, block_reply, answer, outcome, step, reply_to, after, fold, is_loggable}
-use Rattle.plain.specs.Laws.{is_refused, logged}
-
--- ---- refused
-
--- a step that is refused is refused for that reason, and leaves the state
-pub step_refused : (g : Geometry) (x : State) (m : Msg) (why : Refusal) → refusal g x m ≡ Some why → step g x m ≡ (Refused why, x)
-step_refused g x m why e = ap (λ r. outcome r (answer g x m) (effect x m) x) e
-
-pub refused_stays : (g : Geometry) (x : State) (m : Msg) (why : Refusal) → refusal g x m ≡ Some why → after g x m ≡ x
-refused_stays g x m why e = ap (λ s. s.1) (step_refused g x m why e)
-
--- no answer is a refusal
-answer_not_refused : (g : Geometry) (x : State) (m : Msg) → is_refused (answer g x m) ≡ false
-answer_not_refused g x (Read a v f b) = found (x.blocks (a, v, f, b))
-  where
-    found : (o : Option Block) → is_refused (block_reply o) ≡ false
-    found None = refl
-    found (Some content) = refl
-answer_not_refused g x (ListFiles a v) = refl
-answer_not_refused g x (AskUsage a v) = refl
-answer_not_refused g x AskSummary = refl
-answer_not_refused g x (AskLabel a v) = refl
-answer_not_refused g x (MakeVol a v) = refl
-answer_not_refused g x (DropVol a v) = refl
-answer_not_refused g x (Create a v f) = refl
-answer_not_refused g x (Delete a v f) = refl
-answer_not_refused g x (Seal a v) = refl
-answer_not_refused g x (Unseal a v) = refl
-answer_not_refused g x (Write a v f b content) = refl
-answer_not_refused g x (Punch a v f b) = refl
-answer_not_refused g x (SetLabel a v bytes) = refl
-
--- A message that is answered with a refusal has changed nothing.
-pub refused_changes_nothing : (g : Geometry) (x : State) (m : Msg) → is_refused (reply_to g x m) ≡ true → after g x m ≡ x
-refused_changes_nothing g x m h = by (refusal g x m) h
-  where
-    by : (r : Option Refusal) → is_refused (outcome r (answer g x m) (effect x m) x).0 ≡ true → (outcome r (answer g x m) (effect x m) x).1 ≡ x
-    by None h = absurd (true≢false (sym h ∙ answer_not_refused g x m))
-    by (Some why) h = refl
-
--- ---- not logged
+use Rattle.plain.specs.Serial.{refusal, effect, answer, outcome, reply_to, after, fold, is_loggable}
+use Rattle.plain.specs.Laws.{logged}
 
 -- a message whose answer isn't logged has no effect
 effect_same : (g : Geometry) (x : State) (m : Msg) → is_loggable m (answer g x m) ≡ false → effect x m ≡ x

@@ -1,5 +1,5 @@
 -- The words of the laws of steps.
-use Rattle.std.specs.Prelude.{◌≡◌, ℕ, ◌<◌, ◌≤◌, Bool, true, false, not, List, [], ◌∷◌, if◌then◌else◌}
+use Rattle.std.specs.Prelude.{◌≡◌, ℕ, ◌≤◌, Bool, true, false, not, List, [], ◌∷◌, if◌then◌else◌}
 use Rattle.std.specs.List.{AllByRecursion}
 use Rattle.affinity.specs.declared.sizes.Geometry.{Geometry}
 use Rattle.affinity.specs.Path.{Path, begins}
@@ -45,8 +45,3 @@ logged g x (m ∷ ms) = let rest = logged g (after g x m) ms in if is_loggable m
 abbrev pub AreInOrder : {A : Type 0} → List (ℕ × A) → Type 0
 AreInOrder [] = Unit {0}
 AreInOrder (e ∷ es) = AllByRecursion (λ d. e.0 ≤ d.0) es × AreInOrder es
-
--- each ticket is less than those after it
-abbrev pub AreAscending : {A : Type 0} → List (ℕ × A) → Type 0
-AreAscending [] = Unit {0}
-AreAscending (e ∷ es) = AllByRecursion (λ d. e.0 < d.0) es × AreAscending es

@@ -36,16 +36,6 @@ share g p x = part g (begins p) x
 abbrev pub standing : Geometry → Path → State → State
 standing g p x = part g (λ q. begins q p && not (begins p q)) x
 
--- the state with this share at the path
-abbrev pub with_share : Geometry → Path → State → State → State
-with_share g p s x = record {
-  made = λ k. if begins p (mark_home k) then s.made k else x.made k;
-  sealed = λ k. if begins p (mark_home k) then s.sealed k else x.sealed k;
-  files = λ k. if begins p (file_home k) then s.files k else x.files k;
-  blocks = λ k. if begins p (block_home g k) then s.blocks k else x.blocks k;
-  labels = λ k. if begins p (label_home k) then s.labels k else x.labels k;
-}
-
 -- Two states agree at each path that the test picks.
 pub record AgreeOn (g : Geometry) (picks : Path → Bool) (x y : State) : Type 0 where
   pub made : (k : VolumeKey) → picks (mark_home k) ≡ true → x.made k ≡ y.made k

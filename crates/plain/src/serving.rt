@@ -11,7 +11,7 @@ ghost use Rattle.plain.specs.Output.{serial_out, answer_line, after_line, Answer
 use crate::output::{Output, PIECE, zeros};
 use crate::server::Server;
 use affinity::Geometry;
-use message::{Found, LONGEST_REPLY, LineReader, no_message_line, parse_line, write_reply};
+use message::{Found, LineReader, no_message_line, parse_line};
 use std::alloc::Global;
 use std::io::{Read, Write};
 use std::marker::{Brand, PhantomData};
@@ -27,7 +27,7 @@ pub enum PlainFault {
     Read,
     /// The output could not be written. What was written of it is open.
     Write,
-    /// There was no memory.
+    /// There was no memory, or there were more than 2^64 - 1 lines.
     OutOfMemory,
 }
 
@@ -56,9 +56,7 @@ fn answer_one<W: Write>(
     let Ok(reply) = server.answer(g, &m) else {
         return Err(PlainFault::OutOfMemory);
     };
-    let mut text = [0; LONGEST_REPLY];
-    let len = write_reply(&reply, &mut text);
-    out.add(&text[..len], w)
+    out.add_reply(&reply, w)
 }
 
 /// Answers the next line, unless the input has ended: whether it has not.
@@ -145,8 +143,12 @@ fn answer_all<R: Read + Drop, W: Write>(
 /// Answers each line that a reader has left with one line of the output, from the empty state on,
 /// until the input ends. What was answered is written before a read that may wait.
 ///
-/// For want of memory and after a failed read, what was answered before is still written. After a
-/// failed read these are the answers to all whole lines that were taken from the reader.
+/// # Errors
+///
+/// `PlainFault::Read` where a read fails, also one that was interrupted. The answers to all whole
+/// lines that were taken from the reader are written before. `PlainFault::OutOfMemory` where there
+/// is no memory or are more than 2^64 - 1 lines. What was answered until then is written before.
+/// `PlainFault::Write` where the output can't be written, and nothing more is written then.
 pub fn serve_from<R: Read, W: Write>(
     alloc: Global,
     g: &Geometry,
@@ -176,11 +178,18 @@ pub fn serve_from<R: Read, W: Write>(
         w,
         PhantomData,
     );
+    if let Err(PlainFault::Write) = answered {
+        return answered;
+    }
     out.send(w)?;
     answered
 }
 
 /// The same over a reader that is given away.
+///
+/// # Errors
+///
+/// Those of `serve_from`.
 pub fn serve_plain<R: Read + Drop, W: Write>(
     alloc: Global,
     g: &Geometry,

@@ -11,7 +11,7 @@ use std::test::Fail;
 
 /// One volume of two files of four blocks, in two stripes that hold two blocks each. Neighboring
 /// blocks of a file lie in different stripes.
-const SMALL: [u16; 8] = [1, 1, 2, 1, 2, 4, 2, 4];
+pub(crate) const SMALL: [u16; 8] = [1, 1, 2, 1, 2, 4, 2, 4];
 
 /// The block that begins with this byte and has zeros behind it.
 fn block(first: u8) -> Block {

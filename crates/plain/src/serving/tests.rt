@@ -1,12 +1,10 @@
 use super::{PlainFault, serve_from, serve_plain};
+use crate::tests::SMALL;
 use affinity::Geometry;
 use std::alloc::{AllocError, Global};
 use std::io;
 use std::io::{ErrorKind, Read, Write};
 use std::test::Fail;
-
-/// One volume of two files of four blocks, in two stripes that hold two blocks each.
-const SMALL: [u16; 8] = [1, 1, 2, 1, 2, 4, 2, 4];
 
 /// Gives one byte a read, and fails where the bytes end.
 #[derive(Drop)]
@@ -37,6 +35,20 @@ impl Write for Full {
 
     fn flush(&mut self) -> io::Result<()> {
         Ok(())
+    }
+}
+
+/// Takes all bytes, and fails where it should pass them on.
+#[derive(Drop)]
+struct Unflushed(Vec<u8>);
+
+impl Write for Unflushed {
+    fn write(&mut self, buf: &[u8]) -> io::Result<usize> {
+        self.0.write(buf)
+    }
+
+    fn flush(&mut self) -> io::Result<()> {
+        Err(io::Error::from(ErrorKind::Other))
     }
 }
 
@@ -114,6 +126,17 @@ fn a_failed_write_is_told(rt: HostRuntime) -> Result<(), Fail> {
         &mut Full,
     );
     assert_eq!(rt; end, Err(PlainFault::Write));
+    Ok(())
+}
+
+#[test]
+fn no_line_is_written_again_after_a_failed_write(rt: HostRuntime) -> Result<(), Fail> {
+    let geometry = Geometry::new(SMALL)?;
+    let mut output = Unflushed(Vec::new(rt.alloc()));
+    let input = b"makevol 0 0\n".as_slice();
+    let end = serve_plain(rt.alloc(), &geometry, input, &mut output);
+    assert_eq!(rt; end, Err(PlainFault::Write));
+    assert_eq!(rt; output.0.as_slice(), b"done\n".as_slice());
     Ok(())
 }
 

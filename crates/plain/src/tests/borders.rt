@@ -1,12 +1,10 @@
 //! Each kind of message at the greatest number that it may have at each place, and at the limit.
+use super::SMALL;
 use crate::serve_plain;
 use affinity::Geometry;
 use std::alloc::Global;
 use std::process::Abort;
 use std::test::Fail;
-
-/// One volume of two files of four blocks.
-const SMALL: [u16; 8] = [1, 1, 2, 1, 2, 4, 2, 4];
 
 /// Two aggregates of three volumes, each of three files of five blocks. No number is 1.
 const WIDE: [u16; 8] = [2, 3, 2, 2, 3, 5, 2, 5];

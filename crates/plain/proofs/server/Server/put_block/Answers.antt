@@ -1,20 +1,17 @@
-use Rattle.std.proofs.Common.{◌≡◌, ◌+◌, Bool, true, false, Some, None, refl, ap, sym, ◌∙◌, subst}
-use Rattle.std.specs.Prelude.{not, is_some, unwrap_or, Option}
+use Rattle.std.proofs.Common.{◌≡◌, ◌+◌, Bool, true, false, ap, sym, ◌∙◌, subst}
+use Rattle.std.specs.Prelude.{not, is_some, unwrap_or}
 use Rattle.std.specs.BTreeMap as map
 use Rattle.plain.specs.State.{one_if}
 use Rattle.message.specs.declared.Msg.TheVariants.{Punch}
 use Rattle.plain.specs.Serial.{effect}
 use Rattle.plain.specs.Server.{is_stripe, state_of, noted, by_file}
+use Rattle.plain.proofs.Removals.{is_none}
 use Rattle.plain.proofs.Writes.{AreCounts, replaced_counts, added_counts, taken_back}
 use Rattle.plain.proofs.server.Server.put_block.Goals as goal
 
 not_swap : (a b : Bool) → a ≡ not b → b ≡ not a
 not_swap a true e = ap not (sym e)
 not_swap a false e = ap not (sym e)
-
-is_none : {X : Type 0} (o : Option X) → is_some o ≡ false → o ≡ None
-is_none None e = refl
-is_none (Some x) e = cc
 
 pub returns-then-not-is_new-clause-counted : goal.returns-then-not-is_new-clause-counted
 returns-then-not-is_new-clause-counted c =
@@ -40,7 +37,7 @@ returns-in-Err-clause-unchanged c =
     let absent : is_some (x.blocks (c.args.a, c.args.v, c.args.f, c.args.b)) ≡ false = not_swap _ _ c.in_ok-is_new.ensures.new ∙ ap not c.if-not-is_new.false in
     c.clear_block.ensures.state
     ∙ ap (λ y. effect y (Punch c.args.a c.args.v c.args.f c.args.b)) (c.note_one_more.ensures.state ∙ c.in_ok-is_new.ensures.state)
-    ∙ taken_back x c.args.a c.args.v c.args.f c.args.b c.args.content.now (is_none _ absent)
+    ∙ taken_back x c.args.a c.args.v c.args.f c.args.b c.args.content.now (sym (is_none _ absent))
 
 pub returns-in-Err-clause-counted : goal.returns-in-Err-clause-counted
 returns-in-Err-clause-counted c =
