@@ -1,11 +1,11 @@
 -- The files of a volume as a number, back from the number whose bits they are.
-use Rattle.std.proofs.Common.{◌≡◌, ℕ, zero, suc, ◌+◌, ◌*◌, ◌%◌, ◌^◌, ◌<◌, ◌≤◌, false, ap, sym, ◌∙◌, arith, ⊎_elim, bit_and, bit_or, w64}
+use Rattle.std.proofs.Common.{◌≡◌, ℕ, zero, suc, ◌+◌, ◌*◌, ◌%◌, ◌^◌, ◌<◌, ◌≤◌, ap, sym, ◌∙◌, arith, ⊎_elim, bit_and, bit_or, w64}
 use Rattle.std.specs.Prelude.{◌==◌, ◌&&◌, ◌||◌, not, if◌then◌else◌}
 use Rattle.std.specs.Int.{bit_at, bit_not}
 use Rattle.std.proofs.lemmas.Bool.{eq-eqb, ne_eqb, cases_eq, cases_lt}
 use Rattle.std.proofs.lemmas.Nat.{mod-pow-add, one_shl, or_lt, and_le_l}
 use Rattle.std.proofs.Math.Nat.{mod-eq_of_lt}
-use Rattle.std.proofs.lemmas.Nat.Bits.{bit_at-lt, bit_at-zero, bit_at_above, bit_at_set_same, bit_at_set_other, bit_at_clear_same, bit_at_clear_other}
+use Rattle.std.proofs.lemmas.Nat.Bits.{bit_at-lt, bit_at_above, bit_at_set_same, bit_at_set_other, bit_at_clear_same, bit_at_clear_other}
 use Rattle.std.proofs.Math.Pow.{pow-lt}
 use Rattle.std.proofs.Math.Nat.{pow-le-pow_right}
 use Rattle.plain.specs.State.{sum_below}
@@ -79,9 +79,6 @@ pub without_bit_below : (k n f : ℕ) → n < 2 ^ k → without_bit n f < 2 ^ k
 without_bit_below k n f small =
     let left : without_bit n f ≤ n = and_le_l n (bit_not w64 (1 * 2 ^ f % 2 ^ 64)) in
     omega (arith, left, small)
-
-pub no_bits : (i : ℕ) → has_bit 0 i ≡ false
-no_bits i = ap (λ b. b == 1) (bit_at-zero i)
 
 -- a number of at most 64 bits
 pub few_bits : (k n : ℕ) → n < 2 ^ k → k ≤ 64 → n < 2 ^ 64

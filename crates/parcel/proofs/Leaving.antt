@@ -1,5 +1,5 @@
 -- What is lent or restored at a path leaves the state everywhere else.
-use Rattle.std.proofs.Common.{◌≡◌, ℕ, Bool, true, false, List, [], ◌∷◌, Option, refl, sym, ap, ◌∙◌}
+use Rattle.std.proofs.Common.{◌≡◌, Bool, true, false, [], ◌∷◌, Option, refl, ap, ◌∙◌}
 use Rattle.std.specs.Prelude.{◌&&◌, ◌==◌, None, if◌then◌else◌}
 use Rattle.std.proofs.lemmas.Bool.{cond-false, not-true, true≢false}
 use Rattle.affinity.specs.declared.sizes.Geometry.{Geometry}
@@ -26,7 +26,7 @@ put_elsewhere : (b : Bool) (p q : Path) (part below : Nodes) (o : Option Node) �
 put_elsewhere true p q part below o h step same = step h ∙ same
 put_elsewhere false p q part below o h step same = refl
 
-put_outside : (p : Path) (part old : Nodes) (q : Path) → begins p q ≡ false → put_at p part old q ≡ old q
+pub put_outside : (p : Path) (part old : Nodes) (q : Path) → begins p q ≡ false → put_at p part old q ≡ old q
 put_outside [] part old q h = absurd (true≢false h)
 put_outside (x ∷ p) part old [] h = refl
 put_outside (x ∷ p) part old (y ∷ q) h = put_elsewhere (x == y) p q part (λ r. old (y ∷ r)) (old (y ∷ q)) h (put_outside p part (λ r. old (y ∷ r)) q) refl

@@ -1,12 +1,12 @@
 -- From the levels to the tree: what was taken out was lent, and what was put back was restored.
-use Rattle.std.proofs.Common.{◌≡◌, ℕ, zero, suc, ◌<◌, Bool, true, false, List, [], ◌∷◌, ◌++◌, Option, refl, sym, ap, subst, ◌∙◌}
-use Rattle.std.specs.Prelude.{None, Some, is_some}
+use Rattle.std.proofs.Common.{◌≡◌, zero, suc, true, [], ◌∷◌, ◌++◌, refl, ap, ◌∙◌}
+use Rattle.std.specs.Prelude.{Some, is_some}
 use Rattle.std.proofs.lemmas.Bool.{cond-true, eq-eqb}
 use Rattle.affinity.specs.declared.sizes.Geometry.{Geometry}
 use Rattle.affinity.specs.Interval.{IsPath}
-use Rattle.affinity.specs.Path.{Path, are_related}
+use Rattle.affinity.specs.Path.{Path}
 use Rattle.parcel.specs.Fits.{Fits, IsKindOf}
-use Rattle.parcel.specs.Levels.{IsRootPath, IsRefused, IsTaken, IsPut, IsHandedBack}
+use Rattle.parcel.specs.Levels.{IsRootPath, IsRefused, IsTaken, IsPut}
 use Rattle.parcel.specs.Nodes.{Nodes, in_parcels, put_at, IsPutBack, IsSame}
 use Rattle.parcel.specs.Tree.{HasGap, IsLent, IsRestored, standing_at}
 use Rattle.parcel.specs.declared.parts.Parcels.{Parcels}

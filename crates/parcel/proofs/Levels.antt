@@ -1,19 +1,19 @@
 -- What a level's code does to one child, as a change of the level's nodes.
-use Rattle.std.proofs.Common.{◌≡◌, ℕ, zero, suc, ◌+◌, ◌<◌, true, false, List, [], ◌∷◌, ◌++◌, length, Option, refl, sym, ap, subst, ◌∙◌, arith}
-use Rattle.std.specs.Prelude.{None, Some, is_some, IfSome, IfNone, IfErr, OnOk, slice_index_or, slice_set, Result, Ok, Err}
-use Rattle.std.proofs.lemmas.List.{nil_from_length, length-set, get_or_read}
-use Rattle.affinity.specs.Path.{Path, are_related}
+use Rattle.std.proofs.Common.{◌≡◌, ℕ, zero, suc, ◌<◌, List, [], ◌∷◌, length, Option, refl, sym, ap, subst, ◌∙◌, arith}
+use Rattle.std.specs.Prelude.{None, Some, IfSome, IfNone, IfErr, OnOk, slice_index_or, Result, Ok, Err}
+use Rattle.std.proofs.lemmas.List.{nil_from_length, get_or_read}
+use Rattle.affinity.specs.Path.{Path}
 use Rattle.affinity.specs.declared.sizes.Geometry.{Geometry}
-use Rattle.parcel.specs.Fits.{EachFits, Fits, IsKindOf}
-use Rattle.parcel.specs.Levels.{IsLeafPath, IsRowPath, IsLogicalPath, IsVolumePath, IsRefused, IsTaken, IsPut, IsHandedBack}
-use Rattle.parcel.specs.Nodes.{Node, Nodes, in_child, in_row, in_volume, in_logical, in_label, in_parcels, IsSame, IsTakenOut, IsPutBack}
+use Rattle.parcel.specs.Fits.{Fits, IsKindOf}
+use Rattle.parcel.specs.Levels.{IsLeafPath, IsLogicalPath, IsVolumePath, IsRefused, IsHandedBack}
+use Rattle.parcel.specs.Nodes.{Node, Nodes, in_child, in_row, in_volume, in_logical, in_label, IsSame}
 use Rattle.parcel.specs.Tree.{IsOut}
 use Rattle.parcel.specs.declared.parts.Label.{Label}
 use Rattle.parcel.specs.declared.parts.Logical.{Logical}
 use Rattle.parcel.specs.declared.parts.Vol.{Vol}
 use Rattle.parcel.specs.declared.parts.Parcels.{Parcels}
 use Rattle.parcel.specs.declared.parts.Parcels.TheVariants as parcels
-use Rattle.parcel.proofs.Rows.{split, rest_of, each_at, each_set, related_below}
+use Rattle.parcel.proofs.Rows.{split, rest_of, related_below}
 
 -- ---- answers under a test of the result
 

@@ -4,6 +4,7 @@ pub mod Levels
 pub mod Shows
 pub mod Lending
 pub mod Leaving
+pub mod SerialRuns
 pub mod Starting
 pub mod Serving
 mod Worked

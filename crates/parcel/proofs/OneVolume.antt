@@ -1,5 +1,5 @@
 -- Steps in a state in which one volume alone has anything.
-use Rattle.std.proofs.Common.{◌≡◌, ℕ, Bool, true, false, List, Option, Some, None, refl, ap, sym, ◌∙◌}
+use Rattle.std.proofs.Common.{◌≡◌, ℕ, Bool, true, false, Option, Some, None, refl, sym, ◌∙◌}
 use Rattle.std.specs.Prelude.{◌&&◌, ◌||◌, ◌==◌, not, nat_lt, is_some, if◌then◌else◌}
 use Rattle.std.proofs.lemmas.Bool.{eq-eqb}
 use Rattle.affinity.specs.declared.sizes.Geometry.{Geometry}
@@ -15,7 +15,7 @@ use Rattle.message.specs.Messages.{is_in_range}
 use Rattle.plain.specs.State.{State, group_count}
 use Rattle.plain.specs.Serial.{refusal, effect, answer, outcome}
 use Rattle.parcel.specs.Run.{IsStep}
-use Rattle.parcel.specs.Steps.{unless, unless_closed, IsStepWithin}
+use Rattle.parcel.specs.Steps.{unless, unless_closed}
 use Rattle.parcel.specs.Volume.{Facts, facts_if, only}
 
 -- ---- a step, by its refusal

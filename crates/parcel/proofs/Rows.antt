@@ -1,6 +1,6 @@
 -- A row of children: what is known of one child is known of the row, at paths one number longer.
-use Rattle.std.proofs.Common.{◌≡◌, ℕ, zero, suc, ◌+◌, ◌<◌, Bool, true, false, List, [], ◌∷◌, ◌++◌, length, take, drop, Option, refl, sym, ap, subst, ◌∙◌, ⊎_elim, arith}
-use Rattle.std.specs.Prelude.{◌-◌, ◌||◌, ◌&&◌, ◌==◌, None, Some, is_some, IfSome, slice_index_or, slice_set, if◌then◌else◌}
+use Rattle.std.proofs.Common.{◌≡◌, ℕ, zero, suc, ◌+◌, ◌<◌, Bool, true, false, List, [], ◌∷◌, length, take, drop, Option, refl, sym, ap, subst, ◌∙◌, ⊎_elim, arith}
+use Rattle.std.specs.Prelude.{◌-◌, ◌&&◌, ◌==◌, None, is_some, IfSome, slice_index_or, slice_set, if◌then◌else◌}
 use Rattle.std.proofs.lemmas.Bool.{and_parts, and_from, or_cases, or_left, or_right, eqb-true, eq-eqb, true≢false}
 use Rattle.std.proofs.lemmas.List.{get_or-set_same, get_or-set_other}
 use Rattle.std.proofs.Math.Seq.{take-length}
@@ -22,6 +22,12 @@ pub each_set : {X : Type 0} (Fits : ℕ → X → Type 0) (i k : ℕ) (xs : List
 each_set Fits i k [] y h here = h
 each_set Fits i zero (x ∷ xs) y h here = (subst (λ n. IfSome y (Fits n)) (omega arith) here, h.1)
 each_set Fits i (suc k) (x ∷ xs) y h here = (h.0, each_set Fits (suc i) k xs y h.1 (subst (λ n. IfSome y (Fits n)) (omega arith) here))
+
+-- what lies at a place of a row fits there
+pub fits_in_place : {X : Type 0} (Fits : ℕ → X → Type 0) (row : List (Option X)) → EachFits Fits 0 row → (k : ℕ) (place : Option X) → slice_index_or row k None ≡ place → IfSome place (Fits k)
+fits_in_place {X} Fits row h k place at =
+    let same : 0 + k ≡ k = omega arith in
+    subst (λ (o : Option X). IfSome o (Fits k)) at (subst (λ (n : ℕ). IfSome (slice_index_or row k None) (Fits n)) same (each_at Fits 0 k row h))
 
 -- ---- related paths
 

@@ -1,17 +1,15 @@
 -- What parcels show is what the nodes below their path hold, and the standing what the nodes above hold.
-use Rattle.std.proofs.Common.{◌≡◌, ℕ, zero, suc, ◌+◌, ◌<◌, Bool, true, false, List, [], ◌∷◌, ◌++◌, Option, refl, sym, ap, subst, ◌∙◌, arith}
-use Rattle.std.specs.Prelude.{◌&&◌, ◌||◌, ◌==◌, None, Some, slice_index_or}
+use Rattle.std.proofs.Common.{◌≡◌, ℕ, zero, suc, Bool, true, false, [], ◌∷◌, ◌++◌, Option, refl, sym, ap, ◌∙◌}
+use Rattle.std.specs.Prelude.{◌&&◌, ◌==◌, None, Some, slice_index_or}
 use Rattle.std.proofs.lemmas.Bool.{and_parts, and_from, eqb-true, eq-eqb, true≢false}
 use Rattle.std.proofs.lemmas.Nat.Bits.{bit_at-zero}
 use Rattle.affinity.specs.declared.sizes.Geometry.{Geometry}
 use Rattle.affinity.specs.Geometry.{group}
-use Rattle.affinity.specs.Path.{Path, begins, are_related, volume, logical, stripe, label}
-use Rattle.message.specs.declared.Block.{Block}
-use Rattle.plain.specs.State.{State}
+use Rattle.affinity.specs.Path.{Path, begins, are_related}
 use Rattle.plain.specs.Shares.{AgreeOn}
-use Rattle.parcel.specs.Stripe.{StripePart, content_at}
-use Rattle.parcel.specs.Volume.{Facts, nothing, facts_if, state_by, only}
-use Rattle.parcel.specs.Shown.{has_bit, blocks_in, blocks_of, by_stripe, by_logical, by_label, files_in, blocks_below, label_in, by_volume, by_child, by_aggregate, by_root, shown}
+use Rattle.parcel.specs.Stripe.{StripePart}
+use Rattle.parcel.specs.Volume.{Facts, facts_if, state_by, only}
+use Rattle.parcel.specs.Shown.{has_bit, blocks_in, by_stripe, by_logical, by_label, files_in, blocks_below, label_in, by_volume, by_child, by_aggregate, shown}
 use Rattle.parcel.specs.Fits.{IsKindOf}
 use Rattle.parcel.specs.Nodes.{Node, Nodes, in_child, in_stripe, in_label, in_logical, in_volume, in_aggregate, in_root, in_parcels, marks_made, marks_sealed, files_have, files_bits, slots_hold, text_of, state_of}
 use Rattle.parcel.specs.Nodes.Node.{Inner, Marks, Files, Slots, Text}
@@ -21,7 +19,6 @@ use Rattle.parcel.specs.declared.parts.Label.{Label}
 use Rattle.parcel.specs.declared.parts.Logical.{Logical}
 use Rattle.parcel.specs.declared.parts.Vol.{Vol}
 use Rattle.parcel.specs.declared.parts.Aggr.{Aggr}
-use Rattle.parcel.specs.declared.parts.Root.{Root}
 use Rattle.parcel.specs.declared.parts.Parcels.{Parcels}
 use Rattle.parcel.specs.declared.parts.Parcels.TheVariants as parcels
 use Rattle.parcel.specs.declared.parts.Standing.{Standing}

@@ -1,14 +1,12 @@
 -- Where nothing is made and nothing is out, all fits, all is whole, and the state is empty.
-use Rattle.std.proofs.Common.{◌≡◌, ℕ, zero, suc, ◌<◌, ◌^◌, Bool, true, false, List, [], ◌∷◌, ◌++◌, length, Option, refl, sym, ap, subst, ◌∙◌, arith}
+use Rattle.std.proofs.Common.{◌≡◌, ℕ, zero, suc, ◌<◌, ◌^◌, false, List, [], ◌∷◌, Option, refl, sym, ap, subst, ◌∙◌}
 use Rattle.std.specs.Prelude.{None, Some, is_some, IfSome, slice_index_or}
 use Rattle.std.specs.List.{AllByRecursion}
 use Rattle.std.proofs.lemmas.Bool.{true≢false}
 use Rattle.std.proofs.lemmas.Nat.{pow_pos}
 use Rattle.affinity.specs.declared.sizes.Geometry.{Geometry}
 use Rattle.affinity.specs.Geometry.{group}
-use Rattle.affinity.specs.Interval.{IsPath}
-use Rattle.affinity.specs.Path.{Path}
-use Rattle.plain.specs.State.{State, empty}
+use Rattle.plain.specs.State.{empty}
 use Rattle.parcel.specs.Stripe.{StripePart, content_at}
 use Rattle.parcel.specs.Shown.{has_bit}
 use Rattle.parcel.specs.Fits.{EachFits, FitsStripe, FitsLogical, FitsVolume, FitsAggregate, FitsRoot, IsWholeChild, IsWholeLogical, IsWholeVolume, IsWholeAggregate, IsWholeRoot}
@@ -25,10 +23,6 @@ use Rattle.parcel.proofs.Shows.{has_none}
 use Rattle.parcel.proofs.Whole.{root_all_in}
 
 -- ---- rows in which each is new
-
-pub all_push : {X : Type 0} (P : X → Type 0) (xs : List X) (x : X) → AllByRecursion P xs → P x → AllByRecursion P (xs ++ x ∷ [])
-all_push P [] x h k = (k, tt)
-all_push P (y ∷ ys) x h k = (h.0, all_push P ys x h.1 k)
 
 each_fits : {X : Type 0} (P : X → Type 0) (Fits : ℕ → X → Type 0) → ((i : ℕ) (x : X) → P x → Fits i x) → (i : ℕ) (xs : List (Option X)) → AllByRecursion (IsWholeChild P) xs → EachFits Fits i xs
 each_fits P Fits f i [] h = tt

@@ -7,7 +7,7 @@ use Rattle.message.specs.declared.Block.{Block}
 use Rattle.arena.specs.Lists.{times, without, numbers_from}
 use Rattle.arena.proofs.Parts.{times-tail, value-same, value-other, held-within, held-not_free, parted-restore}
 use Rattle.std.proofs.lemmas.List.{length-replicate, length-set, take-map, drop-map, map-append}
-use Rattle.arena.proofs.Times.{times-append, times-cons_same, times-cons_is, times-cons_other}
+use Rattle.arena.proofs.Times.{length-numbers, times-append, times-cons_same, times-cons_is, times-cons_other}
 use Rattle.arena.specs.Row.{Row, value_at, holds, IsParted, with_value, slot_from, put_answer, put_into, after_put, after_take, empty_row}
 use Rattle.parcel.specs.declared.stripe.Place.{Place}
 use Rattle.parcel.specs.Stripe.{Entry, StripePart, content_at, ComesBefore, IsAscending}
@@ -482,10 +482,6 @@ taken-next before now index from end k d stored order taken low parted =
     low (place-read (run_of index from end) k d low) parted
 
 -- ---- the start
-
-length-numbers : (first count : ℕ) → length (numbers_from first count) ≡ count
-length-numbers first zero = refl
-length-numbers first (suc count) = ap (λ n. suc n) (length-numbers (suc first) count)
 
 pub stored-empty : (quota chains : ℕ) → quota ≤ 64 → IsParted {T = Block} (empty_row quota chains) → IsStored (empty_row quota chains) []
 stored-empty quota chains small parted =

@@ -1,15 +1,14 @@
 -- A row of stripes, each of which becomes another.
-use Rattle.std.proofs.Common.{◌≡◌, ℕ, zero, suc, ◌+◌, ◌<◌, ◌≤◌, Bool, true, false, List, [], ◌∷◌, Some, None, refl, ap, sym, ◌∙◌, length, slice_index_or, arith}
+use Rattle.std.proofs.Common.{◌≡◌, ℕ, suc, ◌<◌, Bool, true, false, List, [], ◌∷◌, Some, None, refl, ap, sym, ◌∙◌, length, slice_index_or, arith}
 use Rattle.std.specs.Prelude.{◌==◌, if◌then◌else◌, Option, is_some, IfSome}
 use Rattle.std.specs.List.{AllByRecursion}
 use Rattle.std.proofs.lemmas.Bool.{true≢false}
 use Rattle.affinity.specs.declared.sizes.Geometry.{Geometry}
-use Rattle.affinity.specs.Geometry.{group}
 use Rattle.message.specs.declared.Block.{Block}
 use Rattle.parcel.specs.Dropping.{IsWithoutFile, IsEmptied}
 use Rattle.parcel.specs.Fits.{FitsStripe, EachFits, IsWholeChild}
 use Rattle.parcel.specs.Shown.{blocks_in}
-use Rattle.parcel.specs.Stripe.{StripePart, NowHolds, content_at}
+use Rattle.parcel.specs.Stripe.{StripePart, content_at}
 
 -- ---- rows, pair by pair
 
@@ -39,17 +38,6 @@ module _ {X : Type 0} (R : Option X → Option X → Type 0) where
   still_whole W keeps [] (y ∷ ys) p h = absurd p
   still_whole W keeps (x ∷ xs) [] p h = absurd p
   still_whole W keeps (x ∷ xs) (y ∷ ys) p h = (keeps x y p.0 h.0, still_whole W keeps xs ys p.1 h.1)
-
--- what each of a row fits, one of it fits
-pub fits_at : {X : Type 0} (Fits : ℕ → X → Type 0) (i : ℕ) (xs : List (Option X)) → EachFits Fits i xs → (s : ℕ) → s < length xs → IfSome (slice_index_or xs s None) (Fits (i + s))
-fits_at Fits i [] h s lt = absurd (omega (arith, lt))
-fits_at Fits i (x ∷ xs) h zero lt = let e : i + 0 ≡ i = omega arith in rw e h.0
-fits_at Fits i (x ∷ xs) h (suc s) lt = let e : i + suc s ≡ suc i + s = omega arith in rw e (fits_at Fits (suc i) xs h.1 s (omega (arith, lt)))
-
-pub whole_at : {X : Type 0} (W : X → Type 0) (xs : List (Option X)) → AllByRecursion (IsWholeChild W) xs → (s : ℕ) → s < length xs → IsWholeChild W (slice_index_or xs s None)
-whole_at W [] h s lt = absurd (omega (arith, lt))
-whole_at W (x ∷ xs) h zero lt = h.0
-whole_at W (x ∷ xs) h (suc s) lt = whole_at W xs h.1 s (omega (arith, lt))
 
 -- ---- stripes without a file
 

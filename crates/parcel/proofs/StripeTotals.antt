@@ -1,19 +1,16 @@
 -- The blocks of a volume, counted by its stripes.
-use Rattle.std.proofs.Common.{◌≡◌, ℕ, ◌+◌, ◌<◌, ◌≤◌, false, List, Some, None, refl, ap, sym, ◌∙◌, subst, length, slice_index_or, arith}
+use Rattle.std.proofs.Common.{◌≡◌, ℕ, ◌≤◌, false, List, Some, None, ap, sym, ◌∙◌, slice_index_or, arith}
 use Rattle.std.specs.Prelude.{Option, IfSome}
 use Rattle.affinity.specs.declared.sizes.Geometry.{Geometry}
-use Rattle.affinity.specs.Geometry.{group}
 use Rattle.message.specs.declared.Block.{Block}
-use Rattle.plain.specs.State.{State, sum_below, one_if, group_count, block_count}
+use Rattle.plain.specs.State.{State, group_count}
 use Rattle.plain.proofs.Sums.{sum_same, sum_zero}
-use Rattle.parcel.specs.Fits.{FitsStripe, EachFits}
+use Rattle.parcel.specs.Fits.{FitsStripe}
 use Rattle.parcel.specs.Shown.{blocks_in, blocks_of}
 use Rattle.parcel.specs.Stripe.{StripePart, IsKept}
 use Rattle.parcel.specs.Totals.{entry_count, file_total, block_total, totals_of, sum_totals}
-use Rattle.parcel.specs.declared.running.totals.Totals.{Totals}
-use Rattle.parcel.specs.Volume.{Facts, nothing, state_by}
+use Rattle.parcel.specs.Volume.{nothing, state_by}
 use Rattle.parcel.proofs.GroupCounts.{count_is_length, count_is_none}
-use Rattle.parcel.proofs.StripeRows.{fits_at}
 
 -- a state in which each volume has these blocks
 abbrev pub holding : (ℕ → ℕ → Option Block) → State
@@ -32,12 +29,6 @@ few_entries g s (Some p) kept fits = let most = g.quota_range.1 in omega (arith,
 pub quota_of : (g : Geometry) (s : ℕ) (place : Option StripePart) → IfSome place (FitsStripe g s) → IfSome place (λ p. p.quota ≤ 64)
 quota_of g s None fits = fits
 quota_of g s (Some p) fits = let most = g.quota_range.1 in omega (arith, fits.quota, most)
-
--- what lies at a place of the row fits there
-pub stripe_at : (g : Geometry) (row : List (Option StripePart)) → EachFits (FitsStripe g) 0 row → (s : ℕ) → s < length row → (place : Option StripePart) → slice_index_or row s None ≡ place → IfSome place (FitsStripe g s)
-stripe_at g row fits s lt place at =
-    let same : 0 + s ≡ s = omega arith in
-    subst (λ (o : Option StripePart). IfSome o (FitsStripe g s)) at (subst (λ (k : ℕ). IfSome (slice_index_or row s None) (FitsStripe g k)) same (fits_at (FitsStripe g) 0 row fits s lt))
 
 -- where there is none, none is counted
 pub no_files : (g : Geometry) → file_total g (λ f. false) ≡ 0

@@ -1,15 +1,13 @@
 -- Totals of volumes, added up.
-use Rattle.std.proofs.Common.{◌≡◌, ℕ, ◌+◌, ◌*◌, ◌<◌, ◌≤◌, List, Some, None, refl, ap, sym, ◌∙◌, subst, length, slice_index_or, add-one, arith}
-use Rattle.std.specs.Prelude.{Option, IfSome, is_some}
+use Rattle.std.proofs.Common.{◌≡◌, ℕ, ◌+◌, ◌*◌, ◌≤◌, ap, sym, ◌∙◌, add-one, arith}
+use Rattle.std.specs.Prelude.{is_some}
 use Rattle.std.proofs.lemmas.Nat.{mul-le}
 use Rattle.affinity.specs.declared.sizes.Geometry.{Geometry}
-use Rattle.plain.specs.State.{sum_below, count_below, one_if}
+use Rattle.plain.specs.State.{sum_below, count_below}
 use Rattle.plain.proofs.Sums.{one_if-le, count_below-le, sum_below-le_times}
-use Rattle.parcel.specs.Fits.{EachFits}
 use Rattle.parcel.specs.Totals.{totals_of, sum_totals}
 use Rattle.parcel.specs.Volume.{Facts}
 use Rattle.parcel.specs.declared.running.totals.Totals.{Totals}
-use Rattle.parcel.proofs.StripeRows.{fits_at}
 
 -- a sum, one number further
 pub sum_step : (n : ℕ) (h : ℕ → ℕ) → sum_below (n + 1) h ≡ sum_below n h + h n
@@ -44,12 +42,6 @@ sum_totals_step n each t u r before here added =
     added
     ∙ (λ i. record { volumes = (before i).volumes + (here i).volumes; files = (before i).files + (here i).files; blocks = (before i).blocks + (here i).blocks })
     ∙ (λ i. record { volumes = sym (sum_step n (λ k. (each k).volumes)) i; files = sym (sum_step n (λ k. (each k).files)) i; blocks = sym (sum_step n (λ k. (each k).blocks)) i })
-
--- what lies at a place of a row fits there
-pub fits_in_place : {X : Type 0} (Fits : ℕ → X → Type 0) (row : List (Option X)) → EachFits Fits 0 row → (s : ℕ) → s < length row → (place : Option X) → slice_index_or row s None ≡ place → IfSome place (Fits s)
-fits_in_place {X} Fits row fits s lt place at =
-    let same : 0 + s ≡ s = omega arith in
-    subst (λ (o : Option X). IfSome o (Fits s)) at (subst (λ (k : ℕ). IfSome (slice_index_or row s None) (Fits k)) same (fits_at Fits 0 row fits s lt))
 
 pub few_of_aggregates : (g : Geometry) (n : ℕ) (facts : ℕ → ℕ → Facts) → IsFew (n * 64) (sum_totals n (λ a. sum_totals g.volumes (λ v. totals_of g (facts a v))))
 few_of_aggregates g n facts = record {

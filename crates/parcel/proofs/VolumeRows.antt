@@ -1,15 +1,13 @@
 -- One volume of an aggregate changes, and the others stay.
-use Rattle.std.proofs.Common.{◌≡◌, ℕ, zero, suc, ◌+◌, ◌<◌, Bool, true, false, List, [], ◌∷◌, Some, None, refl, ap, sym, ◌∙◌, length, slice_index_or, slice_set, ⊎_elim, arith}
-use Rattle.std.specs.Prelude.{◌&&◌, ◌||◌, ◌==◌, not, if◌then◌else◌, Option, IfSome}
+use Rattle.std.proofs.Common.{◌≡◌, ℕ, ◌<◌, Bool, true, false, List, Some, None, refl, ap, sym, ◌∙◌, length, slice_index_or, slice_set, ⊎_elim}
+use Rattle.std.specs.Prelude.{◌&&◌, ◌||◌, ◌==◌, not, if◌then◌else◌, Option}
 use Rattle.std.proofs.lemmas.Bool.{eq-eqb, ne_eqb, cases_eq}
 use Rattle.std.proofs.lemmas.List.{get_or-set_same, get_or-set_other}
 use Rattle.affinity.specs.declared.sizes.Geometry.{Geometry}
-use Rattle.message.specs.declared.Block.{Block}
 use Rattle.message.specs.declared.Msg.TheVariants.{MakeVol, DropVol}
 use Rattle.message.specs.declared.Refusal.TheVariants.{Range, Exists}
 use Rattle.message.specs.Messages.{is_in_range}
 use Rattle.plain.specs.Serial.{refusal, effect, no_label}
-use Rattle.parcel.specs.Fits.{EachFits}
 use Rattle.parcel.specs.Shown.{by_aggregate, by_child, by_volume}
 use Rattle.parcel.specs.Steps.{unless, unless_closed, at_aggregate}
 use Rattle.parcel.specs.Totals.{with_made}
@@ -18,11 +16,6 @@ use Rattle.parcel.specs.declared.parts.Aggr.{Aggr}
 use Rattle.parcel.specs.declared.parts.Vol.{Vol}
 
 -- ---- the row
-
-pub set_fits : {X : Type 0} (P : X → Type 0) (i : ℕ) (xs : List (Option X)) (v : ℕ) (y : Option X) → EachFits (λ k. P) i xs → IfSome y P → EachFits (λ k. P) i (slice_set xs v y)
-set_fits P i [] v y h fits = tt
-set_fits P i (x ∷ xs) zero y h fits = (fits, h.1)
-set_fits P i (x ∷ xs) (suc v) y h fits = (h.0, set_fits P (suc i) xs v y h.1 fits)
 
 abbrev pub changed_if : (Facts → Facts) → Bool → Facts → Facts
 changed_if change true h = change h

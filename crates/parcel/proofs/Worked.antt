@@ -1,11 +1,11 @@
 -- Worked examples: one volume with one file, of whose two stripes the first is out.
-use Rattle.std.proofs.Common.{◌≡◌, ℕ, zero, suc, ◌<◌, Bool, true, false, List, [], ◌∷◌, Option, refl, sym, ap, arith}
+use Rattle.std.proofs.Common.{◌≡◌, zero, suc, true, false, List, [], ◌∷◌, Option, refl, sym, ap, arith}
 use Rattle.std.specs.Prelude.{None, Some, is_some}
 use Rattle.std.proofs.lemmas.Bool.{true≢false}
 use Rattle.affinity.specs.Geometry.{small}
 use Rattle.affinity.specs.Interval.{IsPath}
 use Rattle.affinity.specs.Path.{Path, are_related}
-use Rattle.parcel.specs.Nodes.{Node, Nodes, in_row, put_at, IsTakenOut}
+use Rattle.parcel.specs.Nodes.{Node, Nodes, in_row, put_at}
 use Rattle.parcel.specs.Nodes.Node.{Inner, Marks, Files, Slots, Text}
 use Rattle.parcel.specs.Stripe.{StripePart}
 use Rattle.parcel.specs.Tree.{HasGap, IsOut, standing_at}

@@ -1,9 +1,11 @@
--- What a run is to any state of which its job had a part.
+-- What a run is to any state of which its job had a part, and to the tree that lent it.
 use Rattle.std.specs.Prelude.{◌≡◌}
 use Rattle.message.specs.Messages.{place}
 use Rattle.plain.specs.State.{State}
 use Rattle.plain.specs.Serial.{reply_to, after}
+use Rattle.parcel.specs.Nodes.{Nodes}
 use Rattle.parcel.specs.Run.{Asked, IsRun, Shows}
+use Rattle.parcel.specs.Tree.{IsLent, IsRestored}
 use Rattle.parcel.specs.declared.job.Done.{Done}
 
 -- The job was lent from a state: its parcels and standing show what lies there at the message's place, below it and above it.
@@ -14,3 +16,9 @@ IsLentOf job x = Shows job.geometry (place job.geometry job.message) job.standin
 pub record IsSerialStepOf (job : Asked) (done : Done) (x : State) : Type 0 where
   pub reply : done.reply ≡ reply_to job.geometry x job.message
   pub shows : Shows job.geometry (place job.geometry job.message) job.standing done.parcels (after job.geometry x job.message)
+
+-- The job was made of what a tree lent at the message's place, it was run, and what it left was put back there.
+pub record IsServed (job : Asked) (done : Done) (old lent new : Nodes) : Type 0 where
+  pub taken : IsLent job.geometry (place job.geometry job.message) job.standing job.parcels old lent
+  pub ran : IsRun job done
+  pub put : IsRestored job.geometry (place job.geometry job.message) done.parcels lent new

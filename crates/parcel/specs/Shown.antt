@@ -1,10 +1,10 @@
 -- The state that parcels show, together with what stands above them. Of what is neither there nor above, they show nothing.
-use Rattle.std.specs.Prelude.{ℕ, zero, suc, Bool, false, ◌==◌, List, [], ◌∷◌, slice_index_or, Option, Some, None}
-use Rattle.std.specs.Int.{bit_at}
+use Rattle.std.specs.Prelude.{ℕ, Bool, false, ◌==◌, List, [], ◌∷◌, slice_index_or, Option, Some, None}
 use Rattle.affinity.specs.declared.sizes.Geometry.{Geometry}
 use Rattle.affinity.specs.Geometry.{group}
 use Rattle.affinity.specs.Path.{Path}
 use Rattle.message.specs.declared.Block.{Block}
+pub use Rattle.message.specs.Replies.{has_file as has_bit}
 use Rattle.plain.specs.State.{State}
 use Rattle.parcel.specs.Stripe.{StripePart, content_at}
 use Rattle.parcel.specs.Volume.{Facts, nothing, facts_if, state_by, only}
@@ -16,10 +16,6 @@ use Rattle.parcel.specs.declared.parts.Root.{Root}
 use Rattle.parcel.specs.declared.parts.Parcels.{Parcels}
 use Rattle.parcel.specs.declared.parts.Parcels.TheVariants as parcels
 use Rattle.parcel.specs.declared.parts.Standing.{Standing}
-
--- file f is bit f of the number
-abbrev pub has_bit : ℕ → ℕ → Bool
-has_bit bits f = bit_at bits f == 1
 
 -- the blocks of a stripe, where it is in
 abbrev pub blocks_in : Option StripePart → ℕ → ℕ → Option Block

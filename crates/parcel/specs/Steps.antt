@@ -1,5 +1,5 @@
 -- A message that speaks of one volume: its tests, and its step on what the volume has.
-use Rattle.std.specs.Prelude.{◌≡◌, ℕ, Bool, true, false, not, if◌then◌else◌, ◌==◌, Option, Some, None}
+use Rattle.std.specs.Prelude.{◌≡◌, ℕ, Bool, true, not, if◌then◌else◌, ◌==◌, Option, Some}
 use Rattle.affinity.specs.declared.sizes.Geometry.{Geometry}
 use Rattle.message.specs.declared.Msg.{Msg}
 use Rattle.message.specs.declared.Refusal.{Refusal}

@@ -1,11 +1,11 @@
 -- The tree of a server's parcels, some of which may be out, and what it is to lend and to restore.
-use Rattle.std.specs.Prelude.{◌≡◌, ◌↔◌, ℕ, zero, suc, Bool, true, false, List, [], ◌∷◌, ◌++◌, Option, Some, None, is_some, IfSome}
+use Rattle.std.specs.Prelude.{◌≡◌, zero, true, false, [], ◌∷◌, ◌++◌, Option, None, is_some, IfSome}
 use Rattle.affinity.specs.declared.sizes.Geometry.{Geometry}
 use Rattle.affinity.specs.Interval.{IsPath}
 use Rattle.affinity.specs.Path.{Path, begins, are_related, volume, logical}
 use Rattle.plain.specs.State.{State}
 use Rattle.parcel.specs.Fits.{Fits, FitsRoot, IsKindOf}
-use Rattle.parcel.specs.Nodes.{Nodes, in_child, in_root, in_parcels, marks_made, marks_sealed, files_bits, state_of, IsTakenOut, IsPutBack, IsSame}
+use Rattle.parcel.specs.Nodes.{Nodes, in_child, in_root, in_parcels, marks_made, marks_sealed, files_bits, state_of, IsTakenOut, IsPutBack}
 use Rattle.plain.specs.Shares.{AgreeOn}
 use Rattle.parcel.specs.Run.{Shows}
 use Rattle.parcel.specs.Shown.{shown}

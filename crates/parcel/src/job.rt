@@ -76,17 +76,17 @@ impl Done {
     }
 
     /// The message.
-    pub fn msg(&self) -> Msg
-        ensures { result ≡ self.now.message }
+    pub fn msg(&self) -> &Msg
+        ensures { result.now ≡ self.now.message }
     {
-        self.message
+        &self.message
     }
 
     /// What the message is answered.
-    pub fn reply(&self) -> Reply
-        ensures { result ≡ self.now.reply }
+    pub fn reply(&self) -> &Reply
+        ensures { result.now ≡ self.now.reply }
     {
-        self.reply
+        &self.reply
     }
 
     /// The parcels on which it ran, as it left them.
@@ -125,9 +125,9 @@ fn run_on(parcels: &mut Parcels, g: &Geometry, standing: Standing, message: &Msg
     ensures suits { Suits g.now message.now parcels.new }
 {
     match parcels {
-        Parcels::Root(root) => run_at_root(root, g, standing, message),
-        Parcels::Aggr(aggregate) => run_at_aggregate(aggregate, g, standing, message),
-        Parcels::Vol(volume) => run_at_volume(volume, g, standing, message),
+        Parcels::Root(root) => run_at_root(root, g, message),
+        Parcels::Aggr(aggregate) => run_at_aggregate(aggregate, g, message),
+        Parcels::Vol(volume) => run_at_volume(volume, g, message),
         Parcels::Logical(logical) => run_at_logical(logical, g, standing, message),
         Parcels::Stripe(stripe) => run_at_stripe(stripe, g, standing, message),
         Parcels::Label(label) => run_at_label(label, g, standing, message),

@@ -12,9 +12,10 @@ ghost use Rattle.parcel.specs.Steps.{at_aggregate};
 ghost use Rattle.parcel.specs.Totals.{with_made};
 ghost use Rattle.parcel.specs.Volume.{nothing};
 ghost use Rattle.parcel.specs.declared.parts.Parcels.{Parcels};
+ghost use Rattle.parcel.specs.declared.parts.Standing.{Standing};
 
 use super::refusals::change_refusal;
-use crate::{Aggr, Label, Logical, Standing, StripeParcel, Vol};
+use crate::{Aggr, Label, Logical, StripeParcel, Vol};
 use affinity::Geometry;
 use message::{Msg, Refusal, Reply};
 
@@ -128,14 +129,9 @@ fn drop_volume(aggregate: &mut Aggr, g: &Geometry, v: u16) -> Reply
 }
 
 /// Runs a message at an aggregate. It sees nothing of what lies above.
-pub(crate) fn run_at_aggregate(
-    aggregate: &mut Aggr,
-    g: &Geometry,
-    standing: Standing,
-    message: &Msg,
-) -> Reply
+pub(crate) fn run_at_aggregate(aggregate: &mut Aggr, g: &Geometry, message: &Msg) -> Reply
     requires { Suits g.now message.now (Parcels.Aggr aggregate.old) }
-    ensures step { IsStep g.now (shown g.now (place g.now message.now) standing (Parcels.Aggr aggregate.old)) message.now result (shown g.now (place g.now message.now) standing (Parcels.Aggr aggregate.new)) }
+    ensures step { (t : Standing) → IsStep g.now (shown g.now (place g.now message.now) t (Parcels.Aggr aggregate.old)) message.now result (shown g.now (place g.now message.now) t (Parcels.Aggr aggregate.new)) }
     ensures suits { Suits g.now message.now (Parcels.Aggr aggregate.new) }
 {
     match message {

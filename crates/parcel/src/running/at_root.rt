@@ -8,9 +8,10 @@ ghost use Rattle.parcel.specs.Run.{IsStep};
 ghost use Rattle.parcel.specs.Shown.{by_root, shown};
 ghost use Rattle.parcel.specs.Volume.{state_by};
 ghost use Rattle.parcel.specs.declared.parts.Parcels.{Parcels};
+ghost use Rattle.parcel.specs.declared.parts.Standing.{Standing};
 
 use super::totals::root_totals;
-use crate::{Root, Standing};
+use crate::Root;
 use affinity::Geometry;
 use message::{Msg, Reply};
 
@@ -28,9 +29,9 @@ fn summary(root: &Root, g: &Geometry) -> Reply
 }
 
 /// Runs a message at the whole server. There is nothing above it.
-pub(crate) fn run_at_root(root: &mut Root, g: &Geometry, standing: Standing, message: &Msg) -> Reply
+pub(crate) fn run_at_root(root: &mut Root, g: &Geometry, message: &Msg) -> Reply
     requires { Suits g.now message.now (Parcels.Root root.old) }
-    ensures step { IsStep g.now (shown g.now (place g.now message.now) standing (Parcels.Root root.old)) message.now result (shown g.now (place g.now message.now) standing (Parcels.Root root.new)) }
+    ensures step { (t : Standing) → IsStep g.now (shown g.now (place g.now message.now) t (Parcels.Root root.old)) message.now result (shown g.now (place g.now message.now) t (Parcels.Root root.new)) }
     ensures suits { Suits g.now message.now (Parcels.Root root.new) }
 {
     match message {

@@ -1,6 +1,7 @@
 //! Messages at a stripe: they write, remove and read blocks.
 
 ghost use Rattle.std.specs.Prelude.{◌≡◌, ℕ, ◌<◌, ◌||◌, not, is_some, length, nat_lt, None};
+ghost use Rattle.affinity.specs.declared.sizes.Geometry.{Geometry};
 ghost use Rattle.affinity.specs.Geometry.{group};
 ghost use Rattle.message.specs.declared.Msg.{Msg};
 ghost use Rattle.message.specs.declared.Refusal.TheVariants.{Volume, Sealed, File, Space};
@@ -63,11 +64,10 @@ fn write(
 }
 
 // Removes a block from a file.
-fn punch(stripe: &mut StripeParcel, g: &Geometry, standing: Standing, f: u16, b: u16) -> Reply
-    requires file { f < g.now.files }
-    requires fits { FitsStripe g.now (group g.now f b) stripe.old }
-    ensures step { IsStepWithin g.now (λ a v. Msg.Punch a v f b) (by_stripe standing stripe.old) result (by_stripe standing stripe.new) }
-    ensures fits { FitsStripe g.now (group g.now f b) stripe.new }
+fn punch(stripe: &mut StripeParcel, standing: Standing, f: u16, b: u16) -> Reply
+    requires { f < 64 }
+    ensures step { (g : Geometry) → IsStepWithin g (λ a v. Msg.Punch a v f b) (by_stripe standing stripe.old) result (by_stripe standing stripe.new) }
+    ensures fits { (g : Geometry) → FitsStripe g (group g f b) stripe.old → FitsStripe g (group g f b) stripe.new }
 {
     if let Some(why) = file_change_refusal(standing.made, standing.sealed, standing.files, f) {
         return Reply::Refused(why);
@@ -77,9 +77,9 @@ fn punch(stripe: &mut StripeParcel, g: &Geometry, standing: Standing, f: u16, b:
 }
 
 // The block of a file.
-fn read(stripe: &StripeParcel, g: &Geometry, standing: Standing, f: u16, b: u16) -> Reply
-    requires file { f < g.now.files }
-    ensures { IsStepWithin g.now (λ a v. Msg.Read a v f b) (by_stripe standing stripe.now) result (by_stripe standing stripe.now) }
+fn read(stripe: &StripeParcel, standing: Standing, f: u16, b: u16) -> Reply
+    requires { f < 64 }
+    ensures { (g : Geometry) → IsStepWithin g (λ a v. Msg.Read a v f b) (by_stripe standing stripe.now) result (by_stripe standing stripe.now) }
 {
     if let Some(why) = read_refusal(standing.made, standing.files, f) {
         return Reply::Refused(why);
@@ -103,8 +103,8 @@ pub(crate) fn run_at_stripe(
 {
     match message {
         Msg::Write(_, _, f, b, content) => write(stripe, g, standing, *f, *b, content),
-        Msg::Punch(_, _, f, b) => punch(stripe, g, standing, *f, *b),
-        Msg::Read(_, _, f, b) => read(stripe, g, standing, *f, *b),
+        Msg::Punch(_, _, f, b) => punch(stripe, standing, *f, *b),
+        Msg::Read(_, _, f, b) => read(stripe, standing, *f, *b),
         _ => unreachable!(),
     }
 }

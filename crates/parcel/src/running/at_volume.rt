@@ -1,6 +1,7 @@
 //! Messages at a volume: they seal and unseal it, and ask how much it holds.
 
 ghost use Rattle.std.specs.Prelude.{◌≡◌};
+ghost use Rattle.affinity.specs.declared.sizes.Geometry.{Geometry};
 ghost use Rattle.message.specs.declared.Msg.{Msg};
 ghost use Rattle.message.specs.Messages.{place};
 ghost use Rattle.parcel.specs.Fits.{FitsVolume, Suits};
@@ -8,16 +9,17 @@ ghost use Rattle.parcel.specs.Run.{IsStep};
 ghost use Rattle.parcel.specs.Shown.{by_volume, shown};
 ghost use Rattle.parcel.specs.Steps.{IsStepWithin};
 ghost use Rattle.parcel.specs.declared.parts.Parcels.{Parcels};
+ghost use Rattle.parcel.specs.declared.parts.Standing.{Standing};
 
 use super::refusals::volume_refusal;
 use super::totals::volume_totals;
-use crate::{Standing, Vol};
+use crate::Vol;
 use affinity::Geometry;
 use message::{Msg, Reply};
 
 // Seals the volume, whether it was sealed or not.
-fn seal(volume: &mut Vol, g: &Geometry) -> Reply
-    ensures step { IsStepWithin g.now Msg.Seal (by_volume g.now volume.old) result (by_volume g.now volume.new) }
+fn seal(volume: &mut Vol) -> Reply
+    ensures step { (g : Geometry) → IsStepWithin g Msg.Seal (by_volume g volume.old) result (by_volume g volume.new) }
     ensures logical { volume.new.logical ≡ volume.old.logical }
     ensures label { volume.new.label ≡ volume.old.label }
 {
@@ -29,8 +31,8 @@ fn seal(volume: &mut Vol, g: &Geometry) -> Reply
 }
 
 // Unseals the volume, whether it was sealed or not.
-fn unseal(volume: &mut Vol, g: &Geometry) -> Reply
-    ensures step { IsStepWithin g.now Msg.Unseal (by_volume g.now volume.old) result (by_volume g.now volume.new) }
+fn unseal(volume: &mut Vol) -> Reply
+    ensures step { (g : Geometry) → IsStepWithin g Msg.Unseal (by_volume g volume.old) result (by_volume g volume.new) }
     ensures logical { volume.new.logical ≡ volume.old.logical }
     ensures label { volume.new.label ≡ volume.old.label }
 {
@@ -58,19 +60,14 @@ fn usage(volume: &Vol, g: &Geometry) -> Reply
 }
 
 /// Runs a message at a volume. It sees nothing of what lies above.
-pub(crate) fn run_at_volume(
-    volume: &mut Vol,
-    g: &Geometry,
-    standing: Standing,
-    message: &Msg,
-) -> Reply
+pub(crate) fn run_at_volume(volume: &mut Vol, g: &Geometry, message: &Msg) -> Reply
     requires { Suits g.now message.now (Parcels.Vol volume.old) }
-    ensures step { IsStep g.now (shown g.now (place g.now message.now) standing (Parcels.Vol volume.old)) message.now result (shown g.now (place g.now message.now) standing (Parcels.Vol volume.new)) }
+    ensures step { (t : Standing) → IsStep g.now (shown g.now (place g.now message.now) t (Parcels.Vol volume.old)) message.now result (shown g.now (place g.now message.now) t (Parcels.Vol volume.new)) }
     ensures suits { Suits g.now message.now (Parcels.Vol volume.new) }
 {
     match message {
-        Msg::Seal(..) => seal(volume, g),
-        Msg::Unseal(..) => unseal(volume, g),
+        Msg::Seal(..) => seal(volume),
+        Msg::Unseal(..) => unseal(volume),
         Msg::Usage(..) => usage(volume, g),
         _ => unreachable!(),
     }

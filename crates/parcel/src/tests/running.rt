@@ -1,9 +1,10 @@
 //! Messages on the parcels of their place, one after the other.
 ghost use Rattle.parcel.specs.Fits.{Suits};
 
+use super::filled;
 use crate::{Job, Label, Parcels, Standing, StripeParcel, run};
 use affinity::Geometry;
-use message::{Block, Msg, Refusal, Reply};
+use message::{Msg, Refusal, Reply};
 use std::test::Fail;
 
 const UNMADE: Standing = Standing {
@@ -25,18 +26,14 @@ const SEALED: Standing = Standing {
     files: 1,
 };
 
-/// A block that holds this byte throughout.
-fn block(byte: u8) -> Block {
-    Block([byte; 512])
-}
-
 // What a message is answered, and the parcels as it leaves them.
 fn answer(g: Geometry, message: Msg, standing: Standing, parcels: Parcels) -> (Reply, Parcels)
     requires { Suits g message parcels }
     ensures { Suits g message result.1 }
 {
     let done = run(Job::new(g, 7, message, standing, parcels));
-    (done.reply(), done.into_parcels())
+    let reply = *done.reply();
+    (reply, done.into_parcels())
 }
 
 #[test]
@@ -49,8 +46,8 @@ fn done_tells_of_its_job(rt: HostRuntime) {
     assert_eq!(rt; job.ticket(), 7);
     let done = run(job);
     assert_eq!(rt; done.ticket(), 7);
-    assert_eq!(rt; done.msg(), Msg::Label(0, 0));
-    assert_eq!(rt; done.reply(), Reply::Label([0; 32]));
+    assert_eq!(rt; *done.msg(), Msg::Label(0, 0));
+    assert_eq!(rt; *done.reply(), Reply::Label([0; 32]));
 }
 
 #[test]
@@ -75,7 +72,7 @@ fn a_label_is_set_and_read(rt: HostRuntime) {
 fn a_block_is_written_and_punched(rt: HostRuntime) -> Result<(), Fail> {
     let g = Geometry::default();
     let stripe = Parcels::Stripe(StripeParcel::new(rt.alloc(), usize::from(g.quota))?);
-    let write = Msg::Write(0, 0, 0, 0, block(0x61));
+    let write = Msg::Write(0, 0, 0, 0, filled(0x61));
     let (reply, stripe) = answer(g, write, UNMADE, stripe);
     assert_eq!(rt; reply, Reply::Refused(Refusal::Volume));
     let (reply, stripe) = answer(g, write, SEALED, stripe);
@@ -85,7 +82,7 @@ fn a_block_is_written_and_punched(rt: HostRuntime) -> Result<(), Fail> {
     let (reply, stripe) = answer(g, write, OPEN, stripe);
     assert_eq!(rt; reply, Reply::Done);
     let (reply, stripe) = answer(g, Msg::Read(0, 0, 0, 0), SEALED, stripe);
-    assert_eq!(rt; reply, Reply::Block(block(0x61)));
+    assert_eq!(rt; reply, Reply::Block(filled(0x61)));
     let (reply, stripe) = answer(g, Msg::Punch(0, 0, 0, 0), OPEN, stripe);
     assert_eq!(rt; reply, Reply::Done);
     let (reply, _) = answer(g, Msg::Read(0, 0, 0, 0), OPEN, stripe);

@@ -1,14 +1,13 @@
 //! A server of one message at a time: what a message asks for is lent to it, and restored after it.
+use super::SMALL;
 use crate::{Job, Tree, run};
 use affinity::{Geometry, place_of};
 use message::{Block, Msg, Refusal, Reply};
 use std::process::Abort;
 use std::test::Fail;
 
-const SMALL: [u16; 8] = [1, 1, 2, 1, 2, 4, 2, 4];
-
 // The reply to a message; none where what it needs is out, which it never is here.
-fn serve(tree: &mut Tree, message: &Msg) -> Option<Reply> {
+pub(super) fn serve(tree: &mut Tree, message: &Msg) -> Option<Reply> {
     let g = tree.geometry();
     let message = *message;
     let Some(a) = place_of(&g, message.kind(), message.numbers()) else {
@@ -16,7 +15,7 @@ fn serve(tree: &mut Tree, message: &Msg) -> Option<Reply> {
     };
     let (standing, parcels) = tree.lend(a)?;
     let done = run(Job::new(g, 0, message, standing, parcels));
-    let reply = done.reply();
+    let reply = *done.reply();
     match tree.restore(a, done.into_parcels()) {
         Ok(()) => Some(reply),
         Err(_) => None,
@@ -62,7 +61,9 @@ fn each_kind_of_message(rt: HostRuntime) -> Result<(), Fail> {
         (Msg::Create(0, 0, 0), Reply::Done),
         (Msg::Write(0, 0, 0, 0, block(0x61, 0x62)), Reply::Done),
         (Msg::Read(0, 0, 0, 0), Reply::Block(block(0x61, 0x62))),
-        (Msg::Read(0, 0, 0, 1), Reply::Hole),
+        (Msg::Read(0, 0, 0, 3), Reply::Hole),
+        (Msg::Write(0, 0, 0, 0, block(0, 0)), Reply::Done),
+        (Msg::Read(0, 0, 0, 0), Reply::Block(block(0, 0))),
         (Msg::Read(0, 0, 1, 0), Reply::Refused(Refusal::File)),
         (Msg::Read(0, 0, 0, 4), Reply::Refused(Refusal::Range)),
         (Msg::List(0, 0), Reply::Files(1)),
@@ -101,6 +102,8 @@ fn a_stripe_is_full(rt: HostRuntime) -> Result<(), Fail> {
             Reply::Refused(Refusal::Space),
         ),
         (Msg::Write(0, 0, 1, 0, block(4, 0)), Reply::Done),
+        (Msg::Write(0, 0, 0, 2, block(0x62, 0)), Reply::Done),
+        (Msg::Read(0, 0, 0, 2), Reply::Block(block(0x62, 0))),
         (Msg::Delete(0, 0, 0), Reply::Done),
         (Msg::Write(0, 0, 1, 1, block(3, 0)), Reply::Done),
         (Msg::Usage(0, 0), usage(1, 2, false)),

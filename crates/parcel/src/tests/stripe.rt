@@ -1,15 +1,10 @@
 //! A stripe at work, block by block.
 ghost use Rattle.std.specs.Prelude.{◌≡◌, ◌≤◌, IfOk};
 
+use super::filled;
 use crate::StripeParcel;
-use message::Block;
 use std::alloc::{AllocError, Global};
 use std::test::Fail;
-
-/// A block that holds this byte throughout.
-fn block(byte: u8) -> Block {
-    Block([byte; 512])
-}
 
 // Where memory is refused once, the same call gives the stripe.
 fn made(alloc: Global, quota: usize) -> Result<StripeParcel, AllocError>
@@ -30,7 +25,7 @@ fn put(stripe: &mut StripeParcel, quota: usize, f: u16, b: u16, byte: u8) -> boo
     if stripe.get(f, b).is_none() && stripe.len() >= quota {
         return false;
     }
-    stripe.set(f, b, &block(byte));
+    stripe.set(f, b, &filled(byte));
     true
 }
 
@@ -39,9 +34,9 @@ fn a_block_is_set_and_set_again(rt: HostRuntime) -> Result<(), Fail> {
     let mut stripe = made(rt.alloc(), 3)?;
     assert_eq!(rt; stripe.get(0, 1), None);
     assert!(rt; put(&mut stripe, 3, 0, 1, 0x61));
-    assert_eq!(rt; stripe.get(0, 1), Some(&block(0x61)));
+    assert_eq!(rt; stripe.get(0, 1), Some(&filled(0x61)));
     assert!(rt; put(&mut stripe, 3, 0, 1, 0));
-    assert_eq!(rt; stripe.get(0, 1), Some(&block(0)));
+    assert_eq!(rt; stripe.get(0, 1), Some(&filled(0)));
     assert_eq!(rt; stripe.get(1, 0), None);
     assert_eq!(rt; stripe.len(), 1);
     Ok(())
@@ -54,16 +49,16 @@ fn blocks_come_in_any_order(rt: HostRuntime) -> Result<(), Fail> {
     assert!(rt; put(&mut stripe, 4, 0, 5, 2));
     assert!(rt; put(&mut stripe, 4, 1, 3, 3));
     assert!(rt; put(&mut stripe, 4, 0, 1, 4));
-    assert_eq!(rt; stripe.get(2, 0), Some(&block(1)));
-    assert_eq!(rt; stripe.get(0, 5), Some(&block(2)));
-    assert_eq!(rt; stripe.get(1, 3), Some(&block(3)));
-    assert_eq!(rt; stripe.get(0, 1), Some(&block(4)));
+    assert_eq!(rt; stripe.get(2, 0), Some(&filled(1)));
+    assert_eq!(rt; stripe.get(0, 5), Some(&filled(2)));
+    assert_eq!(rt; stripe.get(1, 3), Some(&filled(3)));
+    assert_eq!(rt; stripe.get(0, 1), Some(&filled(4)));
     assert_eq!(rt; stripe.get(0, 0), None);
     stripe.clear(1, 3);
     stripe.clear(1, 4); // there is none
     assert_eq!(rt; stripe.get(1, 3), None);
-    assert_eq!(rt; stripe.get(2, 0), Some(&block(1)));
-    assert_eq!(rt; stripe.get(0, 5), Some(&block(2)));
+    assert_eq!(rt; stripe.get(2, 0), Some(&filled(1)));
+    assert_eq!(rt; stripe.get(0, 5), Some(&filled(2)));
     assert_eq!(rt; stripe.len(), 3);
     Ok(())
 }
@@ -81,8 +76,8 @@ fn a_file_between_others_goes(rt: HostRuntime) -> Result<(), Fail> {
     stripe.drop_file(1);
     assert_eq!(rt; stripe.len(), 2);
     assert_eq!(rt; stripe.get(1, 4), None);
-    assert_eq!(rt; stripe.get(0, 7), Some(&block(2)));
-    assert_eq!(rt; stripe.get(2, 0), Some(&block(4)));
+    assert_eq!(rt; stripe.get(0, 7), Some(&filled(2)));
+    assert_eq!(rt; stripe.get(2, 0), Some(&filled(4)));
     Ok(())
 }
 
@@ -93,7 +88,7 @@ fn the_last_file_goes(rt: HostRuntime) -> Result<(), Fail> {
     assert!(rt; put(&mut stripe, 2, 65534, 65535, 2));
     stripe.drop_file(65535);
     assert_eq!(rt; stripe.get(65535, 65535), None);
-    assert_eq!(rt; stripe.get(65534, 65535), Some(&block(2)));
+    assert_eq!(rt; stripe.get(65534, 65535), Some(&filled(2)));
     Ok(())
 }
 
@@ -107,7 +102,7 @@ fn all_blocks_go(rt: HostRuntime) -> Result<(), Fail> {
     assert_eq!(rt; stripe.get(0, 0), None);
     assert!(rt; put(&mut stripe, 2, 1, 1, 3));
     assert!(rt; put(&mut stripe, 2, 0, 1, 4));
-    assert_eq!(rt; stripe.get(1, 1), Some(&block(3)));
+    assert_eq!(rt; stripe.get(1, 1), Some(&filled(3)));
     Ok(())
 }
 
@@ -121,8 +116,8 @@ fn a_full_stripe_has_room_again(rt: HostRuntime) -> Result<(), Fail> {
     stripe.clear(0, 0);
     assert!(rt; put(&mut stripe, 2, 0, 2, 3));
     assert_eq!(rt; stripe.get(0, 0), None);
-    assert_eq!(rt; stripe.get(0, 1), Some(&block(4)));
-    assert_eq!(rt; stripe.get(0, 2), Some(&block(3)));
+    assert_eq!(rt; stripe.get(0, 1), Some(&filled(4)));
+    assert_eq!(rt; stripe.get(0, 2), Some(&filled(3)));
     Ok(())
 }
 

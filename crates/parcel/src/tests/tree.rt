@@ -1,16 +1,14 @@
-//! Parts of a small tree are lent and restored: one volume of two files of four blocks, in two
-//! stripes that hold two blocks each.
+//! Parts of a small tree are lent and restored.
 ghost use Rattle.std.specs.Prelude.{◌≡◌, [], ◌∷◌};
 ghost use Rattle.affinity.specs.Interval.{IsAffinityOf};
 ghost use Rattle.affinity.specs.Place.{place};
 
+use super::SMALL;
 use crate::{Parcels, Standing, StripeParcel, Tree};
 use affinity::{Affinity, Geometry, Kind, place_of};
 use std::alloc::{AllocError, Global};
 use std::process::Abort;
 use std::test::Fail;
-
-const SMALL: [u16; 8] = [1, 1, 2, 1, 2, 4, 2, 4];
 
 // Where memory is refused once, the same call gives the tree.
 fn made(alloc: Global, g: Geometry) -> Result<Tree, AllocError> {

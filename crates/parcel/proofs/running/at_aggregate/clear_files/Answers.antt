@@ -1,4 +1,4 @@
-use Rattle.std.proofs.Common.{◌≡◌, ◌^◌, ◌<◌, ◌∙◌, length, arith}
+use Rattle.std.proofs.Common.{◌≡◌, ◌∙◌, length, arith}
 use Rattle.parcel.specs.Dropping.{IsEmptied}
 use Rattle.parcel.specs.Fits.{FitsStripe}
 use Rattle.parcel.proofs.FileBits.{none_below}

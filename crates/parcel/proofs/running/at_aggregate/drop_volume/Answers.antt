@@ -1,16 +1,14 @@
-use Rattle.std.proofs.Common.{◌≡◌, ◌<◌, false, refl, ap, sym, ◌∙◌, length, slice_index_or, slice_set, arith}
-use Rattle.std.specs.Prelude.{◌==◌, None, not, IfSome}
+use Rattle.std.proofs.Common.{◌≡◌, ◌<◌, refl, ap, sym, ◌∙◌, length, slice_index_or, slice_set, arith}
+use Rattle.std.specs.Prelude.{◌==◌, None}
 use Rattle.std.proofs.lemmas.List.{get_or_read, length-set}
 use Rattle.message.specs.declared.Msg.TheVariants.{DropVol}
-use Rattle.message.specs.declared.Refusal.TheVariants.{Exists}
 use Rattle.parcel.specs.Fits.{FitsVolume}
 use Rattle.parcel.specs.Shown.{by_aggregate, by_child, by_volume}
-use Rattle.parcel.specs.Steps.{unless, unless_closed, at_aggregate}
-use Rattle.parcel.specs.Totals.{with_made}
+use Rattle.parcel.specs.Steps.{unless_closed, at_aggregate}
 use Rattle.parcel.specs.Volume.{nothing}
-use Rattle.parcel.proofs.OneVolume.{passed, refused}
-use Rattle.parcel.proofs.Summing.{fits_in_place}
-use Rattle.parcel.proofs.VolumeRows.{set_fits, set_changes, changed_if, drop_tests, effect_drop}
+use Rattle.parcel.proofs.OneVolume.{passed}
+use Rattle.parcel.proofs.Rows.{each_set, fits_in_place}
+use Rattle.parcel.proofs.VolumeRows.{set_changes, changed_if, drop_tests, effect_drop}
 use Rattle.parcel.proofs.running.at_aggregate.drop_volume.Goals as goal
 
 pub returns-clause-fits : goal.returns-clause-fits
@@ -22,7 +20,7 @@ returns-clause-fits c =
     let at : slice_index_or row.items n None ≡ c.index_mut.result.now = sym (get_or_read row.items _ _ below c.index_mut.ensures.value None) in
     record {
       count = length-set row.items n c.clear.new.place ∙ c.requires.fits.count;
-      volumes = set_fits (FitsVolume g) 0 row.items n c.clear.new.place c.requires.fits.volumes (c.clear.ensures.fits g (fits_in_place (λ v. FitsVolume g) row.items c.requires.fits.volumes n below c.index_mut.result.now at));
+      volumes = each_set (λ v. FitsVolume g) 0 n row.items c.clear.new.place c.requires.fits.volumes (c.clear.ensures.fits g (fits_in_place (λ v. FitsVolume g) row.items c.requires.fits.volumes n c.index_mut.result.now at));
     }
 
 pub returns-clause-step : goal.returns-clause-step

@@ -8,8 +8,8 @@ use Rattle.parcel.specs.Shown.{by_aggregate, by_child, by_volume}
 use Rattle.parcel.specs.Steps.{unless, at_aggregate}
 use Rattle.parcel.specs.Totals.{with_made}
 use Rattle.parcel.proofs.OneVolume.{passed}
-use Rattle.parcel.proofs.Summing.{fits_in_place}
-use Rattle.parcel.proofs.VolumeRows.{set_fits, set_changes, changed_if, make_tests, effect_make}
+use Rattle.parcel.proofs.Rows.{each_set, fits_in_place}
+use Rattle.parcel.proofs.VolumeRows.{set_changes, changed_if, make_tests, effect_make}
 use Rattle.parcel.proofs.running.at_aggregate.make_volume.Goals as goal
 
 pub returns-clause-fits : goal.returns-clause-fits
@@ -21,7 +21,7 @@ returns-clause-fits c =
     let at : slice_index_or row.items n None ≡ c.index_mut.result.now = sym (get_or_read row.items _ _ below c.index_mut.ensures.value None) in
     record {
       count = length-set row.items n c.make.new.place ∙ c.requires.fits.count;
-      volumes = set_fits (FitsVolume g) 0 row.items n c.make.new.place c.requires.fits.volumes (c.make.ensures.fits g (fits_in_place (λ v. FitsVolume g) row.items c.requires.fits.volumes n below c.index_mut.result.now at));
+      volumes = each_set (λ v. FitsVolume g) 0 n row.items c.make.new.place c.requires.fits.volumes (c.make.ensures.fits g (fits_in_place (λ v. FitsVolume g) row.items c.requires.fits.volumes n c.index_mut.result.now at));
     }
 
 pub returns-clause-step : goal.returns-clause-step

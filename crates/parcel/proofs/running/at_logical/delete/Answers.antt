@@ -1,5 +1,4 @@
-use Rattle.std.proofs.Common.{◌≡◌, ℕ, ◌<◌, ◌^◌, refl, sym, ◌∙◌, length, arith}
-use Rattle.std.specs.Prelude.{Option}
+use Rattle.std.proofs.Common.{◌≡◌, ◌<◌, refl, sym, ◌∙◌, length, arith}
 use Rattle.affinity.specs.Geometry.{group}
 use Rattle.affinity.proofs.Placed.{group_below}
 use Rattle.message.specs.declared.Msg.TheVariants.{Delete}

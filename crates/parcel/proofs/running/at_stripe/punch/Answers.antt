@@ -8,7 +8,6 @@ use Rattle.parcel.proofs.running.at_stripe.punch.Goals as goal
 
 pub returns-clause-step : goal.returns-clause-step
 returns-clause-step c =
-    let g = c.args.g.now in
     let h = by_stripe c.args.standing c.args.stripe.now in
-    λ a v range. passed g (only a v h) (Punch a v c.args.f c.args.b) _ _ (punch_tests g a v c.args.f c.args.b h range ∙ sym c.file_change_refusal.ensures ∙ c.in_default.is) refl
+    λ g a v range. passed g (only a v h) (Punch a v c.args.f c.args.b) _ _ (punch_tests g a v c.args.f c.args.b h range ∙ sym c.file_change_refusal.ensures ∙ c.in_default.is) refl
     (effect_punch h a v (content_at c.clear.new.self.entries) c.args.f c.args.b c.clear.ensures.holds.content)

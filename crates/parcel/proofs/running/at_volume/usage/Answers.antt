@@ -1,4 +1,4 @@
-use Rattle.std.proofs.Common.{refl, ap, sym, ◌∙◌}
+use Rattle.std.proofs.Common.{refl, sym, ◌∙◌}
 use Rattle.message.specs.declared.Msg.TheVariants.{Usage as AskUsage}
 use Rattle.message.specs.declared.Reply.TheVariants.{Usage}
 use Rattle.parcel.specs.Shown.{by_volume}

@@ -1,11 +1,11 @@
-use Rattle.std.proofs.Common.{◌≡◌, ◌+◌, ◌*◌, ◌<◌, sym, subst, length, slice_index_or, arith}
+use Rattle.std.proofs.Common.{◌≡◌, ◌*◌, ◌<◌, sym, subst, length, slice_index_or, arith}
 use Rattle.std.specs.Prelude.{None}
 use Rattle.std.proofs.lemmas.List.{get_or_read}
 use Rattle.parcel.specs.Fits.{FitsVolume}
 use Rattle.parcel.specs.Shown.{by_aggregate, by_child, by_volume}
 use Rattle.parcel.specs.Totals.{totals_of}
-use Rattle.parcel.specs.declared.running.totals.Totals.{Totals}
-use Rattle.parcel.proofs.Summing.{IsFew, few_of_one, few_of_sum, fits_in_place}
+use Rattle.parcel.proofs.Rows.{fits_in_place}
+use Rattle.parcel.proofs.Summing.{IsFew, few_of_one, few_of_sum}
 use Rattle.parcel.proofs.running.totals.aggregate_totals.Goals as goal
 
 pub volume_in-requires : goal.volume_in-requires
@@ -13,7 +13,7 @@ volume_in-requires c =
     let row = c.args.aggregate.now.volumes in
     let below : c.loop-v.v < length row.items = omega (arith, row.ok.0) in
     let at : slice_index_or row.items c.loop-v.v None ≡ c.index.result.now = sym (get_or_read row.items _ _ below c.index.ensures None) in
-    fits_in_place (λ v. FitsVolume c.args.g.now) row.items c.requires.volumes c.loop-v.v below c.index.result.now at
+    fits_in_place (λ v. FitsVolume c.args.g.now) row.items c.requires.volumes c.loop-v.v c.index.result.now at
 
 pub plus-totals-requires-clause-volumes : goal.plus-totals-requires-clause-volumes
 plus-totals-requires-clause-volumes c =

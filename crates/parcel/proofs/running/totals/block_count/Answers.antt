@@ -1,12 +1,12 @@
-use Rattle.std.proofs.Common.{◌≡◌, ◌<◌, ◌≤◌, ap, sym, ◌∙◌, length, slice_index_or, arith}
+use Rattle.std.proofs.Common.{◌≡◌, ◌<◌, ap, sym, ◌∙◌, length, slice_index_or, arith}
 use Rattle.std.specs.Prelude.{None, IfSome}
 use Rattle.std.proofs.lemmas.List.{get_or_read}
 use Rattle.plain.specs.State.{sum_below, group_count}
 use Rattle.plain.proofs.Counts.{block_count-by_stripe}
 use Rattle.parcel.specs.Fits.{FitsStripe}
 use Rattle.parcel.specs.Shown.{blocks_of}
-use Rattle.parcel.specs.Totals.{entry_count}
-use Rattle.parcel.proofs.StripeTotals.{holding, count_at, few_entries, quota_of, stripe_at}
+use Rattle.parcel.proofs.StripeTotals.{holding, count_at, few_entries, quota_of}
+use Rattle.parcel.proofs.Rows.{fits_in_place}
 use Rattle.parcel.proofs.Summing.{sum_step}
 use Rattle.parcel.proofs.running.totals.block_count.Goals as goal
 
@@ -17,7 +17,7 @@ entry_count-total-requires c =
     let s = c.loop-s.s in
     let below : s < length row.items = omega (arith, c.loop-s-test.true, c.len-s-end.ensures, row.ok.0) in
     let at : slice_index_or row.items s None ≡ c.index.result.now = sym (get_or_read row.items _ _ below c.index.ensures None) in
-    quota_of g s c.index.result.now (stripe_at g row.items c.requires.stripes s below c.index.result.now at)
+    quota_of g s c.index.result.now (fits_in_place (FitsStripe g) row.items c.requires.stripes s c.index.result.now at)
 
 pub overflow_add-total : goal.overflow_add-total
 overflow_add-total c =
@@ -26,7 +26,7 @@ overflow_add-total c =
     let s = c.loop-s.s in
     let below : s < length row.items = omega (arith, c.loop-s-test.true, c.len-s-end.ensures, row.ok.0) in
     let at : slice_index_or row.items s None ≡ c.index.result.now = sym (get_or_read row.items _ _ below c.index.ensures None) in
-    let fits : IfSome c.index.result.now (FitsStripe g s) = stripe_at g row.items c.requires.stripes s below c.index.result.now at in
+    let fits : IfSome c.index.result.now (FitsStripe g s) = fits_in_place (FitsStripe g) row.items c.requires.stripes s c.index.result.now at in
     let few = few_entries g s c.index.result.now c.entry_count-total.ensures.kept fits in
     let most = g.stripes_range.1 in
     omega (arith, few, c.loop-s.invariant.1, c.entry_count-total.ensures.count, c.requires.count)
@@ -38,7 +38,7 @@ loop-s-preserved c =
     let s = c.loop-s.s in
     let below : s < length row.items = omega (arith, c.loop-s-test.true, c.len-s-end.ensures, row.ok.0) in
     let at : slice_index_or row.items s None ≡ c.index.result.now = sym (get_or_read row.items _ _ below c.index.ensures None) in
-    let fits : IfSome c.index.result.now (FitsStripe g s) = stripe_at g row.items c.requires.stripes s below c.index.result.now at in
+    let fits : IfSome c.index.result.now (FitsStripe g s) = fits_in_place (FitsStripe g) row.items c.requires.stripes s c.index.result.now at in
     let few = few_entries g s c.index.result.now c.entry_count-total.ensures.kept fits in
     let here = count_at g row.items s c.index.result.now at c.entry_count-total.ensures.kept fits in
     let step = sum_step s (group_count g (holding (blocks_of g row.items)) 0 0) in

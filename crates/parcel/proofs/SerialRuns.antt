@@ -1,0 +1,84 @@
+-- A run is a serial step of each state that can have lent its job, and of the tree that lent it and takes back what it left.
+use Rattle.std.proofs.Common.{◌≡◌, true, false, [], ◌∷◌, ◌++◌, refl, sym, ap, subst, ◌∙◌}
+use Rattle.std.specs.Prelude.{◌&&◌, ◌==◌, not, None, is_some}
+use Rattle.std.proofs.lemmas.Bool.{and_parts, cond-false, eqb-true, or_left, or_right, true≢false}
+use Rattle.affinity.specs.declared.sizes.Geometry.{Geometry}
+use Rattle.affinity.specs.Interval.{IsPath}
+use Rattle.affinity.specs.Path.{Path, begins, are_related}
+use Rattle.message.specs.Messages.{place, IsMessage}
+use Rattle.plain.specs.State.{State, IsState}
+use Rattle.plain.specs.Serial.{after}
+use Rattle.plain.specs.Shares.{AgreeOn, share, standing}
+use Rattle.plain.specs.Laws.{outside}
+use Rattle.plain.proofs.Agree.{agree-sym, agree-trans, agree_within}
+use Rattle.plain.proofs.Frame.{reads_only, changes_only}
+use Rattle.plain.proofs.Kept.{step_kept}
+use Rattle.plain.proofs.ShareLaws.{agree_in_and_out, part_from_agree}
+use Rattle.parcel.specs.Nodes.{Nodes, in_parcels, state_of}
+use Rattle.parcel.specs.Run.{Asked, IsRun, IsStep, Shows}
+use Rattle.parcel.specs.RunLaws.{IsLentOf, IsSerialStepOf, IsServed}
+use Rattle.parcel.specs.Shown.{shown}
+use Rattle.parcel.specs.Tree.{IsIn}
+use Rattle.parcel.specs.declared.job.Done.{Done}
+use Rattle.parcel.specs.declared.parts.Parcels.{Parcels}
+use Rattle.parcel.specs.declared.parts.Standing.{Standing}
+use Rattle.parcel.proofs.Leaving.{taken_leaves, put_leaves, put_outside}
+use Rattle.parcel.proofs.Lending.{restored_is_in}
+
+pub serial_run : (job : Asked) (done : Done) (x : State) → IsRun job done → IsLentOf job x → IsSerialStepOf job done x
+serial_run job done x run lent =
+    let g = job.geometry in
+    let m = job.message in
+    let p = place g m in
+    let same = reads_only g (are_related p) (shown g p job.standing job.parcels) x m lent (λ q r. r) in
+    record {
+      reply = run.step.reply ∙ same.0;
+      shows = subst (λ (y : State). AgreeOn g (are_related p) y (after g x m)) (sym run.step.state) same.1;
+    }
+
+-- At the place and below, the tree has what the run left, and elsewhere what it had before.
+pub served_step : (job : Asked) (done : Done) (old lent new : Nodes) → IsServed job done old lent new
+    → IsStep job.geometry (state_of job.geometry old) job.message done.reply (state_of job.geometry new)
+served_step job done old lent new h =
+    let g = job.geometry in
+    let m = job.message in
+    let p = place g m in
+    let x = state_of g old in
+    let run = serial_run job done x h.ran h.taken.shows in
+    let there : AgreeOn g (begins p) (state_of g new) (after g x m) =
+    agree-trans (agree-sym (h.put.share job.standing)) (agree_within (λ q r. or_left (begins p q) (begins q p) r) run.shows) in
+    let elsewhere : AgreeOn g (outside p) (state_of g new) (after g x m) =
+    agree-trans (put_leaves g p (in_parcels done.parcels) lent new h.put.nodes) (agree-trans (taken_leaves g p old lent h.taken.rest) (agree-sym (changes_only g x m))) in
+    record { reply = run.reply; state = agree_in_and_out g p (state_of g new) (after g x m) there elsewhere }
+
+-- what begins with a path is that path and the rest
+begins_split : (p q : Path) → begins p q ≡ true → (r : Path) × (q ≡ p ++ r)
+begins_split [] q h = (q, refl)
+begins_split (x ∷ p) [] h = absurd (true≢false (sym h))
+begins_split (x ∷ p) (y ∷ q) h =
+    let both = and_parts (x == y) (begins p q) h in
+    let rest = begins_split p q both.1 in
+    (rest.0, sym (ap (λ z. z ∷ q) (eqb-true x y both.0)) ∙ ap (λ r. x ∷ r) rest.1)
+
+pub served_is_in : (job : Asked) (done : Done) (old lent new : Nodes) → IsServed job done old lent new → IsIn job.geometry [] old → IsIn job.geometry [] new
+served_is_in job done old lent new h whole q path related =
+    let g = job.geometry in
+    let p = place g job.message in
+    elim (begins p q) as (λ b. begins p q ≡ b → is_some (new q) ≡ true) [
+      | true ↦ λ e. let rest = begins_split p q e in
+          subst (λ r. is_some (new r) ≡ true) (sym rest.1) (restored_is_in g p done.parcels lent new h.put.nodes h.ran.suits.fits rest.0 (subst (λ r. IsPath g r) rest.1 path))
+      | false ↦ λ e. ap is_some (h.put.nodes q ∙ put_outside p (in_parcels done.parcels) lent q e ∙ h.taken.rest q ∙ cond-false (begins p q) None (old q) e) ∙ whole q path refl
+    ] refl
+
+pub served_state : (job : Asked) (done : Done) (old lent new : Nodes) → IsServed job done old lent new → IsMessage job.message
+    → IsState job.geometry (state_of job.geometry old) → IsState job.geometry (state_of job.geometry new)
+served_state job done old lent new h message is = subst (λ (y : State). IsState job.geometry y) (sym (served_step job done old lent new h).state) (step_kept job.geometry (state_of job.geometry old) job.message is message)
+
+-- ---- to show a state is to have its share and its standing
+
+pub shown_share : (g : Geometry) (p : Path) (t : Standing) (l : Parcels) (x : State) → Shows g p t l x → share g p (shown g p t l) ≡ share g p x
+shown_share g p t l x h = part_from_agree g (begins p) (shown g p t l) x (agree_within (λ q r. or_left (begins p q) (begins q p) r) h)
+
+pub shown_standing : (g : Geometry) (p : Path) (t : Standing) (l : Parcels) (x : State) → Shows g p t l x → standing g p (shown g p t l) ≡ standing g p x
+shown_standing g p t l x h =
+    part_from_agree g (λ q. begins q p && not (begins p q)) (shown g p t l) x (agree_within (λ q r. or_right (begins p q) (begins q p) (and_parts (begins q p) (not (begins p q)) r).0) h)
