@@ -1,18 +1,17 @@
 -- What a device stands for after a crash, from the clauses of a log's calls.
-use Rattle.std.proofs.Common.{◌≡◌, ℕ, ◌<◌, Bool, true, false, cond, eqb, List, take, get_or, Option, ◌∙◌, ap}
-use Rattle.disk.specs.Device.{Medium, Leaves}
-use Rattle.disk.specs.Moments.{LeavesOnly}
+use Rattle.std.proofs.Common.{◌≡◌, ◌≢◌, ℕ, Bool, true, false, cond, eqb, List, take, get_or, Option, ◌∙◌, sym, ap, arith}
+use Rattle.std.proofs.lemmas.Bool.{ne_eqb}
+use Rattle.disk.proofs.Leaves.{calm_left}
 use Rattle.disk.proofs.Moments.{weaker}
-use Rattle.oplog.specs.Layout.{Layout, part, root}
-use Rattle.oplog.specs.Stands.{run, stands_as, stands}
-use Rattle.oplog.specs.Changes.{After, Grew, HasAll, IsSameButRoot}
-use Rattle.oplog.specs.Crash.{StandsNow, StandsForSome}
-use Rattle.oplog.proofs.Kept.{more_stands, root_kept}
+use Rattle.oplog.specs.Layout.{Layout, part, root, half, image, other}
+use Rattle.oplog.specs.Front.{chain}
+use Rattle.oplog.specs.Stands.{named_area, run, stands_as, stands}
+use Rattle.oplog.specs.Changes.{IsSameBut}
+use Rattle.oplog.specs.Crash.{StandsAlone, SomeStand, AllStand, TornRootStands, FlippedStands, ClearedStands, WrittenImageStands}
+use Rattle.oplog.proofs.Kept.{more_stands, root_kept, half_kept, image_kept}
 
 module _ {S : Type 0} (read : List ℕ → Option S) (apply : S → List ℕ → Option S) (is_header : List ℕ → Bool) where
-  -- Records are appended to the current half of a device that stands for x. At each moment a crash leaves one that
-  -- stands for the first so many of them run on x.
-  pub any_moment : (g : Layout) (h : ℕ) (x : Option S) (more : List (List ℕ)) (w0 w1 : Medium) → h < 2 → StandsNow read apply is_header g h x w0 → LeavesOnly w0 w1 (Grew g h more w0) → LeavesOnly w0 w1 (StandsForSome read apply is_header g h x more)
+  pub any_moment : SomeStand read apply is_header
   any_moment g h x more w0 w1 is_half before moments =
       weaker w0 w1 _ _ moments
       (λ c grew.
@@ -26,8 +25,7 @@ module _ {S : Type 0} (read : List ℕ → Option S) (apply : S → List ℕ →
         current = now.1;
       })
 
-  -- Once all of them are there it stands for all of them.
-  pub settled : (g : Layout) (h k : ℕ) (x : Option S) (more : List (List ℕ)) (w0 w1 : Medium) → h < 2 → StandsNow read apply is_header g h x w0 → HasAll g h k more w0 w1 → StandsNow read apply is_header g h (run read apply is_header x more) w1
+  pub settled : AllStand read apply is_header
   settled g h k x more w0 w1 is_half before has c left =
       let after = has.left c left in
       let stood = before after.old after.left in
@@ -38,11 +36,41 @@ module _ {S : Type 0} (read : List ℕ → Option S) (apply : S → List ℕ →
   either x P true first second = second
   either x P false first second = first
 
-  -- Where each area would stand for x, whichever is named, a torn root byte does no harm.
-  pub flip_stands : (g : Layout) (x : Option S) (w0 w1 : Medium) → ((c : List ℕ) → Leaves w0 c → (stands_as read apply is_header g 0 c ≡ x) × (stands_as read apply is_header g 1 c ≡ x)) → LeavesOnly w0 w1 (After w0 (IsSameButRoot g)) → LeavesOnly w0 w1 (λ c. stands read apply is_header g c ≡ x)
+  pub flip_stands : TornRootStands read apply is_header
   flip_stands g x w0 w1 before moments =
       weaker w0 w1 _ _ moments
       (λ c after.
       let both = before after.old after.left in
       let kept : (n : ℕ) → stands_as read apply is_header g n c ≡ stands_as read apply is_header g n after.old = λ n. root_kept read apply is_header g n after.old c after.change.same in
       either x (λ (n : ℕ). stands_as read apply is_header g n c) (eqb (get_or (part g root c) 0 0) 1) (kept 0 ∙ both.0) (kept 1 ∙ both.1))
+
+  pub flipped_stands : FlippedStands read apply is_header
+  flipped_stands g n w0 w1 flip c left =
+      ap (λ (l : List ℕ). stands read apply is_header g l) (calm_left w1 c flip.calm left) ∙ ap (λ (m : ℕ). stands_as read apply is_header g m w1.now) flip.named
+      ∙ root_kept read apply is_header g n w0.now w1.now flip.same.same
+
+  -- A part differs that is neither the root zone nor the half of area n.
+  alone_kept : (g : Layout) (n p : ℕ) (x : Option S) (a c : List ℕ) → root ≢ p → half n ≢ p → IsSameBut g p a c → (eqb (chain g n a) 1 ≡ false → stands_as read apply is_header g n c ≡ stands_as read apply is_header g n a) → StandsAlone read apply is_header g n x a → StandsAlone read apply is_header g n x c
+  alone_kept g n p x a c apart_root apart_half same kept alone =
+      let named : named_area g c ≡ n = ap (λ (l : List ℕ). cond (eqb (get_or l 0 0) 1) 1 0) (same.others root apart_root) ∙ alone.named in
+      let chained : chain g n c ≡ chain g n a = ap (λ (l : List ℕ). get_or l 0 0) (same.others (half n) apart_half) in
+      record {
+        named = named;
+        no_chain = λ is. alone.no_chain (sym chained ∙ is);
+        is = ap (λ (m : ℕ). stands_as read apply is_header g m c) named ∙ kept (ne_eqb (chain g n a) 1 alone.no_chain)
+            ∙ ap (λ (m : ℕ). stands_as read apply is_header g m a) (sym alone.named) ∙ alone.is;
+      }
+
+  pub cleared_stands : ClearedStands read apply is_header
+  cleared_stands g n x w0 w1 is_area before moments =
+      weaker w0 w1 _ _ moments
+      (λ c after.
+      alone_kept g n (half (other n)) x after.old c (λ is. omega (arith, is)) (λ is. omega (arith, is, is_area)) after.change.same
+      (λ no_chain. half_kept read apply is_header g n after.old c is_area no_chain after.change.same) (before after.old after.left))
+
+  pub image_stands : WrittenImageStands read apply is_header
+  image_stands g n x w0 w1 is_area before moments =
+      weaker w0 w1 _ _ moments
+      (λ c after.
+      alone_kept g n (image (other n)) x after.old c (λ is. omega (arith, is)) (λ is. omega (arith, is, is_area)) after.change
+      (λ no_chain. image_kept read apply is_header g n after.old c is_area after.change) (before after.old after.left))

@@ -15,14 +15,6 @@ named_below false = omega arith
 pub named_area-below : (g : Layout) (c : List ℕ) → named_area g c < 2
 named_area-below g c = named_below (eqb (get_or (part g root c) 0 0) 1)
 
-current_below : (t : Bool) (n : ℕ) → n < 2 → cond t (other n) n < 2
-current_below true n is_area = omega arith
-current_below false n is_area = is_area
-
--- and so is the current half
-pub current_of-below : (g : Layout) (n : ℕ) (c : List ℕ) → n < 2 → current_of g n c < 2
-current_of-below g n c is_area = current_below (eqb (chain g n c) 1) n is_area
-
 module _ {S : Type 0} (read : List ℕ → Option S) (apply : S → List ℕ → Option S) (is_header : List ℕ → Bool) where
   pub run-append : (x : Option S) (rs ss : List (List ℕ)) → run read apply is_header x (rs ++ ss) ≡ run read apply is_header (run read apply is_header x rs) ss
   run-append None rs ss = refl

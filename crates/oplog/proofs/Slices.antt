@@ -1,5 +1,5 @@
 -- Parts of a list, and lists that differ in one of them at most.
-use Rattle.std.proofs.Common.{◌≡◌, ◌≢◌, ℕ, min, zero, suc, ◌+◌, ◌-◌, ◌<◌, ◌≤◌, List, [], ◌∷◌, length, take, drop, get_or, ⊎_elim, refl, sym, ◌∙◌, ap, subst, arith}
+use Rattle.std.proofs.Common.{◌≡◌, ◌≢◌, ℕ, min, zero, suc, ◌+◌, ◌-◌, ◌<◌, ◌≤◌, List, [], ◌∷◌, take, drop, get_or, ⊎_elim, refl, sym, ◌∙◌, ap, subst, arith}
 use Rattle.std.proofs.lemmas.Bool.{cases_lt}
 use Rattle.std.proofs.lemmas.List.{take-take, drop-drop, drop-take, length-take, length-drop}
 use Rattle.disk.specs.Device.{SameOutside}
@@ -17,9 +17,6 @@ pub slice_slice : (xs : List ℕ) (a s i n : ℕ) → i + n ≤ s → slice (sli
 slice_slice xs a s i n fits =
     let whole : i + (s - i) ≡ s = omega (arith, fits) in
     subst (λ (k : ℕ). take n (drop i (take k (drop a xs))) ≡ slice xs (a + i) n) whole (slice_slice_by xs a i n (s - i) (omega (arith, fits)))
-
-pub length-slice : (xs : List ℕ) (a s : ℕ) → a + s ≤ length xs → length (slice xs a s) ≡ s
-length-slice xs a s fits = simp (length-take, length-drop) (omega (arith, fits))
 
 -- A change within a range is one of each part that holds the range.
 module _ (a s i n : ℕ) (xs ys : List ℕ) (inside : i + n ≤ s) (same : SameOutside (a + i) n xs ys) where

@@ -7,7 +7,7 @@ use Rattle.message.specs.Records.{record_of}
 use Rattle.oplog.specs.declared.fault.LogFault.{LogFault}
 use Rattle.oplog.specs.declared.fault.LogFault.TheVariants.{Device, BadRecord}
 use Rattle.oplog.specs.declared.halves.Halves.{Halves}
-use Rattle.oplog.specs.Layout.{other}
+use Rattle.oplog.specs.Layout.{Layout, layout_of, other}
 use Rattle.oplog.specs.Logged.{IsLogged}
 
 pub record Log : Type 0 where
@@ -24,6 +24,10 @@ pub record Log : Type 0 where
 
 abbrev pub log_of : Halves → Log
 log_of h = record { geometry = h.geometry; named = h.named; current = h.current; used = h.used; cleared = h.cleared; failed = h.failed }
+
+-- where the parts of its device lie
+abbrev pub layout : Log → Layout
+layout log = layout_of log.geometry
 
 -- a log of which nothing is known: half 0 is named and current, and there is no room
 abbrev pub new_log : Geometry → Log

@@ -17,16 +17,22 @@ use message::Msg;
 pub(crate) const MOST_RECORDS: usize = 1024;
 
 /// How many records are written at a time.
-const BATCH: usize = 64;
+pub(crate) const BATCH: usize = 64;
+
+/// How many bytes lie before the gates of a half: its chain byte and the bytes beside it.
+pub(crate) const CHAIN_AREA: usize = 64;
+
+/// How many bytes lie before the halves: the header and the root zone.
+const HEADER_AND_ROOT: u64 = 128;
 
 const OPEN_GATES: [u8; BATCH] = [1; BATCH];
 
 /// What lies before the records of a half, at most.
-const LARGEST_FRONT: usize = 64 + MOST_RECORDS;
+const LARGEST_FRONT: usize = CHAIN_AREA + MOST_RECORDS;
 
 const ZEROS: [u8; LARGEST_FRONT] = [0; LARGEST_FRONT];
 
-/// So many zeros.
+/// A row of zeros, at most 1,088.
 pub(crate) fn zeros(count: usize) -> &'static [u8]
     requires { count ≤ 1088 }
     ensures { result.now ≡ replicate count 0 }
@@ -34,7 +40,7 @@ pub(crate) fn zeros(count: usize) -> &'static [u8]
     &ZEROS[..count]
 }
 
-// So many open gates.
+/// A row of open gates, at most 64.
 fn ones(count: usize) -> &'static [u8]
     requires { count ≤ 64 }
     ensures { result.now ≡ replicate count 1 }
@@ -62,11 +68,11 @@ impl Half {
     pub(crate) fn start(self) -> u64
         ensures { result ≡ part_at (layout_of self.geometry) (half self.number) }
     {
-        let slots = u64::from(self.geometry.half);
+        let slots = self.slots();
         if self.number == 0 {
-            128
+            HEADER_AND_ROOT
         } else {
-            192 + slots + slots * 520
+            HEADER_AND_ROOT + (CHAIN_AREA + slots + slots * RECORD_SIZE) as u64
         }
     }
 
@@ -75,7 +81,7 @@ impl Half {
         requires { i ≤ self.geometry.half }
         ensures { result ≡ part_at (layout_of self.geometry) (half self.number) + (64 + i) }
     {
-        self.start() + (64 + i as u64)
+        self.start() + (CHAIN_AREA + i) as u64
     }
 
     /// Where this record lies.
@@ -83,10 +89,10 @@ impl Half {
         requires { i ≤ self.geometry.half }
         ensures { result ≡ part_at (layout_of self.geometry) (half self.number) + (64 + self.geometry.half + i * 520) }
     {
-        self.start() + (64 + self.slots() as u64 + i as u64 * 520)
+        self.start() + (CHAIN_AREA + self.slots() + i * RECORD_SIZE) as u64
     }
 
-    // The bodies, a sync, the gates, a sync.
+    /// Writes the records and syncs, then writes their gates and syncs.
     fn append_batch<D: Disk>(
         self,
         disk: &mut D,
@@ -108,7 +114,7 @@ impl Half {
         ensures len { length (D.medium disk.new).now ≡ length (D.medium disk.old).now }
     {
         let size = messages.len() * RECORD_SIZE;
-        stage(&self.geometry, messages, buffer);
+        stage(messages, buffer);
         store(disk, self.record_at(used), &buffer.as_slice()[..size])?;
         store(disk, self.gate_at(used), ones(messages.len()))?;
         Ok(())
@@ -160,7 +166,7 @@ impl Half {
     }
 }
 
-// How many of these are 1 before the first that isn't.
+/// How many of these are 1 before the first that isn't.
 fn count_open(gates: &[u8]) -> usize
     ensures { result ≡ open_gates gates.now }
 {

@@ -7,11 +7,11 @@ ghost use Rattle.oplog.specs.Changes.{After, Grew, HasAll, IsReady, IsSameButGat
 ghost use Rattle.message.specs.Records.{record_of};
 ghost use Rattle.message.specs.declared.Msg.{Msg};
 ghost use Rattle.oplog.specs.Front.{front, record_at};
-ghost use Rattle.oplog.specs.Layout.{layout_of, device_size, other};
+ghost use Rattle.oplog.specs.Layout.{device_size, other};
 ghost use Rattle.oplog.specs.Logged.{records_of, AreLogged, IsLogged};
 
 use crate::LogFault;
-use crate::half::{Half, MOST_RECORDS, zeros};
+use crate::half::{BATCH, CHAIN_AREA, Half, MOST_RECORDS, zeros};
 use crate::staging::RECORD_SIZE;
 use crate::store::store;
 use affinity::{Geometry, changing};
@@ -43,15 +43,16 @@ pub struct Halves {
 const ROOT_ZONE: u64 = 64;
 
 impl Halves {
-    ghost use Rattle.oplog.specs.Log.{log_of, new_log, renamed, flipped, after, Counts, IsNotBad, IsOfRecord, IsAbout};
+    ghost use Rattle.oplog.specs.Log.{log_of, layout, new_log, renamed, flipped, after, Counts, IsNotBad, IsOfRecord, IsAbout};
 
     /// A log of which nothing is known: half 0 is named and current, and there is no room.
+    /// `AllocError` where there is no memory.
     pub fn new(alloc: Global, g: &Geometry) -> Result<Halves, AllocError>
         ensures { IfOk result (λ log. log_of log ≡ new_log g.now) }
     {
         let geometry = *g;
         let slots = usize::from(geometry.half);
-        let buffer = vec![in alloc; 0u8; slots.min(64) * RECORD_SIZE]?;
+        let buffer = vec![in alloc; 0u8; slots.min(BATCH) * RECORD_SIZE]?;
         Ok(Halves {
             geometry,
             named: 0,
@@ -95,12 +96,12 @@ impl Halves {
         requires sound { (log_of self.old).failed ≡ false }
         requires logged { AreLogged (log_of self.old).geometry messages.now }
         requires room { (log_of self.old).used + length messages.now ≤ (log_of self.old).geometry.half }
-        requires whole { device_size (layout_of (log_of self.old).geometry) ≤ length (D.medium disk.old).now }
-        requires ready { D.keeps → IsReady (layout_of (log_of self.old).geometry) (log_of self.old).current (log_of self.old).used (D.medium disk.old) }
+        requires whole { device_size (layout (log_of self.old)) ≤ length (D.medium disk.old).now }
+        requires ready { D.keeps → IsReady (layout (log_of self.old)) (log_of self.old).current (log_of self.old).used (D.medium disk.old) }
 
         // A crash at any moment of the call leaves the front with the first so many of the messages.
-        ensures any_moment { D.keeps → LeavesOnly (D.medium disk.old) (D.medium disk.new) (Grew (layout_of (log_of self.old).geometry) (log_of self.old).current (records_of messages.now) (D.medium disk.old)) }
-        ensures added { OnOk result (D.keeps → HasAll (layout_of (log_of self.old).geometry) (log_of self.old).current (log_of self.old).used (records_of messages.now) (D.medium disk.old) (D.medium disk.new)) }
+        ensures any_moment { D.keeps → LeavesOnly (D.medium disk.old) (D.medium disk.new) (Grew (layout (log_of self.old)) (log_of self.old).current (records_of messages.now) (D.medium disk.old)) }
+        ensures added { OnOk result (D.keeps → HasAll (layout (log_of self.old)) (log_of self.old).current (log_of self.old).used (records_of messages.now) (D.medium disk.old) (D.medium disk.new)) }
         ensures none { length messages.now ≡ 0 → disk.new ≡ disk.old }
         ensures log { log_of self.new ≡ after result (log_of self.old) (record (log_of self.old) { used = (log_of self.old).used + length messages.now }) }
         ensures not_bad { IsNotBad result }
@@ -121,16 +122,16 @@ impl Halves {
     /// Clears the half that isn't named: its chain byte, the bytes beside it and its gates become 0. Its records stay.
     pub fn clear_other<D: Disk>(&mut self, disk: &mut D) -> Result<(), LogFault>
         requires sound { (log_of self.old).failed ≡ false }
-        requires whole { device_size (layout_of (log_of self.old).geometry) ≤ length (D.medium disk.old).now }
-        ensures any_moment { D.keeps → LeavesOnly (D.medium disk.old) (D.medium disk.new) (After (D.medium disk.old) (IsSameButGates (layout_of (log_of self.old).geometry) (other (log_of self.old).named))) }
-        ensures cleared { OnOk result (D.keeps → Cleared (layout_of (log_of self.old).geometry) (other (log_of self.old).named) (D.medium disk.old) (D.medium disk.new)) }
+        requires whole { device_size (layout (log_of self.old)) ≤ length (D.medium disk.old).now }
+        ensures any_moment { D.keeps → LeavesOnly (D.medium disk.old) (D.medium disk.new) (After (D.medium disk.old) (IsSameButGates (layout (log_of self.old)) (other (log_of self.old).named))) }
+        ensures cleared { OnOk result (D.keeps → Cleared (layout (log_of self.old)) (other (log_of self.old).named) (D.medium disk.old) (D.medium disk.new)) }
         ensures log { log_of self.new ≡ after result (log_of self.old) (record (log_of self.old) { cleared = true }) }
         ensures not_bad { IsNotBad result }
         ensures counts { Counts result (D.medium disk.old).faults (D.medium disk.new).faults }
         ensures len { length (D.medium disk.new).now ≡ length (D.medium disk.old).now }
     {
         let half = self.half(1 - self.named);
-        if store(disk, half.start(), zeros(64 + half.slots())).is_err() {
+        if store(disk, half.start(), zeros(CHAIN_AREA + half.slots())).is_err() {
             return Err(self.fail());
         }
         self.cleared = true;
@@ -141,9 +142,9 @@ impl Halves {
     /// half becomes current, with room for all records if it was cleared since it was last named or current.
     pub fn flip_root<D: Disk>(&mut self, disk: &mut D) -> Result<(), LogFault>
         requires sound { (log_of self.old).failed ≡ false }
-        requires whole { device_size (layout_of (log_of self.old).geometry) ≤ length (D.medium disk.old).now }
-        ensures any_moment { D.keeps → LeavesOnly (D.medium disk.old) (D.medium disk.new) (After (D.medium disk.old) (IsSameButRoot (layout_of (log_of self.old).geometry))) }
-        ensures flipped { OnOk result (D.keeps → Flipped (layout_of (log_of self.old).geometry) (other (log_of self.old).named) (D.medium disk.old) (D.medium disk.new)) }
+        requires whole { device_size (layout (log_of self.old)) ≤ length (D.medium disk.old).now }
+        ensures any_moment { D.keeps → LeavesOnly (D.medium disk.old) (D.medium disk.new) (After (D.medium disk.old) (IsSameButRoot (layout (log_of self.old)))) }
+        ensures flipped { OnOk result (D.keeps → Flipped (layout (log_of self.old)) (other (log_of self.old).named) (D.medium disk.old) (D.medium disk.new)) }
         ensures log { log_of self.new ≡ after result (log_of self.old) (flipped (log_of self.old)) }
         ensures not_bad { IsNotBad result }
         ensures counts { Counts result (D.medium disk.old).faults (D.medium disk.new).faults }
@@ -170,8 +171,8 @@ impl Halves {
     pub fn front<D: Disk>(&mut self, disk: &mut D, half: usize) -> Result<usize, LogFault>
         requires sound { (log_of self.old).failed ≡ false }
         requires half { half < 2 }
-        requires whole { device_size (layout_of (log_of self.old).geometry) ≤ length (D.medium disk.old).now }
-        ensures front { IfOk result (λ n. D.keeps → n ≡ length (front (layout_of (log_of self.old).geometry) half (D.medium disk.old).now)) }
+        requires whole { device_size (layout (log_of self.old)) ≤ length (D.medium disk.old).now }
+        ensures front { IfOk result (λ n. D.keeps → n ≡ length (front (layout (log_of self.old)) half (D.medium disk.old).now)) }
         ensures within { IfOk result (λ n. n ≤ (log_of self.old).geometry.half) }
         ensures untouched { D.keeps → moments (D.medium disk.new) ≡ moments (D.medium disk.old) }
         ensures log { log_of self.new ≡ after result (log_of self.old) (log_of self.old) }
@@ -193,8 +194,8 @@ impl Halves {
         requires sound { (log_of self.old).failed ≡ false }
         requires half { half < 2 }
         requires i { i < (log_of self.old).geometry.half }
-        requires whole { device_size (layout_of (log_of self.old).geometry) ≤ length (D.medium disk.old).now }
-        ensures record { D.keeps → IsOfRecord (log_of self.old).geometry half i (record_at (layout_of (log_of self.old).geometry) half i (D.medium disk.old).now) result }
+        requires whole { device_size (layout (log_of self.old)) ≤ length (D.medium disk.old).now }
+        ensures record { D.keeps → IsOfRecord (log_of self.old).geometry half i (record_at (layout (log_of self.old)) half i (D.medium disk.old).now) result }
         ensures logged { IfOk result (λ m. IsMessage m × IsLogged (log_of self.old).geometry m) }
         ensures about { IsAbout half i result }
         ensures untouched { D.keeps → moments (D.medium disk.new) ≡ moments (D.medium disk.old) }
@@ -213,7 +214,7 @@ impl Halves {
         }
     }
 
-    // After a fault of the device.
+    /// Marks the log as failed, and gives the fault.
     fn fail(&mut self) -> LogFault
         ensures log { log_of self.new ≡ record (log_of self.old) { failed = true } }
         ensures fault { result ≡ LogFault.Device }
@@ -222,6 +223,7 @@ impl Halves {
         LogFault::Device
     }
 
+    /// One of its halves.
     fn half(&self, number: usize) -> Half
         requires { number < 2 }
         ensures { (result.geometry ≡ self.now.geometry) × (result.number ≡ number) }
@@ -233,7 +235,7 @@ impl Halves {
     }
 }
 
-// The changing message in range whose record these bytes are.
+/// The changing message in range whose record these bytes are.
 fn logged_message(g: &Geometry, bytes: &[u8; 520]) -> Option<Msg>
     ensures some { IfSome result (λ m. (bytes.now ≡ record_of m) × IsMessage m × IsLogged g.now m) }
     ensures none { IsNone result → (m : Msg) → IsMessage m → IsLogged g.now m → bytes.now ≢ record_of m }

@@ -7,6 +7,7 @@
 mod fault;
 mod half;
 mod halves;
+pub mod laws;
 mod staging;
 mod store;
 

@@ -3,7 +3,7 @@ ghost use Rattle.affinity.specs.Limits.{IsWithin};
 ghost use Rattle.disk.specs.Memory.{medium_of};
 ghost use Rattle.oplog.specs.Changes.{IsReady};
 ghost use Rattle.oplog.specs.Layout.{layout_of, device_size};
-ghost use Rattle.oplog.specs.Log.{log_of};
+ghost use Rattle.oplog.specs.Log.{log_of, layout};
 ghost use Rattle.oplog.specs.Logged.{AreLogged, IsLogged};
 
 use super::*;
@@ -48,8 +48,8 @@ fn are_logged(g: &Geometry, messages: &[Msg]) -> bool
 fn change_halves<D: Disk>(disk: &mut D, log: &mut Halves) -> Result<(), LogFault>
     requires sound { (log_of log.old).failed ≡ false }
     requires together { (log_of log.old).current ≡ (log_of log.old).named }
-    requires whole { device_size (layout_of (log_of log.old).geometry) ≤ length (D.medium disk.old).now }
-    ensures ready { OnOk result (D.keeps → IsReady (layout_of (log_of log.new).geometry) (log_of log.new).current (log_of log.new).used (D.medium disk.new)) }
+    requires whole { device_size (layout (log_of log.old)) ≤ length (D.medium disk.old).now }
+    ensures ready { OnOk result (D.keeps → IsReady (layout (log_of log.new)) (log_of log.new).current (log_of log.new).used (D.medium disk.new)) }
     ensures geometry { (log_of log.new).geometry ≡ (log_of log.old).geometry }
     ensures sound { OnOk result ((log_of log.new).failed ≡ false) }
     ensures together { OnOk result ((log_of log.new).current ≡ (log_of log.new).named) }
@@ -64,8 +64,8 @@ fn change_halves<D: Disk>(disk: &mut D, log: &mut Halves) -> Result<(), LogFault
 fn appends<D: Disk>(g: &Geometry, disk: &mut D, log: &mut Halves, messages: &[Msg]) -> bool
     requires sound { (log_of log.old).failed ≡ false }
     requires geometry { (log_of log.old).geometry ≡ g.now }
-    requires whole { device_size (layout_of (log_of log.old).geometry) ≤ length (D.medium disk.old).now }
-    requires ready { D.keeps → IsReady (layout_of (log_of log.old).geometry) (log_of log.old).current (log_of log.old).used (D.medium disk.old) }
+    requires whole { device_size (layout (log_of log.old)) ≤ length (D.medium disk.old).now }
+    requires ready { D.keeps → IsReady (layout (log_of log.old)) (log_of log.old).current (log_of log.old).used (D.medium disk.old) }
     ensures geometry { (log_of log.new).geometry ≡ g.now }
     ensures sound { IsTrue result → (log_of log.new).failed ≡ false }
     ensures len { length (D.medium disk.new).now ≡ length (D.medium disk.old).now }
@@ -84,7 +84,10 @@ fn begins_with<D: Disk>(
     ensures { length (D.medium disk.new).now ≡ length (D.medium disk.old).now }
 {
     let mut log = Halves::new(alloc, g)?;
-    Ok(change_halves(disk, &mut log).is_ok() && appends(g, disk, &mut log, messages))
+    if change_halves(disk, &mut log).is_err() {
+        return Ok(false);
+    }
+    Ok(appends(g, disk, &mut log, messages))
 }
 
 /// The messages in the open front of a half.

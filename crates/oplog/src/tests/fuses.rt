@@ -92,6 +92,8 @@ fn each_crash_leaves_a_beginning_of_the_messages(rt: HostRuntime) -> Result<(), 
                 // Before the gates are written none is there, and after their sync all are.
                 assert!(rt; n > 6 || count == 0);
                 assert!(rt; n < 9 || count == 3);
+                // The write of the gates failed, and they are 1, 77, 1.
+                assert!(rt; n != 7 || kind != 5 || count == 1);
             }
         }
     }

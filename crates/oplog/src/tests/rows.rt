@@ -38,11 +38,15 @@ fn zeros_are_no_record(rt: HostRuntime) -> Result<(), Fail> {
 
 #[test]
 fn no_message_that_changes_nothing_is_read(rt: HostRuntime) -> Result<(), Fail> {
-    // Kind 1 makes a volume, kind 5 seals one, and kind 10 lists its files; there is no volume 1.
+    // Kind 1 makes a volume, 5 seals one, 13 labels one, 9 reads a block, 10 lists the files, and
+    // 14 asks for the label. There is no volume 1, and no kind 15.
     let rows = [
         ([1, 0, 0], Ok(Msg::MakeVol(0, 0))),
         ([5, 0, 0], Ok(Msg::Seal(0, 0))),
+        ([13, 0, 0], Ok(Msg::SetLabel(0, 0, [0; 32]))),
+        ([9, 0, 0], Err(LogFault::BadRecord(0, 3))),
         ([10, 0, 0], Err(LogFault::BadRecord(0, 3))),
+        ([14, 0, 0], Err(LogFault::BadRecord(0, 3))),
         ([1, 0, 1], Err(LogFault::BadRecord(0, 3))),
         ([15, 0, 0], Err(LogFault::BadRecord(0, 3))),
     ];

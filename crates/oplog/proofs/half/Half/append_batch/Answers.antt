@@ -1,14 +1,15 @@
-use Rattle.std.proofs.Common.{◌≡◌, ◌*◌, ℕ, List, length, take, replicate, sym, ◌∙◌, ap, arith}
+use Rattle.std.proofs.Common.{◌*◌, ℕ, List, length, take, get_or, replicate, sym, ◌∙◌, ap, arith}
 use Rattle.std.proofs.lemmas.List.{length-map, length-replicate}
 use Rattle.message.specs.Records.{record_of}
+use Rattle.message.proofs.RecordLemmas.{in_range_has_room}
 use Rattle.oplog.specs.Layout.{layout_of}
 use Rattle.oplog.proofs.Slices.{half_inside}
 use Rattle.oplog.specs.Logged.{records_of}
 use Rattle.oplog.proofs.BatchMoments.{bodies_moments, gates_moments, batch_added}
 use Rattle.oplog.proofs.half.Half.append_batch.Goals as goal
 
-length_ones : (n : ℕ) → length {A = ℕ} (replicate n 1) ≡ n
-length_ones n = length-replicate n 1
+pub stage-requires-clause-fit : goal.stage-requires-clause-fit
+stage-requires-clause-fit g c = λ k d within. in_range_has_room c.args.self.geometry (get_or c.args.messages.now k d) (c.requires.logged k d within).1
 
 pub returns-in_err-store-clause-any_moment : goal.returns-in_err-store-clause-any_moment
 returns-in_err-store-clause-any_moment g c = λ k.
@@ -25,7 +26,7 @@ returns-in_err-store-2-clause-any_moment g c = λ k.
 
 pub store-requires-2 : goal.store-requires-2
 store-requires-2 g c =
-    omega (arith, c.gate_at.ensures, half_inside (layout_of c.args.self.geometry) c.args.self.number c.args.self.number_range, c.store.ensures.len, ap length c.ones.ensures, length_ones (length c.args.messages.now))
+    omega (arith, c.gate_at.ensures, half_inside (layout_of c.args.self.geometry) c.args.self.number c.args.self.number_range, c.store.ensures.len, ap length c.ones.ensures, length-replicate {A = ℕ} (length c.args.messages.now) 1)
 
 pub returns-clause-any_moment : goal.returns-clause-any_moment
 returns-clause-any_moment g c = λ k.
