@@ -1,6 +1,6 @@
 -- How a command ends where it serves nothing, and that words which are wrong ask for nothing.
 use Rattle.std.proofs.Common.{◌≡◌, ◌∙◌, refl, sym, subst, inl, inr, ℕ, List, [], ◌∷◌, true, false, Option, Some, None}
-use Rattle.std.specs.Prelude.{Err, Result}
+use Rattle.std.specs.Prelude.{Err, Ok, Result}
 use Rattle.std.specs.List.{list_all}
 use Rattle.std.proofs.lemmas.Bool.{and_parts}
 use Rattle.affinity.specs.declared.sizes.Geometry.{Geometry}
@@ -11,9 +11,9 @@ use Rattle.clap.specs.declared.error.kind.ErrorKind.{ErrorKind}
 use Rattle.plain.specs.Output.{Writes, IsBeginning}
 use Rattle.plain.proofs.ProgressLemmas.{appends_nothing}
 use Rattle.waffd.proofs.Options.{in_range}
-use Rattle.waffd.specs.Ends.{Ends, EndsPlain, status_at}
+use Rattle.waffd.specs.Ends.{Ends, EndsHelp, EndsPlain, EndsRefused, status_at}
 use Rattle.waffd.specs.Faults.{status_of}
-use Rattle.waffd.specs.Words.{Asks, AsksPlain, IsReason, IsRefused, is_mistake}
+use Rattle.waffd.specs.Words.{Asks, AsksNoService, AsksPlain, IsReason, IsRefused, is_mistake}
 use Rattle.waffd.specs.declared.faults.Fault.{Fault}
 use Rattle.waffd.specs.declared.faults.Fault.TheVariants.{Read, Write, GeometryOutOfRange, OutOfMemory}
 use Rattle.waffd.specs.declared.words.Refusal.TheVariants.{Fault as by_fault, Words as by_words}
@@ -37,6 +37,20 @@ ask_for_nothing words (Help text) asks (inl wrong) =
     let bad : true ≡ false = sym (mistake_among _ (kind_of text) wrong.1 asks.0) ∙ asks.1 in
     cc
 ask_for_nothing words (Help text) asks (inr out_of_range) = subst (IsAmong (kind_of text)) out_of_range.0 asks.0
+
+-- ---- words that ask for no service
+
+pub refused_by : (words : List Text) (fault : Fault) → IsReason words (by_fault fault) → EndsRefused (status_of fault)
+refused_by words OutOfMemory reason = inr refl
+refused_by words GeometryOutOfRange reason = inl refl
+refused_by words fault reason = absurd reason
+
+pub helped : (words : List Text) (request : Request) (end : Result (Unit {0}) Fault) (input left old new : Option (List ℕ)) → AsksNoService words → Asks words request
+    → Ends request end input left old new → EndsHelp (status_at end) × (left ≡ input)
+helped words (Plain g) end input left old new no_service asks ends = absurd (no_service asks.0)
+helped words (Help text) (Ok _) input left old new no_service asks ends = (inl refl, ends)
+helped words (Help text) (Err Write) input left old new no_service asks ends = (inr (inl refl), ends)
+helped words (Help text) (Err fault) input left old new no_service asks ends = absurd ends
 
 -- ---- a fault has a status of its own
 

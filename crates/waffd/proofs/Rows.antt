@@ -2,7 +2,7 @@
 use Rattle.std.proofs.Common.{◌≡◌, ℕ, List, [], ◌∷◌, codes, refl, sym, subst, lit≤, arith, ◌≤◌}
 use Rattle.affinity.specs.Geometry.{standard}
 use Rattle.clap.proofs.OnLiterals.{clap_on_literals}
-use Rattle.waffd.specs.Words.{AsksHelp, AsksOutOfRange, AsksPlain, IsWrong}
+use Rattle.waffd.specs.Words.{AsksHelp, AsksNoService, AsksOutOfRange, AsksPlain, IsWrong}
 
 pub asks_plain : (program : List ℕ) → AsksPlain (program ∷ codes "plain" ∷ []) standard
 unfolding clap_on_literals
@@ -26,6 +26,18 @@ asks_short_half program = (refl, λ in_range. let least : 4 ≤ 3 = in_range.7.0
 pub asks_help : (program : List ℕ) → AsksHelp (program ∷ codes "--help" ∷ [])
 unfolding clap_on_literals
 asks_help program = refl
+
+pub help_is_no_service : (program : List ℕ) → AsksNoService (program ∷ codes "help" ∷ [])
+unfolding clap_on_literals
+help_is_no_service program = λ e. cc
+
+pub help_on_plain_is_no_service : (program : List ℕ) → AsksNoService (program ∷ codes "help" ∷ codes "plain" ∷ [])
+unfolding clap_on_literals
+help_on_plain_is_no_service program = λ e. cc
+
+pub help_on_no_command_is_no_service : (program : List ℕ) → AsksNoService (program ∷ codes "help" ∷ codes "flat" ∷ [])
+unfolding clap_on_literals
+help_on_no_command_is_no_service program = λ e. cc
 
 pub nothing_is_wrong : (program : List ℕ) → IsWrong (program ∷ [])
 unfolding clap_on_literals

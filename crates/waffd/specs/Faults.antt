@@ -1,5 +1,7 @@
 -- The exit status of each fault.
 use Rattle.std.specs.Prelude.{ℕ}
+use Rattle.std.specs.declared.io.ErrorKind.{ErrorKind}
+use Rattle.std.specs.declared.io.ErrorKind.TheVariants as kind
 use Rattle.plain.specs.declared.serving.PlainFault.{PlainFault}
 use Rattle.plain.specs.declared.serving.PlainFault.TheVariants as plain
 use Rattle.waffd.specs.declared.faults.Fault.{Fault}
@@ -10,6 +12,11 @@ status_of Read = 1
 status_of Write = 1
 status_of GeometryOutOfRange = 2
 status_of OutOfMemory = 3
+
+-- The exit status where the words of the call could not be read: 3 for want of memory, and else that of wrong words, since one of them is not UTF-8.
+abbrev pub status_without_words : ErrorKind → ℕ
+status_without_words kind.OutOfMemory = status_of OutOfMemory
+status_without_words _ = 2
 
 -- the fault of the program where the serial server ends by one of its own
 abbrev pub of_plain : PlainFault → Fault

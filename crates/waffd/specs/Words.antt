@@ -48,7 +48,7 @@ IsSubcommand shape c = (old new : Command) → AddsSubcommand old c new → app_
 
 -- ---- what the words say
 
--- the number that decimal digits write, below 2^16
+-- the number that decimal digits write, with a plus before them or none, below 2^16
 abbrev pub number_of : Text → Option ℕ
 number_of text =
     let digits = without_leading_plus text in
@@ -103,6 +103,10 @@ AsksOutOfRange words = (findings words ≡ []) × (¬ (AreInRange (numbers_at (s
 -- The words ask for help.
 abbrev pub AsksHelp : List Text → Type 0
 AsksHelp words = findings words ≡ DisplayHelp ∷ []
+
+-- The words ask for no service: they ask for help, or there are mistakes in them. Behind the word `help` it may be either, and `clap` tells which.
+abbrev pub AsksNoService : List Text → Type 0
+AsksNoService words = findings words ≢ []
 
 -- There are mistakes in the words, and they ask for no help.
 abbrev pub IsWrong : List Text → Type 0

@@ -1,19 +1,27 @@
 //! The program over a reader and two writers.
-ghost use Rattle.std.specs.Prelude.{◌≡◌, ℕ, List, [], ◌∷◌, codes, map, string_bytes};
+ghost use Rattle.std.specs.Prelude.{◌≡◌, ◌⊎◌, ℕ, List, [], ◌∷◌, codes, map, string_bytes};
+ghost use Rattle.std.specs.IoError.{error_kind};
 ghost use Rattle.affinity.specs.Geometry.{standard};
-ghost use Rattle.waffd.specs.Faults.{status_of};
+ghost use Rattle.waffd.specs.Faults.{status_of, status_without_words};
 ghost use Rattle.waffd.specs.Ends.{Ends, EndsHelp, EndsPlain, EndsRefused};
-ghost use Rattle.waffd.specs.Words.{AsksHelp, AsksPlain, IsRefused};
+ghost use Rattle.waffd.specs.Words.{AsksHelp, AsksNoService, AsksPlain, IsRefused};
 ghost use Rattle.affinity.specs.declared.sizes.Geometry.{Geometry};
 
 use crate::faults::Fault;
 use crate::words::{Refusal, Request, read_words};
 use plain::serve_from;
 use std::alloc::Global;
-use std::io::{Read, Write};
+use std::io;
+use std::io::{ErrorKind, Read, Write};
 
 /// The exit status where the words are wrong.
 const WRONG_WORDS: u8 = 2;
+
+/// What is said of words that are not UTF-8. `clap` says so elsewhere, but here it takes text alone.
+const NOT_TEXT: &str = "error: invalid UTF-8 was detected in one or more arguments
+
+For more information, try '--help'.
+";
 
 /// Does what was asked for, from `r` to `w`.
 pub fn run<R: Read, W: Write>(
@@ -26,7 +34,10 @@ pub fn run<R: Read, W: Write>(
         (W.contents w.old) (W.contents w.new) }
 {
     match request {
-        Request::Help(text) => write!(w, "{text}").map_err(|_| Fault::Write),
+        Request::Help(text) => {
+            write!(w, "{text}").map_err(|_| Fault::Write)?;
+            w.flush().map_err(|_| Fault::Write)
+        }
         Request::Plain(geometry) => Ok(serve_from(alloc, &geometry, r, w)?),
     }
 }
@@ -37,6 +48,18 @@ pub fn report<E: Write>(fault: Fault, e: &mut E) -> u8
 {
     let _ = write!(e, "waffd: {fault}\n");
     fault.status()
+}
+
+/// Prints on `e` why the program has no words, and answers the exit status: one of them is not UTF-8,
+/// or there was no memory for them. A write that fails is not looked at.
+pub fn report_unread_words<E: Write>(error: &io::Error, e: &mut E) -> u8
+    ensures { result ≡ status_without_words (error_kind error.now) }
+{
+    if error.kind() == ErrorKind::OutOfMemory {
+        return report(Fault::OutOfMemory, e);
+    }
+    let _ = write!(e, "{NOT_TEXT}");
+    WRONG_WORDS
 }
 
 /// Reads the words, the program's own name first, does what they ask for from `r` to `w`, prints a
@@ -58,6 +81,9 @@ pub fn command<R: Read, W: Write, E: Write>(
         → EndsHelp result × (R.remaining r.new ≡ R.remaining r.old) }
     ensures refused { IsRefused (map string_bytes words.now)
         → EndsRefused result × (r.new ≡ r.old) × (w.new ≡ w.old) }
+    ensures unserved { AsksNoService (map string_bytes words.now)
+        → (EndsHelp result × (R.remaining r.new ≡ R.remaining r.old))
+        ⊎ (EndsRefused result × (r.new ≡ r.old) × (w.new ≡ w.old)) }
     ensures quiet { result ≡ 0 → e.new ≡ e.old }
 {
     let request = match read_words(alloc, words) {

@@ -7,8 +7,7 @@ mod faults;
 mod tests;
 mod words;
 
-use command::{command, report};
-use faults::Fault;
+use command::{command, report_unread_words};
 use std::process::ExitCode;
 use std::{env, io};
 
@@ -27,7 +26,7 @@ fn main(rt: HostRuntime) -> ExitCode {
             &mut rt.stdout(),
             &mut rt.stderr(),
         ),
-        Err(_) => report(Fault::OutOfMemory, &mut rt.stderr()),
+        Err(error) => report_unread_words(&error, &mut rt.stderr()),
     };
     ExitCode::from(status)
 }

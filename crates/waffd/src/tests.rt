@@ -1,10 +1,10 @@
 //! Calls of the program over memory: which words it takes, what it prints of them, and where.
 mod serving;
 
-use crate::command::command;
+use crate::command::{command, report_unread_words};
 use std::alloc::{AllocError, Global};
 use std::io;
-use std::io::{Read, Write};
+use std::io::{ErrorKind, Read, Write};
 use std::test::Fail;
 
 /// How a call ended: its status, what it printed, and what it printed of faults.
@@ -22,6 +22,20 @@ struct Closed;
 impl Write for Closed {
     fn write(&mut self, _buf: &[u8]) -> io::Result<usize> {
         Err(io::Error::from(io::ErrorKind::BrokenPipe))
+    }
+
+    fn flush(&mut self) -> io::Result<()> {
+        Err(io::Error::from(io::ErrorKind::BrokenPipe))
+    }
+}
+
+/// A writer that takes all, and can't pass it on.
+#[derive(Drop)]
+struct Stuck;
+
+impl Write for Stuck {
+    fn write(&mut self, buf: &[u8]) -> io::Result<usize> {
+        Ok(buf.len())
     }
 
     fn flush(&mut self) -> io::Result<()> {
@@ -117,6 +131,10 @@ fn wrong_words_are_told_on_the_standard_error(rt: HostRuntime) -> Result<(), Fai
             "error: unrecognized subcommand 'flat'",
         ),
         (
+            ["waffd", "help", "flat"].as_slice(),
+            "error: unrecognized subcommand 'flat'",
+        ),
+        (
             ["waffd", "--plain"].as_slice(),
             "error: unexpected argument '--plain'",
         ),
@@ -189,21 +207,42 @@ fn numbers_out_of_range_are_refused(rt: HostRuntime) -> Result<(), Fail> {
     Ok(())
 }
 
-#[test]
-fn help_that_cannot_be_written_is_a_write_fault(rt: HostRuntime) -> Result<(), Fail> {
-    let alloc = rt.alloc();
+/// A call for help that goes to `w`: its status, and what it printed of faults.
+fn help_to<W: Write>(alloc: Global, w: &mut W) -> Result<(u8, Vec<u8>), AllocError> {
     let words = owned(alloc, ["waffd", "--help"].as_slice())?;
     let mut faults = Vec::new(alloc);
     let mut input = b"".as_slice();
-    let status = command(
-        alloc,
-        words.as_slice(),
-        &mut input,
-        &mut Closed,
-        &mut faults,
-    );
-    assert_eq!(rt; status, 1);
-    assert_eq!(rt; text(faults.as_slice()), "waffd: write fault\n");
+    let status = command(alloc, words.as_slice(), &mut input, w, &mut faults);
+    Ok((status, faults))
+}
+
+#[test]
+fn help_that_cannot_be_written_is_a_write_fault(rt: HostRuntime) -> Result<(), Fail> {
+    let closed = help_to(rt.alloc(), &mut Closed)?;
+    let stuck = help_to(rt.alloc(), &mut Stuck)?;
+    for (status, faults) in [closed, stuck] {
+        assert_eq!(rt; status, 1);
+        assert_eq!(rt; text(faults.as_slice()), "waffd: write fault\n");
+    }
+    Ok(())
+}
+
+#[test]
+fn words_that_are_no_text_are_wrong_words(rt: HostRuntime) -> Result<(), Fail> {
+    let rows = [
+        (
+            ErrorKind::InvalidData,
+            2,
+            "error: invalid UTF-8 was detected in one or more arguments\n",
+        ),
+        (ErrorKind::OutOfMemory, 3, "waffd: out of memory\n"),
+    ];
+    for (kind, want, told) in rows {
+        let mut faults = Vec::new(rt.alloc());
+        let status = report_unread_words(&io::Error::from(kind), &mut faults);
+        assert_eq!(rt; status, want, "{told}");
+        assert!(rt; text(faults.as_slice()).starts_with(told), "{told}");
+    }
     Ok(())
 }
 

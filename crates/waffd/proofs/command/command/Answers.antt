@@ -1,5 +1,5 @@
-use Rattle.std.proofs.Common.{map, string_bytes, subst, Ok, Err}
-use Rattle.waffd.proofs.Ending.{ask_for_nothing, is_told, no_mistake, served, served_nothing}
+use Rattle.std.proofs.Common.{map, string_bytes, subst, inl, inr, refl, Ok, Err}
+use Rattle.waffd.proofs.Ending.{ask_for_nothing, helped, is_told, no_mistake, refused_by, served, served_nothing}
 use Rattle.waffd.proofs.Rows.{asks_alone}
 use Rattle.affinity.specs.Geometry.{standard}
 use Rattle.waffd.specs.Words.{IsReason}
@@ -29,6 +29,26 @@ returns-in-Ok-run-clause-refused g c = λ wrong. absurd (ask_for_nothing (map st
 
 pub returns-in-Err-clause-refused : goal.returns-in-Err-clause-refused
 returns-in-Err-clause-refused g c = λ wrong. absurd (ask_for_nothing (map string_bytes c.args.words.now) c.in-Ok.request c.in-Ok.ensures.ok wrong)
+
+-- words that ask for no service
+
+pub returns-in-Err-Fault-clause-unserved : goal.returns-in-Err-Fault-clause-unserved
+returns-in-Err-Fault-clause-unserved g c = λ no_service.
+    let words = map string_bytes c.args.words.now in
+    let P : Refusal → Type 0 = λ refusal. IsReason words refusal in
+    let reason = subst P c.in-Err-Fault.field-0-is c.in-Err-Fault.ensures.err in
+    rw (c.report.ensures, c.in-Err-Fault.fault-is) (inr (refused_by words c.in-Err-Fault.fault reason, refl, refl))
+
+pub returns-in-Ok-run-clause-unserved : goal.returns-in-Ok-run-clause-unserved
+returns-in-Ok-run-clause-unserved g c = λ no_service.
+    let words = map string_bytes c.args.words.now in
+    inl (helped words c.in-Ok.request (Ok c.in-Ok-run.field-0) (g.R.Read.remaining c.args.r.now) (g.R.Read.remaining c.run.new.r) (g.W.Write.contents c.args.w.now) (g.W.Write.contents c.run.new.w) no_service c.in-Ok.ensures.ok c.in-Ok-run.ensures)
+
+pub returns-in-Err-clause-unserved : goal.returns-in-Err-clause-unserved
+returns-in-Err-clause-unserved g c = λ no_service.
+    let words = map string_bytes c.args.words.now in
+    rw c.report-in-Err.ensures
+    (inl (helped words c.in-Ok.request (Err c.in-Err.fault) (g.R.Read.remaining c.args.r.now) (g.R.Read.remaining c.run.new.r) (g.W.Write.contents c.args.w.now) (g.W.Write.contents c.run.new.w) no_service c.in-Ok.ensures.ok c.in-Err.ensures))
 
 -- the word `plain` alone asks for the standard geometry
 
