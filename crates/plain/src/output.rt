@@ -96,7 +96,7 @@ impl Output {
         }
     }
 
-    /// Adds a line.
+    /// Adds a line, one no longer than the longest reply's.
     pub(crate) fn add<W: Write>(&mut self, line: &[u8], w: &mut W) -> Result<(), PlainFault>
         ensures added { OnOk result (Appends (so_far (W.contents w.old) self.old)
             (so_far (W.contents w.new) self.new) line.now) }

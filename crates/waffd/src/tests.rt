@@ -121,53 +121,46 @@ fn help_names_the_commands_and_the_options(rt: HostRuntime) -> Result<(), Fail> 
     Ok(())
 }
 
+/// Calls whose words are wrong, and what is said of each.
+const WRONG_CALLS: [(&[&str], &str); 12] = [
+    (&[], "Usage: waffd"),
+    (&["waffd"], "Usage: waffd"),
+    (&["waffd", "flat"], "error: unrecognized subcommand 'flat'"),
+    (
+        &["waffd", "help", "flat"],
+        "error: unrecognized subcommand 'flat'",
+    ),
+    (
+        &["waffd", "--plain"],
+        "error: unexpected argument '--plain'",
+    ),
+    (&["waffd", "plain", "x"], "error: unexpected argument 'x'"),
+    (&["waffd", "plain", "--files"], "error: a value is required"),
+    (
+        &["waffd", "plain", "--files", "two"],
+        "error: invalid value 'two'",
+    ),
+    (
+        &["waffd", "plain", "--files", "65536"],
+        "error: invalid value '65536'",
+    ),
+    (
+        &["waffd", "plain", "--files=-1"],
+        "error: invalid value '-1'",
+    ),
+    (
+        &["waffd", "plain", "--files", "2", "--files", "2"],
+        "error: the argument '--files <N>' cannot be used multiple times",
+    ),
+    (
+        &["waffd", "plain", "--files", "0", "--blocks", "x"],
+        "error: invalid value 'x'",
+    ),
+];
+
 #[test]
 fn wrong_words_are_told_on_the_standard_error(rt: HostRuntime) -> Result<(), Fail> {
-    let calls = [
-        ([].as_slice(), "Usage: waffd"),
-        (["waffd"].as_slice(), "Usage: waffd"),
-        (
-            ["waffd", "flat"].as_slice(),
-            "error: unrecognized subcommand 'flat'",
-        ),
-        (
-            ["waffd", "help", "flat"].as_slice(),
-            "error: unrecognized subcommand 'flat'",
-        ),
-        (
-            ["waffd", "--plain"].as_slice(),
-            "error: unexpected argument '--plain'",
-        ),
-        (
-            ["waffd", "plain", "x"].as_slice(),
-            "error: unexpected argument 'x'",
-        ),
-        (
-            ["waffd", "plain", "--files"].as_slice(),
-            "error: a value is required",
-        ),
-        (
-            ["waffd", "plain", "--files", "two"].as_slice(),
-            "error: invalid value 'two'",
-        ),
-        (
-            ["waffd", "plain", "--files", "65536"].as_slice(),
-            "error: invalid value '65536'",
-        ),
-        (
-            ["waffd", "plain", "--files=-1"].as_slice(),
-            "error: invalid value '-1'",
-        ),
-        (
-            ["waffd", "plain", "--files", "2", "--files", "2"].as_slice(),
-            "error: the argument '--files <N>' cannot be used multiple times",
-        ),
-        (
-            ["waffd", "plain", "--files", "0", "--blocks", "x"].as_slice(),
-            "error: invalid value 'x'",
-        ),
-    ];
-    for (words, told) in calls {
+    for (words, told) in WRONG_CALLS {
         let ended = call(rt.alloc(), words, b"makevol 0 0\n".as_slice())?;
         assert_eq!(rt; ended.status, 2, "{words:?}");
         assert!(rt; ended.output.is_empty(), "{words:?}");

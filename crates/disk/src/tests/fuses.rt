@@ -20,47 +20,41 @@ fn with_fuses(alloc: Global, fuses: &[Fuse]) -> Result<MemDisk, AllocError> {
     Ok(disk)
 }
 
+const CALLS: [Call; 5] = [
+    Call::Read(0, 4),
+    Call::Write(0, &[1]),
+    Call::Read(4, 1),
+    Call::Sync,
+    Call::Read(0, 1),
+];
+
+/// Fuses, set one after the other, and what each of the calls answers then.
+const BLOWN: [(&[Fuse], [Result<(), DiskFault>; 5]); 5] = [
+    (&[Fuse::FailAt(2)], [FINE, FAULT, OUTSIDE, FINE, FINE]),
+    (&[Fuse::FailAt(3)], [FINE, FINE, OUTSIDE, FAULT, FINE]),
+    (&[Fuse::StopAt(2)], [FINE, FAULT, OUTSIDE, FAULT, FAULT]),
+    (
+        &[Fuse::StopAt(1), Fuse::FailAt(2)],
+        [FINE, FAULT, OUTSIDE, FINE, FINE],
+    ),
+    (
+        &[Fuse::FailAt(1), Fuse::StopAt(4)],
+        [FINE, FINE, OUTSIDE, FINE, FAULT],
+    ),
+];
+
 #[test]
 fn fuses_fail_the_calls_that_they_name(rt: HostRuntime) -> Result<(), Fail> {
     let alloc = rt.alloc();
-    let calls = [
-        Call::Read(0, 4),
-        Call::Write(0, &[1]),
-        Call::Read(4, 1),
-        Call::Sync,
-        Call::Read(0, 1),
-    ];
-    let rows = vec![in alloc;
-        (
-            vec![in alloc; Fuse::FailAt(2)]?,
-            [FINE, FAULT, OUTSIDE, FINE, FINE]
-        ),
-        (
-            vec![in alloc; Fuse::FailAt(3)]?,
-            [FINE, FINE, OUTSIDE, FAULT, FINE]
-        ),
-        (
-            vec![in alloc; Fuse::StopAt(2)]?,
-            [FINE, FAULT, OUTSIDE, FAULT, FAULT]
-        ),
-        (
-            vec![in alloc; Fuse::StopAt(1), Fuse::FailAt(2)]?,
-            [FINE, FAULT, OUTSIDE, FINE, FINE]
-        ),
-        (
-            vec![in alloc; Fuse::FailAt(1), Fuse::StopAt(4)]?,
-            [FINE, FINE, OUTSIDE, FINE, FAULT]
-        ),
-    ]?;
-    for (fuses, wanted) in rows {
-        let mut disk = with_fuses(alloc, &fuses)?;
-        let got = answers(alloc, &mut disk, &calls)?;
+    for (fuses, wanted) in BLOWN {
+        let mut disk = with_fuses(alloc, fuses)?;
+        let got = answers(alloc, &mut disk, &CALLS)?;
         assert_eq!(rt; got.as_slice(), wanted.as_slice());
         // A call that leaves the device is not counted.
         assert_eq!(rt; disk.calls(), 4);
         let mut disk = disk.crash(Torn::Old);
         assert_eq!(rt; disk.calls(), 0);
-        let got = answers(alloc, &mut disk, &calls)?;
+        let got = answers(alloc, &mut disk, &CALLS)?;
         assert_eq!(rt;
             got.as_slice(),
             [FINE, FINE, OUTSIDE, FINE, FINE].as_slice()

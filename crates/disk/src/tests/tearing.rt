@@ -5,7 +5,7 @@ use std::test::Fail;
 /// leaves. `Mixed` puts 1, 77, 1.
 #[derive(Drop)]
 struct Row {
-    calls: Vec<Call>,
+    calls: &'static [Call],
     fails: u64,
     now: [u8; 6],
     old: [u8; 6],
@@ -14,70 +14,67 @@ struct Row {
     mixed: [u8; 6],
 }
 
-fn rows(alloc: Global) -> Result<Vec<Row>, Fail> {
-    let rows = vec![in alloc;
-        // Written over one another, the last time by a write that fails.
-        Row {
-            calls: vec![in alloc;
-                Call::Write(1, &[1, 2, 3]),
-                Call::Sync,
-                Call::Write(0, &[21, 22, 23]),
-                Call::Write(2, &[31, 32]),
-            ]?,
-            fails: 4,
-            now: [21, 22, 23, 3, 14, 15],
-            old: [10, 1, 2, 3, 14, 15],
-            new: [21, 22, 31, 32, 14, 15],
-            filled: [7, 7, 7, 7, 14, 15],
-            mixed: [1, 77, 1, 1, 14, 15],
-        },
-        // Places that do not lie in a row, and a sync that fails.
-        Row {
-            calls: vec![in alloc; Call::Write(4, &[8, 9]), Call::Write(1, &[6]), Call::Sync]?,
-            fails: 3,
-            now: [10, 6, 12, 13, 8, 9],
-            old: [10, 11, 12, 13, 14, 15],
-            new: [10, 6, 12, 13, 8, 9],
-            filled: [10, 7, 12, 13, 7, 7],
-            mixed: [10, 1, 12, 13, 77, 1],
-        },
-        // The same, synced.
-        Row {
-            calls: vec![in alloc; Call::Write(4, &[8, 9]), Call::Write(1, &[6]), Call::Sync]?,
-            fails: 9,
-            now: [10, 6, 12, 13, 8, 9],
-            old: [10, 6, 12, 13, 8, 9],
-            new: [10, 6, 12, 13, 8, 9],
-            filled: [10, 6, 12, 13, 8, 9],
-            mixed: [10, 6, 12, 13, 8, 9],
-        },
-        // Nothing was written.
-        Row {
-            calls: vec![in alloc; Call::Read(0, 6)]?,
-            fails: 1,
-            now: [10, 11, 12, 13, 14, 15],
-            old: [10, 11, 12, 13, 14, 15],
-            new: [10, 11, 12, 13, 14, 15],
-            filled: [10, 11, 12, 13, 14, 15],
-            mixed: [10, 11, 12, 13, 14, 15],
-        },
-    ]?;
-    Ok(rows)
-}
+const ROWS: [Row; 4] = [
+    // Written over one another, the last time by a write that fails.
+    Row {
+        calls: &[
+            Call::Write(1, &[1, 2, 3]),
+            Call::Sync,
+            Call::Write(0, &[21, 22, 23]),
+            Call::Write(2, &[31, 32]),
+        ],
+        fails: 4,
+        now: [21, 22, 23, 3, 14, 15],
+        old: [10, 1, 2, 3, 14, 15],
+        new: [21, 22, 31, 32, 14, 15],
+        filled: [7, 7, 7, 7, 14, 15],
+        mixed: [1, 77, 1, 1, 14, 15],
+    },
+    // Places that do not lie in a row, and a sync that fails.
+    Row {
+        calls: &[Call::Write(4, &[8, 9]), Call::Write(1, &[6]), Call::Sync],
+        fails: 3,
+        now: [10, 6, 12, 13, 8, 9],
+        old: [10, 11, 12, 13, 14, 15],
+        new: [10, 6, 12, 13, 8, 9],
+        filled: [10, 7, 12, 13, 7, 7],
+        mixed: [10, 1, 12, 13, 77, 1],
+    },
+    // The same, synced.
+    Row {
+        calls: &[Call::Write(4, &[8, 9]), Call::Write(1, &[6]), Call::Sync],
+        fails: 9,
+        now: [10, 6, 12, 13, 8, 9],
+        old: [10, 6, 12, 13, 8, 9],
+        new: [10, 6, 12, 13, 8, 9],
+        filled: [10, 6, 12, 13, 8, 9],
+        mixed: [10, 6, 12, 13, 8, 9],
+    },
+    // Nothing was written.
+    Row {
+        calls: &[Call::Read(0, 6)],
+        fails: 1,
+        now: [10, 11, 12, 13, 14, 15],
+        old: [10, 11, 12, 13, 14, 15],
+        new: [10, 11, 12, 13, 14, 15],
+        filled: [10, 11, 12, 13, 14, 15],
+        mixed: [10, 11, 12, 13, 14, 15],
+    },
+];
 
 fn device_of(alloc: Global, row: &Row) -> Result<MemDisk, AllocError> {
     let mut disk = MemDisk::of_bytes(alloc, vec![in alloc; 10, 11, 12, 13, 14, 15]?)?;
     if row.fails > 0 {
         disk.fail_at(row.fails);
     }
-    let _ = answers(alloc, &mut disk, &row.calls)?;
+    let _ = answers(alloc, &mut disk, row.calls)?;
     Ok(disk)
 }
 
 #[test]
 fn each_kind_of_crash_tears_what_is_loose(rt: HostRuntime) -> Result<(), Fail> {
     let alloc = rt.alloc();
-    for row in rows(alloc)? {
+    for row in ROWS {
         assert_eq!(rt; device_of(alloc, &row)?.bytes(), row.now.as_slice());
         let disk = device_of(alloc, &row)?.crash(Torn::Old);
         assert_eq!(rt; disk.bytes(), row.old.as_slice());
