@@ -2,4 +2,4 @@ pub mod Numbers
 pub mod Paths
 pub mod Placed
 pub mod Preorder
-pub mod Rows
+pub mod Examples

@@ -4,7 +4,7 @@ use Rattle.std.specs.Coded.{le_prop}
 use Rattle.std.specs.Prelude.{List}
 use Rattle.affinity.specs.Limits.{IsWithin}
 use Rattle.affinity.specs.Geometry.{numbers_of}
-use Rattle.affinity.specs.declared.sizes.Geometry.{Geometry}
+use Rattle.affinity.specs.declared.geometry.Geometry.{Geometry}
 
 abbrev Numbers : Type 0
 Numbers = ℕ × ℕ × ℕ × ℕ × ℕ × ℕ × ℕ × ℕ

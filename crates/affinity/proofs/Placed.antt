@@ -9,7 +9,7 @@ use Rattle.affinity.specs.Interval.{IsPath}
 use Rattle.affinity.specs.Place.{is_in_range, place, place_by}
 use Rattle.affinity.specs.declared.kinds.Kind.{Kind}
 use Rattle.affinity.specs.declared.kinds.Kind.TheVariants.{MakeVol, DropVol, Create, Delete, Seal, Unseal, Write, Punch, Read, List as ListFiles, Usage, Summary, SetLabel, Label}
-use Rattle.affinity.specs.declared.sizes.Geometry.{Geometry}
+use Rattle.affinity.specs.declared.geometry.Geometry.{Geometry}
 
 -- the stripe of a block is there
 pub group_below : (g : Geometry) (f b : ℕ) → group g f b < g.stripes

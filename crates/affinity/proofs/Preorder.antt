@@ -6,7 +6,7 @@ use Rattle.std.proofs.lemmas.Bool.Decides.{nat_tests}
 use Rattle.std.proofs.lemmas.Nat.{row_fits, div-mul-add, mod-mul-add}
 use Rattle.affinity.specs.Path.{Path, begins, are_related, serial, aggregate, volume, logical, stripe, label}
 use Rattle.affinity.specs.Interval.{IsPath, IsAffinityOf, Interval, interval, contains, number, size, volume_number, volume_size, aggregate_size, server_size}
-use Rattle.affinity.specs.declared.sizes.Geometry.{Geometry}
+use Rattle.affinity.specs.declared.geometry.Geometry.{Geometry}
 
 -- ---- among the paths of one volume
 

@@ -1,7 +1,7 @@
 -- The numbers of a server, and the stripe of a block. A geometry carries the proof that each of its numbers is in range, as `g.stripes_range`.
 use Rattle.std.specs.Prelude.{ℕ, ◌+◌, ◌/◌, ◌%◌, List, [], ◌∷◌}
 use Rattle.std.proofs.Common.{lit≤}
-use Rattle.affinity.specs.declared.sizes.Geometry.{Geometry}
+use Rattle.affinity.specs.declared.geometry.Geometry.{Geometry}
 
 -- the numbers in their order
 abbrev pub numbers_of : Geometry → List ℕ

@@ -7,7 +7,7 @@ use Rattle.affinity.specs.declared.kinds.Kind.{Kind}
 use Rattle.affinity.specs.declared.kinds.Kind.TheVariants.{MakeVol, DropVol, Create, Delete, Seal, Unseal, Write, Punch, Read, List as ListFiles, Usage, Summary, SetLabel, Label}
 use Rattle.affinity.specs.declared.places.Place.{Place}
 use Rattle.affinity.specs.declared.places.Place.TheVariants.{Serial, Aggregate, Volume, Logical, Stripe, Label as LabelPlace}
-use Rattle.affinity.specs.declared.sizes.Geometry.{Geometry}
+use Rattle.affinity.specs.declared.geometry.Geometry.{Geometry}
 
 -- the path of a place
 abbrev pub path : Place → Path

@@ -3,15 +3,15 @@
 
 #![tactic(auto)]
 
-mod intervals;
+mod affinities;
 mod kinds;
 mod places;
-mod sizes;
+mod geometry;
 
-pub use intervals::{Affinity, related};
+pub use affinities::{Affinity, related};
 pub use kinds::{Kind, changing};
 pub use places::{Place, group_of, place_of};
-pub use sizes::{BadGeometry, Geometry};
+pub use geometry::{BadGeometry, Geometry};
 
 #[cfg(test)]
 mod tests;

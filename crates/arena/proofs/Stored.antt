@@ -3,7 +3,7 @@ use Rattle.std.proofs.Common.{◌≡◌, ℕ, ◌+◌, ◌-◌, ◌<◌, List, l
 use Rattle.std.proofs.lemmas.List.{get_or_default}
 use Rattle.std.proofs.lemmas.Bool.Decides.{leb_tells}
 use Rattle.arena.specs.Lists.{first_of}
-use Rattle.arena.specs.Linked.{Linked, list_at, ring, rings, IsLinked, IsSound}
+use Rattle.arena.specs.Linked.{Linked, list_at, ring, rings, IsLinked, IsWellLinked}
 use Rattle.arena.proofs.Ways.{walk-inside, times-no_slot, table-at, length-table}
 use Rattle.arena.proofs.Alone.{times-table}
 use Rattle.arena.proofs.Behind.{slot_or_none, first_of-ring}
@@ -23,9 +23,9 @@ pub stored-same : (slots : ℕ) (next next' : List ℕ) (lists : List (List ℕ)
 stored-same slots next next' lists long same =
     ap (λ n. rings (λ x. slice_index next' x) slots n) long ∙ same
 
-pub IsSound-linked : (slots nodes : ℕ) (next previous : ℕ → ℕ) → IsLinked slots nodes next previous
-    → IsSound (record { slots = slots; lists = rings next slots nodes })
-IsSound-linked slots nodes next previous linked = record {
+pub IsWellLinked-linked : (slots nodes : ℕ) (next previous : ℕ → ℕ) → IsLinked slots nodes next previous
+    → IsWellLinked (record { slots = slots; lists = rings next slots nodes })
+IsWellLinked-linked slots nodes next previous linked = record {
   once = linked.once;
   within = λ i some. elim (leb_tells slots i) [
     | inl e ↦ absurd (omega (

@@ -44,7 +44,7 @@ abbrev pub previous_at_start : ℕ → ℕ → ℕ
 previous_at_start slots node = if node == 0 then slots else (if nat_le node slots then node - 1 else node)
 
 -- each number that is on a list is a slot, and stands there once
-pub record IsSound (m : Linked) : Type 0 where
+pub record IsWellLinked (m : Linked) : Type 0 where
   pub once : (i : ℕ) → times i (concat m.lists) ≤ 1
   pub within : (i : ℕ) → 0 < times i (concat m.lists) → i < m.slots
 

@@ -2,7 +2,7 @@
 ghost use Rattle.std.specs.Prelude.{◌≡◌, ◌+◌, ◌<◌, ◌↔◌, [], ◌∷◌, ◌++◌, map, length, replicate, IsTrue, IfOk, slice_set};
 ghost use Rattle.std.specs.List.{concat};
 ghost use Rattle.arena.specs.Lists.{times, without, numbers_from, first_of, behind_in};
-ghost use Rattle.arena.specs.Linked.{list_at, next_at_start, previous_at_start, IsSound};
+ghost use Rattle.arena.specs.Linked.{list_at, next_at_start, previous_at_start, IsWellLinked};
 
 use std::alloc::{AllocError, Global};
 use std::marker::Model;
@@ -66,7 +66,7 @@ impl Links {
     pub(crate) fn new(alloc: Global, slots: usize, others: usize) -> Result<Links, AllocError>
         requires { slots + others < usize.MAX }
         ensures lists { IfOk result (λ links. links ≡ record { slots = slots; lists = numbers_from 0 slots ∷ replicate others [] }) }
-        ensures sound { IfOk result IsSound }
+        ensures sound { IfOk result IsWellLinked }
     {
         let nodes = slots + 1 + others;
         let mut next = Vec::with_capacity(alloc, nodes)?;
@@ -85,7 +85,7 @@ impl Links {
     /// How many lists there are.
     pub(crate) fn lists(&self) -> usize
         ensures count { result ≡ length self.now.lists }
-        ensures sound { IsSound self.now }
+        ensures sound { IsWellLinked self.now }
     {
         self.next.len() - self.slots
     }
@@ -128,7 +128,7 @@ impl Links {
     pub(crate) fn unlink(&mut self, slot: usize)
         requires { slot < self.old.slots }
         ensures lists { self.new ≡ record self.old { lists = map (without slot) self.old.lists } }
-        ensures sound { IsSound self.new }
+        ensures sound { IsWellLinked self.new }
     {
         let before = self.previous[slot];
         let after = self.next[slot];
@@ -144,7 +144,7 @@ impl Links {
         requires list_is_there { list < length self.old.lists }
         requires alone { times slot (concat self.old.lists) ≡ 0 }
         ensures lists { self.new ≡ record self.old { lists = slice_set self.old.lists list (list_at self.old list ++ slot ∷ []) } }
-        ensures sound { IsSound self.new }
+        ensures sound { IsWellLinked self.new }
     {
         let end = self.slots + list;
         let before = self.previous[end];
@@ -160,7 +160,7 @@ impl Links {
         requires list_is_there { list < length self.old.lists }
         requires alone { times slot (concat self.old.lists) ≡ 0 }
         ensures lists { self.new ≡ record self.old { lists = slice_set self.old.lists list (slot ∷ list_at self.old list) } }
-        ensures sound { IsSound self.new }
+        ensures sound { IsWellLinked self.new }
     {
         let end = self.slots + list;
         let after = self.next[end];

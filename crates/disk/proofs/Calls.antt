@@ -2,7 +2,7 @@
 use Rattle.std.proofs.Common.{◌≡◌, ◌+◌, ◌≤◌, ℕ, Bool, List, length, Result, Ok, Err, refl, sym, ap, subst}
 use Rattle.disk.specs.declared.fault.DiskFault.{DiskFault}
 use Rattle.disk.specs.declared.fault.DiskFault.TheVariants.{OutOfRange, Device}
-use Rattle.disk.specs.Device.{Medium, MayLeave, Leaves, IsCalm, SameOutside, moments, overlaid, synced, Reads, Writes, Syncs}
+use Rattle.disk.specs.Device.{Medium, MayLeave, Leaves, IsSynced, SameOutside, moments, overlaid, synced, Reads, Writes, Syncs}
 use Rattle.disk.specs.Moments.{LeavesOnly}
 use Rattle.disk.proofs.Overlays.{overlaid_outside}
 use Rattle.disk.proofs.Leaves.{itself, calm_left, put_back, undone, same_but_range}
@@ -45,5 +45,5 @@ module _ (old mid new : Medium) (P : List ℕ → Type 0) (so_far : LeavesOnly o
         (same_but_range at (length bytes) mid.now new.now mid.loose c inside fails.bytes left'))
 
     -- The same of a device of which nothing is loose: what a read gives, with anything in the range, has P.
-    pub after_calm_write : IsCalm mid → (r : Result (Unit {0}) DiskFault) → Writes at bytes r mid new → ((torn : List ℕ) → SameOutside at (length bytes) mid.now torn → P torn) → LeavesOnly old new P
+    pub after_calm_write : IsSynced mid → (r : Result (Unit {0}) DiskFault) → Writes at bytes r mid new → ((torn : List ℕ) → SameOutside at (length bytes) mid.now torn → P torn) → LeavesOnly old new P
     after_calm_write calm r writes here = after_write r writes (λ c torn left. subst (λ (d : List ℕ). SameOutside at (length bytes) d torn → P torn) (sym (calm_left mid c calm left)) (here torn))

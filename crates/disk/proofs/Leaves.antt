@@ -1,7 +1,7 @@
 -- What a crash may leave, by parts of a device, and of a device that is written.
 use Rattle.std.proofs.Common.{◌≡◌, ℕ, zero, suc, ◌+◌, ◌-◌, ◌≤◌, Bool, true, false, List, [], ◌∷◌, length, take, drop, replicate, refl, sym, ◌∙◌, ap, subst, arith, length-take, length-drop}
 use Rattle.std.proofs.lemmas.List.{drop-drop, drop-replicate, drop_all, take-replicate, take_all}
-use Rattle.disk.specs.Device.{MayLeave, Leaves, IsCalm, Medium, overlaid, marked, SameOutside}
+use Rattle.disk.specs.Device.{MayLeave, Leaves, IsSynced, Medium, overlaid, marked, SameOutside}
 use Rattle.disk.proofs.Overlays.{length-overlaid, take-overlaid, drop-overlaid, range-overlaid, take-marked, drop-marked}
 
 -- the device as it stands is one of those that a crash may leave
@@ -28,11 +28,11 @@ kept_left (b ∷ now) n [] long left = absurd left
 kept_left (b ∷ now) zero (x ∷ c) long left = absurd (omega (arith, long))
 kept_left (b ∷ now) (suc n) (x ∷ c) long left = let rest = kept_left now n c (omega (arith, long)) left.1 in let e = left.0 in cc
 
-pub calm_left : (m : Medium) (c : List ℕ) → IsCalm m → Leaves m c → c ≡ m.now
+pub calm_left : (m : Medium) (c : List ℕ) → IsSynced m → Leaves m c → c ≡ m.now
 calm_left m c calm left = kept_left m.now (length m.now) c (omega arith) (subst (λ (l : List Bool). MayLeave m.now l c) calm left)
 
 -- then nothing is loose in any range
-pub calm_range : (at n : ℕ) (m : Medium) → IsCalm m → at + n ≤ length m.now → take n (drop at m.loose) ≡ replicate n false
+pub calm_range : (at n : ℕ) (m : Medium) → IsSynced m → at + n ≤ length m.now → take n (drop at m.loose) ≡ replicate n false
 calm_range at n m calm inside =
     ap (λ (l : List Bool). take n (drop at l)) calm ∙ ap (λ (l : List Bool). take n l) (drop-replicate at (length m.now) false) ∙ take-replicate n (length m.now - at) false (omega (arith, inside))
 

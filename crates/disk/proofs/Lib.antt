@@ -4,5 +4,5 @@ pub mod Leaves
 pub mod Moments
 pub mod Outside
 pub mod Overlays
-mod Rows
+mod Examples
 mod Spans

@@ -32,8 +32,8 @@ abbrev pub Leaves : Medium → List ℕ → Type 0
 Leaves m c = MayLeave m.now m.loose c
 
 -- nothing is loose
-abbrev pub IsCalm : Medium → Type 0
-IsCalm m = m.loose ≡ replicate (length m.now) false
+abbrev pub IsSynced : Medium → Type 0
+IsSynced m = m.loose ≡ replicate (length m.now) false
 
 -- the list with these items from a place on; what would lie past its end is left out
 abbrev pub overlaid : {X : Type 0} → List X → ℕ → List X → List X
@@ -98,7 +98,7 @@ pub record Syncs (result : Result (Unit {0}) DiskFault) (old new : Medium) : Typ
   pub device : IsErrOf result Device → new ≡ failed old
 
 -- A call adds one to the count of failures exactly where it answers `Device`.
-abbrev pub Counts : {T : Type 0} → Result T DiskFault → ℕ → ℕ → Type 0
-Counts (Ok _) old new = new ≡ old
-Counts (Err OutOfRange) old new = new ≡ old
-Counts (Err Device) old new = new ≡ old + 1
+abbrev pub CountsFault : {T : Type 0} → Result T DiskFault → ℕ → ℕ → Type 0
+CountsFault (Ok _) old new = new ≡ old
+CountsFault (Err OutOfRange) old new = new ≡ old
+CountsFault (Err Device) old new = new ≡ old + 1

@@ -1,6 +1,6 @@
 ghost use Rattle.std.specs.Prelude.{◌≡◌, ◌+◌, ◌<◌, ◌^◌, ◌↔◌, length, IsErrOf};
 ghost use Rattle.disk.specs.declared.fault.DiskFault.TheVariants.{OutOfRange};
-ghost use Rattle.disk.specs.Device.{Medium, Reads, Writes, Syncs, Counts};
+ghost use Rattle.disk.specs.Device.{Medium, Reads, Writes, Syncs, CountsFault};
 
 use crate::DiskFault;
 
@@ -23,7 +23,7 @@ pub trait Disk {
         ensures outside { IsErrOf result OutOfRange ↔ length (medium self.old).now < at + length out.old }
         ensures untouched { IsErrOf result OutOfRange → self.new ≡ self.old }
         ensures unread { IsErrOf result OutOfRange → out.new ≡ out.old }
-        ensures counts { Counts result (medium self.old).faults (medium self.new).faults }
+        ensures counts { CountsFault result (medium self.old).faults (medium self.new).faults }
         ensures len { length (medium self.new).now ≡ length (medium self.old).now }
         ensures reads { keeps → Reads at out.new result (medium self.old) (medium self.new) };
 
@@ -32,7 +32,7 @@ pub trait Disk {
     fn write_at(&mut self, at: u64, bytes: &[u8]) -> Result<(), DiskFault>
         ensures outside { IsErrOf result OutOfRange ↔ length (medium self.old).now < at + length bytes.now }
         ensures untouched { IsErrOf result OutOfRange → self.new ≡ self.old }
-        ensures counts { Counts result (medium self.old).faults (medium self.new).faults }
+        ensures counts { CountsFault result (medium self.old).faults (medium self.new).faults }
         ensures len { length (medium self.new).now ≡ length (medium self.old).now }
         ensures writes { keeps → Writes at bytes.now result (medium self.old) (medium self.new) };
 
@@ -40,7 +40,7 @@ pub trait Disk {
     /// still is not.
     fn sync(&mut self) -> Result<(), DiskFault>
         ensures inside { IsErrOf result OutOfRange → ⊥ }
-        ensures counts { Counts result (medium self.old).faults (medium self.new).faults }
+        ensures counts { CountsFault result (medium self.old).faults (medium self.new).faults }
         ensures len { length (medium self.new).now ≡ length (medium self.old).now }
         ensures syncs { keeps → Syncs result (medium self.old) (medium self.new) };
 

@@ -2,7 +2,7 @@ ghost use Rattle.std.specs.Prelude.{◌≡◌, ◌<◌, ◌^◌, length, IfOk, r
 ghost use Rattle.std.specs.IoError.{error_kind};
 ghost use Rattle.disk.specs.Device.{begun};
 
-use crate::place::start_of;
+use crate::ranges::start_of;
 use crate::shadow::{FAILED, LOST, SYNCED, Shadow, WRITTEN, ZEROED};
 use crate::{Disk, DiskFault, FileFault};
 use std::fs::{File, OpenOptions};

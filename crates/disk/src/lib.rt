@@ -9,7 +9,7 @@ mod fault;
 mod file;
 mod fuse;
 mod memory;
-mod place;
+mod ranges;
 mod shadow;
 mod span;
 mod torn;

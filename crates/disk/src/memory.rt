@@ -1,12 +1,12 @@
 ghost use Rattle.std.specs.Prelude.{◌≡◌, ◌+◌, ◌<◌, ◌^◌, ◌↔◌, length, IfOk, IsErrOf, replicate};
 ghost use Rattle.disk.specs.declared.fault.DiskFault.TheVariants.{OutOfRange};
 ghost use Rattle.disk.specs.declared.fuse.Fuse.TheVariants.{FailAt, StopAt};
-ghost use Rattle.disk.specs.Device.{Leaves, Reads, Writes, Syncs, Counts};
+ghost use Rattle.disk.specs.Device.{Leaves, Reads, Writes, Syncs, CountsFault};
 ghost use Rattle.disk.specs.Span.{HoldsLoose};
 ghost use Rattle.disk.specs.Torn.{HasBytes};
 
 use crate::fuse::{Fuse, Meter};
-use crate::place::{clear, mark, overlay, refresh, start_of};
+use crate::ranges::{clear, mark, overlay, refresh, start_of};
 use crate::shadow::{BEGUN, FAILED, LOST, SYNCED, Shadow, WRITTEN};
 use crate::span::Span;
 use crate::torn::tear;
@@ -143,7 +143,7 @@ impl Disk for MemDisk {
         ensures outside { IsErrOf result OutOfRange ↔ length (medium_of self.old).now < at + length out.old }
         ensures untouched { IsErrOf result OutOfRange → self.new ≡ self.old }
         ensures unread { IsErrOf result OutOfRange → out.new ≡ out.old }
-        ensures counts { Counts result (medium_of self.old).faults (medium_of self.new).faults }
+        ensures counts { CountsFault result (medium_of self.old).faults (medium_of self.new).faults }
         ensures len { length (medium_of self.new).now ≡ length (medium_of self.old).now }
         ensures reads { Unit {0} → Reads at out.new result (medium_of self.old) (medium_of self.new) }
         ensures answer { result ≡ answer at (length out.old) (memory_of self.old) }
@@ -161,7 +161,7 @@ impl Disk for MemDisk {
     fn write_at(&mut self, at: u64, bytes: &[u8]) -> Result<(), DiskFault>
         ensures outside { IsErrOf result OutOfRange ↔ length (medium_of self.old).now < at + length bytes.now }
         ensures untouched { IsErrOf result OutOfRange → self.new ≡ self.old }
-        ensures counts { Counts result (medium_of self.old).faults (medium_of self.new).faults }
+        ensures counts { CountsFault result (medium_of self.old).faults (medium_of self.new).faults }
         ensures len { length (medium_of self.new).now ≡ length (medium_of self.old).now }
         ensures writes { Unit {0} → Writes at bytes.now result (medium_of self.old) (medium_of self.new) }
         ensures answer { result ≡ answer at (length bytes.now) (memory_of self.old) }
@@ -183,7 +183,7 @@ impl Disk for MemDisk {
 
     fn sync(&mut self) -> Result<(), DiskFault>
         ensures inside { IsErrOf result OutOfRange → ⊥ }
-        ensures counts { Counts result (medium_of self.old).faults (medium_of self.new).faults }
+        ensures counts { CountsFault result (medium_of self.old).faults (medium_of self.new).faults }
         ensures len { length (medium_of self.new).now ≡ length (medium_of self.old).now }
         ensures syncs { Unit {0} → Syncs result (medium_of self.old) (medium_of self.new) }
         ensures answer { result ≡ answer 0 0 (memory_of self.old) }

@@ -1,4 +1,4 @@
-mod Rows
+mod Examples
 pub mod Words
 pub mod Numbers
 pub mod Blocks
@@ -10,4 +10,4 @@ pub mod Assembly
 pub mod Spelling
 pub mod RecordLemmas
 pub mod ReaderLemmas
-mod ReaderRows
+mod ReaderExamples

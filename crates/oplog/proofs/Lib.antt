@@ -11,6 +11,6 @@ mod Placed
 pub mod Reading
 pub mod Ready
 pub mod RecordRows
-mod Rows
+mod Examples
 pub mod Slices
 mod Staged

@@ -1,6 +1,6 @@
 -- What holds of a half and a geometry that are known to be these.
 use Rattle.std.proofs.Common.{◌≡◌, ℕ, ◌∙◌, sym, subst}
-use Rattle.affinity.specs.declared.sizes.Geometry.{Geometry}
+use Rattle.affinity.specs.declared.geometry.Geometry.{Geometry}
 use Rattle.oplog.specs.Layout.{layout_of, part_at, half}
 
 pub moved : {g g' : Geometry} {h h' : ℕ} (P : Geometry → ℕ → Type 0) → (g ≡ g') × (h ≡ h') → P g h → P g' h'

@@ -1,7 +1,7 @@
 -- A half stays ready while other parts of the device change, and a cleared one is ready when it is named.
 use Rattle.std.proofs.Common.{◌≡◌, ◌≢◌, ◌<◌, ◌≤◌, ℕ, Bool, true, false, cond, List, length, drop, sym, ◌∙◌, ap, subst, arith}
 use Rattle.std.proofs.lemmas.Bool.{eq-eqb}
-use Rattle.disk.specs.Device.{Medium, IsCalm}
+use Rattle.disk.specs.Device.{Medium, IsSynced}
 use Rattle.disk.proofs.Leaves.{calm_range}
 use Rattle.oplog.specs.Layout.{Layout, layout_of, part_at, part_size, half, root, other, device_size}
 use Rattle.oplog.specs.Front.{open_gates, gates_in}
@@ -9,7 +9,7 @@ use Rattle.oplog.specs.Changes.{IsSameBut, IsReady, Cleared, Flipped}
 use Rattle.oplog.specs.Log.{Log, flipped}
 use Rattle.oplog.proofs.Slices.{half_sized, half_inside}
 
-pub ready_kept : (g : Layout) (h k p : ℕ) (w w' : Medium) → h < 2 → half h ≢ p → device_size g ≤ length w'.now → IsReady g h k w → IsSameBut g p w.now w'.now → IsCalm w' → IsReady g h k w'
+pub ready_kept : (g : Layout) (h k p : ℕ) (w w' : Medium) → h < 2 → half h ≢ p → device_size g ≤ length w'.now → IsReady g h k w → IsSameBut g p w.now w'.now → IsSynced w' → IsReady g h k w'
 ready_kept g h k p w w' is_half apart fits ready same calm =
     let kept = same.others (half h) apart in
     record {

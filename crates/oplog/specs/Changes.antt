@@ -1,6 +1,6 @@
 -- How the calls of a log change the bytes of a device, and what a crash leaves while they do.
 use Rattle.std.specs.Prelude.{◌≡◌, ◌≢◌, ◌≤◌, ℕ, ◌+◌, false, List, ◌++◌, length, take, drop, replicate}
-use Rattle.disk.specs.Device.{Medium, Leaves, IsCalm}
+use Rattle.disk.specs.Device.{Medium, Leaves, IsSynced}
 use Rattle.oplog.specs.Layout.{Layout, slice, root, half, part, part_at, part_size, device_size}
 use Rattle.oplog.specs.Stands.{named_area}
 use Rattle.oplog.specs.Front.{chain, gates, front, open_gates, IsShutBehind}
@@ -47,14 +47,14 @@ pub record Grew (g : Layout) (h : ℕ) (more : List (List ℕ)) (before : Medium
 -- ---- of a device
 
 -- nothing is loose in this part
-abbrev pub IsCalmIn : Layout → ℕ → Medium → Type 0
-IsCalmIn g p m = slice m.loose (part_at g p) (part_size g p) ≡ replicate (part_size g p) false
+abbrev pub IsSyncedIn : Layout → ℕ → Medium → Type 0
+IsSyncedIn g p m = slice m.loose (part_at g p) (part_size g p) ≡ replicate (part_size g p) false
 
 -- Half h has k records in its front and gates 0 behind them, and nothing in it is loose.
 pub record IsReady (g : Layout) (h k : ℕ) (m : Medium) : Type 0 where
   pub used : open_gates (gates g h m.now) ≡ k
   pub shut : IsShutBehind g h k m.now
-  pub calm : IsCalmIn g (half h) m
+  pub calm : IsSyncedIn g (half h) m
 
 -- All of these records were added to half h, behind k others, and none of them is loose.
 pub record HasAll (g : Layout) (h k : ℕ) (more : List (List ℕ)) (old new : Medium) : Type 0 where
@@ -62,7 +62,7 @@ pub record HasAll (g : Layout) (h k : ℕ) (more : List (List ℕ)) (old new : M
   pub ready : IsReady g h (k + length more) new
   pub left : (c : List ℕ) → Leaves new c → After old (HasMore g h more) c
   -- nor is anything else, if nothing was
-  pub calm : IsCalm old → IsCalm new
+  pub calm : IsSynced old → IsSynced new
 
 -- The chain byte of half h, the bytes beside it and its gates are 0, and nothing is loose.
 pub record Cleared (g : Layout) (h : ℕ) (old new : Medium) : Type 0 where
@@ -70,10 +70,10 @@ pub record Cleared (g : Layout) (h : ℕ) (old new : Medium) : Type 0 where
   pub zeros : take (64 + g.slots) (part g (half h) new.now) ≡ replicate (64 + g.slots) 0
   pub chain : chain g h new.now ≡ 0
   pub ready : IsReady g h 0 new
-  pub calm : IsCalm new
+  pub calm : IsSynced new
 
 -- The root zone names area n, and nothing is loose.
 pub record Flipped (g : Layout) (n : ℕ) (old new : Medium) : Type 0 where
   pub same : IsSameButRoot g old.now new.now
   pub named : named_area g new.now ≡ n
-  pub calm : IsCalm new
+  pub calm : IsSynced new

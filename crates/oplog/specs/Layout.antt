@@ -1,6 +1,6 @@
 -- A device is six parts in a row: header, root zone, half 0, half 1, image 0, image 1.
 use Rattle.std.specs.Prelude.{ℕ, zero, suc, ◌+◌, ◌-◌, ◌*◌, List, [], ◌∷◌, take, drop, get_or}
-use Rattle.affinity.specs.declared.sizes.Geometry.{Geometry}
+use Rattle.affinity.specs.declared.geometry.Geometry.{Geometry}
 
 -- how many records a half holds, and how many bytes an image has
 pub record Layout : Type 0 where

@@ -1,6 +1,6 @@
 -- A log as contracts see it, and what its calls make of it and answer.
 use Rattle.std.specs.Prelude.{◌≡◌, ◌≢◌, ℕ, ◌+◌, Bool, true, false, ◌&&◌, ◌==◌, if◌then◌else◌, List, Result, Ok, Err}
-use Rattle.affinity.specs.declared.sizes.Geometry.{Geometry}
+use Rattle.affinity.specs.declared.geometry.Geometry.{Geometry}
 use Rattle.message.specs.declared.Msg.{Msg}
 use Rattle.message.specs.Messages.{IsMessage}
 use Rattle.message.specs.Records.{record_of}
@@ -60,10 +60,10 @@ after (Err Device) log done = record log { failed = true }
 after (Err (BadRecord h i)) log done = log
 
 -- A call adds one to the count of failures exactly where it answers `Device`.
-abbrev pub Counts : {T : Type 0} → Result T LogFault → ℕ → ℕ → Type 0
-Counts (Ok _) old new = new ≡ old
-Counts (Err Device) old new = new ≡ old + 1
-Counts (Err (BadRecord h i)) old new = new ≡ old
+abbrev pub CountsLogFault : {T : Type 0} → Result T LogFault → ℕ → ℕ → Type 0
+CountsLogFault (Ok _) old new = new ≡ old
+CountsLogFault (Err Device) old new = new ≡ old + 1
+CountsLogFault (Err (BadRecord h i)) old new = new ≡ old
 
 -- The answer isn't that a record is bad.
 abbrev pub IsNotBad : {T : Type 0} → Result T LogFault → Type 0

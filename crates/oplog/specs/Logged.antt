@@ -1,7 +1,7 @@
 -- The messages that the log keeps, and their records.
 use Rattle.std.specs.Prelude.{◌≡◌, ℕ, true, List, map}
 use Rattle.std.specs.List.{All}
-use Rattle.affinity.specs.declared.sizes.Geometry.{Geometry}
+use Rattle.affinity.specs.declared.geometry.Geometry.{Geometry}
 use Rattle.affinity.specs.Kind.{is_changing}
 use Rattle.message.specs.declared.Msg.{Msg}
 use Rattle.message.specs.Messages.{kind, is_in_range}

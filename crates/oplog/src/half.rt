@@ -1,6 +1,6 @@
 //! One half of a log: where its parts lie, and how records are added to it.
 ghost use Rattle.std.specs.Prelude.{◌≡◌, ◌+◌, ◌*◌, ◌<◌, ◌≤◌, length, IfOk, OnOk, IsErrOf, min, replicate, vec_len};
-ghost use Rattle.disk.specs.Device.{Counts, moments};
+ghost use Rattle.disk.specs.Device.{CountsFault, moments};
 ghost use Rattle.disk.specs.Moments.{LeavesOnly};
 ghost use Rattle.oplog.specs.Changes.{Grew, HasAll, IsReady};
 ghost use Rattle.oplog.specs.Front.{front, open_gates};
@@ -110,7 +110,7 @@ impl Half {
         ensures added { OnOk result (D.keeps → HasAll (layout_of self.geometry) self.number used (records_of messages.now) (D.medium disk.old) (D.medium disk.new)) }
         ensures buffer { vec_len buffer.new ≡ vec_len buffer.old }
         ensures inside { IsErrOf result DiskFault.OutOfRange → ⊥ }
-        ensures counts { Counts result (D.medium disk.old).faults (D.medium disk.new).faults }
+        ensures counts { CountsFault result (D.medium disk.old).faults (D.medium disk.new).faults }
         ensures len { length (D.medium disk.new).now ≡ length (D.medium disk.old).now }
     {
         let size = messages.len() * RECORD_SIZE;
@@ -138,7 +138,7 @@ impl Half {
         ensures none { length messages.now ≡ 0 → disk.new ≡ disk.old }
         ensures buffer { vec_len buffer.new ≡ vec_len buffer.old }
         ensures inside { IsErrOf result DiskFault.OutOfRange → ⊥ }
-        ensures counts { Counts result (D.medium disk.old).faults (D.medium disk.new).faults }
+        ensures counts { CountsFault result (D.medium disk.old).faults (D.medium disk.new).faults }
         ensures len { length (D.medium disk.new).now ≡ length (D.medium disk.old).now }
     {
         let mut done = 0;
@@ -158,7 +158,7 @@ impl Half {
         ensures within { IfOk result (λ n. n ≤ self.geometry.half) }
         ensures untouched { D.keeps → moments (D.medium disk.new) ≡ moments (D.medium disk.old) }
         ensures inside { IsErrOf result DiskFault.OutOfRange → ⊥ }
-        ensures counts { Counts result (D.medium disk.old).faults (D.medium disk.new).faults }
+        ensures counts { CountsFault result (D.medium disk.old).faults (D.medium disk.new).faults }
         ensures len { length (D.medium disk.new).now ≡ length (D.medium disk.old).now }
     {
         disk.read_at(self.gate_at(0), gates)?;

@@ -43,7 +43,7 @@ pub struct Halves {
 const ROOT_ZONE: u64 = 64;
 
 impl Halves {
-    ghost use Rattle.oplog.specs.Log.{log_of, layout, new_log, renamed, flipped, after, Counts, IsNotBad, IsOfRecord, IsAbout};
+    ghost use Rattle.oplog.specs.Log.{log_of, layout, new_log, renamed, flipped, after, CountsLogFault, IsNotBad, IsOfRecord, IsAbout};
 
     /// A log of which nothing is known: half 0 is named and current, and there is no room.
     /// `AllocError` where there is no memory.
@@ -105,7 +105,7 @@ impl Halves {
         ensures none { length messages.now ≡ 0 → disk.new ≡ disk.old }
         ensures log { log_of self.new ≡ after result (log_of self.old) (record (log_of self.old) { used = (log_of self.old).used + length messages.now }) }
         ensures not_bad { IsNotBad result }
-        ensures counts { Counts result (D.medium disk.old).faults (D.medium disk.new).faults }
+        ensures counts { CountsLogFault result (D.medium disk.old).faults (D.medium disk.new).faults }
         ensures len { length (D.medium disk.new).now ≡ length (D.medium disk.old).now }
     {
         let half = self.half(self.current);
@@ -127,7 +127,7 @@ impl Halves {
         ensures cleared { OnOk result (D.keeps → Cleared (layout (log_of self.old)) (other (log_of self.old).named) (D.medium disk.old) (D.medium disk.new)) }
         ensures log { log_of self.new ≡ after result (log_of self.old) (record (log_of self.old) { cleared = true }) }
         ensures not_bad { IsNotBad result }
-        ensures counts { Counts result (D.medium disk.old).faults (D.medium disk.new).faults }
+        ensures counts { CountsLogFault result (D.medium disk.old).faults (D.medium disk.new).faults }
         ensures len { length (D.medium disk.new).now ≡ length (D.medium disk.old).now }
     {
         let half = self.half(1 - self.named);
@@ -147,7 +147,7 @@ impl Halves {
         ensures flipped { OnOk result (D.keeps → Flipped (layout (log_of self.old)) (other (log_of self.old).named) (D.medium disk.old) (D.medium disk.new)) }
         ensures log { log_of self.new ≡ after result (log_of self.old) (flipped (log_of self.old)) }
         ensures not_bad { IsNotBad result }
-        ensures counts { Counts result (D.medium disk.old).faults (D.medium disk.new).faults }
+        ensures counts { CountsLogFault result (D.medium disk.old).faults (D.medium disk.new).faults }
         ensures len { length (D.medium disk.new).now ≡ length (D.medium disk.old).now }
     {
         let other = 1 - self.named;
@@ -177,7 +177,7 @@ impl Halves {
         ensures untouched { D.keeps → moments (D.medium disk.new) ≡ moments (D.medium disk.old) }
         ensures log { log_of self.new ≡ after result (log_of self.old) (log_of self.old) }
         ensures not_bad { IsNotBad result }
-        ensures counts { Counts result (D.medium disk.old).faults (D.medium disk.new).faults }
+        ensures counts { CountsLogFault result (D.medium disk.old).faults (D.medium disk.new).faults }
         ensures len { length (D.medium disk.new).now ≡ length (D.medium disk.old).now }
     {
         let half = self.half(half);
@@ -200,7 +200,7 @@ impl Halves {
         ensures about { IsAbout half i result }
         ensures untouched { D.keeps → moments (D.medium disk.new) ≡ moments (D.medium disk.old) }
         ensures log { log_of self.new ≡ after result (log_of self.old) (log_of self.old) }
-        ensures counts { Counts result (D.medium disk.old).faults (D.medium disk.new).faults }
+        ensures counts { CountsLogFault result (D.medium disk.old).faults (D.medium disk.new).faults }
         ensures len { length (D.medium disk.new).now ≡ length (D.medium disk.old).now }
     {
         let place = self.half(half);

@@ -1,5 +1,5 @@
 ghost use Rattle.std.specs.Prelude.{◌≡◌, ◌+◌, ◌≤◌, length, OnOk, IsErrOf};
-ghost use Rattle.disk.specs.Device.{SameOutside, Counts};
+ghost use Rattle.disk.specs.Device.{SameOutside, CountsFault};
 ghost use Rattle.disk.specs.Moments.{LeavesOnly};
 ghost use Rattle.oplog.specs.Changes.{After};
 ghost use Rattle.oplog.specs.Store.{Stored};
@@ -12,7 +12,7 @@ pub(crate) fn store<D: Disk>(disk: &mut D, at: u64, bytes: &[u8]) -> Result<(), 
     ensures any_moment { D.keeps → LeavesOnly (D.medium disk.old) (D.medium disk.new) (After (D.medium disk.old) (SameOutside at (length bytes.now))) }
     ensures stored { OnOk result (D.keeps → Stored at bytes.now (D.medium disk.old) (D.medium disk.new)) }
     ensures inside { IsErrOf result DiskFault.OutOfRange → ⊥ }
-    ensures counts { Counts result (D.medium disk.old).faults (D.medium disk.new).faults }
+    ensures counts { CountsFault result (D.medium disk.old).faults (D.medium disk.new).faults }
     ensures len { length (D.medium disk.new).now ≡ length (D.medium disk.old).now }
 {
     disk.write_at(at, bytes)?;

@@ -14,7 +14,7 @@ use std::alloc::{AllocError, Global};
 use std::test::Fail;
 
 mod fuses;
-mod rows;
+mod worked;
 
 /// A server of one volume with two stripes, and so many records in a half, with a device of zeros for it.
 fn small(alloc: Global, half: u16) -> Result<(Geometry, MemDisk), Fail>

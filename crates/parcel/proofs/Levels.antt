@@ -3,7 +3,7 @@ use Rattle.std.proofs.Common.{◌≡◌, ℕ, zero, suc, ◌<◌, List, [], ◌�
 use Rattle.std.specs.Prelude.{None, Some, IfSome, IfNone, IfErr, OnOk, slice_index_or, Result, Ok, Err}
 use Rattle.std.proofs.lemmas.List.{nil_from_length, get_or_read}
 use Rattle.affinity.specs.Path.{Path}
-use Rattle.affinity.specs.declared.sizes.Geometry.{Geometry}
+use Rattle.affinity.specs.declared.geometry.Geometry.{Geometry}
 use Rattle.parcel.specs.Fits.{Fits, IsKindOf}
 use Rattle.parcel.specs.Levels.{IsLeafPath, IsLogicalPath, IsVolumePath, IsRefused, IsHandedBack}
 use Rattle.parcel.specs.Nodes.{Node, Nodes, in_child, in_row, in_volume, in_logical, in_label, IsSame}

@@ -7,7 +7,7 @@ pub mod Leaving
 pub mod SerialRuns
 pub mod Starting
 pub mod Serving
-mod Worked
+mod Examples
 pub mod StripeEntries
 pub mod StripePlaces
 pub mod OneVolume

@@ -2,19 +2,19 @@
 use Rattle.std.proofs.Common.{◌≡◌, true, false, [], ◌∷◌, ◌++◌, refl, sym, ap, subst, ◌∙◌}
 use Rattle.std.specs.Prelude.{◌&&◌, ◌==◌, not, None, is_some}
 use Rattle.std.proofs.lemmas.Bool.{and_parts, cond-false, eqb-true, or_left, or_right, true≢false}
-use Rattle.affinity.specs.declared.sizes.Geometry.{Geometry}
+use Rattle.affinity.specs.declared.geometry.Geometry.{Geometry}
 use Rattle.affinity.specs.Interval.{IsPath}
 use Rattle.affinity.specs.Path.{Path, begins, are_related}
 use Rattle.message.specs.Messages.{place, IsMessage}
 use Rattle.plain.specs.State.{State, IsState}
-use Rattle.plain.specs.Serial.{after}
+use Rattle.plain.specs.Serial.{next_state}
 use Rattle.plain.specs.Shares.{AgreeOn, share, standing}
 use Rattle.plain.specs.Laws.{outside}
 use Rattle.plain.proofs.Agree.{agree-sym, agree-trans, agree_within}
 use Rattle.plain.proofs.Frame.{reads_only, changes_only}
 use Rattle.plain.proofs.Kept.{step_kept}
 use Rattle.plain.proofs.ShareLaws.{agree_in_and_out, part_from_agree}
-use Rattle.parcel.specs.Nodes.{Nodes, in_parcels, state_of}
+use Rattle.parcel.specs.Nodes.{Nodes, in_parcels, tree_state}
 use Rattle.parcel.specs.Run.{Asked, IsRun, IsStep, Shows}
 use Rattle.parcel.specs.RunLaws.{IsLentOf, IsSerialStepOf, IsServed}
 use Rattle.parcel.specs.Shown.{shown}
@@ -33,23 +33,23 @@ serial_run job done x run lent =
     let same = reads_only g (are_related p) (shown g p job.standing job.parcels) x m lent (λ q r. r) in
     record {
       reply = run.step.reply ∙ same.0;
-      shows = subst (λ (y : State). AgreeOn g (are_related p) y (after g x m)) (sym run.step.state) same.1;
+      shows = subst (λ (y : State). AgreeOn g (are_related p) y (next_state g x m)) (sym run.step.state) same.1;
     }
 
 -- At the place and below, the tree has what the run left, and elsewhere what it had before.
 pub served_step : (job : Asked) (done : Done) (old lent new : Nodes) → IsServed job done old lent new
-    → IsStep job.geometry (state_of job.geometry old) job.message done.reply (state_of job.geometry new)
+    → IsStep job.geometry (tree_state job.geometry old) job.message done.reply (tree_state job.geometry new)
 served_step job done old lent new h =
     let g = job.geometry in
     let m = job.message in
     let p = place g m in
-    let x = state_of g old in
+    let x = tree_state g old in
     let run = serial_run job done x h.ran h.taken.shows in
-    let there : AgreeOn g (begins p) (state_of g new) (after g x m) =
+    let there : AgreeOn g (begins p) (tree_state g new) (next_state g x m) =
     agree-trans (agree-sym (h.put.share job.standing)) (agree_within (λ q r. or_left (begins p q) (begins q p) r) run.shows) in
-    let elsewhere : AgreeOn g (outside p) (state_of g new) (after g x m) =
+    let elsewhere : AgreeOn g (outside p) (tree_state g new) (next_state g x m) =
     agree-trans (put_leaves g p (in_parcels done.parcels) lent new h.put.nodes) (agree-trans (taken_leaves g p old lent h.taken.rest) (agree-sym (changes_only g x m))) in
-    record { reply = run.reply; state = agree_in_and_out g p (state_of g new) (after g x m) there elsewhere }
+    record { reply = run.reply; state = agree_in_and_out g p (tree_state g new) (next_state g x m) there elsewhere }
 
 -- what begins with a path is that path and the rest
 begins_split : (p q : Path) → begins p q ≡ true → (r : Path) × (q ≡ p ++ r)
@@ -71,8 +71,8 @@ served_is_in job done old lent new h whole q path related =
     ] refl
 
 pub served_state : (job : Asked) (done : Done) (old lent new : Nodes) → IsServed job done old lent new → IsMessage job.message
-    → IsState job.geometry (state_of job.geometry old) → IsState job.geometry (state_of job.geometry new)
-served_state job done old lent new h message is = subst (λ (y : State). IsState job.geometry y) (sym (served_step job done old lent new h).state) (step_kept job.geometry (state_of job.geometry old) job.message is message)
+    → IsState job.geometry (tree_state job.geometry old) → IsState job.geometry (tree_state job.geometry new)
+served_state job done old lent new h message is = subst (λ (y : State). IsState job.geometry y) (sym (served_step job done old lent new h).state) (step_kept job.geometry (tree_state job.geometry old) job.message is message)
 
 -- ---- to show a state is to have its share and its standing
 

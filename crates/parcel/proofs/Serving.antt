@@ -1,6 +1,6 @@
 -- What was run at the place of a message fits where it was lent.
 use Rattle.std.proofs.Common.{subst}
-use Rattle.affinity.specs.declared.sizes.Geometry.{Geometry}
+use Rattle.affinity.specs.declared.geometry.Geometry.{Geometry}
 use Rattle.affinity.specs.Interval.{Interval, IsAffinityOf}
 use Rattle.affinity.specs.Path.{Path}
 use Rattle.affinity.proofs.Preorder.{path_unique}

@@ -3,7 +3,7 @@ use Rattle.std.proofs.Common.{◌≡◌, ℕ, zero, suc, Bool, true, false, [], 
 use Rattle.std.specs.Prelude.{◌&&◌, ◌==◌, None, Some, slice_index_or}
 use Rattle.std.proofs.lemmas.Bool.{and_parts, and_from, eqb-true, eq-eqb, true≢false}
 use Rattle.std.proofs.lemmas.Nat.Bits.{bit_at-zero}
-use Rattle.affinity.specs.declared.sizes.Geometry.{Geometry}
+use Rattle.affinity.specs.declared.geometry.Geometry.{Geometry}
 use Rattle.affinity.specs.Geometry.{group}
 use Rattle.affinity.specs.Path.{Path, begins, are_related}
 use Rattle.plain.specs.Shares.{AgreeOn}
@@ -11,7 +11,7 @@ use Rattle.parcel.specs.Stripe.{StripePart}
 use Rattle.parcel.specs.Volume.{Facts, facts_if, state_by, only}
 use Rattle.parcel.specs.Shown.{has_bit, blocks_in, by_stripe, by_logical, by_label, files_in, blocks_below, label_in, by_volume, by_child, by_aggregate, shown}
 use Rattle.parcel.specs.Fits.{IsKindOf}
-use Rattle.parcel.specs.Nodes.{Node, Nodes, in_child, in_stripe, in_label, in_logical, in_volume, in_aggregate, in_root, in_parcels, marks_made, marks_sealed, files_have, files_bits, slots_hold, text_of, state_of}
+use Rattle.parcel.specs.Nodes.{Node, Nodes, in_child, in_stripe, in_label, in_logical, in_volume, in_aggregate, in_root, in_parcels, marks_made, marks_sealed, files_have, files_bits, slots_hold, text_of, tree_state}
 use Rattle.parcel.specs.Nodes.Node.{Inner, Marks, Files, Slots, Text}
 use Rattle.parcel.specs.Run.{Shows}
 use Rattle.parcel.specs.Tree.{standing_at}
@@ -77,7 +77,7 @@ module _ (g : Geometry) (R : Path → Bool) where
 -- ---- from a volume to the state
 
 module _ (g : Geometry) (R : Path → Bool) (n : Nodes) where
-  all_agree : (H : ℕ → ℕ → Facts) → ((a v : ℕ) → HoldsAt g (λ q. R (a ∷ v ∷ q)) (H a v) (λ q. n (a ∷ v ∷ q))) → AgreeOn g R (state_by H) (state_of g n)
+  all_agree : (H : ℕ → ℕ → Facts) → ((a v : ℕ) → HoldsAt g (λ q. R (a ∷ v ∷ q)) (H a v) (λ q. n (a ∷ v ∷ q))) → AgreeOn g R (state_by H) (tree_state g n)
   all_agree H each = record {
     made = λ k r. (each k.0 k.1).made r;
     sealed = λ k r. (each k.0 k.1).sealed r;
@@ -93,7 +93,7 @@ module _ (g : Geometry) (R : Path → Bool) (n : Nodes) where
   moved a v x y q d e = ap (λ i. n (i ∷ v ∷ q)) d ∙ ap (λ j. n (x ∷ j ∷ q)) e
 
   only_agree : (a v : ℕ) (below : Path → Bool) (h : Facts) → ((x y : ℕ) (q : Path) → R (x ∷ y ∷ q) ≡ true → (a ≡ x) × (v ≡ y) × (below q ≡ true))
-      → HoldsAt g below h (λ q. n (a ∷ v ∷ q)) → AgreeOn g R (only a v h) (state_of g n)
+      → HoldsAt g below h (λ q. n (a ∷ v ∷ q)) → AgreeOn g R (only a v h) (tree_state g n)
   only_agree a v below h step k = record {
     made = λ (x : ℕ × ℕ) r. let s = step x.0 x.1 [] r in ap (λ z. z.made) (here a v x.0 x.1 h s.0 s.1) ∙ k.made s.2 ∙ ap marks_made (moved a v x.0 x.1 [] s.0 s.1);
     sealed = λ (x : ℕ × ℕ) r. let s = step x.0 x.1 [] r in ap (λ z. z.sealed) (here a v x.0 x.1 h s.0 s.1) ∙ k.sealed s.2 ∙ ap marks_sealed (moved a v x.0 x.1 [] s.0 s.1);
@@ -103,7 +103,7 @@ module _ (g : Geometry) (R : Path → Bool) (n : Nodes) where
   }
 
   aggregate_agree : (a : ℕ) (H : ℕ → Facts) → ((x : ℕ) (q : Path) → R (x ∷ q) ≡ true → a ≡ x)
-      → ((v : ℕ) → HoldsAt g (λ q. true) (H v) (λ q. n (a ∷ v ∷ q))) → AgreeOn g R (state_by (λ x y. facts_if (a == x) (H y))) (state_of g n)
+      → ((v : ℕ) → HoldsAt g (λ q. true) (H v) (λ q. n (a ∷ v ∷ q))) → AgreeOn g R (state_by (λ x y. facts_if (a == x) (H y))) (tree_state g n)
   aggregate_agree a H first each = record {
     made = λ (x : ℕ × ℕ) r. let e = first x.0 (x.1 ∷ []) r in ap (λ b. (facts_if b (H x.1)).made) (eq-eqb a x.0 e) ∙ (each x.1).made refl ∙ ap (λ i. marks_made (n (i ∷ x.1 ∷ []))) e;
     sealed = λ (x : ℕ × ℕ) r. let e = first x.0 (x.1 ∷ []) r in ap (λ b. (facts_if b (H x.1)).sealed) (eq-eqb a x.0 e) ∙ (each x.1).sealed refl ∙ ap (λ i. marks_sealed (n (i ∷ x.1 ∷ []))) e;
@@ -174,7 +174,7 @@ no_marks : (p : Path) (x : ℕ) (t : Standing) (n : Nodes) → StandsAt (begins 
 no_marks p x t n = record { made = λ r. absurd (true≢false (sym r)); sealed = λ r. absurd (true≢false (sym r)) }
 
 -- Parcels at a path show the share of the nodes there.
-pub share_shown : (g : Geometry) (p : Path) (t : Standing) (l : Parcels) (n : Nodes) → IsKindOf p l → ((q : Path) → n (p ++ q) ≡ in_parcels l q) → AgreeOn g (begins p) (shown g p t l) (state_of g n)
+pub share_shown : (g : Geometry) (p : Path) (t : Standing) (l : Parcels) (n : Nodes) → IsKindOf p l → ((q : Path) → n (p ++ q) ≡ in_parcels l q) → AgreeOn g (begins p) (shown g p t l) (tree_state g n)
 share_shown g [] t (parcels.Root r) n kind at =
     all_agree g (begins []) n _ (λ a v. holds_same g _ _ (λ q. n (a ∷ v ∷ q)) (λ q. in_root r (a ∷ v ∷ q)) (λ q. at (a ∷ v ∷ q)) (aggregate_holds g _ (slice_index_or r.aggregates.items a None) v))
 share_shown g (a ∷ []) t (parcels.Aggr r) n kind at =
@@ -196,7 +196,7 @@ share_shown g (a ∷ v ∷ suc zero ∷ []) t (parcels.Label l) n kind at =
 share_shown g p t l n kind at = absurd kind
 
 -- With the standing there, they show all that is related to the path.
-pub related_shown : (g : Geometry) (p : Path) (t : Standing) (l : Parcels) (n : Nodes) → IsKindOf p l → ((q : Path) → n (p ++ q) ≡ in_parcels l q) → t ≡ standing_at p n → Shows g p t l (state_of g n)
+pub related_shown : (g : Geometry) (p : Path) (t : Standing) (l : Parcels) (n : Nodes) → IsKindOf p l → ((q : Path) → n (p ++ q) ≡ in_parcels l q) → t ≡ standing_at p n → Shows g p t l (tree_state g n)
 related_shown g [] t (parcels.Root r) n kind at stands =
     all_agree g (are_related []) n _ (λ a v. holds_same g _ _ (λ q. n (a ∷ v ∷ q)) (λ q. in_root r (a ∷ v ∷ q)) (λ q. at (a ∷ v ∷ q)) (aggregate_holds g _ (slice_index_or r.aggregates.items a None) v))
 related_shown g (a ∷ []) t (parcels.Aggr r) n kind at stands =

@@ -4,14 +4,14 @@ use Rattle.std.specs.Prelude.{None, Some, is_some, IfSome, slice_index_or}
 use Rattle.std.specs.List.{AllByRecursion}
 use Rattle.std.proofs.lemmas.Bool.{true≢false}
 use Rattle.std.proofs.lemmas.Nat.{pow_pos}
-use Rattle.affinity.specs.declared.sizes.Geometry.{Geometry}
+use Rattle.affinity.specs.declared.geometry.Geometry.{Geometry}
 use Rattle.affinity.specs.Geometry.{group}
 use Rattle.plain.specs.State.{empty}
 use Rattle.parcel.specs.Stripe.{StripePart, content_at}
 use Rattle.parcel.specs.Shown.{has_bit}
 use Rattle.parcel.specs.Fits.{EachFits, FitsStripe, FitsLogical, FitsVolume, FitsAggregate, FitsRoot, IsWholeChild, IsWholeLogical, IsWholeVolume, IsWholeAggregate, IsWholeRoot}
 use Rattle.parcel.specs.Levels.{IsNewLogical, IsNewVolume, IsNewAggregate, IsNewRoot}
-use Rattle.parcel.specs.Nodes.{Nodes, in_child, in_stripe, in_label, in_logical, in_volume, in_aggregate, in_root, marks_made, marks_sealed, files_have, slots_hold, text_of, state_of}
+use Rattle.parcel.specs.Nodes.{Nodes, in_child, in_stripe, in_label, in_logical, in_volume, in_aggregate, in_root, marks_made, marks_sealed, files_have, slots_hold, text_of, tree_state}
 use Rattle.parcel.specs.Tree.{IsIn}
 use Rattle.parcel.specs.declared.parts.Label.{Label}
 use Rattle.parcel.specs.declared.parts.Logical.{Logical}
@@ -138,7 +138,7 @@ module _ (g : Geometry) where
   root_empty : (r : Root) → IsNewRoot g r → (a v : ℕ) → IsEmptyAt (λ q. in_root r (a ∷ v ∷ q))
   root_empty r h a v = aggregate_empty (slice_index_or r.aggregates.items a None) v (new_at (IsNewAggregate g) r.aggregates.items a h.1)
 
-  pub new_state : (r : Root) → IsNewRoot g r → state_of g (in_child in_root (Some r)) ≡ empty
+  pub new_state : (r : Root) → IsNewRoot g r → tree_state g (in_child in_root (Some r)) ≡ empty
   new_state r h i = record {
     made = λ k. (root_empty r h k.0 k.1).made i;
     sealed = λ k. (root_empty r h k.0 k.1).sealed i;

@@ -3,7 +3,7 @@ use Rattle.std.proofs.Common.{◌≡◌, ℕ, suc, ◌<◌, Bool, true, false, L
 use Rattle.std.specs.Prelude.{◌==◌, if◌then◌else◌, Option, is_some, IfSome}
 use Rattle.std.specs.List.{AllByRecursion}
 use Rattle.std.proofs.lemmas.Bool.{true≢false}
-use Rattle.affinity.specs.declared.sizes.Geometry.{Geometry}
+use Rattle.affinity.specs.declared.geometry.Geometry.{Geometry}
 use Rattle.message.specs.declared.Block.{Block}
 use Rattle.parcel.specs.Dropping.{IsWithoutFile, IsEmptied}
 use Rattle.parcel.specs.Fits.{FitsStripe, EachFits, IsWholeChild}

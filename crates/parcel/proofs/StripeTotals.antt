@@ -1,7 +1,7 @@
 -- The blocks of a volume, counted by its stripes.
 use Rattle.std.proofs.Common.{◌≡◌, ℕ, ◌≤◌, false, List, Some, None, ap, sym, ◌∙◌, slice_index_or, arith}
 use Rattle.std.specs.Prelude.{Option, IfSome}
-use Rattle.affinity.specs.declared.sizes.Geometry.{Geometry}
+use Rattle.affinity.specs.declared.geometry.Geometry.{Geometry}
 use Rattle.message.specs.declared.Block.{Block}
 use Rattle.plain.specs.State.{State, group_count}
 use Rattle.plain.proofs.Sums.{sum_same, sum_zero}

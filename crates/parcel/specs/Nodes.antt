@@ -1,6 +1,6 @@
 -- The tree as a map from paths to what each node has of its own. A path at which nothing is in has none.
 use Rattle.std.specs.Prelude.{◌≡◌, ℕ, zero, suc, Bool, false, ◌==◌, if◌then◌else◌, List, [], ◌∷◌, slice_index_or, Option, Some, None}
-use Rattle.affinity.specs.declared.sizes.Geometry.{Geometry}
+use Rattle.affinity.specs.declared.geometry.Geometry.{Geometry}
 use Rattle.affinity.specs.Geometry.{group}
 use Rattle.affinity.specs.Path.{Path, begins, volume, logical, stripe, label}
 use Rattle.message.specs.declared.Block.{Block}
@@ -113,8 +113,8 @@ text_of (Some (Text bytes)) = bytes
 text_of _ = None
 
 -- The state that the nodes hold: of what is out it has nothing.
-abbrev pub state_of : Geometry → Nodes → State
-state_of g n = record {
+abbrev pub tree_state : Geometry → Nodes → State
+tree_state g n = record {
   made = λ k. marks_made (n (volume k.0 k.1));
   sealed = λ k. marks_sealed (n (volume k.0 k.1));
   files = λ k. files_have (n (logical k.0 k.1)) k.2;

@@ -1,12 +1,12 @@
 -- What it is to run a message on the parcels of its place.
 use Rattle.std.specs.Prelude.{◌≡◌, ℕ}
-use Rattle.affinity.specs.declared.sizes.Geometry.{Geometry}
+use Rattle.affinity.specs.declared.geometry.Geometry.{Geometry}
 use Rattle.affinity.specs.Path.{Path, are_related}
 use Rattle.message.specs.declared.Msg.{Msg}
 use Rattle.message.specs.declared.Reply.{Reply}
 use Rattle.message.specs.Messages.{place}
 use Rattle.plain.specs.State.{State}
-use Rattle.plain.specs.Serial.{reply_to, after}
+use Rattle.plain.specs.Serial.{reply_to, next_state}
 use Rattle.plain.specs.Shares.{AgreeOn}
 use Rattle.parcel.specs.Fits.{Suits}
 use Rattle.parcel.specs.Shown.{shown}
@@ -25,7 +25,7 @@ pub record Asked : Type 0 where
 -- The step of a message leads from one state to another, and this is its reply.
 pub record IsStep (g : Geometry) (x : State) (m : Msg) (told : Reply) (y : State) : Type 0 where
   pub reply : told ≡ reply_to g x m
-  pub state : y ≡ after g x m
+  pub state : y ≡ next_state g x m
 
 -- The parcels and the standing show what a state has at a path, below it and above it: they have its share and its standing there.
 abbrev pub Shows : Geometry → Path → Standing → Parcels → State → Type 0

@@ -2,7 +2,7 @@
 use Rattle.std.specs.Prelude.{◌≡◌}
 use Rattle.message.specs.Messages.{place}
 use Rattle.plain.specs.State.{State}
-use Rattle.plain.specs.Serial.{reply_to, after}
+use Rattle.plain.specs.Serial.{reply_to, next_state}
 use Rattle.parcel.specs.Nodes.{Nodes}
 use Rattle.parcel.specs.Run.{Asked, IsRun, Shows}
 use Rattle.parcel.specs.Tree.{IsLent, IsRestored}
@@ -15,7 +15,7 @@ IsLentOf job x = Shows job.geometry (place job.geometry job.message) job.standin
 -- The reply is that of the serial step from the state, and with the standing the parcels show the state after it.
 pub record IsSerialStepOf (job : Asked) (done : Done) (x : State) : Type 0 where
   pub reply : done.reply ≡ reply_to job.geometry x job.message
-  pub shows : Shows job.geometry (place job.geometry job.message) job.standing done.parcels (after job.geometry x job.message)
+  pub shows : Shows job.geometry (place job.geometry job.message) job.standing done.parcels (next_state job.geometry x job.message)
 
 -- The job was made of what a tree lent at the message's place, it was run, and what it left was put back there.
 pub record IsServed (job : Asked) (done : Done) (old lent new : Nodes) : Type 0 where

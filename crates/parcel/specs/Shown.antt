@@ -1,6 +1,6 @@
 -- The state that parcels show, together with what stands above them. Of what is neither there nor above, they show nothing.
 use Rattle.std.specs.Prelude.{ℕ, Bool, false, ◌==◌, List, [], ◌∷◌, slice_index_or, Option, Some, None}
-use Rattle.affinity.specs.declared.sizes.Geometry.{Geometry}
+use Rattle.affinity.specs.declared.geometry.Geometry.{Geometry}
 use Rattle.affinity.specs.Geometry.{group}
 use Rattle.affinity.specs.Path.{Path}
 use Rattle.message.specs.declared.Block.{Block}

@@ -1,6 +1,6 @@
 -- How much volumes hold, and what a volume has that was just made.
 use Rattle.std.specs.Prelude.{ℕ, Bool, true, length, Option, Some, None, is_some}
-use Rattle.affinity.specs.declared.sizes.Geometry.{Geometry}
+use Rattle.affinity.specs.declared.geometry.Geometry.{Geometry}
 use Rattle.message.specs.declared.Block.{Block}
 use Rattle.plain.specs.State.{sum_below, count_below, one_if}
 use Rattle.plain.specs.Serial.{no_label}

@@ -1,11 +1,11 @@
 -- The tree of a server's parcels, some of which may be out, and what it is to lend and to restore.
 use Rattle.std.specs.Prelude.{◌≡◌, zero, true, false, [], ◌∷◌, ◌++◌, Option, None, is_some, IfSome}
-use Rattle.affinity.specs.declared.sizes.Geometry.{Geometry}
+use Rattle.affinity.specs.declared.geometry.Geometry.{Geometry}
 use Rattle.affinity.specs.Interval.{IsPath}
 use Rattle.affinity.specs.Path.{Path, begins, are_related, volume, logical}
 use Rattle.plain.specs.State.{State}
 use Rattle.parcel.specs.Fits.{Fits, FitsRoot, IsKindOf}
-use Rattle.parcel.specs.Nodes.{Nodes, in_child, in_root, in_parcels, marks_made, marks_sealed, files_bits, state_of, IsTakenOut, IsPutBack}
+use Rattle.parcel.specs.Nodes.{Nodes, in_child, in_root, in_parcels, marks_made, marks_sealed, files_bits, tree_state, IsTakenOut, IsPutBack}
 use Rattle.plain.specs.Shares.{AgreeOn}
 use Rattle.parcel.specs.Run.{Shows}
 use Rattle.parcel.specs.Shown.{shown}
@@ -27,7 +27,7 @@ in_tree t = in_child in_root t.root
 
 -- the state of all that is in
 abbrev pub state_in : Grown → State
-state_in t = state_of t.geometry (in_tree t)
+state_in t = tree_state t.geometry (in_tree t)
 
 -- Nothing at this path, above it or below it is out.
 abbrev pub IsIn : Geometry → Path → Nodes → Type 0
@@ -60,7 +60,7 @@ pub record IsLent (g : Geometry) (p : Path) (t : Standing) (lent : Parcels) (old
   pub fits : Fits g p lent
   pub parcels : (q : Path) → old (p ++ q) ≡ in_parcels lent q
   pub standing : t ≡ standing_at p old
-  pub shows : Shows g p t lent (state_of g old)
+  pub shows : Shows g p t lent (tree_state g old)
   pub rest : IsTakenOut p old new
 
 -- These parcels were put back at a path at which they were out, and the rest stays.
@@ -69,4 +69,4 @@ pub record IsRestored (g : Geometry) (p : Path) (parcels : Parcels) (old new : N
   pub kind : IsKindOf p parcels
   pub nodes : IsPutBack p (in_parcels parcels) old new
   -- what they show is the share there
-  pub share : (t : Standing) → AgreeOn g (begins p) (shown g p t parcels) (state_of g new)
+  pub share : (t : Standing) → AgreeOn g (begins p) (shown g p t parcels) (tree_state g new)

@@ -4,13 +4,13 @@
 ghost use Rattle.std.specs.Prelude.{◌≡◌, ◌++◌, [], is_some, true};
 ghost use Rattle.affinity.specs.Interval.{IsPath};
 ghost use Rattle.affinity.specs.Path.{Path};
-ghost use Rattle.affinity.specs.declared.sizes.Geometry.{Geometry};
+ghost use Rattle.affinity.specs.declared.geometry.Geometry.{Geometry};
 ghost use Rattle.message.specs.Messages.{IsMessage};
 ghost use Rattle.plain.specs.Laws.{outside};
 ghost use Rattle.plain.specs.Shares.{AgreeOn, share, standing};
 ghost use Rattle.plain.specs.State.{State, IsState};
 ghost use Rattle.parcel.specs.Fits.{Fits};
-ghost use Rattle.parcel.specs.Nodes.{Nodes, in_parcels, state_of, IsTakenOut, IsPutBack};
+ghost use Rattle.parcel.specs.Nodes.{Nodes, in_parcels, tree_state, IsTakenOut, IsPutBack};
 ghost use Rattle.parcel.specs.Run.{Asked, IsRun, IsStep, Shows};
 ghost use Rattle.parcel.specs.RunLaws.{IsLentOf, IsSerialStepOf, IsServed};
 ghost use Rattle.parcel.specs.Shown.{shown};
@@ -27,8 +27,8 @@ pub fn run_is_serial()
 
 /// What is taken out or put back at a path leaves the state everywhere outside that path.
 pub fn tree_agrees_elsewhere()
-    ensures taken_leaves { (g : Geometry) (p : Path) (old new : Nodes) → IsTakenOut p old new → AgreeOn g (outside p) (state_of g new) (state_of g old) }
-    ensures put_leaves { (g : Geometry) (p : Path) (part old new : Nodes) → IsPutBack p part old new → AgreeOn g (outside p) (state_of g new) (state_of g old) }
+    ensures taken_leaves { (g : Geometry) (p : Path) (old new : Nodes) → IsTakenOut p old new → AgreeOn g (outside p) (tree_state g new) (tree_state g old) }
+    ensures put_leaves { (g : Geometry) (p : Path) (part old new : Nodes) → IsPutBack p part old new → AgreeOn g (outside p) (tree_state g new) (tree_state g old) }
 {}
 
 /// Where parcels that fit are put back, nothing at their path or below it is out.
@@ -41,11 +41,11 @@ pub fn restored_parcels_are_in()
 /// in, all is in again, and where the tree held a state of its geometry, it holds one again.
 pub fn lent_run_and_restored_is_a_step()
     ensures step { (job : Asked) (done : Done) (old lent new : Nodes) → IsServed job done old lent new
-        → IsStep job.geometry (state_of job.geometry old) job.message done.reply (state_of job.geometry new) }
+        → IsStep job.geometry (tree_state job.geometry old) job.message done.reply (tree_state job.geometry new) }
     ensures all_in { (job : Asked) (done : Done) (old lent new : Nodes) → IsServed job done old lent new
         → IsIn job.geometry [] old → IsIn job.geometry [] new }
     ensures state { (job : Asked) (done : Done) (old lent new : Nodes) → IsServed job done old lent new
-        → IsMessage job.message → IsState job.geometry (state_of job.geometry old) → IsState job.geometry (state_of job.geometry new) }
+        → IsMessage job.message → IsState job.geometry (tree_state job.geometry old) → IsState job.geometry (tree_state job.geometry new) }
 {}
 
 /// To show what a state has at a path, below it and above it, is to have its share and its standing

@@ -3,7 +3,7 @@ use Rattle.std.proofs.Common.{◌≡◌, ℕ, ◌^◌, Bool, true, false, List, 
 use Rattle.std.specs.Prelude.{◌&&◌, ◌||◌, not, ◌==◌, nat_lt, if◌then◌else◌, cond, Some, None, find, is_some, unwrap_or}
 use Rattle.std.specs.List.{AllByRecursion}
 use Rattle.std.proofs.lemmas.Bool.{and_parts, and_from, eqb-true, eq-eqb, true≢false, not_from_false, or_left}
-use Rattle.affinity.specs.declared.sizes.Geometry.{Geometry}
+use Rattle.affinity.specs.declared.geometry.Geometry.{Geometry}
 use Rattle.affinity.specs.Geometry.{group}
 use Rattle.affinity.specs.Path.{Path, begins, are_related, volume, logical, stripe, label}
 use Rattle.affinity.proofs.Paths.{begins-refl, are_related-refl, beginnings_related, unrelated_below, unrelated_turned}
@@ -15,7 +15,7 @@ use Rattle.message.specs.declared.Reply.{Reply}
 use Rattle.message.specs.declared.Reply.TheVariants.{Files, Usage, Summary, Label}
 use Rattle.message.specs.Messages.{place}
 use Rattle.plain.specs.State.{State, sum_below, one_if, group_count, over_volumes}
-use Rattle.plain.specs.Serial.{key, tests, passes, refusal, effect, answer, outcome, reply_to, after, block_reply, no_label}
+use Rattle.plain.specs.Serial.{key, tests, passes, refusal, effect, accepted_reply, outcome, reply_to, next_state, block_reply, no_label}
 use Rattle.plain.specs.Shares.{AgreeOn}
 use Rattle.plain.specs.Laws.{outside, Commute}
 use Rattle.plain.proofs.Agree.{agree-refl, agree-sym, agree-trans, agree_within, agree_everywhere, agree_either}
@@ -117,7 +117,7 @@ module _ (g : Geometry) (R : Path → Bool) (x y : State) (h : AgreeOn g R x y) 
   same_refusal : (m : Msg) → ((q : Path) → are_related (place g m) q ≡ true → R q ≡ true) → refusal g x m ≡ refusal g y m
   same_refusal m covers = same_find (passes g x m) (passes g y m) (tests m) (same_tests m covers)
 
-  same_answer : (m : Msg) → ((q : Path) → are_related (place g m) q ≡ true → R q ≡ true) → answer g x m ≡ answer g y m
+  same_answer : (m : Msg) → ((q : Path) → are_related (place g m) q ≡ true → R q ≡ true) → accepted_reply g x m ≡ accepted_reply g y m
   same_answer (Read a v f b) covers = ap block_reply (h.blocks (a, v, f, b) (covers _ (are_related-refl (stripe a v (group g f b)))))
   same_answer (ListFiles a v) covers = λ i. Files (sum_below g.files (λ f. if h.files (a, v, f) (covers (logical a v) (are_related-refl (logical a v))) i then 2 ^ f else 0))
   same_answer (AskUsage a v) covers =
@@ -153,25 +153,25 @@ outcome_agrees g R (Some why) a a' new old new' old' h j = j
 
 -- Two states that agree on what is related to the message's place: the replies are the same, and the new states agree as far as the old ones did.
 pub reads_only : (g : Geometry) (R : Path → Bool) (x y : State) (m : Msg) → AgreeOn g R x y → ((q : Path) → are_related (place g m) q ≡ true → R q ≡ true)
-    → (reply_to g x m ≡ reply_to g y m) × AgreeOn g R (after g x m) (after g y m)
+    → (reply_to g x m ≡ reply_to g y m) × AgreeOn g R (next_state g x m) (next_state g y m)
 reads_only g R x y m h covers =
     let r = same_refusal g R x y h m covers in (
-      (λ i. (outcome (r i) (same_answer g R x y h m covers i) (effect x m) x).0) ∙ outcome_reply (refusal g y m) (answer g y m) _ _ _ _,
-      subst (λ t. AgreeOn g R (outcome t (answer g x m) (effect x m) x).1 (after g y m)) (sym r) (outcome_agrees g R (refusal g y m) _ _ _ _ _ _ (effect_agrees g R x y h m) h),
+      (λ i. (outcome (r i) (same_answer g R x y h m covers i) (effect x m) x).0) ∙ outcome_reply (refusal g y m) (accepted_reply g y m) _ _ _ _,
+      subst (λ t. AgreeOn g R (outcome t (accepted_reply g x m) (effect x m) x).1 (next_state g y m)) (sym r) (outcome_agrees g R (refusal g y m) _ _ _ _ _ _ (effect_agrees g R x y h m) h),
     )
 
 -- A step changes nothing but what lies at its place or below.
-pub changes_only : (g : Geometry) (x : State) (m : Msg) → AgreeOn g (outside (place g m)) (after g x m) x
+pub changes_only : (g : Geometry) (x : State) (m : Msg) → AgreeOn g (outside (place g m)) (next_state g x m) x
 changes_only g x m = by (refusal g x m)
   where
-    by : (r : Option Refusal) → AgreeOn g (outside (place g m)) (outcome r (answer g x m) (effect x m) x).1 x
+    by : (r : Option Refusal) → AgreeOn g (outside (place g m)) (outcome r (accepted_reply g x m) (effect x m) x).1 x
     by None = effect_only g x m
     by (Some why) = agree-refl x
 
 -- ---- steps at unrelated places commute
 
 -- what the other message's place is related to, a message at an unrelated place leaves alone
-pub left_alone : (g : Geometry) (x : State) (m n : Msg) → are_related (place g m) (place g n) ≡ false → AgreeOn g (are_related (place g m)) (after g x n) x
+pub left_alone : (g : Geometry) (x : State) (m n : Msg) → are_related (place g m) (place g n) ≡ false → AgreeOn g (are_related (place g m)) (next_state g x n) x
 left_alone g x m n h = agree_within
     (λ q r. not_from_false (begins (place g n) q) (elim (begins (place g n) q) as (λ b. begins (place g n) q ≡ b → b ≡ false) [
       | true ↦ λ e. absurd (true≢false (sym r ∙ unrelated_turned q (place g m) (unrelated_below (place g n) (place g m) q (unrelated_turned (place g m) (place g n) h) e)))
@@ -179,19 +179,19 @@ left_alone g x m n h = agree_within
     ] refl))
     (changes_only g x n)
 
-pub same_reply : (g : Geometry) (x : State) (m n : Msg) → are_related (place g m) (place g n) ≡ false → reply_to g (after g x n) m ≡ reply_to g x m
-same_reply g x m n h = (reads_only g (are_related (place g m)) (after g x n) x m (left_alone g x m n h) (λ q r. r)).0
+pub same_reply : (g : Geometry) (x : State) (m n : Msg) → are_related (place g m) (place g n) ≡ false → reply_to g (next_state g x n) m ≡ reply_to g x m
+same_reply g x m n h = (reads_only g (are_related (place g m)) (next_state g x n) x m (left_alone g x m n h) (λ q r. r)).0
 
 -- at the first one's place and below, both orders leave what the first one alone leaves
-at_its_place : (g : Geometry) (x : State) (m n : Msg) → are_related (place g m) (place g n) ≡ false → AgreeOn g (begins (place g m)) (after g (after g x m) n) (after g (after g x n) m)
+at_its_place : (g : Geometry) (x : State) (m n : Msg) → are_related (place g m) (place g n) ≡ false → AgreeOn g (begins (place g m)) (next_state g (next_state g x m) n) (next_state g (next_state g x n) m)
 at_its_place g x m n h =
     let related : (q : Path) → begins (place g m) q ≡ true → are_related (place g m) q ≡ true = λ q r. or_left _ _ r in
-    agree-trans (agree_within related (left_alone g (after g x m) m n h))
-    (agree-sym (agree_within related (reads_only g (are_related (place g m)) (after g x n) x m (left_alone g x m n h) (λ q r. r)).1))
+    agree-trans (agree_within related (left_alone g (next_state g x m) m n h))
+    (agree-sym (agree_within related (reads_only g (are_related (place g m)) (next_state g x n) x m (left_alone g x m n h) (λ q r. r)).1))
 
-elsewhere : (g : Geometry) (x : State) (m n : Msg) → AgreeOn g (λ q. outside (place g m) q && outside (place g n) q) (after g (after g x m) n) x
+elsewhere : (g : Geometry) (x : State) (m n : Msg) → AgreeOn g (λ q. outside (place g m) q && outside (place g n) q) (next_state g (next_state g x m) n) x
 elsewhere g x m n = agree-trans
-    (agree_within (λ q r. (and_parts (outside (place g m) q) (outside (place g n) q) r).1) (changes_only g (after g x m) n))
+    (agree_within (λ q r. (and_parts (outside (place g m) q) (outside (place g n) q) r).1) (changes_only g (next_state g x m) n))
     (agree_within (λ q r. (and_parts (outside (place g m) q) (outside (place g n) q) r).0) (changes_only g x m))
 
 each_path : (a b : Bool) → ((a || b) || (not a && not b)) ≡ true
@@ -204,7 +204,7 @@ swapped_outside g m n q r =
     let p = and_parts (outside (place g m) q) (outside (place g n) q) r in
     and_from (outside (place g n) q) (outside (place g m) q) p.1 p.0
 
-same_state : (g : Geometry) (x : State) (m n : Msg) → are_related (place g m) (place g n) ≡ false → after g (after g x m) n ≡ after g (after g x n) m
+same_state : (g : Geometry) (x : State) (m n : Msg) → are_related (place g m) (place g n) ≡ false → next_state g (next_state g x m) n ≡ next_state g (next_state g x n) m
 same_state g x m n h = agree_everywhere {g = g} {R = λ q. (begins (place g m) q || begins (place g n) q) || (outside (place g m) q && outside (place g n) q)}
     (λ q. each_path (begins (place g m) q) (begins (place g n) q))
     (agree_either

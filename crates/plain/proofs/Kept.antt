@@ -3,7 +3,7 @@ use Rattle.std.proofs.Common.{◌≡◌, ℕ, zero, suc, ◌+◌, ◌<◌, ◌�
 use Rattle.std.specs.Prelude.{◌&&◌, ◌||◌, not, ◌==◌, nat_lt, if◌then◌else◌, cond, Some, None, find, is_some, IfSome, replicate}
 use Rattle.std.specs.List.{AllByRecursion}
 use Rattle.std.proofs.lemmas.Bool.{and_parts, and_from, or_cases, or_right, eqb-true, ltb-true, true≢false, not_from_false}
-use Rattle.affinity.specs.declared.sizes.Geometry.{Geometry}
+use Rattle.affinity.specs.declared.geometry.Geometry.{Geometry}
 use Rattle.affinity.specs.Geometry.{group}
 use Rattle.affinity.specs.Path.{begins, stripe}
 use Rattle.affinity.specs.Place.{are_below, limits}
@@ -14,7 +14,7 @@ use Rattle.message.specs.declared.Refusal.{Refusal}
 use Rattle.message.specs.declared.Refusal.TheVariants.{Space}
 use Rattle.message.specs.Messages.{AreBytes, IsBlock, IsMessage}
 use Rattle.plain.specs.State.{State, IsState, empty, VolumeKey, FileKey, BlockKey, is_volume, is_file, is_block, is_file_of, is_block_of, is_block_of_file, one_if, group_count}
-use Rattle.plain.specs.Serial.{tests, passes, refusal, effect, answer, outcome, after, fold, no_label}
+use Rattle.plain.specs.Serial.{tests, passes, refusal, effect, accepted_reply, outcome, next_state, fold, no_label}
 use Rattle.plain.specs.Laws.{outside}
 use Rattle.plain.specs.Removals.{without_blocks}
 use Rattle.plain.proofs.Effects.{effect_only}
@@ -258,13 +258,13 @@ effect_kept g x h (AskUsage a v) w p = h
 effect_kept g x h AskSummary w p = h
 effect_kept g x h (AskLabel a v) w p = h
 
-pub step_kept : (g : Geometry) (x : State) (m : Msg) → IsState g x → IsMessage m → IsState g (after g x m)
+pub step_kept : (g : Geometry) (x : State) (m : Msg) → IsState g x → IsMessage m → IsState g (next_state g x m)
 step_kept g x m h w = by (refusal g x m) refl
   where
-    by : (r : Option Refusal) → refusal g x m ≡ r → IsState g (outcome r (answer g x m) (effect x m) x).1
+    by : (r : Option Refusal) → refusal g x m ≡ r → IsState g (outcome r (accepted_reply g x m) (effect x m) x).1
     by None e = effect_kept g x h m w (passed (passes g x m) (tests m) e)
     by (Some why) e = h
 
 pub fold_kept : (g : Geometry) (x : State) (ms : List Msg) → IsState g x → AllByRecursion IsMessage ms → IsState g (fold g x ms)
 fold_kept g x [] h w = h
-fold_kept g x (m ∷ ms) h w = fold_kept g (after g x m) ms (step_kept g x m h w.0) w.1
+fold_kept g x (m ∷ ms) h w = fold_kept g (next_state g x m) ms (step_kept g x m h w.0) w.1

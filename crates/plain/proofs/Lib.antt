@@ -6,7 +6,7 @@ pub mod ByTicket
 pub mod Unchanged
 pub mod Sums
 pub mod Kept
-pub mod Rows
+pub mod Examples
 pub mod Counts
 pub mod Keys
 pub mod ServerCounts

@@ -7,14 +7,14 @@ use Rattle.std.proofs.lemmas.List.Concat.{flat_map-append}
 use Rattle.std.proofs.lemmas.List.Elements.{All-from_recursion, recursion_from_All}
 use Rattle.std.proofs.lemmas.Option.{none-some, same_Some, IfSome_then}
 use Rattle.std.proofs.lemmas.Bool.{eqb-true, eq-eqb, true≢false}
-use Rattle.affinity.specs.declared.sizes.Geometry.{Geometry}
+use Rattle.affinity.specs.declared.geometry.Geometry.{Geometry}
 use Rattle.message.specs.Lines.{lines}
 use Rattle.message.specs.Grammar.{message_of}
 use Rattle.message.specs.Reader.{first_line, after_line as behind_line, GivesLine, PassesLine, IsAtEndOf, LosesFront}
 use Rattle.message.proofs.Keywords.{too_long}
 use Rattle.message.proofs.ReaderLemmas.{lines-first}
 use Rattle.plain.specs.State.{State, empty}
-use Rattle.plain.specs.Output.{answer_line, after_line, after_lines, output_lines, joined, serial_out, with_newlines, HasNoNewline, AnswersWholeLines, IsBeginning, Writes}
+use Rattle.plain.specs.Output.{answer_line, state_after_line, after_lines, output_lines, joined, serial_out, with_newlines, HasNoNewline, AnswersWholeLines, IsBeginning, Writes}
 use Rattle.plain.specs.Progress.{Progress, Stands, Goes}
 
 -- ---- what a writer holds
@@ -62,15 +62,15 @@ first_ends bs found = ⊎_elim (λ h. h) (λ none. absurd (none_contained bs non
 
 output-append : (g : Geometry) (x : State) (ls ms : List (List ℕ)) → output_lines g x (ls ++ ms) ≡ output_lines g x ls ++ output_lines g (after_lines g x ls) ms
 output-append g x [] ms = refl
-output-append g x (l ∷ ls) ms = ap (λ z. answer_line g x (message_of l) ∷ z) (output-append g (after_line g x (message_of l)) ls ms)
+output-append g x (l ∷ ls) ms = ap (λ z. answer_line g x (message_of l) ∷ z) (output-append g (state_after_line g x (message_of l)) ls ms)
 
-after-append : (g : Geometry) (x : State) (ls : List (List ℕ)) (l : List ℕ) → after_lines g x (ls ++ l ∷ []) ≡ after_line g (after_lines g x ls) (message_of l)
+after-append : (g : Geometry) (x : State) (ls : List (List ℕ)) (l : List ℕ) → after_lines g x (ls ++ l ∷ []) ≡ state_after_line g (after_lines g x ls) (message_of l)
 after-append g x [] l = refl
-after-append g x (m ∷ ls) l = after-append g (after_line g x (message_of m)) ls l
+after-append g x (m ∷ ls) l = after-append g (state_after_line g x (message_of m)) ls l
 
 first_of_output : (g : Geometry) (x : State) (ls ms : List (List ℕ)) → take (length ls) (output_lines g x (ls ++ ms)) ≡ output_lines g x ls
 first_of_output g x [] ms = refl
-first_of_output g x (l ∷ ls) ms = ap (λ z. answer_line g x (message_of l) ∷ z) (first_of_output g (after_line g x (message_of l)) ls ms)
+first_of_output g x (l ∷ ls) ms = ap (λ z. answer_line g x (message_of l) ∷ z) (first_of_output g (state_after_line g x (message_of l)) ls ms)
 
 newlines-append : (ls : List (List ℕ)) (l rest : List ℕ) → with_newlines (ls ++ l ∷ []) ++ rest ≡ with_newlines ls ++ (l ++ 10 ∷ rest)
 newlines-append [] l rest = simp append_assoc
@@ -100,7 +100,7 @@ stands-begins g (Some bytes) old = record {
 answered : (g : Geometry) (input left : List ℕ) (ended now_ended : Bool) (x y : State) (written added : List ℕ)
     → Progress g input left ended x written
     → left ≢ [] → ended ≡ false → Contains left 10 ⊎ (now_ended ≡ true)
-    → y ≡ after_line g x (message_of (first_line left)) → added ≡ answer_line g x (message_of (first_line left))
+    → y ≡ state_after_line g x (message_of (first_line left)) → added ≡ answer_line g x (message_of (first_line left))
     → Progress g input (behind_line left) now_ended y (written ++ added)
 answered g input left ended now_ended x y written added p more going stops state output =
     let l = first_line left in
@@ -111,7 +111,7 @@ answered g input left ended now_ended x y written added p more going stops state
       given = ⊎_elim
           (λ found. inr (⊎_elim (λ e. absurd (true≢false (sym e ∙ going))) (λ given. given ∙ ap (λ z. with_newlines p.answered ++ z) (first_ends left found) ∙ sym (newlines-append p.answered l (behind_line left))) p.given))
           (λ e. inl e) stops;
-      state = state ∙ ap (λ z. after_line g z (message_of l)) p.state ∙ sym (after-append g empty p.answered l);
+      state = state ∙ ap (λ z. state_after_line g z (message_of l)) p.state ∙ sym (after-append g empty p.answered l);
       output = ap (λ z. written ++ z) (output ∙ ap (λ z. answer_line g z (message_of l)) p.state) ∙ ap (λ z. z ++ answer_line g (after_lines g empty p.answered) (message_of l)) p.output
           ∙ sym (ap joined (output-append g empty p.answered (l ∷ [])) ∙ joined-append (output_lines g empty p.answered) (answer_line g (after_lines g empty p.answered) (message_of l) ∷ [])
           ∙ ap (λ z. joined (output_lines g empty p.answered) ++ z) (append-nil _));
@@ -126,7 +126,7 @@ stands-goes_on g (Some input) rest ended x old new newer h j = record { left = h
 stands-goes_line : (g : Geometry) (input rest now_rest : Option (List ℕ)) (ended now_ended : Bool) (x y : State) (line added : List ℕ) (old new newer : Option (List ℕ))
     → Stands g input rest ended x old new → ended ≡ false
     → IfSome rest (λ bs. GivesLine line bs now_rest) → IfSome rest (λ bs. Contains bs 10 ⊎ (now_ended ≡ true))
-    → y ≡ after_line g x (message_of line) → added ≡ answer_line g x (message_of line) → Appends new newer added
+    → y ≡ state_after_line g x (message_of line) → added ≡ answer_line g x (message_of line) → Appends new newer added
     → Stands g input now_rest now_ended y old newer
 stands-goes_line g None rest now_rest ended now_ended x y line added old new newer h going found stops state output appended = tt
 stands-goes_line g (Some input) None now_rest ended now_ended x y line added old new newer h going found stops state output appended = absurd (none-some h.left h.left_is)
@@ -139,7 +139,7 @@ stands-goes_line g (Some input) (Some bs) now_rest ended now_ended x y line adde
       left_is = found.left_is ∙ ap (λ z. Some (behind_line z)) same;
       appended = appends_then old new newer h.written added h.appended appended;
       progress = answered g input h.left ended now_ended x y h.written added h.progress (λ e. found.more (same ∙ e)) going (subst (λ (z : List ℕ). Contains z 10 ⊎ (now_ended ≡ true)) same stops)
-          (state ∙ ap (λ z. after_line g x (message_of z)) is_first) (output ∙ ap (λ z. answer_line g x (message_of z)) is_first);
+          (state ∙ ap (λ z. state_after_line g x (message_of z)) is_first) (output ∙ ap (λ z. answer_line g x (message_of z)) is_first);
     }
 
 stands-goes_long_line : (g : Geometry) (input rest now_rest : Option (List ℕ)) (ended now_ended : Bool) (x : State) (added : List ℕ) (old new newer : Option (List ℕ))
@@ -152,7 +152,7 @@ stands-goes_long_line g (Some input) None now_rest ended now_ended x added old n
 stands-goes_long_line g input (Some bs) now_rest ended now_ended x added old new newer h going found stops output appended =
     let none = sym (too_long (first_line bs) found.long) in
     stands-goes_line g input (Some bs) now_rest ended now_ended x x (first_line bs) added old new newer h going
-    (record { more = λ e. long_of_none bs found.long e; line_is = refl; left_is = found.left_is }) stops (sym (ap (after_line g x) none)) (output ∙ sym (ap (answer_line g x) none)) appended
+    (record { more = λ e. long_of_none bs found.long e; line_is = refl; left_is = found.left_is }) stops (sym (ap (state_after_line g x) none)) (output ∙ sym (ap (answer_line g x) none)) appended
   where
     long_of_none : (bs : List ℕ) → 1100 < length (first_line bs) → bs ≡ [] → ⊥
     long_of_none bs long e = let short : length (first_line bs) ≡ 0 = ap (λ z. length (first_line z)) e in omega arith
@@ -206,7 +206,7 @@ module _ {g : Geometry} {input rest : Option (List ℕ)} {ended : Bool} {x : Sta
 
   pub goes_line : {newer : Option (List ℕ)} {y : State} (now_rest : Option (List ℕ)) (now_ended : Bool) (line added : List ℕ) → Goes g input rest ended x old new → ended ≡ false
       → IfSome rest (λ bs. GivesLine line bs now_rest) → IfSome rest (λ bs. Contains bs 10 ⊎ (now_ended ≡ true))
-      → y ≡ after_line g x (message_of line) → added ≡ answer_line g x (message_of line) → Appends new newer added
+      → y ≡ state_after_line g x (message_of line) → added ≡ answer_line g x (message_of line) → Appends new newer added
       → Goes g input now_rest now_ended y old newer
   goes_line {newer} {y} now_rest now_ended line added h going found stops state output appended =
       record { stands = stands-goes_line g input rest now_rest ended now_ended x y line added old new newer h.stands going found stops state output appended }

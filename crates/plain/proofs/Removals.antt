@@ -3,7 +3,7 @@ use Rattle.std.proofs.Common.{◌≡◌, ℕ, ◌+◌, ◌<◌, Bool, true, fals
 use Rattle.std.specs.Prelude.{◌&&◌, ◌==◌, not, if◌then◌else◌, Option, None, Some, is_some}
 use Rattle.std.specs.BTreeMap.{is_at}
 use Rattle.std.proofs.lemmas.Bool.{true≢false}
-use Rattle.affinity.specs.declared.sizes.Geometry.{Geometry}
+use Rattle.affinity.specs.declared.geometry.Geometry.{Geometry}
 use Rattle.affinity.specs.Geometry.{group}
 use Rattle.message.specs.declared.Msg.TheVariants.{Delete, Punch}
 use Rattle.plain.specs.State.{State, IsState, Set, Map, VolumeKey, FileKey, BlockKey, dropping, clearing, is_volume, is_file, is_block, is_file_of, is_block_of, is_block_of_file, one_if, group_count}

@@ -4,11 +4,11 @@ use Rattle.std.specs.BTreeSet as set
 use Rattle.std.specs.BTreeMap as map
 use Rattle.std.proofs.lemmas.Nat.{mul-le}
 use Rattle.std.proofs.Math.Nat.{pow-le-pow_right, lt_of_not-le}
-use Rattle.affinity.specs.declared.sizes.Geometry.{Geometry}
+use Rattle.affinity.specs.declared.geometry.Geometry.{Geometry}
 use Rattle.plain.specs.declared.server.Server.{Server}
 use Rattle.plain.specs.State.{State, IsState, one_if, file_count, block_count, over_volumes}
 use Rattle.plain.specs.Serial.{file_bits}
-use Rattle.plain.specs.Server.{state_of, by_volume, by_file, by_block}
+use Rattle.plain.specs.Server.{server_state, by_volume, by_file, by_block}
 use Rattle.plain.proofs.Sums.{one_if-le}
 use Rattle.plain.proofs.Counts.{bits-lt, file_count-le, block_count-le, over_volumes-le}
 use Rattle.plain.proofs.Lengths.{volumes_length, files_length, blocks_length}
@@ -39,14 +39,14 @@ small_power k n le lt = lt_of_not-le (λ from.
 small : (g : Geometry) (c : ℕ) → g.aggregates * (g.volumes * c) ≤ 4 * (8 * c)
 small g c = mul-le g.aggregates (g.volumes * c) 4 (8 * c) g.aggregates_range.1 (mul-le g.volumes c 8 c g.volumes_range.1 (omega arith))
 
-module _ (g : Geometry) (server : Server) (is : IsState g (state_of server)) where
-  pub volumes_total : set.IsOrdered by_volume server.made → set.btree_set_len server.made ≡ over_volumes g (λ a v. one_if ((state_of server).made (a, v)))
+module _ (g : Geometry) (server : Server) (is : IsState g (server_state server)) where
+  pub volumes_total : set.IsOrdered by_volume server.made → set.btree_set_len server.made ≡ over_volumes g (λ a v. one_if ((server_state server).made (a, v)))
   volumes_total ordered = sym (volumes_length g server.made ordered is.made)
 
-  pub files_total : set.IsOrdered by_file server.files → set.btree_set_len server.files ≡ over_volumes g (file_count g (state_of server))
+  pub files_total : set.IsOrdered by_file server.files → set.btree_set_len server.files ≡ over_volumes g (file_count g (server_state server))
   files_total ordered = sym (files_length g server.files ordered (λ k has. let there = is.files k has in let volume = is.made (k.0, k.1) there.1 in (volume.0, volume.1, there.0)))
 
-  pub blocks_total : map.IsOrdered by_block server.blocks → map.btree_map_len server.blocks ≡ over_volumes g (block_count g (state_of server))
+  pub blocks_total : map.IsOrdered by_block server.blocks → map.btree_map_len server.blocks ≡ over_volumes g (block_count g (server_state server))
   blocks_total ordered = sym (blocks_length g server.blocks ordered (λ k has.
       let there = is.blocks k has in
       let file = is.files (k.0, k.1, k.2) there.1 in

@@ -15,11 +15,11 @@ use Rattle.std.specs.BTreeSet as set
 use Rattle.std.specs.BTreeSet.{BTreeSet}
 use Rattle.std.proofs.lemmas.Bool.{and_parts, true≢false, false_from_ne_true}
 use Rattle.std.proofs.lemmas.Map.Keys.{IsDistinct-from_sorted, IsDistinct-head, IsDistinct-tail}
-use Rattle.affinity.specs.declared.sizes.Geometry.{Geometry}
+use Rattle.affinity.specs.declared.geometry.Geometry.{Geometry}
 use Rattle.plain.specs.declared.server.Server.{Server}
 use Rattle.plain.specs.State.{FileKey, is_file, sum_below, one_if, file_count, block_count}
 use Rattle.plain.specs.Serial.{file_bits}
-use Rattle.plain.specs.Server.{state_of, IsCounted, by_volume, by_file}
+use Rattle.plain.specs.Server.{server_state, IsCounted, by_volume, by_file}
 use Rattle.plain.proofs.Keys.{at_volume, at_file, the_volume, the_file, picks_volume, picks_file}
 use Rattle.plain.proofs.Counts.{block_count-by_stripe}
 use Rattle.plain.proofs.Sums.{sum_same, sum_zero, sum_below-same, sum_below_changed}
@@ -136,10 +136,10 @@ module _ (weight : ℕ → ℕ) (a v n : ℕ) where
       ∙ sum_same n _ _ (λ i. in_set i s.keys)
 
 module _ (g : Geometry) (server : Server) (a v : ℕ) where
-  pub bits_walked : set.IsOrdered by_file server.files → total (λ (k : FileKey). 2 ^ k.2) (set.keys_between by_file (Included (a, v, 0)) (Excluded (a, v, g.files)) server.files) ≡ file_bits g (state_of server) a v
+  pub bits_walked : set.IsOrdered by_file server.files → total (λ (k : FileKey). 2 ^ k.2) (set.keys_between by_file (Included (a, v, 0)) (Excluded (a, v, g.files)) server.files) ≡ file_bits g (server_state server) a v
   bits_walked ordered = files_walked (λ i. 2 ^ i) a v g.files server.files ordered
 
-  pub count_walked : set.IsOrdered by_file server.files → length (set.keys_between by_file (Included (a, v, 0)) (Excluded (a, v, g.files)) server.files) ≡ file_count g (state_of server) a v
+  pub count_walked : set.IsOrdered by_file server.files → length (set.keys_between by_file (Included (a, v, 0)) (Excluded (a, v, g.files)) server.files) ≡ file_count g (server_state server) a v
   count_walked ordered =
       let all = files_walked (λ i. 1) a v g.files server.files ordered ∙ sum_same g.files _ _ (λ i. as_one (set.contains by_file server.files (a, v, i))) in
       sym (one_each (set.keys_between by_file (Included (a, v, 0)) (Excluded (a, v, g.files)) server.files)) ∙ all
@@ -162,8 +162,8 @@ in_map a v n i (e ∷ es) = elim (is_at (by_file (a, v, i)) e.0) as (λ t. cond 
 ]
 
 pub blocks_walked : (g : Geometry) (server : Server) (a v : ℕ) → IsCounted g server → map.IsOrdered by_file server.used
-    → total (λ (e : FileKey × ℕ). e.1) (entries_between by_file (Included (a, v, 0)) (Excluded (a, v, g.stripes)) server.used.entries) ≡ block_count g (state_of server) a v
+    → total (λ (e : FileKey × ℕ). e.1) (entries_between by_file (Included (a, v, 0)) (Excluded (a, v, g.stripes)) server.used.entries) ≡ block_count g (server_state server) a v
 blocks_walked g server a v counted ordered =
     walked (λ (e : FileKey × ℕ). e.0) (λ (e : FileKey × ℕ). e.1) a v g.stripes server.used.entries (IsDistinct-from_sorted by_file (map.keys server.used) ordered)
     ∙ sum_same g.stripes _ _ (λ s. in_map a v g.stripes s server.used.entries ∙ counted (a, v, s))
-    ∙ sym (block_count-by_stripe g (state_of server) a v)
+    ∙ sym (block_count-by_stripe g (server_state server) a v)

@@ -1,7 +1,7 @@
 -- A block that is put into a file, and what the stripes have after it.
 use Rattle.std.proofs.Common.{◌≡◌, ℕ, ◌+◌, ◌<◌, true, false, Some, refl, ap, sym, ◌∙◌}
 use Rattle.std.specs.Prelude.{None, is_some, if◌then◌else◌}
-use Rattle.affinity.specs.declared.sizes.Geometry.{Geometry}
+use Rattle.affinity.specs.declared.geometry.Geometry.{Geometry}
 use Rattle.affinity.specs.Geometry.{group}
 use Rattle.message.specs.declared.Block.{Block}
 use Rattle.message.specs.declared.Msg.TheVariants.{Write, Punch}

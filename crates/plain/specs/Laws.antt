@@ -1,14 +1,14 @@
 -- The words of the laws of steps.
 use Rattle.std.specs.Prelude.{◌≡◌, ℕ, ◌≤◌, Bool, true, false, not, List, [], ◌∷◌, if◌then◌else◌}
 use Rattle.std.specs.List.{AllByRecursion}
-use Rattle.affinity.specs.declared.sizes.Geometry.{Geometry}
+use Rattle.affinity.specs.declared.geometry.Geometry.{Geometry}
 use Rattle.affinity.specs.Path.{Path, begins}
 use Rattle.message.specs.declared.Msg.{Msg}
 use Rattle.message.specs.declared.Reply.{Reply}
 use Rattle.message.specs.declared.Reply.TheVariants.{Refused}
 use Rattle.message.specs.Messages.{place}
 use Rattle.plain.specs.State.{State}
-use Rattle.plain.specs.Serial.{reply_to, after, fold, is_loggable}
+use Rattle.plain.specs.Serial.{reply_to, next_state, fold, is_loggable}
 use Rattle.plain.specs.Shares.{share as share_at}
 use Rattle.plain.specs.Order.{told as told_at, messages, by_ticket}
 
@@ -19,13 +19,13 @@ outside p q = not (begins p q)
 -- What a message is answered, and the share that it leaves at its place, are the same in both states.
 pub record RunAlike (g : Geometry) (x y : State) (m : Msg) : Type 0 where
   pub reply : reply_to g x m ≡ reply_to g y m
-  pub share : share_at g (place g m) (after g x m) ≡ share_at g (place g m) (after g y m)
+  pub share : share_at g (place g m) (next_state g x m) ≡ share_at g (place g m) (next_state g y m)
 
 -- Two steps, in either order: the replies are the same, and so is the state in the end.
 pub record Commute (g : Geometry) (x : State) (m n : Msg) : Type 0 where
-  pub first : reply_to g (after g x n) m ≡ reply_to g x m
-  pub second : reply_to g (after g x m) n ≡ reply_to g x n
-  pub state : after g (after g x m) n ≡ after g (after g x n) m
+  pub first : reply_to g (next_state g x n) m ≡ reply_to g x m
+  pub second : reply_to g (next_state g x m) n ≡ reply_to g x n
+  pub state : next_state g (next_state g x m) n ≡ next_state g (next_state g x n) m
 
 -- Each message is told the same where they run by ticket, and the state in the end is the same.
 pub record SameByTicket (g : Geometry) (x : State) (es : List (ℕ × Msg)) : Type 0 where
@@ -39,7 +39,7 @@ is_refused _ = false
 -- those of the messages that are logged, where they run one after the other
 abbrev pub logged : Geometry → State → List Msg → List Msg
 logged g x [] = []
-logged g x (m ∷ ms) = let rest = logged g (after g x m) ms in if is_loggable m (reply_to g x m) then m ∷ rest else rest
+logged g x (m ∷ ms) = let rest = logged g (next_state g x m) ms in if is_loggable m (reply_to g x m) then m ∷ rest else rest
 
 -- each ticket is at most those after it
 abbrev pub AreInOrder : {A : Type 0} → List (ℕ × A) → Type 0

@@ -1,18 +1,18 @@
 -- Messages with tickets: what each is told, and their order by ticket.
 use Rattle.std.specs.Prelude.{◌≡◌, ℕ, ◌<◌, true, nat_lt, List, [], ◌∷◌, map, if◌then◌else◌}
 use Rattle.std.specs.List.{AllByRecursion}
-use Rattle.affinity.specs.declared.sizes.Geometry.{Geometry}
+use Rattle.affinity.specs.declared.geometry.Geometry.{Geometry}
 use Rattle.affinity.specs.Path.{are_related}
 use Rattle.message.specs.declared.Msg.{Msg}
 use Rattle.message.specs.declared.Reply.{Reply}
 use Rattle.message.specs.Messages.{place}
 use Rattle.plain.specs.State.{State}
-use Rattle.plain.specs.Serial.{reply_to, after}
+use Rattle.plain.specs.Serial.{reply_to, next_state}
 
 -- each ticket with the reply to its message, where the messages run in this order
 abbrev pub told : Geometry → State → List (ℕ × Msg) → List (ℕ × Reply)
 told g x [] = []
-told g x (e ∷ es) = (e.0, reply_to g x e.1) ∷ told g (after g x e.1) es
+told g x (e ∷ es) = (e.0, reply_to g x e.1) ∷ told g (next_state g x e.1) es
 
 abbrev pub messages : List (ℕ × Msg) → List Msg
 messages es = map (λ e. e.1) es

@@ -2,27 +2,27 @@
 use Rattle.std.specs.Prelude.{◌≡◌, ◌≢◌, ℕ, List, [], ◌∷◌, ◌++◌, take, Option, Some, None}
 use Rattle.std.specs.Io.KnownBytes.{Appends}
 use Rattle.std.specs.List.{flat_map, AllByRecursion}
-use Rattle.affinity.specs.declared.sizes.Geometry.{Geometry}
+use Rattle.affinity.specs.declared.geometry.Geometry.{Geometry}
 use Rattle.message.specs.declared.Msg.{Msg}
 use Rattle.message.specs.Lines.{lines}
 use Rattle.message.specs.Grammar.{message_of}
 use Rattle.message.specs.Replies.{reply_line, no_message}
 use Rattle.plain.specs.State.{State, empty}
-use Rattle.plain.specs.Serial.{reply_to, after}
+use Rattle.plain.specs.Serial.{reply_to, next_state}
 
 -- what a line is answered, and the state after it, by the message that it spells
 abbrev pub answer_line : Geometry → State → Option Msg → List ℕ
 answer_line g x None = no_message
 answer_line g x (Some m) = reply_line (reply_to g x m)
 
-abbrev pub after_line : Geometry → State → Option Msg → State
-after_line g x None = x
-after_line g x (Some m) = after g x m
+abbrev pub state_after_line : Geometry → State → Option Msg → State
+state_after_line g x None = x
+state_after_line g x (Some m) = next_state g x m
 
 -- the lines that are answered to the lines of an input
 abbrev pub output_lines : Geometry → State → List (List ℕ) → List (List ℕ)
 output_lines g x [] = []
-output_lines g x (line ∷ ls) = answer_line g x (message_of line) ∷ output_lines g (after_line g x (message_of line)) ls
+output_lines g x (line ∷ ls) = answer_line g x (message_of line) ∷ output_lines g (state_after_line g x (message_of line)) ls
 
 abbrev pub joined : List (List ℕ) → List ℕ
 joined pieces = flat_map (λ piece. piece) pieces
@@ -34,7 +34,7 @@ serial_out g x input = joined (output_lines g x (lines input))
 -- the state after all of some lines
 abbrev pub after_lines : Geometry → State → List (List ℕ) → State
 after_lines g x [] = x
-after_lines g x (line ∷ ls) = after_lines g (after_line g x (message_of line)) ls
+after_lines g x (line ∷ ls) = after_lines g (state_after_line g x (message_of line)) ls
 
 -- ---- what a serial server has written when it ends before the end of its input
 

@@ -1,6 +1,6 @@
 -- What each message means: its tests, its effect and its reply; and lists of messages, one after the other.
 use Rattle.std.specs.Prelude.{ℕ, ◌^◌, Bool, true, false, not, ◌||◌, ◌&&◌, nat_lt, List, [], ◌∷◌, find, replicate, unwrap_or, if◌then◌else◌, Option, Some, None, is_some}
-use Rattle.affinity.specs.declared.sizes.Geometry.{Geometry}
+use Rattle.affinity.specs.declared.geometry.Geometry.{Geometry}
 use Rattle.affinity.specs.Geometry.{group}
 use Rattle.affinity.specs.Kind.{is_changing}
 use Rattle.message.specs.declared.Block.{Block}
@@ -106,13 +106,13 @@ abbrev pub file_bits : Geometry → State → ℕ → ℕ → ℕ
 file_bits g x a v = sum_below g.files (λ f. if x.files (a, v, f) then 2 ^ f else 0)
 
 -- the reply to a message that passes its tests
-abbrev pub answer : Geometry → State → Msg → Reply
-answer g x (Read a v f b) = block_reply (x.blocks (a, v, f, b))
-answer g x (ListFiles a v) = Files (file_bits g x a v)
-answer g x (AskUsage a v) = Usage (file_count g x a v) (block_count g x a v) (x.sealed (a, v))
-answer g x AskSummary = Summary (over_volumes g (λ a v. one_if (x.made (a, v)))) (over_volumes g (file_count g x)) (over_volumes g (block_count g x))
-answer g x (AskLabel a v) = Label (unwrap_or (x.labels (a, v)) no_label)
-answer g x _ = Done
+abbrev pub accepted_reply : Geometry → State → Msg → Reply
+accepted_reply g x (Read a v f b) = block_reply (x.blocks (a, v, f, b))
+accepted_reply g x (ListFiles a v) = Files (file_bits g x a v)
+accepted_reply g x (AskUsage a v) = Usage (file_count g x a v) (block_count g x a v) (x.sealed (a, v))
+accepted_reply g x AskSummary = Summary (over_volumes g (λ a v. one_if (x.made (a, v)))) (over_volumes g (file_count g x)) (over_volumes g (block_count g x))
+accepted_reply g x (AskLabel a v) = Label (unwrap_or (x.labels (a, v)) no_label)
+accepted_reply g x _ = Done
 
 abbrev pub outcome : Option Refusal → Reply → State → State → Reply × State
 outcome None reply new old = (reply, new)
@@ -120,23 +120,23 @@ outcome (Some why) reply new old = (Refused why, old)
 
 -- the reply and the new state: a refusal changes nothing
 abbrev pub step : Geometry → State → Msg → Reply × State
-step g x m = outcome (refusal g x m) (answer g x m) (effect x m) x
+step g x m = outcome (refusal g x m) (accepted_reply g x m) (effect x m) x
 
 abbrev pub reply_to : Geometry → State → Msg → Reply
 reply_to g x m = (step g x m).0
 
-abbrev pub after : Geometry → State → Msg → State
-after g x m = (step g x m).1
+abbrev pub next_state : Geometry → State → Msg → State
+next_state g x m = (step g x m).1
 
 -- ---- messages one after the other
 
 abbrev pub fold : Geometry → State → List Msg → State
 fold g x [] = x
-fold g x (m ∷ ms) = fold g (after g x m) ms
+fold g x (m ∷ ms) = fold g (next_state g x m) ms
 
 abbrev pub replies : Geometry → State → List Msg → List Reply
 replies g x [] = []
-replies g x (m ∷ ms) = reply_to g x m ∷ replies g (after g x m) ms
+replies g x (m ∷ ms) = reply_to g x m ∷ replies g (next_state g x m) ms
 
 -- ---- which messages are logged
 

@@ -4,7 +4,7 @@ use Rattle.std.specs.Ordering.{nat_cmp, ordering_then}
 use Rattle.std.specs.declared.cmp.Ordering.{Ordering}
 use Rattle.std.specs.BTreeSet as set
 use Rattle.std.specs.BTreeMap as map
-use Rattle.affinity.specs.declared.sizes.Geometry.{Geometry}
+use Rattle.affinity.specs.declared.geometry.Geometry.{Geometry}
 use Rattle.plain.specs.declared.server.Server.{Server}
 use Rattle.plain.specs.State.{State, IsState, VolumeKey, FileKey, BlockKey, group_count}
 
@@ -20,8 +20,8 @@ abbrev pub by_block : BlockKey → BlockKey → Ordering
 by_block x y = ordering_then (by_file (x.0, x.1, x.2) (y.0, y.1, y.2)) (nat_cmp x.3 y.3)
 
 -- the state that the maps hold
-abbrev pub state_of : Server → State
-state_of server = record {
+abbrev pub server_state : Server → State
+server_state server = record {
   made = set.contains by_volume server.made;
   sealed = set.contains by_volume server.sealed;
   files = set.contains by_file server.files;
@@ -43,9 +43,9 @@ noted server k = unwrap_or (map.get by_file server.used k) 0
 
 -- The number noted for each stripe is that of its blocks.
 abbrev pub IsCounted : Geometry → Server → Type 0
-IsCounted g server = (k : StripeKey) → noted server k ≡ group_count g (state_of server) k.0 k.1 k.2
+IsCounted g server = (k : StripeKey) → noted server k ≡ group_count g (server_state server) k.0 k.1 k.2
 
 -- The server's state is one of those that there are, and its numbers are right.
-pub record IsSound (g : Geometry) (server : Server) : Type 0 where
-  pub state : IsState g (state_of server)
+pub record IsConsistent (g : Geometry) (server : Server) : Type 0 where
+  pub state : IsState g (server_state server)
   pub counted : IsCounted g server

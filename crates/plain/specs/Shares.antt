@@ -1,6 +1,6 @@
 -- What lies at a path: the share of a state there, and what a message there sees besides.
 use Rattle.std.specs.Prelude.{◌≡◌, Bool, true, not, ◌&&◌, if◌then◌else◌, None}
-use Rattle.affinity.specs.declared.sizes.Geometry.{Geometry}
+use Rattle.affinity.specs.declared.geometry.Geometry.{Geometry}
 use Rattle.affinity.specs.Geometry.{group}
 use Rattle.affinity.specs.Path.{Path, begins, volume, logical, stripe, label}
 use Rattle.plain.specs.State.{State, VolumeKey, FileKey, BlockKey}

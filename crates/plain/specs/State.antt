@@ -1,6 +1,6 @@
 -- What a server keeps. A set is its test, and a map its look-up.
 use Rattle.std.specs.Prelude.{◌≡◌, ℕ, zero, suc, ◌+◌, ◌<◌, ◌≤◌, Bool, true, false, not, ◌&&◌, ◌||◌, ◌==◌, List, if◌then◌else◌, Option, Some, None, is_some, IfSome}
-use Rattle.affinity.specs.declared.sizes.Geometry.{Geometry}
+use Rattle.affinity.specs.declared.geometry.Geometry.{Geometry}
 use Rattle.affinity.specs.Geometry.{group}
 use Rattle.message.specs.declared.Block.{Block}
 use Rattle.message.specs.Messages.{IsBlock, AreBytes}

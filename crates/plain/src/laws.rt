@@ -3,14 +3,14 @@
 
 ghost use Rattle.std.specs.Prelude.{◌≡◌, ℕ, true, false, List, Some, IsPermutation};
 ghost use Rattle.std.specs.List.{AllByRecursion};
-ghost use Rattle.affinity.specs.declared.sizes.Geometry.{Geometry};
+ghost use Rattle.affinity.specs.declared.geometry.Geometry.{Geometry};
 ghost use Rattle.affinity.specs.Path.{are_related};
 ghost use Rattle.message.specs.declared.Msg.{Msg};
 ghost use Rattle.message.specs.declared.Refusal.{Refusal};
 ghost use Rattle.message.specs.declared.Reply.TheVariants.{Refused};
 ghost use Rattle.message.specs.Messages.{place, IsMessage};
 ghost use Rattle.plain.specs.State.{State, IsState, empty};
-ghost use Rattle.plain.specs.Serial.{refusal, reply_to, after, fold, is_loggable};
+ghost use Rattle.plain.specs.Serial.{refusal, reply_to, next_state, fold, is_loggable};
 ghost use Rattle.plain.specs.Shares.{AgreeOn, share, standing};
 ghost use Rattle.plain.specs.Order.{by_ticket, KeepsOrder};
 ghost use Rattle.plain.specs.Laws.{outside, RunAlike, Commute, SameByTicket, is_refused, logged, AreInOrder};
@@ -19,7 +19,7 @@ ghost use Rattle.plain.specs.Laws.{outside, RunAlike, Commute, SameByTicket, is_
 /// blocks and labels keep their lengths, and no stripe gets more blocks than its quota.
 pub fn step_keeps_state()
     ensures nothing { (g : Geometry) → IsState g empty }
-    ensures step { (g : Geometry) (x : State) (m : Msg) → IsState g x → IsMessage m → IsState g (after g x m) }
+    ensures step { (g : Geometry) (x : State) (m : Msg) → IsState g x → IsMessage m → IsState g (next_state g x m) }
     ensures steps { (g : Geometry) (x : State) (ms : List Msg) → IsState g x → AllByRecursion IsMessage ms → IsState g (fold g x ms) }
 {}
 
@@ -27,14 +27,14 @@ pub fn step_keeps_state()
 /// refusal changes nothing.
 pub fn refusal_changes_nothing()
     ensures refused { (g : Geometry) (x : State) (m : Msg) (why : Refusal) → refusal g x m ≡ Some why → reply_to g x m ≡ Refused why }
-    ensures unchanged { (g : Geometry) (x : State) (m : Msg) → is_refused (reply_to g x m) ≡ true → after g x m ≡ x }
+    ensures unchanged { (g : Geometry) (x : State) (m : Msg) → is_refused (reply_to g x m) ≡ true → next_state g x m ≡ x }
 {}
 
 /// A message reads only what lies at its place, below it and above it, and changes only what lies
 /// at its place and below.
 pub fn step_reads_and_changes_only()
     ensures reads { (g : Geometry) (x y : State) (m : Msg) → share g (place g m) x ≡ share g (place g m) y → standing g (place g m) x ≡ standing g (place g m) y → RunAlike g x y m }
-    ensures changes { (g : Geometry) (x : State) (m : Msg) → AgreeOn g (outside (place g m)) (after g x m) x }
+    ensures changes { (g : Geometry) (x : State) (m : Msg) → AgreeOn g (outside (place g m)) (next_state g x m) x }
 {}
 
 /// Two messages at unrelated places may come in either order.
@@ -52,6 +52,6 @@ pub fn order_by_ticket()
 
 /// What isn't logged changes nothing, so the messages that are logged lead to the state of all.
 pub fn logged_messages_are_enough()
-    ensures unlogged { (g : Geometry) (x : State) (m : Msg) → is_loggable m (reply_to g x m) ≡ false → after g x m ≡ x }
+    ensures unlogged { (g : Geometry) (x : State) (m : Msg) → is_loggable m (reply_to g x m) ≡ false → next_state g x m ≡ x }
     ensures logged { (g : Geometry) (x : State) (ms : List Msg) → fold g x (logged g x ms) ≡ fold g x ms }
 {}

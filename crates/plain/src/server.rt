@@ -1,8 +1,8 @@
 ghost use Rattle.std.specs.Prelude.{◌≡◌, IfOk, OnOk, OnErr};
-ghost use Rattle.affinity.specs.declared.sizes.Geometry.{Geometry};
+ghost use Rattle.affinity.specs.declared.geometry.Geometry.{Geometry};
 ghost use Rattle.plain.specs.State.{empty};
-ghost use Rattle.plain.specs.Serial.{reply_to, after};
-ghost use Rattle.plain.specs.Server.{state_of, IsSound};
+ghost use Rattle.plain.specs.Serial.{reply_to, next_state};
+ghost use Rattle.plain.specs.Server.{server_state, IsConsistent};
 
 use affinity::Geometry;
 use message::{Block, Msg, Reply};
@@ -44,8 +44,8 @@ pub(crate) struct Server {
 impl Server {
     /// A server in which there is nothing.
     pub(crate) fn new(alloc: Global) -> Server
-        ensures empty { state_of result ≡ empty }
-        ensures sound { (g : Geometry) → IsSound g result }
+        ensures empty { server_state result ≡ empty }
+        ensures sound { (g : Geometry) → IsConsistent g result }
     {
         Server {
             made: BTreeSet::new(alloc),
@@ -59,11 +59,11 @@ impl Server {
 
     /// Carries out one message and gives its reply. Where there is no memory, nothing changes.
     pub(crate) fn answer(&mut self, g: &Geometry, m: &Msg) -> Result<Reply, AllocError>
-        requires sound { IsSound g.now self.old }
-        ensures reply { IfOk result (λ reply. reply ≡ reply_to g.now (state_of self.old) m.now) }
-        ensures state { OnOk result (state_of self.new ≡ after g.now (state_of self.old) m.now) }
-        ensures unchanged { OnErr result (state_of self.new ≡ state_of self.old) }
-        ensures sound { IsSound g.now self.new }
+        requires sound { IsConsistent g.now self.old }
+        ensures reply { IfOk result (λ reply. reply ≡ reply_to g.now (server_state self.old) m.now) }
+        ensures state { OnOk result (server_state self.new ≡ next_state g.now (server_state self.old) m.now) }
+        ensures unchanged { OnErr result (server_state self.new ≡ server_state self.old) }
+        ensures sound { IsConsistent g.now self.new }
     {
         if let Some(why) = self.refusal(g, m) {
             return Ok(Reply::Refused(why));

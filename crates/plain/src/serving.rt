@@ -3,10 +3,10 @@ ghost use Rattle.std.specs.Io.KnownBytes.{Appends, IsAtEnd};
 ghost use Rattle.message.specs.Grammar.{message_of};
 ghost use Rattle.message.specs.Reader.{unread, is_drained, source, KnowsEnd};
 ghost use Rattle.plain.specs.State.{empty};
-ghost use Rattle.plain.specs.Server.{state_of, IsSound};
+ghost use Rattle.plain.specs.Server.{server_state, IsConsistent};
 ghost use Rattle.plain.specs.Waiting.{so_far};
 ghost use Rattle.plain.specs.Progress.{Goes};
-ghost use Rattle.plain.specs.Output.{serial_out, answer_line, after_line, AnswersWholeLines, IsBeginning, Writes};
+ghost use Rattle.plain.specs.Output.{serial_out, answer_line, state_after_line, AnswersWholeLines, IsBeginning, Writes};
 
 use crate::output::{Output, PIECE, zeros};
 use crate::server::Server;
@@ -39,13 +39,13 @@ fn answer_one<W: Write>(
     out: &mut Output,
     w: &mut W,
 ) -> Result<(), PlainFault>
-    requires { IsSound g.now server.old }
-    ensures sound { IsSound g.now server.new }
-    ensures state { OnOk result (state_of server.new
-        ≡ after_line g.now (state_of server.old) (message_of line.now)) }
+    requires { IsConsistent g.now server.old }
+    ensures sound { IsConsistent g.now server.new }
+    ensures state { OnOk result (server_state server.new
+        ≡ state_after_line g.now (server_state server.old) (message_of line.now)) }
     ensures added { OnOk result (Appends (so_far (W.contents w.old) out.old)
         (so_far (W.contents w.new) out.new)
-        (answer_line g.now (state_of server.old) (message_of line.now))) }
+        (answer_line g.now (server_state server.old) (message_of line.now))) }
     ensures out_of_memory { IsErrOf result PlainFault.OutOfMemory →
         Appends (so_far (W.contents w.old) out.old) (so_far (W.contents w.new) out.new) [] }
     ensures no_read { IsErrOf result PlainFault.Read → ⊥ }
@@ -67,21 +67,21 @@ fn answer_next<R: Read + Drop, W: Write>(
     out: &mut Output,
     w: &mut W,
 ) -> Result<bool, PlainFault>
-    requires { IsSound g.now server.old }
-    ensures sound { IsSound g.now server.new }
+    requires { IsConsistent g.now server.old }
+    ensures sound { IsConsistent g.now server.new }
     ensures goes { (input start : Option (List ℕ)) → Goes g.now input (unread R.remaining lines.old)
-        (is_drained lines.old) (state_of server.old) start (so_far (W.contents w.old) out.old) →
+        (is_drained lines.old) (server_state server.old) start (so_far (W.contents w.old) out.old) →
         IfOk result (λ more. MatchBool more
         (Goes g.now input (unread R.remaining lines.new) (is_drained lines.new)
-        (state_of server.new) start (so_far (W.contents w.new) out.new))
+        (server_state server.new) start (so_far (W.contents w.new) out.new))
         (Writes input start (so_far (W.contents w.new) out.new)
         (λ bytes written. written ≡ serial_out g.now empty bytes))) }
     ensures read { (input start : Option (List ℕ)) → Goes g.now input (unread R.remaining lines.old)
-        (is_drained lines.old) (state_of server.old) start (so_far (W.contents w.old) out.old) →
+        (is_drained lines.old) (server_state server.old) start (so_far (W.contents w.old) out.old) →
         IsErrOf result PlainFault.Read → Writes input start (so_far (W.contents w.new) out.new)
         (AnswersWholeLines g.now (R.remaining (source lines.new))) }
     ensures out_of_memory { (input start : Option (List ℕ)) → Goes g.now input (unread R.remaining lines.old)
-        (is_drained lines.old) (state_of server.old) start (so_far (W.contents w.old) out.old) →
+        (is_drained lines.old) (server_state server.old) start (so_far (W.contents w.old) out.old) →
         IsErrOf result PlainFault.OutOfMemory → Writes input start (so_far (W.contents w.new) out.new)
         (IsBeginning g.now) }
     ensures knows { KnowsEnd R.remaining lines.old → KnowsEnd R.remaining lines.new }
@@ -114,8 +114,8 @@ fn answer_all<R: Read + Drop, W: Write>(
     out: &mut Output,
     w: &mut W,
 ) -> Result<(), PlainFault>
-    requires sound { IsSound g.now server.old }
-    requires fresh { state_of server.old ≡ empty }
+    requires sound { IsConsistent g.now server.old }
+    requires fresh { server_state server.old ≡ empty }
     requires begun { is_drained lines.old ≡ false }
     requires knows { KnowsEnd R.remaining lines.old }
     ensures ok { OnOk result (Writes (unread R.remaining lines.old)

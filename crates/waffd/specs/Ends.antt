@@ -1,7 +1,7 @@
 -- How a command ends, and with which status.
 use Rattle.std.specs.Prelude.{◌≡◌, ◌⊎◌, ℕ, List, Option, Result, Ok, Err}
 use Rattle.std.specs.Io.KnownBytes.{IsAtEnd}
-use Rattle.affinity.specs.declared.sizes.Geometry.{Geometry}
+use Rattle.affinity.specs.declared.geometry.Geometry.{Geometry}
 use Rattle.plain.specs.State.{empty}
 use Rattle.plain.specs.Output.{serial_out, AnswersWholeLines, IsBeginning, Writes}
 use Rattle.waffd.specs.Faults.{status_of}

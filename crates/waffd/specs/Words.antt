@@ -3,7 +3,7 @@ use Rattle.std.specs.Prelude.{◌≡◌, ◌≢◌, ◌&&◌, ◌⊎◌, ℕ, Bo
 use Rattle.std.specs.Char.{digit_value}
 use Rattle.std.specs.List.{list_all}
 use Rattle.std.specs.Str.Parse.{digits_value, without_leading_plus}
-use Rattle.affinity.specs.declared.sizes.Geometry.{Geometry}
+use Rattle.affinity.specs.declared.geometry.Geometry.{Geometry}
 use Rattle.affinity.specs.Geometry.{numbers_of, standard}
 use Rattle.affinity.specs.Limits.{AreInRange}
 use Rattle.clap.specs.Words.{AddsSubcommand, App, Kinds, IsAmong, Row, Rule, Shape, Text, app_of, fault_of, kind_of, new_app, new_rule, subcommand_of, with_rule, with_subcommand}

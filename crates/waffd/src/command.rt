@@ -5,7 +5,7 @@ ghost use Rattle.affinity.specs.Geometry.{standard};
 ghost use Rattle.waffd.specs.Faults.{status_of, status_without_words};
 ghost use Rattle.waffd.specs.Ends.{Ends, EndsHelp, EndsPlain, EndsRefused};
 ghost use Rattle.waffd.specs.Words.{AsksHelp, AsksNoService, AsksPlain, IsRefused};
-ghost use Rattle.affinity.specs.declared.sizes.Geometry.{Geometry};
+ghost use Rattle.affinity.specs.declared.geometry.Geometry.{Geometry};
 
 use crate::faults::Fault;
 use crate::words::{Refusal, Request, read_words};

@@ -1,6 +1,6 @@
 //! A client of a device: a body, a sync, a gate, a sync.
 ghost use Rattle.std.specs.Prelude.{◌≡◌, ◌≢◌, ◌+◌, ◌<◌, ◌≤◌, length, slice_index, OnOk, IsErrOf};
-ghost use Rattle.disk.specs.Device.{IsCalm};
+ghost use Rattle.disk.specs.Device.{IsSynced};
 ghost use Rattle.disk.specs.Moments.{LeavesOnly};
 ghost use Rattle.disk.specs.Sealing.{IsSealed};
 ghost use Rattle.disk.specs.Torn.{HasBytes};
@@ -12,7 +12,7 @@ use std::test::Fail;
 /// Writes a body behind a closed gate, and opens the gate once the body is synced.
 fn seal<D: Disk>(disk: &mut D, gate: u64, body: &[u8]) -> Result<(), DiskFault>
     requires inside { gate + 1 + length body.now ≤ length (D.medium disk.old).now }
-    requires calm { D.keeps → IsCalm (D.medium disk.old) }
+    requires calm { D.keeps → IsSynced (D.medium disk.old) }
     requires closed { D.keeps → slice_index (D.medium disk.old).now gate ≢ 1 }
 
     // A crash at any moment of the call leaves no open gate before half a body.
@@ -20,7 +20,7 @@ fn seal<D: Disk>(disk: &mut D, gate: u64, body: &[u8]) -> Result<(), DiskFault>
 
     // Once it has returned, the gate is open and stays so.
     ensures open { OnOk result (D.keeps → slice_index (D.medium disk.new).now gate ≡ 1) }
-    ensures synced { OnOk result (D.keeps → IsCalm (D.medium disk.new)) }
+    ensures synced { OnOk result (D.keeps → IsSynced (D.medium disk.new)) }
     ensures cause { IsErrOf result DiskFault.Device → (D.medium disk.old).faults < (D.medium disk.new).faults }
     ensures inside { IsErrOf result DiskFault.OutOfRange → ⊥ }
 {

@@ -1,7 +1,7 @@
 //! Messages at an aggregate: they make and remove volumes.
 
 ghost use Rattle.std.specs.Prelude.{◌≡◌, ℕ, ◌<◌, true, false, slice_index_or, Some, None, IfSome, vec_len};
-ghost use Rattle.affinity.specs.declared.sizes.Geometry.{Geometry};
+ghost use Rattle.affinity.specs.declared.geometry.Geometry.{Geometry};
 ghost use Rattle.message.specs.declared.Msg.{Msg};
 ghost use Rattle.message.specs.Messages.{is_in_range, place};
 ghost use Rattle.parcel.specs.Dropping.{IsEmptied};

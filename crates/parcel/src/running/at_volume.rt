@@ -1,7 +1,7 @@
 //! Messages at a volume: they seal and unseal it, and ask how much it holds.
 
 ghost use Rattle.std.specs.Prelude.{◌≡◌};
-ghost use Rattle.affinity.specs.declared.sizes.Geometry.{Geometry};
+ghost use Rattle.affinity.specs.declared.geometry.Geometry.{Geometry};
 ghost use Rattle.message.specs.declared.Msg.{Msg};
 ghost use Rattle.message.specs.Messages.{place};
 ghost use Rattle.parcel.specs.Fits.{FitsVolume, Suits};

@@ -3,7 +3,7 @@ ghost use Rattle.message.specs.declared.Msg.{Msg};
 ghost use Rattle.message.specs.declared.Refusal.{Refusal};
 ghost use Rattle.plain.specs.State.{one_if};
 ghost use Rattle.plain.specs.Serial.{passes, effect};
-ghost use Rattle.plain.specs.Server.{StripeKey, is_stripe, state_of, noted, IsCounted};
+ghost use Rattle.plain.specs.Server.{StripeKey, is_stripe, server_state, noted, IsCounted};
 
 use super::Server;
 use affinity::{Geometry, group_of};
@@ -20,9 +20,9 @@ impl Server {
         b: u16,
         content: &Block,
     ) -> Result<bool, AllocError>
-        ensures new { IfOk result (λ is_new. is_new ≡ not (is_some ((state_of self.old).blocks (a, v, f, b)))) }
-        ensures state { OnOk result (state_of self.new ≡ effect (state_of self.old) (Msg.Write a v f b content.now)) }
-        ensures unchanged { OnErr result (state_of self.new ≡ state_of self.old) }
+        ensures new { IfOk result (λ is_new. is_new ≡ not (is_some ((server_state self.old).blocks (a, v, f, b)))) }
+        ensures state { OnOk result (server_state self.new ≡ effect (server_state self.old) (Msg.Write a v f b content.now)) }
+        ensures unchanged { OnErr result (server_state self.new ≡ server_state self.old) }
         ensures used { self.new.used ≡ self.old.used }
     {
         Ok(self.blocks.insert((a, v, f, b), *content)?.is_none())
@@ -30,8 +30,8 @@ impl Server {
 
     /// Takes a block out of its file, and says whether there was one.
     fn clear_block(&mut self, a: u16, v: u16, f: u16, b: u16) -> bool
-        ensures there { result ≡ is_some ((state_of self.old).blocks (a, v, f, b)) }
-        ensures state { state_of self.new ≡ effect (state_of self.old) (Msg.Punch a v f b) }
+        ensures there { result ≡ is_some ((server_state self.old).blocks (a, v, f, b)) }
+        ensures state { server_state self.new ≡ effect (server_state self.old) (Msg.Punch a v f b) }
         ensures used { self.new.used ≡ self.old.used }
     {
         self.blocks.remove(&(a, v, f, b)).is_some()
@@ -42,7 +42,7 @@ impl Server {
         requires few { noted self.old (a, v, s) < 64 }
         ensures noted { OnOk result ((k : StripeKey) → noted self.new k ≡ noted self.old k + one_if (is_stripe a v s k)) }
         ensures unchanged { OnErr result ((k : StripeKey) → noted self.new k ≡ noted self.old k) }
-        ensures state { state_of self.new ≡ state_of self.old }
+        ensures state { server_state self.new ≡ server_state self.old }
     {
         *self.used.entry((a, v, s))?.or_insert(0) += 1;
         Ok(())
@@ -60,10 +60,10 @@ impl Server {
     ) -> Result<(), AllocError>
         requires file { f < g.now.files }
         requires place { b < g.now.blocks }
-        requires room { passes g.now (state_of self.old) (Msg.Write a v f b content.now) Refusal.Space ≡ true }
+        requires room { passes g.now (server_state self.old) (Msg.Write a v f b content.now) Refusal.Space ≡ true }
         requires counted { IsCounted g.now self.old }
-        ensures state { OnOk result (state_of self.new ≡ effect (state_of self.old) (Msg.Write a v f b content.now)) }
-        ensures unchanged { OnErr result (state_of self.new ≡ state_of self.old) }
+        ensures state { OnOk result (server_state self.new ≡ effect (server_state self.old) (Msg.Write a v f b content.now)) }
+        ensures unchanged { OnErr result (server_state self.new ≡ server_state self.old) }
         ensures counted { IsCounted g.now self.new }
     {
         let is_new = self.set_block(a, v, f, b, content)?;

@@ -1,8 +1,8 @@
 ghost use Rattle.std.specs.Prelude.{◌≡◌, OnOk, OnErr, None, false};
-ghost use Rattle.affinity.specs.declared.sizes.Geometry.{Geometry};
+ghost use Rattle.affinity.specs.declared.geometry.Geometry.{Geometry};
 ghost use Rattle.message.specs.declared.Msg.{Msg};
 ghost use Rattle.plain.specs.Serial.{refusal, effect};
-ghost use Rattle.plain.specs.Server.{state_of, IsCounted, IsSound};
+ghost use Rattle.plain.specs.Server.{server_state, IsCounted, IsConsistent};
 
 use super::Server;
 use affinity::Geometry;
@@ -12,8 +12,8 @@ use std::alloc::AllocError;
 impl Server {
     /// Sets the label of a volume.
     pub(super) fn set_label(&mut self, a: u16, v: u16, bytes: &[u8; 32]) -> Result<(), AllocError>
-        ensures state { OnOk result (state_of self.new ≡ effect (state_of self.old) (Msg.SetLabel a v bytes.now)) }
-        ensures unchanged { OnErr result (state_of self.new ≡ state_of self.old) }
+        ensures state { OnOk result (server_state self.new ≡ effect (server_state self.old) (Msg.SetLabel a v bytes.now)) }
+        ensures unchanged { OnErr result (server_state self.new ≡ server_state self.old) }
         ensures counted { (g : Geometry) → IsCounted g self.old → IsCounted g self.new }
     {
         self.labels.insert((a, v), *bytes)?;
@@ -22,9 +22,9 @@ impl Server {
 
     /// Makes a volume that isn't there, with a label of zeros.
     pub(super) fn insert_volume(&mut self, a: u16, v: u16) -> Result<(), AllocError>
-        requires absent { (state_of self.old).made (a, v) ≡ false }
-        ensures state { OnOk result (state_of self.new ≡ effect (state_of self.old) (Msg.MakeVol a v)) }
-        ensures unchanged { OnErr result (state_of self.new ≡ state_of self.old) }
+        requires absent { (server_state self.old).made (a, v) ≡ false }
+        ensures state { OnOk result (server_state self.new ≡ effect (server_state self.old) (Msg.MakeVol a v)) }
+        ensures unchanged { OnErr result (server_state self.new ≡ server_state self.old) }
         ensures counted { (g : Geometry) → IsCounted g self.old → IsCounted g self.new }
     {
         self.made.insert((a, v))?;
@@ -39,8 +39,8 @@ impl Server {
 
     /// Makes a file in a volume.
     pub(super) fn insert_file(&mut self, a: u16, v: u16, f: u16) -> Result<(), AllocError>
-        ensures state { OnOk result (state_of self.new ≡ effect (state_of self.old) (Msg.Create a v f)) }
-        ensures unchanged { OnErr result (state_of self.new ≡ state_of self.old) }
+        ensures state { OnOk result (server_state self.new ≡ effect (server_state self.old) (Msg.Create a v f)) }
+        ensures unchanged { OnErr result (server_state self.new ≡ server_state self.old) }
         ensures counted { (g : Geometry) → IsCounted g self.old → IsCounted g self.new }
     {
         self.files.insert((a, v, f))?;
@@ -49,8 +49,8 @@ impl Server {
 
     /// Seals a volume, whether it was sealed or not.
     pub(super) fn seal_volume(&mut self, a: u16, v: u16) -> Result<(), AllocError>
-        ensures state { OnOk result (state_of self.new ≡ effect (state_of self.old) (Msg.Seal a v)) }
-        ensures unchanged { OnErr result (state_of self.new ≡ state_of self.old) }
+        ensures state { OnOk result (server_state self.new ≡ effect (server_state self.old) (Msg.Seal a v)) }
+        ensures unchanged { OnErr result (server_state self.new ≡ server_state self.old) }
         ensures counted { (g : Geometry) → IsCounted g self.old → IsCounted g self.new }
     {
         self.sealed.insert((a, v))?;
@@ -59,7 +59,7 @@ impl Server {
 
     /// Unseals a volume, whether it was sealed or not.
     pub(super) fn unseal_volume(&mut self, a: u16, v: u16)
-        ensures state { state_of self.new ≡ effect (state_of self.old) (Msg.Unseal a v) }
+        ensures state { server_state self.new ≡ effect (server_state self.old) (Msg.Unseal a v) }
         ensures counted { (g : Geometry) → IsCounted g self.old → IsCounted g self.new }
     {
         self.sealed.remove(&(a, v));
@@ -67,10 +67,10 @@ impl Server {
 
     /// Does what a message says that passes its tests.
     pub(super) fn apply(&mut self, g: &Geometry, m: &Msg) -> Result<(), AllocError>
-        requires passed { refusal g.now (state_of self.old) m.now ≡ None }
-        requires sound { IsSound g.now self.old }
-        ensures state { OnOk result (state_of self.new ≡ effect (state_of self.old) m.now) }
-        ensures unchanged { OnErr result (state_of self.new ≡ state_of self.old) }
+        requires passed { refusal g.now (server_state self.old) m.now ≡ None }
+        requires sound { IsConsistent g.now self.old }
+        ensures state { OnOk result (server_state self.new ≡ effect (server_state self.old) m.now) }
+        ensures unchanged { OnErr result (server_state self.new ≡ server_state self.old) }
         ensures counted { IsCounted g.now self.new }
     {
         match m {

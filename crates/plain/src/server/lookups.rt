@@ -1,33 +1,33 @@
 ghost use Rattle.std.specs.Prelude.{◌≡◌, is_some};
-ghost use Rattle.plain.specs.Server.{state_of, noted};
+ghost use Rattle.plain.specs.Server.{server_state, noted};
 
 use super::Server;
 
 impl Server {
     /// Whether a volume is made.
     pub(super) fn has_volume(&self, a: u16, v: u16) -> bool
-        ensures { result ≡ (state_of self.now).made (a, v) }
+        ensures { result ≡ (server_state self.now).made (a, v) }
     {
         self.made.contains(&(a, v))
     }
 
     /// Whether a volume is sealed.
     pub(super) fn is_sealed(&self, a: u16, v: u16) -> bool
-        ensures { result ≡ (state_of self.now).sealed (a, v) }
+        ensures { result ≡ (server_state self.now).sealed (a, v) }
     {
         self.sealed.contains(&(a, v))
     }
 
     /// Whether there is a file.
     pub(super) fn has_file(&self, a: u16, v: u16, f: u16) -> bool
-        ensures { result ≡ (state_of self.now).files (a, v, f) }
+        ensures { result ≡ (server_state self.now).files (a, v, f) }
     {
         self.files.contains(&(a, v, f))
     }
 
     /// Whether there is a block.
     pub(super) fn has_block(&self, a: u16, v: u16, f: u16, b: u16) -> bool
-        ensures { result ≡ is_some ((state_of self.now).blocks (a, v, f, b)) }
+        ensures { result ≡ is_some ((server_state self.now).blocks (a, v, f, b)) }
     {
         self.blocks.contains_key(&(a, v, f, b))
     }

@@ -2,7 +2,7 @@ ghost use Rattle.std.specs.Prelude.{◌≡◌, ℕ, List};
 ghost use Rattle.message.specs.declared.Block.{Block};
 ghost use Rattle.message.specs.declared.Msg.{Msg};
 ghost use Rattle.plain.specs.Serial.{refusal};
-ghost use Rattle.plain.specs.Server.{state_of, IsCounted};
+ghost use Rattle.plain.specs.Server.{server_state, IsCounted};
 
 use super::Server;
 use affinity::{Geometry, group_of};
@@ -11,7 +11,7 @@ use message::{Msg, Refusal};
 impl Server {
     /// Why a volume can't be made.
     pub(super) fn make_volume_refusal(&self, g: &Geometry, a: u16, v: u16) -> Option<Refusal>
-        ensures { result ≡ refusal g.now (state_of self.now) (Msg.MakeVol a v) }
+        ensures { result ≡ refusal g.now (server_state self.now) (Msg.MakeVol a v) }
     {
         if !(a < g.aggregates && v < g.volumes) {
             return Some(Refusal::Range);
@@ -24,11 +24,11 @@ impl Server {
 
     /// Why a volume can't be sealed, unsealed or asked about.
     pub(super) fn volume_refusal(&self, g: &Geometry, a: u16, v: u16) -> Option<Refusal>
-        ensures seal { result ≡ refusal g.now (state_of self.now) (Msg.Seal a v) }
-        ensures unseal { result ≡ refusal g.now (state_of self.now) (Msg.Unseal a v) }
-        ensures list { result ≡ refusal g.now (state_of self.now) (Msg.List a v) }
-        ensures usage { result ≡ refusal g.now (state_of self.now) (Msg.Usage a v) }
-        ensures label { result ≡ refusal g.now (state_of self.now) (Msg.Label a v) }
+        ensures seal { result ≡ refusal g.now (server_state self.now) (Msg.Seal a v) }
+        ensures unseal { result ≡ refusal g.now (server_state self.now) (Msg.Unseal a v) }
+        ensures list { result ≡ refusal g.now (server_state self.now) (Msg.List a v) }
+        ensures usage { result ≡ refusal g.now (server_state self.now) (Msg.Usage a v) }
+        ensures label { result ≡ refusal g.now (server_state self.now) (Msg.Label a v) }
     {
         if !(a < g.aggregates && v < g.volumes) {
             return Some(Refusal::Range);
@@ -41,8 +41,8 @@ impl Server {
 
     /// Why a volume can't be removed, nor its label be set.
     pub(super) fn change_refusal(&self, g: &Geometry, a: u16, v: u16) -> Option<Refusal>
-        ensures drop_volume { result ≡ refusal g.now (state_of self.now) (Msg.DropVol a v) }
-        ensures set_label { (bytes : List ℕ) → result ≡ refusal g.now (state_of self.now) (Msg.SetLabel a v bytes) }
+        ensures drop_volume { result ≡ refusal g.now (server_state self.now) (Msg.DropVol a v) }
+        ensures set_label { (bytes : List ℕ) → result ≡ refusal g.now (server_state self.now) (Msg.SetLabel a v bytes) }
     {
         if !(a < g.aggregates && v < g.volumes) {
             return Some(Refusal::Range);
@@ -58,7 +58,7 @@ impl Server {
 
     /// Why a file can't be made.
     pub(super) fn create_refusal(&self, g: &Geometry, a: u16, v: u16, f: u16) -> Option<Refusal>
-        ensures { result ≡ refusal g.now (state_of self.now) (Msg.Create a v f) }
+        ensures { result ≡ refusal g.now (server_state self.now) (Msg.Create a v f) }
     {
         if !(a < g.aggregates && v < g.volumes && f < g.files) {
             return Some(Refusal::Range);
@@ -77,7 +77,7 @@ impl Server {
 
     /// Why a file can't be removed.
     pub(super) fn delete_refusal(&self, g: &Geometry, a: u16, v: u16, f: u16) -> Option<Refusal>
-        ensures { result ≡ refusal g.now (state_of self.now) (Msg.Delete a v f) }
+        ensures { result ≡ refusal g.now (server_state self.now) (Msg.Delete a v f) }
     {
         if !(a < g.aggregates && v < g.volumes && f < g.files) {
             return Some(Refusal::Range);
@@ -103,7 +103,7 @@ impl Server {
         f: u16,
         b: u16,
     ) -> Option<Refusal>
-        ensures { result ≡ refusal g.now (state_of self.now) (Msg.Punch a v f b) }
+        ensures { result ≡ refusal g.now (server_state self.now) (Msg.Punch a v f b) }
     {
         if !(a < g.aggregates && v < g.volumes && f < g.files && b < g.blocks) {
             return Some(Refusal::Range);
@@ -130,7 +130,7 @@ impl Server {
         b: u16,
     ) -> Option<Refusal>
         requires counted { IsCounted g.now self.now }
-        ensures { (content : Block) → result ≡ refusal g.now (state_of self.now) (Msg.Write a v f b content) }
+        ensures { (content : Block) → result ≡ refusal g.now (server_state self.now) (Msg.Write a v f b content) }
     {
         if !(a < g.aggregates && v < g.volumes && f < g.files && b < g.blocks) {
             return Some(Refusal::Range);
@@ -159,7 +159,7 @@ impl Server {
         f: u16,
         b: u16,
     ) -> Option<Refusal>
-        ensures { result ≡ refusal g.now (state_of self.now) (Msg.Read a v f b) }
+        ensures { result ≡ refusal g.now (server_state self.now) (Msg.Read a v f b) }
     {
         if !(a < g.aggregates && v < g.volumes && f < g.files && b < g.blocks) {
             return Some(Refusal::Range);
@@ -176,7 +176,7 @@ impl Server {
     /// The first test that a message fails.
     pub(super) fn refusal(&self, g: &Geometry, m: &Msg) -> Option<Refusal>
         requires counted { IsCounted g.now self.now }
-        ensures { result ≡ refusal g.now (state_of self.now) m.now }
+        ensures { result ≡ refusal g.now (server_state self.now) m.now }
     {
         match m {
             Msg::MakeVol(a, v) => self.make_volume_refusal(g, *a, *v),

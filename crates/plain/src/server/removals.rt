@@ -1,11 +1,11 @@
 ghost use Rattle.std.specs.Prelude.{◌≡◌, ◌+◌, ◌<◌, true, false, is_some, IfSome, IfNone};
 ghost use Rattle.std.specs.BTreeMap.{btree_map_len};
 ghost use Rattle.std.specs.BTreeSet.{btree_set_len};
-ghost use Rattle.affinity.specs.declared.sizes.Geometry.{Geometry};
+ghost use Rattle.affinity.specs.declared.geometry.Geometry.{Geometry};
 ghost use Rattle.message.specs.declared.Msg.{Msg};
 ghost use Rattle.plain.specs.State.{FileKey, BlockKey, one_if, is_block_of_file, is_file_of};
 ghost use Rattle.plain.specs.Serial.{effect};
-ghost use Rattle.plain.specs.Server.{StripeKey, is_stripe, state_of, noted, IsCounted, IsSound};
+ghost use Rattle.plain.specs.Server.{StripeKey, is_stripe, server_state, noted, IsCounted, IsConsistent};
 ghost use Rattle.plain.specs.Removals.{without_blocks, without_files};
 
 use super::Server;
@@ -16,7 +16,7 @@ impl Server {
     fn note_one_less(&mut self, a: u16, v: u16, s: u16)
         requires some { 0 < noted self.old (a, v, s) }
         ensures noted { (k : StripeKey) → noted self.new k + one_if (is_stripe a v s k) ≡ noted self.old k }
-        ensures state { state_of self.new ≡ state_of self.old }
+        ensures state { server_state self.new ≡ server_state self.old }
         ensures blocks { self.new.blocks ≡ self.old.blocks }
         ensures files { self.new.files ≡ self.old.files }
     {
@@ -27,10 +27,10 @@ impl Server {
 
     /// Takes a block out of its file, where there is one.
     pub(super) fn remove_block(&mut self, g: &Geometry, a: u16, v: u16, f: u16, b: u16)
-        requires sound { IsSound g.now self.old }
-        ensures state { state_of self.new ≡ effect (state_of self.old) (Msg.Punch a v f b) }
+        requires sound { IsConsistent g.now self.old }
+        ensures state { server_state self.new ≡ effect (server_state self.old) (Msg.Punch a v f b) }
         ensures counted { IsCounted g.now self.new }
-        ensures len { btree_map_len self.new.blocks + one_if (is_some ((state_of self.old).blocks (a, v, f, b))) ≡ btree_map_len self.old.blocks }
+        ensures len { btree_map_len self.new.blocks + one_if (is_some ((server_state self.old).blocks (a, v, f, b))) ≡ btree_map_len self.old.blocks }
         ensures files { self.new.files ≡ self.old.files }
     {
         if self.blocks.remove(&(a, v, f, b)).is_some() {
@@ -40,8 +40,8 @@ impl Server {
 
     /// The number of a block of the file, where it has one.
     fn next_block_of_file(&self, a: u16, v: u16, f: u16) -> Option<u16>
-        ensures found { IfSome result (λ b. is_some ((state_of self.now).blocks (a, v, f, b)) ≡ true) }
-        ensures none { IfNone result ((k : BlockKey) → is_block_of_file a v f k ≡ true → is_some ((state_of self.now).blocks k) ≡ false) }
+        ensures found { IfSome result (λ b. is_some ((server_state self.now).blocks (a, v, f, b)) ≡ true) }
+        ensures none { IfNone result ((k : BlockKey) → is_block_of_file a v f k ≡ true → is_some ((server_state self.now).blocks k) ≡ false) }
     {
         let (key, _) = self.blocks.range((a, v, f, 0)..).next()?;
         let (of_a, of_v, of_f, b) = *key;
@@ -54,8 +54,8 @@ impl Server {
 
     /// Takes all its blocks out of a file.
     fn clear_file(&mut self, g: &Geometry, a: u16, v: u16, f: u16)
-        requires sound { IsSound g.now self.old }
-        ensures state { state_of self.new ≡ without_blocks (is_block_of_file a v f) (state_of self.old) }
+        requires sound { IsConsistent g.now self.old }
+        ensures state { server_state self.new ≡ without_blocks (is_block_of_file a v f) (server_state self.old) }
         ensures counted { IsCounted g.now self.new }
         ensures files { self.new.files ≡ self.old.files }
     {
@@ -66,10 +66,10 @@ impl Server {
 
     /// Removes a file with its blocks. It takes no memory.
     pub(super) fn remove_file(&mut self, g: &Geometry, a: u16, v: u16, f: u16)
-        requires sound { IsSound g.now self.old }
-        ensures state { state_of self.new ≡ effect (state_of self.old) (Msg.Delete a v f) }
+        requires sound { IsConsistent g.now self.old }
+        ensures state { server_state self.new ≡ effect (server_state self.old) (Msg.Delete a v f) }
         ensures counted { IsCounted g.now self.new }
-        ensures len { btree_set_len self.new.files + one_if ((state_of self.old).files (a, v, f)) ≡ btree_set_len self.old.files }
+        ensures len { btree_set_len self.new.files + one_if ((server_state self.old).files (a, v, f)) ≡ btree_set_len self.old.files }
     {
         self.clear_file(g, a, v, f);
         self.files.remove(&(a, v, f));
@@ -77,8 +77,8 @@ impl Server {
 
     /// The number of a file of the volume, where it has one.
     fn next_file_of_volume(&self, a: u16, v: u16) -> Option<u16>
-        ensures found { IfSome result (λ f. (state_of self.now).files (a, v, f) ≡ true) }
-        ensures none { IfNone result ((k : FileKey) → is_file_of a v k ≡ true → (state_of self.now).files k ≡ false) }
+        ensures found { IfSome result (λ f. (server_state self.now).files (a, v, f) ≡ true) }
+        ensures none { IfNone result ((k : FileKey) → is_file_of a v k ≡ true → (server_state self.now).files k ≡ false) }
     {
         let key = self.files.range((a, v, 0)..).next()?;
         let (of_a, of_v, f) = *key;
@@ -91,8 +91,8 @@ impl Server {
 
     /// Removes all files of a volume, with their blocks.
     fn remove_files(&mut self, g: &Geometry, a: u16, v: u16)
-        requires sound { IsSound g.now self.old }
-        ensures state { state_of self.new ≡ without_files a v (state_of self.old) }
+        requires sound { IsConsistent g.now self.old }
+        ensures state { server_state self.new ≡ without_files a v (server_state self.old) }
         ensures counted { IsCounted g.now self.new }
     {
         while let Some(f) = self.next_file_of_volume(a, v) {
@@ -102,8 +102,8 @@ impl Server {
 
     /// Removes a volume with all that it has. It takes no memory.
     pub(super) fn remove_volume(&mut self, g: &Geometry, a: u16, v: u16)
-        requires sound { IsSound g.now self.old }
-        ensures state { state_of self.new ≡ effect (state_of self.old) (Msg.DropVol a v) }
+        requires sound { IsConsistent g.now self.old }
+        ensures state { server_state self.new ≡ effect (server_state self.old) (Msg.DropVol a v) }
         ensures counted { IsCounted g.now self.new }
     {
         self.remove_files(g, a, v);

@@ -1,8 +1,8 @@
 ghost use Rattle.std.specs.Prelude.{◌≡◌, None};
-ghost use Rattle.affinity.specs.declared.sizes.Geometry.{Geometry};
+ghost use Rattle.affinity.specs.declared.geometry.Geometry.{Geometry};
 ghost use Rattle.message.specs.declared.Msg.{Msg};
-ghost use Rattle.plain.specs.Serial.{refusal, answer};
-ghost use Rattle.plain.specs.Server.{state_of, IsSound};
+ghost use Rattle.plain.specs.Serial.{refusal, accepted_reply};
+ghost use Rattle.plain.specs.Server.{server_state, IsConsistent};
 
 use super::Server;
 use affinity::Geometry;
@@ -11,7 +11,7 @@ use message::{Msg, Reply};
 impl Server {
     /// What a read of a block gives.
     pub(super) fn read_block(&self, a: u16, v: u16, f: u16, b: u16) -> Reply
-        ensures { (g : Geometry) → result ≡ answer g (state_of self.now) (Msg.Read a v f b) }
+        ensures { (g : Geometry) → result ≡ accepted_reply g (server_state self.now) (Msg.Read a v f b) }
     {
         match self.blocks.get(&(a, v, f, b)) {
             Some(content) => Reply::Block(*content),
@@ -21,7 +21,7 @@ impl Server {
 
     /// The label of a volume.
     pub(super) fn label_of(&self, a: u16, v: u16) -> Reply
-        ensures { (g : Geometry) → result ≡ answer g (state_of self.now) (Msg.Label a v) }
+        ensures { (g : Geometry) → result ≡ accepted_reply g (server_state self.now) (Msg.Label a v) }
     {
         match self.labels.get(&(a, v)) {
             Some(bytes) => Reply::Label(*bytes),
@@ -31,9 +31,9 @@ impl Server {
 
     /// The reply to a message that passes its tests.
     pub(super) fn reply(&self, g: &Geometry, m: &Msg) -> Reply
-        requires passed { refusal g.now (state_of self.now) m.now ≡ None }
-        requires sound { IsSound g.now self.now }
-        ensures { result ≡ answer g.now (state_of self.now) m.now }
+        requires passed { refusal g.now (server_state self.now) m.now ≡ None }
+        requires sound { IsConsistent g.now self.now }
+        ensures { result ≡ accepted_reply g.now (server_state self.now) m.now }
     {
         match m {
             Msg::Read(a, v, f, b) => self.read_block(*a, *v, *f, *b),

@@ -1,9 +1,9 @@
 ghost use Rattle.std.specs.Prelude.{◌≡◌};
-ghost use Rattle.affinity.specs.declared.sizes.Geometry.{Geometry};
+ghost use Rattle.affinity.specs.declared.geometry.Geometry.{Geometry};
 ghost use Rattle.message.specs.declared.Msg.{Msg};
 ghost use Rattle.plain.specs.State.{file_count, block_count};
-ghost use Rattle.plain.specs.Serial.{answer};
-ghost use Rattle.plain.specs.Server.{state_of, IsSound};
+ghost use Rattle.plain.specs.Serial.{accepted_reply};
+ghost use Rattle.plain.specs.Server.{server_state, IsConsistent};
 
 use super::Server;
 use affinity::Geometry;
@@ -12,7 +12,7 @@ use message::{Msg, Reply};
 impl Server {
     /// Which files a volume has: file `f` is bit `f` of the number. It walks these files alone.
     pub(super) fn list_files(&self, g: &Geometry, a: u16, v: u16) -> Reply
-        ensures { result ≡ answer g.now (state_of self.now) (Msg.List a v) }
+        ensures { result ≡ accepted_reply g.now (server_state self.now) (Msg.List a v) }
     {
         let mut bits = 0;
         for key in self.files.range((a, v, 0)..(a, v, g.files)) {
@@ -23,7 +23,7 @@ impl Server {
 
     /// How many files a volume has. It walks these files alone.
     fn files_of(&self, g: &Geometry, a: u16, v: u16) -> u32
-        ensures { result ≡ file_count g.now (state_of self.now) a v }
+        ensures { result ≡ file_count g.now (server_state self.now) a v }
     {
         let files = self.files.range((a, v, 0)..(a, v, g.files)).count();
         files as u32
@@ -32,8 +32,8 @@ impl Server {
     /// How many blocks a volume has: those that are noted for its stripes. It walks these notes
     /// alone.
     fn blocks_of(&self, g: &Geometry, a: u16, v: u16) -> u32
-        requires sound { IsSound g.now self.now }
-        ensures { result ≡ block_count g.now (state_of self.now) a v }
+        requires sound { IsConsistent g.now self.now }
+        ensures { result ≡ block_count g.now (server_state self.now) a v }
     {
         let mut total = 0;
         for (_, count) in self.used.range((a, v, 0)..(a, v, g.stripes)) {
@@ -44,8 +44,8 @@ impl Server {
 
     /// How much a volume holds, and whether it is sealed.
     pub(super) fn usage_of(&self, g: &Geometry, a: u16, v: u16) -> Reply
-        requires sound { IsSound g.now self.now }
-        ensures { result ≡ answer g.now (state_of self.now) (Msg.Usage a v) }
+        requires sound { IsConsistent g.now self.now }
+        ensures { result ≡ accepted_reply g.now (server_state self.now) (Msg.Usage a v) }
     {
         Reply::Usage {
             files: self.files_of(g, a, v),
@@ -57,8 +57,8 @@ impl Server {
     /// How much all volumes hold, and how many they are. The maps know their own lengths, so this
     /// looks nothing up.
     pub(super) fn summary_of(&self, g: &Geometry) -> Reply
-        requires sound { IsSound g.now self.now }
-        ensures { result ≡ answer g.now (state_of self.now) Msg.Summary }
+        requires sound { IsConsistent g.now self.now }
+        ensures { result ≡ accepted_reply g.now (server_state self.now) Msg.Summary }
     {
         let volumes = self.made.len();
         let files = self.files.len();

@@ -3,7 +3,7 @@ use Rattle.std.proofs.lemmas.Bool.{true≢false}
 use Rattle.std.proofs.lemmas.Slice.Eq.{bytes_eq-Decides}
 use Rattle.std.proofs.lemmas.Option.{same_Some}
 use Rattle.affinity.specs.declared.kinds.Kind.{Kind}
-use Rattle.affinity.specs.declared.sizes.Geometry.{Geometry}
+use Rattle.affinity.specs.declared.geometry.Geometry.{Geometry}
 use Rattle.affinity.specs.Place.{is_in_range as are_in_range}
 use Rattle.message.specs.declared.Msg.{Msg}
 use Rattle.message.specs.Messages.{kind, four_numbers, is_in_range}

@@ -1,12 +1,12 @@
 use Rattle.message.specs.Reader.{unread, is_drained, KnowsEnd}
-use Rattle.plain.specs.Server.{state_of, IsSound}
+use Rattle.plain.specs.Server.{server_state, IsConsistent}
 use Rattle.plain.specs.Waiting.{so_far}
 use Rattle.plain.specs.Progress.{Goes}
 use Rattle.plain.proofs.serving.answer_all.Given as goal
 
 abbrev pub invariant-loop : goal.invariant-loop
 invariant-loop g l = record {
-  sound : IsSound l.g l.server;
+  sound : IsConsistent l.g l.server;
   knows : KnowsEnd g.R.Read.remaining l.lines;
-  goes : Goes l.g (unread g.R.Read.remaining l.initial.lines) (unread g.R.Read.remaining l.lines) (is_drained l.lines) (state_of l.server) (so_far (g.W.Write.contents l.initial.w) l.initial.out) (so_far (g.W.Write.contents l.w) l.out);
+  goes : Goes l.g (unread g.R.Read.remaining l.initial.lines) (unread g.R.Read.remaining l.lines) (is_drained l.lines) (server_state l.server) (so_far (g.W.Write.contents l.initial.w) l.initial.out) (so_far (g.W.Write.contents l.w) l.out);
 }

@@ -5,9 +5,9 @@ use Rattle.message.specs.Reader.{unread, line_of, is_drained, source, LosesFront
 use Rattle.message.specs.Grammar.{message_of}
 use Rattle.message.specs.Replies.{no_message}
 use Rattle.plain.specs.declared.serving.PlainFault.TheVariants.{OutOfMemory}
-use Rattle.plain.specs.Server.{state_of}
+use Rattle.plain.specs.Server.{server_state}
 use Rattle.plain.specs.Waiting.{so_far}
-use Rattle.plain.specs.Output.{answer_line, after_line}
+use Rattle.plain.specs.Output.{answer_line, state_after_line}
 use Rattle.plain.proofs.ProgressLemmas.{goes_on, goes_line, goes_long_line, ends, ends_now, fails, stops_short}
 use Rattle.plain.proofs.serving.answer_next.Goals as goal
 
@@ -28,9 +28,9 @@ returns-in_err-add-in-Ok-TooLong-clause-out_of_memory g c = λ input start h is.
 
 pub returns-in_ok-answer_one-in-Ok-Line-clause-goes : goal.returns-in_ok-answer_one-in-Ok-Line-clause-goes
 returns-in_ok-answer_one-in-Ok-Line-clause-goes g c = λ input start h.
-    goes_line (unread g.R.Read.remaining c.next_line.new.self) (is_drained c.next_line.new.self) (line_of c.next_line.new.self) (answer_line c.args.g.now (state_of c.args.server.now) (message_of (line_of c.next_line.new.self)))
+    goes_line (unread g.R.Read.remaining c.next_line.new.self) (is_drained c.next_line.new.self) (line_of c.next_line.new.self) (answer_line c.args.g.now (server_state c.args.server.now) (message_of (line_of c.next_line.new.self)))
     (goes_on {newer = so_far (g.W.Write.contents c.send_unless.new.w) c.send_unless.new.self} h c.in_ok-send_unless.ensures.kept) (sym c.if-is_drained.ensures.value) (rw c.in-Ok-Line.field-0-is at c.in-Ok-Line.ensures.found) (rw c.in-Ok-Line.field-0-is at c.in-Ok-Line.ensures.closes)
-    (c.in_ok-answer_one-in-Ok-Line.ensures.state ∙ ap (λ z. after_line c.args.g.now (state_of c.args.server.now) (message_of z)) c.line.ensures) refl
+    (c.in_ok-answer_one-in-Ok-Line.ensures.state ∙ ap (λ z. state_after_line c.args.g.now (server_state c.args.server.now) (message_of z)) c.line.ensures) refl
     (rw c.line.ensures at c.in_ok-answer_one-in-Ok-Line.ensures.added)
 
 pub returns-in_ok-add-in-Ok-TooLong-clause-goes : goal.returns-in_ok-add-in-Ok-TooLong-clause-goes

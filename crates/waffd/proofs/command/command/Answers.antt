@@ -1,6 +1,6 @@
 use Rattle.std.proofs.Common.{map, string_bytes, subst, inl, inr, refl, Ok, Err}
 use Rattle.waffd.proofs.Ending.{ask_for_nothing, helped, is_told, no_mistake, refused_by, served, served_nothing}
-use Rattle.waffd.proofs.Rows.{asks_alone}
+use Rattle.waffd.proofs.Examples.{asks_alone}
 use Rattle.affinity.specs.Geometry.{standard}
 use Rattle.waffd.specs.Words.{IsReason}
 use Rattle.waffd.specs.declared.words.Refusal.{Refusal}

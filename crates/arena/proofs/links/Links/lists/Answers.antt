@@ -2,7 +2,7 @@
 use Rattle.std.proofs.Common.{◌-◌, slice_index, arith, length}
 use Rattle.arena.specs.Linked.{ring}
 use Rattle.arena.proofs.Ways.{length-table}
-use Rattle.arena.proofs.Stored.{IsSound-linked}
+use Rattle.arena.proofs.Stored.{IsWellLinked-linked}
 use Rattle.arena.proofs.links.Links.lists.Goals as goal
 
 pub returns-clause-count : goal.returns-clause-count
@@ -14,4 +14,4 @@ returns-clause-count c =
     ))
 
 pub returns-clause-sound : goal.returns-clause-sound
-returns-clause-sound c = rw (← c.self.view_is) (IsSound-linked _ _ _ _ c.self.invariant.1)
+returns-clause-sound c = rw (← c.self.view_is) (IsWellLinked-linked _ _ _ _ c.self.invariant.1)

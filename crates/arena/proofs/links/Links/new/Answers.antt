@@ -2,7 +2,7 @@
 use Rattle.std.proofs.Common.{ℕ, List, ap, slice_index, arith, length}
 use Rattle.arena.specs.Linked.{Linked}
 use Rattle.arena.proofs.Start.{IsLinked-start, rings-start}
-use Rattle.arena.proofs.Stored.{IsSound-linked}
+use Rattle.arena.proofs.Stored.{IsWellLinked-linked}
 use Rattle.arena.proofs.links.Links.new.Goals as goal
 
 pub invariant_of-result : goal.invariant_of-result
@@ -23,4 +23,4 @@ returns-clause-lists c =
     (λ a below. rows.next_is a (omega arith)) (λ a below. rows.previous_is a (omega arith)) c.args.others (omega arith))
 
 pub returns-clause-sound : goal.returns-clause-sound
-returns-clause-sound c = IsSound-linked _ _ _ _ ((invariant_of-result c).1)
+returns-clause-sound c = IsWellLinked-linked _ _ _ _ ((invariant_of-result c).1)

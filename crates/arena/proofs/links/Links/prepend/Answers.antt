@@ -3,7 +3,7 @@ use Rattle.std.proofs.Common.{◌≡◌, ◌+◌, ◌<◌, ℕ, List, ap, arith,
 use Rattle.std.specs.List.{concat}
 use Rattle.arena.specs.Lists.{times}
 use Rattle.arena.specs.Linked.{Linked}
-use Rattle.arena.proofs.Stored.{stored, read_end, end-below, end-there, IsSound-linked}
+use Rattle.arena.proofs.Stored.{stored, read_end, end-below, end-there, IsWellLinked-linked}
 use Rattle.arena.proofs.StoredPrepending.{IsStored-prepended, lists-prepended}
 use Rattle.arena.proofs.links.Links.prepend.Goals as goal
 
@@ -44,4 +44,4 @@ returns-clause-lists c =
     c.self.invariant within list_within nowhere (read_end _ _ _ _ _ c.self.invariant list_within c.index-after.ensures)))
 
 pub returns-clause-sound : goal.returns-clause-sound
-returns-clause-sound c = IsSound-linked c.self.inside.slots _ _ _ ((invariant_of-self c).1)
+returns-clause-sound c = IsWellLinked-linked c.self.inside.slots _ _ _ ((invariant_of-self c).1)

@@ -1,7 +1,7 @@
 -- The four writes are those of `IsStored-unlinked`.
 use Rattle.std.proofs.Common.{◌<◌, ℕ, List, ap}
 use Rattle.arena.specs.Linked.{Linked}
-use Rattle.arena.proofs.Stored.{read_next, read_previous, IsSound-linked}
+use Rattle.arena.proofs.Stored.{read_next, read_previous, IsWellLinked-linked}
 use Rattle.arena.proofs.StoredUnlinking.{IsStored-unlinked, lists-unlinked}
 use Rattle.arena.proofs.links.Links.unlink.Goals as goal
 
@@ -23,4 +23,4 @@ returns-clause-lists c =
     (read_next _ _ _ _ _ c.self.invariant within c.index-after.ensures)))
 
 pub returns-clause-sound : goal.returns-clause-sound
-returns-clause-sound c = IsSound-linked c.self.inside.slots _ _ _ ((invariant_of-self c).1)
+returns-clause-sound c = IsWellLinked-linked c.self.inside.slots _ _ _ ((invariant_of-self c).1)

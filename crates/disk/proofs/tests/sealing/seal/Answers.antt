@@ -1,7 +1,7 @@
 -- What a crash leaves after each of the four calls, one lemma for each call that tells something new.
 use Rattle.std.proofs.Common.{◌≡◌, ◌≢◌, ℕ, ◌+◌, ◌<◌, ◌≤◌, List, [], ◌∷◌, length, slice_index, Result, Ok, refl, sym, ◌∙◌, ap, subst, arith}
 use Rattle.disk.specs.declared.fault.DiskFault.{DiskFault}
-use Rattle.disk.specs.Device.{Medium, IsCalm, SameOutside, Writes, Syncs, synced, overlaid}
+use Rattle.disk.specs.Device.{Medium, IsSynced, SameOutside, Writes, Syncs, synced, overlaid}
 use Rattle.disk.specs.Moments.{LeavesOnly}
 use Rattle.disk.specs.Sealing.{IsSealed}
 use Rattle.disk.proofs.Calls.{after_calm_write, after_sync}
@@ -11,7 +11,7 @@ use Rattle.disk.proofs.Outside.{same_all, same_behind, same_both, same_item, wid
 use Rattle.disk.proofs.Overlays.{item-overlaid, length-overlaid, overlaid_outside, range-overlaid}
 use Rattle.disk.proofs.tests.sealing.seal.Goals as goal
 
-module _ {gate : ℕ} {body : List ℕ} {w0 w1 : Medium} (inside : gate + 1 + length body ≤ length w0.now) (calm : IsCalm w0) (closed : slice_index w0.now gate ≢ 1) where
+module _ {gate : ℕ} {body : List ℕ} {w0 w1 : Medium} (inside : gate + 1 + length body ≤ length w0.now) (calm : IsSynced w0) (closed : slice_index w0.now gate ≢ 1) where
   after_body : {r : Result (Unit {0}) DiskFault} → Writes (gate + 1) body r w0 w1 → LeavesOnly w0 w1 (IsSealed gate body w0.now)
   after_body {r} writes =
       let before : IsSealed gate body w0.now w0.now = record { whole = λ is. absurd (closed is); same = same_all gate (1 + length body) w0.now } in
@@ -25,7 +25,7 @@ module _ {gate : ℕ} {body : List ℕ} {w0 w1 : Medium} (inside : gate + 1 + le
   after_gate {w2} {w3} {r = r} body_writes syncs writes =
       let now : w2.now ≡ overlaid w0.now (gate + 1) body = ap (λ (m : Medium). m.now) (syncs.ok ∙ ap synced body_writes.ok) in
       let size : length w2.now ≡ length w0.now = ap length now ∙ length-overlaid w0.now (gate + 1) body in
-      let is_calm : IsCalm w2 = subst IsCalm (sym syncs.ok) refl in
+      let is_calm : IsSynced w2 = subst IsSynced (sym syncs.ok) refl in
       let body_only = wider (gate + 1) (length body) w0.now (overlaid w0.now (gate + 1) body) (overlaid_outside w0.now (gate + 1) body) gate (1 + length body) (omega arith) (omega arith) in
       after_calm_write w0 w2 w3 (IsSealed gate body w0.now) (after_sync w0 w1 w2 _ (after_body body_writes) _ syncs) gate (1 ∷ []) (omega (arith, inside, size)) is_calm r writes
       (λ torn same.

@@ -1,5 +1,5 @@
 use Rattle.std.proofs.Common.{ℕ}
-use Rattle.affinity.specs.declared.sizes.Geometry.{Geometry}
+use Rattle.affinity.specs.declared.geometry.Geometry.{Geometry}
 use Rattle.oplog.specs.Layout.{layout_of}
 use Rattle.oplog.specs.Changes.{IsReady}
 use Rattle.oplog.proofs.Placed.{moved, back}

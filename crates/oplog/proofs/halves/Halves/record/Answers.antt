@@ -1,5 +1,5 @@
 use Rattle.std.proofs.Common.{◌≡◌, ◌+◌, ◌*◌, ℕ, refl, sym, ◌∙◌, arith}
-use Rattle.affinity.specs.declared.sizes.Geometry.{Geometry}
+use Rattle.affinity.specs.declared.geometry.Geometry.{Geometry}
 use Rattle.oplog.specs.Layout.{layout_of, part_at, half}
 use Rattle.oplog.proofs.Answered.{on_ok}
 use Rattle.oplog.proofs.Placed.{moved}

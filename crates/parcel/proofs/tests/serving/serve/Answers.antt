@@ -1,6 +1,6 @@
 -- What was run fits where it was lent.
 use Rattle.std.proofs.Common.{◌≡◌, subst, sym}
-use Rattle.affinity.specs.declared.sizes.Geometry.{Geometry}
+use Rattle.affinity.specs.declared.geometry.Geometry.{Geometry}
 use Rattle.affinity.specs.Interval.{IsAffinityOf}
 use Rattle.affinity.specs.Path.{Path}
 use Rattle.affinity.specs.Place.{place as place_of}

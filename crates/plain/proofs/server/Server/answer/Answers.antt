@@ -1,7 +1,7 @@
 use Rattle.std.proofs.Common.{rules, ◌≡◌, ap, sym, ◌∙◌, subst, None}
 use Rattle.plain.specs.State.{IsState}
-use Rattle.plain.specs.Serial.{refusal, answer, effect, outcome}
-use Rattle.plain.specs.Server.{state_of}
+use Rattle.plain.specs.Serial.{refusal, accepted_reply, effect, outcome}
+use Rattle.plain.specs.Server.{server_state}
 use Rattle.plain.proofs.Kept.{step_kept}
 use Rattle.plain.proofs.server.Server.answer.Goals as goal
 
@@ -9,9 +9,9 @@ pub returns-clause-sound : goal.returns-clause-sound
 returns-clause-sound c =
     let g = c.args.g.now in
     let m = c.args.m.now in
-    let x = state_of c.args.self.now in
+    let x = server_state c.args.self.now in
     let passed : refusal g x m ≡ None = search rules in
     record {
-      state = subst (IsState g) (sym (c.in_ok-apply.ensures.state ∙ ap (λ r. (outcome r (answer g x m) (effect x m) x).1) (sym passed))) (step_kept g x m c.requires.sound.state c.know_message.ensures);
+      state = subst (IsState g) (sym (c.in_ok-apply.ensures.state ∙ ap (λ r. (outcome r (accepted_reply g x m) (effect x m) x).1) (sym passed))) (step_kept g x m c.requires.sound.state c.know_message.ensures);
       counted = c.apply.ensures.counted;
     }

@@ -1,6 +1,6 @@
 use Rattle.std.proofs.Common.{ℕ, ap, ◌∙◌, arith}
 use Rattle.plain.specs.State.{FileKey}
-use Rattle.plain.specs.Server.{state_of}
+use Rattle.plain.specs.Server.{server_state}
 use Rattle.plain.proofs.Totals.{blocks-few_in_volume}
 use Rattle.plain.proofs.Walks.{total, blocks_walked}
 use Rattle.plain.proofs.server.Server.blocks_of.Goals as goal
@@ -13,6 +13,6 @@ loop-count-init c =
 
 pub overflow_add-total : goal.overflow_add-total
 overflow_add-total c =
-    let few = blocks-few_in_volume c.args.g.now (state_of c.args.self.now) c.args.a c.args.v in
+    let few = blocks-few_in_volume c.args.g.now (server_state c.args.self.now) c.args.a c.args.v in
     let left = ap (total (λ (e : FileKey × ℕ). e.1)) c.in-Some.ensures.steps in
     omega (arith, c.loop-count.invariant, left)

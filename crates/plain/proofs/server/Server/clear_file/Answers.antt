@@ -1,6 +1,6 @@
 use Rattle.std.proofs.Common.{◌≡◌, arith, ap, sym, ◌∙◌, subst}
 use Rattle.plain.specs.State.{IsState, one_if, is_block_of_file, is_block}
-use Rattle.plain.specs.Server.{state_of}
+use Rattle.plain.specs.Server.{server_state}
 use Rattle.plain.specs.Removals.{without_blocks}
 use Rattle.plain.proofs.Kept.{clearing_kept}
 use Rattle.plain.proofs.Removals.{block_before_others, nothing_cleared}
@@ -8,7 +8,7 @@ use Rattle.plain.proofs.server.Server.clear_file.Goals as goal
 
 pub loop-b-preserved : goal.loop-b-preserved
 loop-b-preserved c =
-    let x = state_of c.loop-b.self in
+    let x = server_state c.loop-b.self in
     record {
       sound = record {
         state = subst (IsState c.args.g.now) (sym c.remove_block.ensures.state) (clearing_kept c.args.g.now (is_block c.args.a c.args.v c.args.f c.in-Some.b) x c.loop-b.invariant.sound.state);
@@ -24,4 +24,4 @@ loop-b-smaller c =
     omega (arith, one, c.remove_block.ensures.len)
 
 pub returns-clause-state : goal.returns-clause-state
-returns-clause-state c = sym (nothing_cleared (is_block_of_file c.args.a c.args.v c.args.f) (state_of c.loop-b.self) c.in_default.ensures.none) ∙ c.loop-b.invariant.same
+returns-clause-state c = sym (nothing_cleared (is_block_of_file c.args.a c.args.v c.args.f) (server_state c.loop-b.self) c.in_default.ensures.none) ∙ c.loop-b.invariant.same

@@ -1,14 +1,14 @@
 use Rattle.std.proofs.Common.{◌≡◌}
 use Rattle.std.specs.BTreeMap.{btree_map_len}
 use Rattle.plain.specs.State.{is_block_of_file}
-use Rattle.plain.specs.Server.{state_of, IsSound}
+use Rattle.plain.specs.Server.{server_state, IsConsistent}
 use Rattle.plain.specs.Removals.{without_blocks}
 use Rattle.plain.proofs.server.Server.clear_file.Given as goal
 
 abbrev pub invariant-loop-b : goal.invariant-loop-b
 invariant-loop-b l = record {
-  sound : IsSound l.g l.self;
-  same : without_blocks (is_block_of_file l.a l.v l.f) (state_of l.self) ≡ without_blocks (is_block_of_file l.a l.v l.f) (state_of l.initial.self);
+  sound : IsConsistent l.g l.self;
+  same : without_blocks (is_block_of_file l.a l.v l.f) (server_state l.self) ≡ without_blocks (is_block_of_file l.a l.v l.f) (server_state l.initial.self);
   files : l.self.files ≡ l.initial.self.files;
 }
 

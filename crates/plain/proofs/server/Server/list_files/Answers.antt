@@ -1,7 +1,7 @@
 use Rattle.std.proofs.Common.{◌^◌, ap, ◌∙◌, arith}
 use Rattle.std.proofs.lemmas.Nat.{one_shl}
 use Rattle.plain.specs.State.{FileKey}
-use Rattle.plain.specs.Server.{state_of}
+use Rattle.plain.specs.Server.{server_state}
 use Rattle.plain.proofs.Totals.{bits-few_in_volume, small_power}
 use Rattle.plain.proofs.Walks.{total, bits_walked}
 use Rattle.plain.proofs.server.Server.list_files.Goals as goal
@@ -14,7 +14,7 @@ loop-key-init c =
 
 pub overflow_add-bits : goal.overflow_add-bits
 overflow_add-bits c =
-    let few = bits-few_in_volume c.args.g.now (state_of c.args.self.now) c.args.a c.args.v in
+    let few = bits-few_in_volume c.args.g.now (server_state c.args.self.now) c.args.a c.args.v in
     let left = ap (total (λ (k : FileKey). 2 ^ k.2)) c.in-Some.ensures.steps in
     let bit = one_shl c.in-Some.key.now.2 64 (small_power c.in-Some.key.now.2 _ (omega (arith, c.loop-key.invariant, left)) few) in
     omega (arith, c.loop-key.invariant, left, few, bit)

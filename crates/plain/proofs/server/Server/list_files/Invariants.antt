@@ -1,9 +1,9 @@
 use Rattle.std.proofs.Common.{◌≡◌, ◌+◌, ◌^◌}
 use Rattle.plain.specs.State.{FileKey}
 use Rattle.plain.specs.Serial.{file_bits}
-use Rattle.plain.specs.Server.{state_of}
+use Rattle.plain.specs.Server.{server_state}
 use Rattle.plain.proofs.Walks.{total}
 use Rattle.plain.proofs.server.Server.list_files.Given as goal
 
 abbrev pub invariant-loop-key : goal.invariant-loop-key
-invariant-loop-key l = l.bits + total (λ (k : FileKey). 2 ^ k.2) l.key-iterator ≡ file_bits l.g (state_of l.self) l.a l.v
+invariant-loop-key l = l.bits + total (λ (k : FileKey). 2 ^ k.2) l.key-iterator ≡ file_bits l.g (server_state l.self) l.a l.v

@@ -3,7 +3,7 @@ use Rattle.std.specs.Prelude.{unwrap_or}
 use Rattle.std.specs.Map.{lookup}
 use Rattle.std.specs.BTreeMap.{is_at}
 use Rattle.plain.specs.State.{empty, IsState}
-use Rattle.plain.specs.Server.{state_of, by_volume, by_file, by_block}
+use Rattle.plain.specs.Server.{server_state, by_volume, by_file, by_block}
 use Rattle.std.specs.List.{list_any}
 use Rattle.plain.specs.declared.server.Server.{Server}
 use Rattle.plain.proofs.ServerCounts.{none_counted}
@@ -14,7 +14,7 @@ use Rattle.plain.proofs.server.Server.new.Goals as goal
 abbrev made_of : goal.After-new-6 → Server
 made_of c = record { made = c.new.result; sealed = c.new-2.result; labels = c.new-3.result; files = c.new-4.result; blocks = c.new-5.result; used = c.new-6.result }
 
-is_empty : (c : goal.After-new-6) → state_of (made_of c) ≡ empty
+is_empty : (c : goal.After-new-6) → server_state (made_of c) ≡ empty
 is_empty c = λ i. record {
   made = λ k. list_any (is_at (by_volume k)) (c.new.ensures.empty i);
   sealed = λ k. list_any (is_at (by_volume k)) (c.new-2.ensures.empty i);
@@ -27,5 +27,5 @@ pub returns-clause-sound : goal.returns-clause-sound
 returns-clause-sound c = λ g. record {
   state = subst (IsState g) (sym (is_empty c)) (empty_is_state g);
   counted = λ k. ap (λ es. unwrap_or (lookup (is_at (by_file k)) es) 0) c.new-6.ensures.empty
-      ∙ sym (none_counted g (state_of (made_of c)) (λ k. ap (lookup (is_at (by_block k))) c.new-5.ensures.empty) k.0 k.1 k.2);
+      ∙ sym (none_counted g (server_state (made_of c)) (λ k. ap (lookup (is_at (by_block k))) c.new-5.ensures.empty) k.0 k.1 k.2);
 }

@@ -4,7 +4,7 @@ use Rattle.std.specs.BTreeMap as map
 use Rattle.plain.specs.State.{one_if}
 use Rattle.message.specs.declared.Msg.TheVariants.{Punch}
 use Rattle.plain.specs.Serial.{effect}
-use Rattle.plain.specs.Server.{is_stripe, state_of, noted, by_file}
+use Rattle.plain.specs.Server.{is_stripe, server_state, noted, by_file}
 use Rattle.plain.proofs.Removals.{is_none}
 use Rattle.plain.proofs.Writes.{AreCounts, replaced_counts, added_counts, taken_back}
 use Rattle.plain.proofs.server.Server.put_block.Goals as goal
@@ -15,7 +15,7 @@ not_swap a false e = ap not (sym e)
 
 pub returns-then-not-is_new-clause-counted : goal.returns-then-not-is_new-clause-counted
 returns-then-not-is_new-clause-counted c =
-    let x = state_of c.args.self.now in
+    let x = server_state c.args.self.now in
     let was : is_some (x.blocks (c.args.a, c.args.v, c.args.f, c.args.b)) ≡ true = not_swap _ _ c.in_ok-is_new.ensures.new ∙ ap not c.if-not-is_new.true in
     subst (AreCounts c.args.g.now (noted c.set_block.new.self)) (sym c.in_ok-is_new.ensures.state)
     (replaced_counts x c.args.a c.args.v c.args.f c.args.b c.args.content.now c.args.g.now (noted c.args.self.now) (noted c.set_block.new.self) c.requires.counted was
@@ -23,7 +23,7 @@ returns-then-not-is_new-clause-counted c =
 
 pub returns-in-Ok-clause-counted : goal.returns-in-Ok-clause-counted
 returns-in-Ok-clause-counted c =
-    let x = state_of c.args.self.now in
+    let x = server_state c.args.self.now in
     let absent : is_some (x.blocks (c.args.a, c.args.v, c.args.f, c.args.b)) ≡ false = not_swap _ _ c.in_ok-is_new.ensures.new ∙ ap not c.if-not-is_new.false in
     subst (AreCounts c.args.g.now (noted c.note_one_more.new.self)) (sym (c.note_one_more.ensures.state ∙ c.in_ok-is_new.ensures.state))
     (added_counts x c.args.a c.args.v c.args.f c.args.b c.args.content.now c.args.g.now (noted c.args.self.now) (noted c.note_one_more.new.self) c.requires.counted c.requires.file c.requires.place absent
@@ -33,7 +33,7 @@ returns-in-Ok-clause-counted c =
 
 pub returns-in-Err-clause-unchanged : goal.returns-in-Err-clause-unchanged
 returns-in-Err-clause-unchanged c =
-    let x = state_of c.args.self.now in
+    let x = server_state c.args.self.now in
     let absent : is_some (x.blocks (c.args.a, c.args.v, c.args.f, c.args.b)) ≡ false = not_swap _ _ c.in_ok-is_new.ensures.new ∙ ap not c.if-not-is_new.false in
     c.clear_block.ensures.state
     ∙ ap (λ y. effect y (Punch c.args.a c.args.v c.args.f c.args.b)) (c.note_one_more.ensures.state ∙ c.in_ok-is_new.ensures.state)

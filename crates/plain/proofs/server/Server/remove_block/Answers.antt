@@ -2,7 +2,7 @@ use Rattle.std.proofs.Common.{rules, ◌≡◌, ◌+◌, true, false, sym, ◌�
 use Rattle.std.specs.Prelude.{is_some}
 use Rattle.std.specs.BTreeMap as map
 use Rattle.plain.specs.State.{one_if, group_count}
-use Rattle.plain.specs.Server.{StripeKey, is_stripe, state_of, noted, by_block}
+use Rattle.plain.specs.Server.{StripeKey, is_stripe, server_state, noted, by_block}
 use Rattle.plain.proofs.Keys.{no_block}
 use Rattle.plain.proofs.Writes.{AreCounts}
 use Rattle.plain.proofs.Removals.{some_noted, less_counts, no_block_there}
@@ -10,7 +10,7 @@ use Rattle.plain.proofs.server.Server.remove_block.Goals as goal
 
 pub note_one_less-requires : goal.note_one_less-requires
 note_one_less-requires c =
-    let x = state_of c.args.self.now in
+    let x = server_state c.args.self.now in
     let there : is_some (x.blocks (c.args.a, c.args.v, c.args.f, c.args.b)) ≡ true = search rules in
     let block = c.requires.sound.state.blocks (c.args.a, c.args.v, c.args.f, c.args.b) there in
     let file = c.requires.sound.state.files (c.args.a, c.args.v, c.args.f) block.1 in
@@ -20,13 +20,13 @@ note_one_less-requires c =
     }
 
 pub returns-then-is_some-clause-state : goal.returns-then-is_some-clause-state
-returns-then-is_some-clause-state c = c.note_one_less.ensures.state ∙ (λ i. record (state_of c.args.self.now) {
+returns-then-is_some-clause-state c = c.note_one_less.ensures.state ∙ (λ i. record (server_state c.args.self.now) {
   blocks = no_block (map.get by_block c.args.self.now.blocks) (map.get by_block c.remove.new.self) c.args.a c.args.v c.args.f c.args.b c.remove.ensures.updates.0 i;
 })
 
 pub returns-then-is_some-clause-counted : goal.returns-then-is_some-clause-counted
 returns-then-is_some-clause-counted c =
-    let x = state_of c.args.self.now in
+    let x = server_state c.args.self.now in
     let there : is_some (x.blocks (c.args.a, c.args.v, c.args.f, c.args.b)) ≡ true = search rules in
     let block = c.requires.sound.state.blocks (c.args.a, c.args.v, c.args.f, c.args.b) there in
     let file = c.requires.sound.state.files (c.args.a, c.args.v, c.args.f) block.1 in
@@ -35,12 +35,12 @@ returns-then-is_some-clause-counted c =
     (subst (λ s. (k : StripeKey) → noted c.note_one_less.new.self k + one_if (is_stripe c.args.a c.args.v s k) ≡ noted c.args.self.now k) c.group_of.ensures.value c.note_one_less.ensures.noted))
 
 pub returns-else-is_some-clause-state : goal.returns-else-is_some-clause-state
-returns-else-is_some-clause-state c = λ i. record (state_of c.args.self.now) {
+returns-else-is_some-clause-state c = λ i. record (server_state c.args.self.now) {
   blocks = no_block (map.get by_block c.args.self.now.blocks) (map.get by_block c.remove.new.self) c.args.a c.args.v c.args.f c.args.b c.remove.ensures.updates.0 i;
 }
 
 pub returns-else-is_some-clause-counted : goal.returns-else-is_some-clause-counted
 returns-else-is_some-clause-counted c =
-    let x = state_of c.args.self.now in
+    let x = server_state c.args.self.now in
     let absent : is_some (x.blocks (c.args.a, c.args.v, c.args.f, c.args.b)) ≡ false = search rules in
     subst (AreCounts c.args.g.now (noted c.args.self.now)) (sym (returns-else-is_some-clause-state c ∙ no_block_there x c.args.a c.args.v c.args.f c.args.b absent)) c.requires.sound.counted

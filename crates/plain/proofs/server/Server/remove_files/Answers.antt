@@ -1,6 +1,6 @@
 use Rattle.std.proofs.Common.{◌≡◌, arith, ap, sym, ◌∙◌, subst}
 use Rattle.plain.specs.State.{IsState, one_if}
-use Rattle.plain.specs.Server.{state_of}
+use Rattle.plain.specs.Server.{server_state}
 use Rattle.plain.specs.Removals.{without_files}
 use Rattle.plain.proofs.Kept.{delete_kept}
 use Rattle.plain.proofs.Removals.{file_before_others, no_files_left}
@@ -8,7 +8,7 @@ use Rattle.plain.proofs.server.Server.remove_files.Goals as goal
 
 pub loop-f-preserved : goal.loop-f-preserved
 loop-f-preserved c =
-    let x = state_of c.loop-f.self in
+    let x = server_state c.loop-f.self in
     record {
       sound = record {
         state = subst (IsState c.args.g.now) (sym c.remove_file.ensures.state) (delete_kept c.args.g.now x c.args.a c.args.v c.in-Some.f c.loop-f.invariant.sound.state);
@@ -23,4 +23,4 @@ loop-f-smaller c =
     omega (arith, one, c.remove_file.ensures.len)
 
 pub returns-clause-state : goal.returns-clause-state
-returns-clause-state c = sym (no_files_left c.args.g.now (state_of c.loop-f.self) c.args.a c.args.v c.loop-f.invariant.sound.state c.in_default.ensures.none) ∙ c.loop-f.invariant.same
+returns-clause-state c = sym (no_files_left c.args.g.now (server_state c.loop-f.self) c.args.a c.args.v c.loop-f.invariant.sound.state c.in_default.ensures.none) ∙ c.loop-f.invariant.same

@@ -1,10 +1,10 @@
 use Rattle.std.proofs.Common.{ap, sym, ◌∙◌}
-use Rattle.plain.specs.Serial.{answer}
-use Rattle.plain.specs.Server.{state_of}
+use Rattle.plain.specs.Serial.{accepted_reply}
+use Rattle.plain.specs.Server.{server_state}
 use Rattle.plain.proofs.server.Server.reply.Goals as goal
 
 pub returns-in-Read : goal.returns-in-Read
-returns-in-Read c = c.read_block.ensures c.args.g.now ∙ ap (answer c.args.g.now (state_of c.args.self.now)) (sym c.in-Read.is)
+returns-in-Read c = c.read_block.ensures c.args.g.now ∙ ap (accepted_reply c.args.g.now (server_state c.args.self.now)) (sym c.in-Read.is)
 
 pub returns-in-Label : goal.returns-in-Label
-returns-in-Label c = c.label_of.ensures c.args.g.now ∙ ap (answer c.args.g.now (state_of c.args.self.now)) (sym c.in-Label.is)
+returns-in-Label c = c.label_of.ensures c.args.g.now ∙ ap (accepted_reply c.args.g.now (server_state c.args.self.now)) (sym c.in-Label.is)

@@ -1,9 +1,9 @@
 use Rattle.std.specs.BTreeMap as map
-use Rattle.plain.specs.Server.{state_of, by_block}
+use Rattle.plain.specs.Server.{server_state, by_block}
 use Rattle.plain.proofs.Keys.{one_block}
 use Rattle.plain.proofs.server.Server.set_block.Goals as goal
 
 pub returns-clause-state : goal.returns-clause-state
-returns-clause-state c = λ i. record (state_of c.args.self.now) {
+returns-clause-state c = λ i. record (server_state c.args.self.now) {
   blocks = one_block (map.get by_block c.args.self.now.blocks) (map.get by_block c.insert.new.self) c.args.a c.args.v c.args.f c.args.b c.args.content.now c.in_ok-insert.ensures.updates.0 i;
 }

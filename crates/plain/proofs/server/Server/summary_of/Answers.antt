@@ -1,25 +1,25 @@
 use Rattle.std.proofs.Common.{◌∙◌, arith}
 use Rattle.message.specs.declared.Reply.TheVariants.{Summary}
-use Rattle.plain.specs.Server.{state_of}
+use Rattle.plain.specs.Server.{server_state}
 use Rattle.plain.proofs.Totals.{volumes_total, files_total, blocks_total, volumes-few, files-few, blocks-few}
 use Rattle.plain.proofs.server.Server.summary_of.Goals as goal
 
 pub overflow_cast-result : goal.overflow_cast-result
 overflow_cast-result c =
     let total = volumes_total c.args.g.now c.args.self.now c.requires.sound.state c.len-volumes.ensures.ordered in
-    let few = volumes-few c.args.g.now (state_of c.args.self.now) in
+    let few = volumes-few c.args.g.now (server_state c.args.self.now) in
     omega (arith, c.len-volumes.ensures.len)
 
 pub overflow_cast-result-2 : goal.overflow_cast-result-2
 overflow_cast-result-2 c =
     let total = files_total c.args.g.now c.args.self.now c.requires.sound.state c.len-files.ensures.ordered in
-    let few = files-few c.args.g.now (state_of c.args.self.now) in
+    let few = files-few c.args.g.now (server_state c.args.self.now) in
     omega (arith, c.len-files.ensures.len)
 
 pub overflow_cast-result-3 : goal.overflow_cast-result-3
 overflow_cast-result-3 c =
     let total = blocks_total c.args.g.now c.args.self.now c.requires.sound.state c.len-blocks.ensures.ordered in
-    let few = blocks-few c.args.g.now (state_of c.args.self.now) in
+    let few = blocks-few c.args.g.now (server_state c.args.self.now) in
     omega (arith, c.len-blocks.ensures.len)
 
 pub returns : goal.returns

@@ -1,5 +1,5 @@
 use Rattle.disk.proofs.Outside.{refreshed}
-use Rattle.disk.proofs.place.refresh.Goals as goal
+use Rattle.disk.proofs.ranges.refresh.Goals as goal
 
 pub returns : goal.returns
 returns c = refreshed c.args.span.start _ c.args.bytes.now c.args.kept.now c.copy_from_slice.new.self c.requires.outside c.copy_from_slice.ensures.after

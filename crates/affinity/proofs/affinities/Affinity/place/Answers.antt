@@ -1,7 +1,7 @@
 -- Each branch finds the path that has the affinity's number.
 use Rattle.std.proofs.Common.{◌∙◌, ap}
 use Rattle.affinity.proofs.Preorder.{found, path_at-in_aggregate, in_aggregate_at-self, in_aggregate_at-in_volume, in_volume_at-self, in_volume_at-logical, in_volume_at-stripe, in_volume_at-label}
-use Rattle.affinity.proofs.intervals.Affinity.place.Goals as goal
+use Rattle.affinity.proofs.affinities.Affinity.place.Goals as goal
 
 pub returns-then-in_aggregate-eq0 : goal.returns-then-in_aggregate-eq0
 returns-then-in_aggregate-eq0 c =

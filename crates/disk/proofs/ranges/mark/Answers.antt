@@ -1,7 +1,7 @@
 use Rattle.std.proofs.Common.{◌≡◌, ◌+◌, ◌-◌, length, take, drop, true, replicate, ◌∙◌, ap, arith, length-drop, length-take}
 use Rattle.std.proofs.lemmas.List.{length-replicate}
 use Rattle.disk.proofs.Overlays.{overlaid_part}
-use Rattle.disk.proofs.place.mark.Goals as goal
+use Rattle.disk.proofs.ranges.mark.Goals as goal
 
 pub returns-clause-marked : goal.returns-clause-marked
 returns-clause-marked c =

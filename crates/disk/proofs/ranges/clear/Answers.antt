@@ -1,7 +1,7 @@
 use Rattle.std.proofs.Common.{◌≡◌, ◌-◌, length, take, drop, false, replicate, sym, ◌∙◌, ap, arith, length-drop, length-take}
 use Rattle.std.proofs.lemmas.List.{drop-replicate, take-replicate}
 use Rattle.disk.proofs.Outside.{refreshed}
-use Rattle.disk.proofs.place.clear.Goals as goal
+use Rattle.disk.proofs.ranges.clear.Goals as goal
 
 pub returns : goal.returns
 returns c =

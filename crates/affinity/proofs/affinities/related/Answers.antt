@@ -3,7 +3,7 @@ use Rattle.std.proofs.Common.{◌∙◌, sym, ap}
 use Rattle.std.specs.Prelude.{◌||◌}
 use Rattle.affinity.specs.Interval.{contains}
 use Rattle.affinity.proofs.Preorder.{are_related-contains}
-use Rattle.affinity.proofs.intervals.related.Goals as goal
+use Rattle.affinity.proofs.affinities.related.Goals as goal
 
 pub returns-then-contains : goal.returns-then-contains
 returns-then-contains c = λ g p q h k.

@@ -3,7 +3,7 @@ use Rattle.std.proofs.Common.{lit≤, ◌≡◌, true, false, [], ◌∷◌, map
 use Rattle.affinity.specs.Geometry.{small, standard, group}
 use Rattle.affinity.specs.Interval.{interval}
 use Rattle.affinity.specs.Kind.{number_count}
-use Rattle.affinity.specs.declared.sizes.Geometry.{Geometry}
+use Rattle.affinity.specs.declared.geometry.Geometry.{Geometry}
 use Rattle.affinity.specs.Path.{are_related, serial, aggregate, volume, logical, stripe, label}
 use Rattle.affinity.specs.Place.{is_in_range, place}
 use Rattle.affinity.specs.declared.kinds.Kind.TheVariants.{MakeVol, DropVol, Create, Delete, Seal, Unseal, Write, Punch, Read, List as ListFiles, Usage, Summary, SetLabel, Label}
