@@ -1,5 +1,6 @@
 -- Beginnings of paths, and related paths.
-use Rattle.std.proofs.Common.{◌≡◌, true, false, [], ◌∷◌, refl, sym, ◌∙◌, ⊎_elim}
+use Rattle.std.proofs.Common.{◌≡◌, ℕ, true, false, ◌&&◌, [], ◌∷◌, refl, sym, ◌∙◌, ⊎_elim}
+use Rattle.std.specs.Prelude.{◌==◌}
 use Rattle.std.proofs.lemmas.Bool.{and_parts, and_from, or_cases, or_left, or_right, eqb-true, eq-eqb, true≢false, false_from_ne_true}
 use Rattle.affinity.specs.Path.{Path, begins, are_related}
 
@@ -27,6 +28,25 @@ related_turned p q h = ⊎_elim
 
 pub unrelated_turned : (p q : Path) → are_related p q ≡ false → are_related q p ≡ false
 unrelated_turned p q h = false_from_ne_true _ (λ e. true≢false (sym (related_turned q p e) ∙ h))
+
+-- Paths with one first number are related as their rests are.
+pub related_below : (i : ℕ) (p q : Path) → are_related p q ≡ true → are_related (i ∷ p) (i ∷ q) ≡ true
+related_below i p q h = ⊎_elim
+    (λ a. or_left _ _ (and_from _ _ (eq-eqb i i refl) a))
+    (λ b. or_right _ _ (and_from _ _ (eq-eqb i i refl) b))
+    (or_cases (begins p q) (begins q p) h)
+
+pub related_first : (i j : ℕ) (p q : Path) → are_related (i ∷ p) (j ∷ q) ≡ true → i ≡ j
+related_first i j p q h = ⊎_elim
+    (λ a. eqb-true i j (and_parts (i == j) (begins p q) a).0)
+    (λ b. sym (eqb-true j i (and_parts (j == i) (begins q p) b).0))
+    (or_cases ((i == j) && begins p q) ((j == i) && begins q p) h)
+
+pub related_rest : (i j : ℕ) (p q : Path) → are_related (i ∷ p) (j ∷ q) ≡ true → are_related p q ≡ true
+related_rest i j p q h = ⊎_elim
+    (λ a. or_left _ _ (and_parts (i == j) (begins p q) a).1)
+    (λ b. or_right _ _ (and_parts (j == i) (begins q p) b).1)
+    (or_cases ((i == j) && begins p q) ((j == i) && begins q p) h)
 
 -- Two beginnings of one path are related.
 pub beginnings_related : (p q r : Path) → begins p r ≡ true → begins q r ≡ true → are_related p q ≡ true

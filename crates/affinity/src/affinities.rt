@@ -1,4 +1,5 @@
-ghost use Rattle.std.specs.Prelude.{◌≡◌, ◌+◌, ◌^◌, ◌<◌, ◌≤◌};
+//! Affinities as numbers, and which of them are related.
+ghost use Rattle.std.specs.Prelude.{◌≡◌, ◌+◌, ◌^◌, ◌<◌, ◌≤◌, ◌||◌};
 ghost use Rattle.affinity.specs.Interval.{Interval, IsPath, IsAffinity, IsAffinityOf, contains, volume_size, aggregate_size, volume_number};
 ghost use Rattle.affinity.specs.Path.{Path, are_related};
 ghost use Rattle.affinity.specs.Place.{path};
@@ -98,9 +99,11 @@ impl Affinity {
     }
 }
 
-/// Whether one of two affinities of a geometry is the other, or lies above it.
+/// Whether one of two affinities of a geometry is the other, or lies above it: the number of one
+/// is among the other's numbers.
 pub fn related(a: Affinity, b: Affinity) -> bool
-    ensures { (g : Geometry) (p q : Path) → IsAffinityOf g p a → IsAffinityOf g q b → result ≡ are_related p q }
+    ensures intervals { result ≡ (contains a b.number || contains b a.number) }
+    ensures paths { (g : Geometry) (p q : Path) → IsAffinityOf g p a → IsAffinityOf g q b → result ≡ are_related p q }
 {
     a.contains(b) || b.contains(a)
 }

@@ -1,3 +1,4 @@
+//! The eight numbers of a server.
 ghost use Rattle.std.specs.Prelude.{◌≡◌, ◌↔◌, IsOk, IfOk};
 ghost use Rattle.affinity.specs.Limits.{IsWithin, AreInRange};
 

@@ -1,3 +1,4 @@
+//! The fourteen kinds of message.
 ghost use Rattle.std.specs.Prelude.{◌≡◌};
 ghost use Rattle.affinity.specs.Kind.{is_changing};
 

@@ -1,3 +1,4 @@
+//! The places in the tree of affinities, and the place of each message.
 ghost use Rattle.std.specs.Prelude.{◌≡◌, ◌<◌, IfSome, is_some};
 ghost use Rattle.affinity.specs.Geometry.{group};
 ghost use Rattle.affinity.specs.Interval.{IsAffinityOf};
