@@ -1,11 +1,11 @@
 -- A slot that is its own neighbor is on no list.
 use Rattle.std.proofs.Common.{◌≡◌, ◌≢◌, ℕ, zero, suc, ◌+◌, ◌-◌, ◌<◌, ◌≤◌, List, [], ◌∷◌, refl, sym, ap, ◌∙◌, inl, inr, arith}
+use Rattle.std.proofs.lemmas.Bool.{cases_eq}
 use Rattle.std.specs.List.{concat, AllByRecursion}
 use Rattle.arena.specs.Lists.{times}
 use Rattle.arena.specs.Linked.{IsWay, ring, table, rings, IsLinked}
 use Rattle.arena.proofs.Times.{times-append, times-nowhere}
 use Rattle.arena.proofs.Ways.{AreSlots, walk-inside, slots-below}
-use Rattle.arena.proofs.Unlinking.{equal_or_not}
 
 -- a number that is in none of the lists of a table
 pub times-table : (i : ℕ) (at : ℕ → List ℕ) (from count : ℕ) → ((e : ℕ) → from ≤ e → e < from + count → times i (at e) ≡ 0)
@@ -48,7 +48,7 @@ module _ (slots nodes slot : ℕ) (next previous : ℕ → ℕ) (linked : IsLink
 -- the converse
 pub alone-from_times : (slots nodes : ℕ) (next previous : ℕ → ℕ) → IsLinked slots nodes next previous → (a : ℕ) → a < slots
     → times a (concat (rings next slots nodes)) ≡ 0 → next a ≡ a
-alone-from_times slots nodes next previous linked a within none = elim (equal_or_not (next a) a) [
+alone-from_times slots nodes next previous linked a within none = elim (cases_eq (next a) a) [
   | inl e ↦ e
   | inr n ↦ absurd (omega (arith, linked.placed a within n))
 ]

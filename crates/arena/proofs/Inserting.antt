@@ -1,12 +1,12 @@
 -- A slot that is on no list is put behind a node.
 use Rattle.std.proofs.Common.{◌≡◌, ◌≢◌, ℕ, suc, ◌+◌, ◌-◌, ◌<◌, ◌≤◌, List, [], ◌∷◌, ◌++◌, length, refl, sym, ap, subst, ◌∙◌, inl, inr, arith, slice_set, slice_index_or}
+use Rattle.std.proofs.lemmas.Bool.{cases_eq}
 use Rattle.std.specs.List.{concat, AllByRecursion}
 use Rattle.arena.specs.Lists.{times}
 use Rattle.arena.specs.Linked.{IsWay, ring, rings, IsLinked}
 use Rattle.arena.proofs.Times.{times-last, times-cons_same, times-cons_other, times-set, times-at, length-once}
 use Rattle.arena.proofs.Ways.{AreSlots, walk-way, walk-inside, length-walk, slots-append, way-kept, table-set, table-at, length-table}
 use Rattle.arena.proofs.Alone.{alone_back, ring-passes, times-alone}
-use Rattle.arena.proofs.Unlinking.{equal_or_not}
 
 -- The slot was tied to a node and to the node behind that one.
 pub record IsInserted (slot before : ℕ) (next previous next' previous' : ℕ → ℕ) : Type 0 where
@@ -35,27 +35,27 @@ module _ (slots nodes slot before : ℕ) (next previous next' previous' : ℕ �
       ∙ alone_back slots nodes slot next previous linked within alone)
 
   next_below : (a : ℕ) → a < nodes → next' a < nodes
-  next_below a below = elim (equal_or_not a slot) [
+  next_below a below = elim (cases_eq a slot) [
     | inl e ↦ rw (e, inserted.from_slot) (linked.next_below before before_below)
-    | inr n ↦ elim (equal_or_not a before) [
+    | inr n ↦ elim (cases_eq a before) [
       | inl p ↦ rw (p, inserted.to_slot) is_node
       | inr q ↦ rw (inserted.rest_next a n q) (linked.next_below a below)
     ]
   ]
 
   previous_below : (a : ℕ) → a < nodes → previous' a < nodes
-  previous_below a below = elim (equal_or_not a slot) [
+  previous_below a below = elim (cases_eq a slot) [
     | inl e ↦ rw (e, inserted.back_from_slot) before_below
-    | inr n ↦ elim (equal_or_not a (next before)) [
+    | inr n ↦ elim (cases_eq a (next before)) [
       | inl p ↦ rw (p, inserted.back_to_slot) is_node
       | inr q ↦ rw (inserted.rest_previous a n q) (linked.previous_below a below)
     ]
   ]
 
   next_undoes : (a : ℕ) → a < nodes → next' (previous' a) ≡ a
-  next_undoes a below = elim (equal_or_not a slot) [
+  next_undoes a below = elim (cases_eq a slot) [
     | inl e ↦ ap (λ x. next' (previous' x)) e ∙ ap next' inserted.back_from_slot ∙ inserted.to_slot ∙ sym e
-    | inr n ↦ elim (equal_or_not a (next before)) [
+    | inr n ↦ elim (cases_eq a (next before)) [
       | inl p ↦ ap (λ x. next' (previous' x)) p ∙ ap next' inserted.back_to_slot ∙ inserted.from_slot ∙ sym p
       | inr q ↦
           ap next' (inserted.rest_previous a n q)
@@ -66,9 +66,9 @@ module _ (slots nodes slot before : ℕ) (next previous next' previous' : ℕ �
   ]
 
   previous_undoes : (a : ℕ) → a < nodes → previous' (next' a) ≡ a
-  previous_undoes a below = elim (equal_or_not a slot) [
+  previous_undoes a below = elim (cases_eq a slot) [
     | inl e ↦ ap (λ x. previous' (next' x)) e ∙ ap previous' inserted.from_slot ∙ inserted.back_to_slot ∙ sym e
-    | inr n ↦ elim (equal_or_not a before) [
+    | inr n ↦ elim (cases_eq a before) [
       | inl p ↦ ap (λ x. previous' (next' x)) p ∙ ap previous' inserted.to_slot ∙ inserted.back_from_slot ∙ sym p
       | inr q ↦
           ap previous' (inserted.rest_next a n q)
@@ -96,7 +96,7 @@ module _ (slots nodes slot before : ℕ) (next previous next' previous' : ℕ �
     made_once i =
         let in_all : times i (ring next slots (slots + list)) ≤ times i (concat (rings next slots nodes)) =
         rw (← ring_at) (times-at i (rings next slots nodes) list) in
-        elim (equal_or_not slot i) [
+        elim (cases_eq slot i) [
           | inl e ↦ (let count : times i made ≡ suc (times i (ring next slots (slots + list))) = more i ∙ rw e (times-cons_same i (ring next slots (slots + list))) in
               let none : times i (concat (rings next slots nodes)) ≡ 0 = rw (← e) nowhere in omega arith)
           | inr n ↦ (let count = more i ∙ times-cons_other i slot (ring next slots (slots + list)) n in omega (arith, linked.once i))
@@ -125,7 +125,7 @@ module _ (slots nodes slot before : ℕ) (next previous next' previous' : ℕ �
         ∙ ap (λ (xs : List ℕ). slice_set (rings next slots nodes) list xs) ring-made
 
     closed : (end : ℕ) → slots ≤ end → end < nodes → IsWay next' end (ring next' slots end) end
-    closed end outside below = elim (equal_or_not end (slots + list)) [
+    closed end outside below = elim (cases_eq end (slots + list)) [
       | inl e ↦ (let P : ℕ → Type 0 = λ x. IsWay next' x (ring next' slots x) x in
           let Q : List ℕ → Type 0 = λ xs. IsWay next' (slots + list) xs (slots + list) in
           subst P (sym e) (subst Q (sym ring-made) way))
@@ -141,7 +141,7 @@ module _ (slots nodes slot before : ℕ) (next previous next' previous' : ℕ �
         let here : times i (slice_index_or (rings next slots nodes) list []) ≡ times i (ring next slots (slots + list)) = ap (λ (xs : List ℕ). times i xs) ring_at in
         let now : times i (concat (rings next' slots nodes)) ≡ times i (concat (slice_set (rings next slots nodes) list made)) =
         ap (λ (xs : List (List ℕ)). times i (concat xs)) rings-inserted in
-        elim (equal_or_not slot i) [
+        elim (cases_eq slot i) [
           | inl e ↦ (let one : times i (slot ∷ ring next slots (slots + list)) ≡ suc (times i (ring next slots (slots + list))) = rw e (times-cons_same i (ring next slots (slots + list))) in
               let two : times i (slot ∷ concat (rings next slots nodes)) ≡ suc (times i (concat (rings next slots nodes))) = rw e (times-cons_same i (concat (rings next slots nodes))) in
               omega (arith, more i))
@@ -151,18 +151,18 @@ module _ (slots nodes slot before : ℕ) (next previous next' previous' : ℕ �
         ]
 
     once : (i : ℕ) → times i (concat (rings next' slots nodes)) ≤ 1
-    once i = elim (equal_or_not slot i) [
+    once i = elim (cases_eq slot i) [
       | inl e ↦ (let two : times i (slot ∷ concat (rings next slots nodes)) ≡ suc (times i (concat (rings next slots nodes))) = rw e (times-cons_same i (concat (rings next slots nodes))) in
           let none : times i (concat (rings next slots nodes)) ≡ 0 = rw (← e) nowhere in omega (arith, count i))
       | inr n ↦ (let two = times-cons_other i slot (concat (rings next slots nodes)) n in omega (arith, count i, linked.once i))
     ]
 
     placed : (a : ℕ) → a < slots → next' a ≢ a → 0 < times a (concat (rings next' slots nodes))
-    placed a low moves = elim (equal_or_not slot a) [
+    placed a low moves = elim (cases_eq slot a) [
       | inl e ↦ (let two : times a (slot ∷ concat (rings next slots nodes)) ≡ suc (times a (concat (rings next slots nodes))) = rw e (times-cons_same a (concat (rings next slots nodes))) in
           omega (arith, count a))
       | inr n ↦ (let two = times-cons_other a slot (concat (rings next slots nodes)) n in
-          elim (equal_or_not (next a) a) [
+          elim (cases_eq (next a) a) [
             | inl loop ↦ (let other : a ≢ before = (λ same. before_moves (let P : ℕ → Type 0 = λ x. x < slots in subst P same low)
                 (sym (ap next same) ∙ loop ∙ same)) in
                 absurd (moves (inserted.rest_next a (λ same. n (sym same)) other ∙ loop)))

@@ -1,5 +1,6 @@
 -- Each call keeps the parts of a row.
 use Rattle.std.proofs.Common.{◌≡◌, ◌≢◌, ℕ, zero, suc, ◌<◌, ◌≤◌, Bool, true, false, not, List, [], ◌∷◌, ◌++◌, map, filter, length, refl, sym, ap, subst, ◌∙◌, inl, inr, ◌⊎◌, arith, Option, Some, None, is_some, nat_lt, if◌then◌else◌, slice_index_or, slice_set}
+use Rattle.std.proofs.lemmas.Bool.{cases_eq, cases_Bool}
 use Rattle.std.proofs.lemmas.Bool.Decides.{leb_tells}
 use Rattle.std.proofs.lemmas.List.{length-set, get_or-set_same, get_or-set_other, length-map}
 use Rattle.std.specs.List.{concat}
@@ -7,18 +8,13 @@ use Rattle.arena.specs.Lists.{times, is_on, without, numbers_from}
 use Rattle.arena.specs.Row.{Row, capacity_of, value_at, holds, listed, aside, IsParted, moved}
 use Rattle.arena.proofs.Times.{times-append, times-last, times-cons_is, times-cons_other, times-set, times-without_all_same, times-without_all_other}
 use Rattle.arena.proofs.Start.{times-numbers, times-numbers_in, times-high}
-use Rattle.arena.proofs.Unlinking.{equal_or_not}
-
-true_or_false : (b : Bool) → (b ≡ true) ⊎ (b ≡ false)
-true_or_false true = inl refl
-true_or_false false = inr refl
 
 times-filter_yes : (p : ℕ → Bool) (i : ℕ) (xs : List ℕ) → p i ≡ true → times i (filter p xs) ≡ times i xs
 times-filter_yes p i [] passes = refl
-times-filter_yes p i (x ∷ xs) passes = elim (equal_or_not x i) [
+times-filter_yes p i (x ∷ xs) passes = elim (cases_eq x i) [
   | inl e ↦ (let here : p x ≡ true = ap p e ∙ passes in
       rw here (times-cons_is i x (filter p xs) e ∙ ap (λ n. suc n) (times-filter_yes p i xs passes) ∙ sym (times-cons_is i x xs e)))
-  | inr n ↦ elim (true_or_false (p x)) [
+  | inr n ↦ elim (cases_Bool (p x)) [
     | inl t ↦ rw t (times-cons_other i x (filter p xs) n ∙ times-filter_yes p i xs passes ∙ sym (times-cons_other i x xs n))
     | inr f ↦ rw f (times-filter_yes p i xs passes ∙ sym (times-cons_other i x xs n))
   ]
@@ -26,16 +22,16 @@ times-filter_yes p i (x ∷ xs) passes = elim (equal_or_not x i) [
 
 times-filter_no : (p : ℕ → Bool) (i : ℕ) (xs : List ℕ) → p i ≡ false → times i (filter p xs) ≡ 0
 times-filter_no p i [] fails = refl
-times-filter_no p i (x ∷ xs) fails = elim (equal_or_not x i) [
+times-filter_no p i (x ∷ xs) fails = elim (cases_eq x i) [
   | inl e ↦ (let here : p x ≡ false = ap p e ∙ fails in rw here (times-filter_no p i xs fails))
-  | inr n ↦ elim (true_or_false (p x)) [
+  | inr n ↦ elim (cases_Bool (p x)) [
     | inl t ↦ rw t (times-cons_other i x (filter p xs) n ∙ times-filter_no p i xs fails)
     | inr f ↦ rw f (times-filter_no p i xs fails)
   ]
 ]
 
 pub times-tail : (i x : ℕ) (xs : List ℕ) → times i xs ≤ times i (x ∷ xs)
-times-tail i x xs = elim (equal_or_not x i) [
+times-tail i x xs = elim (cases_eq x i) [
   | inl e ↦ omega (arith, times-cons_is i x xs e)
   | inr n ↦ omega (arith, times-cons_other i x xs n)
 ]
@@ -115,19 +111,19 @@ module _ {T : Type 0} where
       let new = λ (j : ℕ). times-append j m.free (concat (map (without i) m.chains)) in
       let gone = times-without_all_same i m.chains in
       parted-from (record m { values = slice_set m.values i None; chains = map (without i) m.chains })
-      (λ j. elim (equal_or_not j i) [
+      (λ j. elim (cases_eq j i) [
         | inl e ↦ rw e (omega (arith, old i, new i, parted.once i))
         | inr n ↦ omega (arith, old j, new j, times-without_all_other j i m.chains n, parted.once j)
       ])
-      (λ j some. elim (equal_or_not j i) [
+      (λ j some. elim (cases_eq j i) [
         | inl e ↦ omega (arith, held-within m.values i held)
         | inr n ↦ omega (arith, parted.within j (omega (arith, old j, new j, times-without_all_other j i m.chains n)))
       ])
-      (λ j some. elim (equal_or_not j i) [
+      (λ j some. elim (cases_eq j i) [
         | inl e ↦ rw e (value-same m.values i None (held-within m.values i held))
         | inr n ↦ value-other m.values i j None n ∙ parted.free_empty j some
       ])
-      (λ j some. elim (equal_or_not j i) [
+      (λ j some. elim (cases_eq j i) [
         | inl e ↦ absurd (let P : ℕ → Type 0 = λ k. 0 < times k (concat (map (without i) m.chains)) in let here = subst P e some in omega arith)
         | inr n ↦ ap is_some (value-other m.values i j None n) ∙ parted.chains_hold j (omega (arith, times-without_all_other j i m.chains n))
       ])
@@ -143,15 +139,15 @@ module _ {T : Type 0} where
       let unfree = held-not_free m parted i held in
       let more = times-cons_is i i others refl in
       parted-from (record { values = slice_set m.values i None; free = i ∷ m.free; chains = map (without i) m.chains })
-      (λ j. elim (equal_or_not i j) [
+      (λ j. elim (cases_eq i j) [
         | inl e ↦ (let P : ℕ → Type 0 = λ k. times k (i ∷ others) ≤ 1 in subst P e (omega arith))
         | inr n ↦ omega (arith, times-cons_other j i others n, lent.once j)
       ])
-      (λ j some. elim (equal_or_not i j) [
+      (λ j some. elim (cases_eq i j) [
         | inl e ↦ omega (arith, held-within m.values i held)
         | inr n ↦ lent.within j (omega (arith, times-cons_other j i others n))
       ])
-      (λ j some. elim (equal_or_not i j) [
+      (λ j some. elim (cases_eq i j) [
         | inl e ↦ rw (← e) (value-same m.values i None (held-within m.values i held))
         | inr n ↦ lent.free_empty j (omega (arith, times-cons_other j i m.free n))
       ])
@@ -172,16 +168,16 @@ module _ {T : Type 0} where
       let count_other : (j : ℕ) → i ≢ j → times j (concat (moved m.chains i c)) ≡ times j (concat m.chains) =
       (λ j n. omega (arith, changed j, added j, times-cons_other j i chain n, times-without_all_other j i m.chains (λ same. n (sym same)))) in
       parted-from (record m { chains = moved m.chains i c })
-      (λ j. elim (equal_or_not i j) [
+      (λ j. elim (cases_eq i j) [
         | inl e ↦ rw (← e) (omega (arith, new i))
         | inr n ↦ omega (arith, old j, new j, count_other j n, parted.once j)
       ])
-      (λ j some. elim (equal_or_not i j) [
+      (λ j some. elim (cases_eq i j) [
         | inl e ↦ omega (arith, held-within m.values i held)
         | inr n ↦ parted.within j (omega (arith, old j, new j, count_other j n))
       ])
       parted.free_empty
-      (λ j some. elim (equal_or_not i j) [
+      (λ j some. elim (cases_eq i j) [
         | inl e ↦ rw (← e) held
         | inr n ↦ parted.chains_hold j (omega (arith, count_other j n))
       ])
@@ -196,7 +192,7 @@ module _ {T : Type 0} where
       (λ j some. value-other m.values i j (Some value)
       (λ same. absurd (let here : 0 < times i m.free = rw (← same) some in omega arith))
       ∙ parted.free_empty j some)
-      (λ j some. elim (equal_or_not j i) [
+      (λ j some. elim (cases_eq j i) [
         | inl e ↦ rw e (ap is_some (value-same m.values i (Some value) within))
         | inr n ↦ ap is_some (value-other m.values i j (Some value) n) ∙ parted.chains_hold j some
       ])

@@ -1,13 +1,12 @@
 -- The lists as they are at the start: all slots in order on the first list.
 use Rattle.std.proofs.Common.{◌≡◌, ℕ, zero, suc, ◌+◌, ◌-◌, ◌<◌, ◌≤◌, List, [], ◌∷◌, replicate, refl, sym, ap, subst, ◌∙◌, inl, inr, arith}
-use Rattle.std.proofs.lemmas.Bool.{lt-ltb, le-ltb, eq-eqb}
+use Rattle.std.proofs.lemmas.Bool.{lt-ltb, le-ltb, eq-eqb, ne_eqb, cases_eq}
 use Rattle.std.proofs.lemmas.Bool.Decides.{nat_tests}
 use Rattle.std.specs.List.{concat}
 use Rattle.arena.specs.Lists.{times, numbers_from}
 use Rattle.arena.specs.Linked.{IsWay, ring, table, rings, IsLinked, next_at_start, previous_at_start}
-use Rattle.arena.proofs.Times.{times-append, times-cons_is, times-cons_other, neq-eqb, length-numbers}
+use Rattle.arena.proofs.Times.{times-append, times-cons_is, times-cons_other, length-numbers}
 use Rattle.arena.proofs.Ways.{AreSlots, walk-way}
-use Rattle.arena.proofs.Unlinking.{equal_or_not}
 
 -- how often a number stands among numbers in a row
 times-low : (i first count : ℕ) → i < first → times i (numbers_from first count) ≡ 0
@@ -22,7 +21,7 @@ times-high i first (suc count) high =
 
 pub times-numbers : (i first count : ℕ) → times i (numbers_from first count) ≤ 1
 times-numbers i first zero = omega arith
-times-numbers i first (suc count) = elim (equal_or_not first i) [
+times-numbers i first (suc count) = elim (cases_eq first i) [
   | inl e ↦ (let more = times-cons_is i first (numbers_from (suc first) count) e in
       omega (arith, times-low i (suc first) count (omega arith)))
   | inr n ↦ (let same = times-cons_other i first (numbers_from (suc first) count) n in omega (arith, times-numbers i (suc first) count))
@@ -30,7 +29,7 @@ times-numbers i first (suc count) = elim (equal_or_not first i) [
 
 pub times-numbers_in : (i first count : ℕ) → first ≤ i → i < first + count → 0 < times i (numbers_from first count)
 times-numbers_in i first zero low high = absurd (omega arith)
-times-numbers_in i first (suc count) low high = elim (equal_or_not first i) [
+times-numbers_in i first (suc count) low high = elim (cases_eq first i) [
   | inl e ↦ (let more = times-cons_is i first (numbers_from (suc first) count) e in omega arith)
   | inr n ↦ (let same = times-cons_other i first (numbers_from (suc first) count) n in omega (arith, times-numbers_in i (suc first) count (omega arith) (omega arith)))
 ]
@@ -50,7 +49,7 @@ next-first_end : (slots : ℕ) → next_at_start slots slots ≡ 0
 next-first_end slots = rw (le-ltb slots slots (omega arith), eq-eqb slots slots refl) refl
 
 next-end : (slots node : ℕ) → slots < node → next_at_start slots node ≡ node
-next-end slots node high = rw (le-ltb node slots (omega arith), neq-eqb node slots (λ same. omega arith)) refl
+next-end slots node high = rw (le-ltb node slots (omega arith), ne_eqb node slots (λ same. omega arith)) refl
 
 module _ (slots nodes : ℕ) (next previous : ℕ → ℕ) (fit : slots < nodes)
     (next_is : (a : ℕ) → a < nodes → next a ≡ next_at_start slots a)
@@ -105,7 +104,7 @@ module _ (slots nodes : ℕ) (next previous : ℕ → ℕ) (fit : slots < nodes)
   previous_undoes a below = previous_is (next a) (next_below a below) ∙ ap (previous_at_start slots) (next_is a below) ∙ start_previous_undoes a
 
   closed : (end : ℕ) → slots ≤ end → end < nodes → IsWay next end (ring next slots end) end
-  closed end outside below = elim (equal_or_not slots end) [
+  closed end outside below = elim (cases_eq slots end) [
     | inl e ↦ (let P : ℕ → Type 0 = λ x. IsWay next x (ring next slots x) x in
         let Q : List ℕ → Type 0 = λ xs. IsWay next slots xs slots in
         subst P e (subst Q (sym ring-first) first_way))

@@ -1,14 +1,10 @@
 -- How often a number stands in lists that were joined, or that lost a number.
 use Rattle.std.proofs.Common.{◌≡◌, ◌≢◌, ℕ, zero, suc, ◌+◌, ◌<◌, ◌≤◌, true, false, List, [], ◌∷◌, ◌++◌, map, length, eqb, refl, sym, ap, ◌∙◌, inl, inr, arith, ◌==◌, slice_set, slice_index_or}
-use Rattle.std.proofs.lemmas.Bool.{eq-eqb}
+use Rattle.std.proofs.lemmas.Bool.{eq-eqb, ne_eqb}
 use Rattle.std.proofs.lemmas.Bool.Decides.{eqb_tells}
 use Rattle.std.proofs.lemmas.Map.Steps.{length-le_from_distinct_below}
 use Rattle.std.specs.List.{concat, AllByRecursion, IsDistinct, list_any}
 use Rattle.arena.specs.Lists.{times, without, numbers_from}
-
--- numbers that differ
-pub neq-eqb : (a b : ℕ) → a ≢ b → (a == b) ≡ false
-neq-eqb a b other = elim (eqb_tells a b) [ inl e ↦ absurd (other e.1) | inr n ↦ n.0 ]
 
 -- so many numbers in a row
 pub length-numbers : (first count : ℕ) → length (numbers_from first count) ≡ count
@@ -30,7 +26,7 @@ pub times-cons_is : (i x : ℕ) (xs : List ℕ) → x ≡ i → times i (x ∷ x
 times-cons_is i x xs same = rw (eq-eqb x i same) refl
 
 pub times-cons_other : (i x : ℕ) (xs : List ℕ) → x ≢ i → times i (x ∷ xs) ≡ times i xs
-times-cons_other i x xs other = rw (neq-eqb x i other) refl
+times-cons_other i x xs other = rw (ne_eqb x i other) refl
 
 -- it does not matter at which end a number is added
 pub times-last : (i slot : ℕ) (xs : List ℕ) → times i (xs ++ slot ∷ []) ≡ times i (slot ∷ xs)
@@ -121,7 +117,7 @@ apart-from_times : (i : ℕ) (xs : List ℕ) → times i xs ≡ 0 → AllByRecur
 apart-from_times i [] none = tt
 apart-from_times i (x ∷ xs) none = elim (eqb_tells x i) [
   | inl e ↦ absurd (let some : times i (x ∷ xs) ≡ suc (times i xs) = rw e.1 (times-cons_same i xs) in omega arith)
-  | inr n ↦ (neq-eqb i x (λ same. n.1 (sym same)), apart-from_times i xs (sym (times-cons_other i x xs n.1) ∙ none))
+  | inr n ↦ (ne_eqb i x (λ same. n.1 (sym same)), apart-from_times i xs (sym (times-cons_other i x xs n.1) ∙ none))
 ]
 
 -- numbers that each stand once in a list are distinct

@@ -1,15 +1,12 @@
 -- A slot is taken off its list.
 use Rattle.std.proofs.Common.{◌≡◌, ◌≢◌, ℕ, ◌-◌, ◌<◌, ◌≤◌, List, [], ◌∷◌, map, sym, ap, subst, ◌∙◌, inl, inr, ◌⊎◌, arith}
+use Rattle.std.proofs.lemmas.Bool.{cases_eq}
 use Rattle.std.proofs.lemmas.Bool.Decides.{eqb_tells}
 use Rattle.std.specs.List.{concat}
 use Rattle.arena.specs.Lists.{times, without}
 use Rattle.arena.specs.Linked.{IsWay, ring, rings, IsLinked}
 use Rattle.arena.proofs.Times.{times-without_all_same, times-without_all_other, length-without}
 use Rattle.arena.proofs.Ways.{AreSlots, walk-way, walk-inside, length-walk, slots-below, slots-without, table-map}
-
--- two numbers are equal or differ
-pub equal_or_not : (a b : ℕ) → (a ≡ b) ⊎ (a ≢ b)
-equal_or_not a b = elim (eqb_tells a b) [ inl e ↦ inl e.1 | inr n ↦ inr n.1 ]
 
 -- The neighbors of a slot were tied to one another, and the slot to itself.
 pub record IsUnlinked (slot : ℕ) (next previous next' previous' : ℕ → ℕ) : Type 0 where
@@ -65,27 +62,27 @@ module _ (slots nodes slot : ℕ) (next previous next' previous' : ℕ → ℕ) 
       (λ e low high. ring-unlinked e low (omega (arith, linked.slots_fit)))
 
   next_below : (a : ℕ) → a < nodes → next' a < nodes
-  next_below a below = elim (equal_or_not a slot) [
+  next_below a below = elim (cases_eq a slot) [
     | inl e ↦ rw (e, unlinked.alone_next) is_node
-    | inr n ↦ elim (equal_or_not a (previous slot)) [
+    | inr n ↦ elim (cases_eq a (previous slot)) [
       | inl p ↦ rw (p, unlinked.tied_next (λ loop. n (p ∙ loop))) (linked.next_below slot is_node)
       | inr q ↦ rw (unlinked.rest_next a n q) (linked.next_below a below)
     ]
   ]
 
   previous_below : (a : ℕ) → a < nodes → previous' a < nodes
-  previous_below a below = elim (equal_or_not a slot) [
+  previous_below a below = elim (cases_eq a slot) [
     | inl e ↦ rw (e, unlinked.alone_previous) is_node
-    | inr n ↦ elim (equal_or_not a (next slot)) [
+    | inr n ↦ elim (cases_eq a (next slot)) [
       | inl p ↦ rw (p, unlinked.tied_previous (λ loop. n (p ∙ loop))) (linked.previous_below slot is_node)
       | inr q ↦ rw (unlinked.rest_previous a n q) (linked.previous_below a below)
     ]
   ]
 
   next_undoes : (a : ℕ) → a < nodes → next' (previous' a) ≡ a
-  next_undoes a below = elim (equal_or_not a slot) [
+  next_undoes a below = elim (cases_eq a slot) [
     | inl e ↦ ap (λ x. next' (previous' x)) e ∙ ap next' unlinked.alone_previous ∙ unlinked.alone_next ∙ sym e
-    | inr n ↦ elim (equal_or_not a (next slot)) [
+    | inr n ↦ elim (cases_eq a (next slot)) [
       | inl p ↦
           let apart : previous slot ≢ slot = (λ loop. n (p ∙ ap next (sym loop) ∙ linked.next_undoes slot is_node)) in
           ap (λ x. next' (previous' x)) p ∙ ap next' (unlinked.tied_previous (λ loop. n (p ∙ loop))) ∙ unlinked.tied_next apart ∙ sym p
@@ -98,9 +95,9 @@ module _ (slots nodes slot : ℕ) (next previous next' previous' : ℕ → ℕ) 
   ]
 
   previous_undoes : (a : ℕ) → a < nodes → previous' (next' a) ≡ a
-  previous_undoes a below = elim (equal_or_not a slot) [
+  previous_undoes a below = elim (cases_eq a slot) [
     | inl e ↦ ap (λ x. previous' (next' x)) e ∙ ap previous' unlinked.alone_next ∙ unlinked.alone_previous ∙ sym e
-    | inr n ↦ elim (equal_or_not a (previous slot)) [
+    | inr n ↦ elim (cases_eq a (previous slot)) [
       | inl p ↦
           let apart : next slot ≢ slot = (λ loop. n (p ∙ ap previous (sym loop) ∙ linked.previous_undoes slot is_node)) in
           ap (λ x. previous' (next' x)) p ∙ ap previous' (unlinked.tied_next (λ loop. n (p ∙ loop))) ∙ unlinked.tied_previous apart ∙ sym p
@@ -118,7 +115,7 @@ module _ (slots nodes slot : ℕ) (next previous next' previous' : ℕ → ℕ) 
       subst P (sym (ring-unlinked end outside below)) (ring_way end outside below)
 
   once : (i : ℕ) → times i (concat (rings next' slots nodes)) ≤ 1
-  once i = rw rings-unlinked (elim (equal_or_not i slot) [
+  once i = rw rings-unlinked (elim (cases_eq i slot) [
     | inl e ↦ rw e (omega (arith, times-without_all_same slot (rings next slots nodes)))
     | inr n ↦ omega (arith, times-without_all_other i slot (rings next slots nodes) n, linked.once i)
   ])

@@ -5,7 +5,7 @@ ghost use Rattle.std.specs.Prelude.{◌≡◌, ◌+◌, ◌<◌, length, slice_s
 ghost use Rattle.std.specs.Option.{option_copied_mut};
 ghost use Rattle.std.specs.Option.Follows.{option_follows_value};
 ghost use Rattle.std.specs.Borrow.{sem};
-ghost use Rattle.arena.specs.Row.{IsParted, capacity_of, value_at, holds, empty_row, put_answer, after_put, front_of, next_of, can_move, after_move, after_lend, restore_answer, after_restore, after_take};
+ghost use Rattle.arena.specs.Row.{IsParted, capacity_of, value_at, holds, empty_row, put_answer, after_put, front_of, next_of, can_move, after_move, after_lend, restore_answer, after_restore, after_take, with_value};
 
 mod links;
 #[cfg(test)]
@@ -119,6 +119,8 @@ impl<T> Arena<T> {
     /// The value in a slot for writing, where `get` gives one.
     pub fn get_mut(&mut self, i: usize) -> Option<&mut T>
         ensures* writes_back { sem 𝓛 (lends_get T.row self.entry i result) }
+        ensures parted { IsParted self.old }
+        ensures stays_parted { IsTrue (holds self.old i) → (value : T) → IsParted (with_value self.old i value) }
         ensures value { option_copied_mut result ≡ value_at self.old i }
     {
         if self.holds(i) {
