@@ -4,6 +4,5 @@ pub mod Numbers
 pub mod Paths
 pub mod Placed
 pub mod Preorder
-
 -- ---- this crate's own
 mod Examples

@@ -4,14 +4,11 @@
 #![tactic(auto)]
 
 mod affinities;
+mod geometry;
 mod kinds;
 mod places;
-mod geometry;
 
 pub use affinities::{Affinity, related};
+pub use geometry::{BadGeometry, Geometry};
 pub use kinds::{Kind, changing};
 pub use places::{Place, group_of, place_of};
-pub use geometry::{BadGeometry, Geometry};
-
-#[cfg(test)]
-mod tests;
