@@ -1,4 +1,9 @@
+-- ---- for the crates above: how often a slot stands in lists, the parts of a row after each call, and
+-- what a caller needs of chains and parts
 pub mod Times
+pub mod Parts
+pub mod RowLemmas
+-- ---- this crate's own: that the links stand for lists, and that the arena keeps its row by them
 mod Ways
 mod Unlinking
 mod Alone
@@ -10,6 +15,4 @@ mod StoredUnlinking
 mod StoredInserting
 mod StoredAppending
 mod StoredPrepending
-pub mod Parts
-pub mod Keeping
-pub mod RowLemmas
+mod Keeping
