@@ -8,8 +8,6 @@ ghost use Rattle.std.specs.Borrow.{sem};
 ghost use Rattle.arena.specs.Row.{IsParted, capacity_of, value_at, holds, empty_row, put_answer, after_put, front_of, next_of, can_move, after_move, after_lend, restore_answer, after_restore, after_take, with_value};
 
 mod links;
-#[cfg(test)]
-mod tests;
 
 use links::Links;
 use std::alloc::{AllocError, Global};

@@ -1,0 +1,8 @@
+//! Tests of arena by its public surface.
+
+#![tactic(auto)]
+
+#[cfg(test)]
+mod calls;
+#[cfg(test)]
+mod rows;
