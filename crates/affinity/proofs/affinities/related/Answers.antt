@@ -1,5 +1,5 @@
 -- The two tests together are those of the law on intervals.
-use Rattle.std.proofs.Common.{◌≡◌, ◌∙◌, sym, ap}
+use Rattle.std.proofs.Common.{◌∙◌, sym, ap}
 use Rattle.std.specs.Prelude.{◌||◌}
 use Rattle.affinity.specs.Interval.{contains}
 use Rattle.affinity.proofs.Preorder.{are_related-contains}
