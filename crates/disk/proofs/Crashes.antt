@@ -1,7 +1,7 @@
 -- The loop that tears a device, and that what it leaves is what a crash may leave.
 use Rattle.std.proofs.Common.{◌≡◌, ℕ, ◌+◌, ◌<◌, Bool, true, false, List, [], ◌∷◌, ◌++◌, length, take, drop, set, get_or, refl, sym, ◌∙◌, ap, arith, append_assoc}
 use Rattle.std.proofs.lemmas.List.{drop_more, drop-set-lt, take_more, take_more_set}
-use Rattle.disk.specs.Device.{MayLeave}
+use Rattle.disk.specs.Device.{SameButLoose}
 use Rattle.disk.specs.Torn.{torn_from}
 
 -- What a crash leaves is made of the bytes that are torn already and of the rest: with k loose places among the
@@ -32,7 +32,7 @@ module _ (put : ℕ → ℕ → ℕ) (i k : ℕ) (loose : List Bool) (bytes : Li
       ∙ append_assoc (take i bytes) (get_or bytes i 0 ∷ []) behind
       ∙ ap (λ (l : List ℕ). take i bytes ++ l) (sym now)
 
-pub torn_leaves : (put : ℕ → ℕ → ℕ) (i k : ℕ) (loose : List Bool) (now : List ℕ) → length loose ≡ length now → MayLeave now loose (torn_from put i k loose now)
+pub torn_leaves : (put : ℕ → ℕ → ℕ) (i k : ℕ) (loose : List Bool) (now : List ℕ) → length loose ≡ length now → SameButLoose now loose (torn_from put i k loose now)
 torn_leaves put i k loose [] size = tt
 torn_leaves put i k [] (b ∷ now) size = absurd (omega (arith, size))
 torn_leaves put i k (true ∷ loose) (b ∷ now) size = torn_leaves put (i + 1) (k + 1) loose now (omega (arith, size))

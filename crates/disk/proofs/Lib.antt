@@ -1,3 +1,4 @@
+pub mod Bytes
 pub mod Calls
 mod Crashes
 pub mod Leaves

@@ -1,6 +1,6 @@
 -- How what a crash leaves at each moment goes on from call to call.
 use Rattle.std.proofs.Common.{◌≡◌, ◌⊎◌, ◌≤◌, ℕ, List, [], ◌∷◌, length, inl, inr, ⊎_elim, ap, subst, arith}
-use Rattle.disk.specs.Device.{Moment, Medium, MayLeave, Leaves, moments}
+use Rattle.disk.specs.Device.{AreBytes, Moment, Medium, MayLeave, Leaves, moments}
 use Rattle.disk.specs.Moments.{moment, LeftSince, left_since, LeavesOnly}
 
 -- no moment comes after the newest
@@ -65,3 +65,19 @@ then old mid new P first second = record {
 -- what a crash leaves at the end
 pub leaves_now : (old new : Medium) (P : List ℕ → Type 0) → LeavesOnly old new P → (c : List ℕ) → Leaves new c → P c
 leaves_now old new P so_far c left = so_far.each c (counts_now new (moment old) c so_far.later left)
+
+some_bytes : (ms : List Moment) (t : ℕ) (c : List ℕ) → LeftSince ms t c → AreBytes c
+some_bytes [] t c since = absurd since
+some_bytes (m ∷ earlier) t c since =
+    ⊎_elim (λ (here : (t ≤ length earlier) × MayLeave m.now m.loose c). here.1.bytes) (some_bytes earlier t c) since
+
+-- what a crash leaves at any moment are bytes
+pub bytes_since : (m : Medium) (t : ℕ) (c : List ℕ) → left_since m t c → AreBytes c
+bytes_since m t c since = some_bytes (moments m) t c since
+
+pub with_bytes : (old new : Medium) (P : List ℕ → Type 0) → LeavesOnly old new P → LeavesOnly old new (λ c. AreBytes c × P c)
+with_bytes old new P so_far = record {
+  later = so_far.later;
+  each = λ c left. (bytes_since new (moment old) c left, so_far.each c left);
+  before = λ t c early left. ⊎_elim (λ (was : left_since old t c). inl was) (λ p. inr (bytes_since new t c left, p)) (so_far.before t c early left);
+}

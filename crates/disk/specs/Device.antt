@@ -1,9 +1,9 @@
 -- A device of bytes: what its calls do to it, and what a crash may leave of it.
-use Rattle.std.specs.Prelude.{◌≡◌, ℕ, zero, suc, ◌+◌, Bool, true, false, List, [], ◌∷◌, length, take, drop, replicate, slice_range, Result, Ok, Err, OnOk, IsErrOf}
+use Rattle.std.specs.Prelude.{◌≡◌, ℕ, zero, suc, ◌+◌, ◌<◌, All, Bool, true, false, List, [], ◌∷◌, length, take, drop, replicate, slice_range, Result, Ok, Err, OnOk, IsErrOf}
 use Rattle.disk.specs.declared.fault.DiskFault.{DiskFault}
 use Rattle.disk.specs.declared.fault.DiskFault.TheVariants.{OutOfRange, Device}
 
--- A device at one moment: what a read gives, and for each place whether it is loose, that is, written since the
+-- A device at one moment: what a read gives, and for each offset whether it is loose, that is, written since the
 -- last sync that succeeded.
 pub record Moment : Type 0 where
   pub now : List ℕ
@@ -17,15 +17,24 @@ pub record Medium : Type 0 where
   pub past : List Moment
   pub faults : ℕ
 
--- A crash leaves any bytes at the loose places and keeps all others. It changes no length. A place past the end of
--- the marks counts as loose.
-abbrev pub MayLeave : List ℕ → List Bool → List ℕ → Type 0
-MayLeave [] loose [] = Unit {0}
-MayLeave [] loose (x ∷ c) = ⊥
-MayLeave (b ∷ now) loose [] = ⊥
-MayLeave (b ∷ now) [] (x ∷ c) = MayLeave now [] c
-MayLeave (b ∷ now) (true ∷ loose) (x ∷ c) = MayLeave now loose c
-MayLeave (b ∷ now) (false ∷ loose) (x ∷ c) = (x ≡ b) × MayLeave now loose c
+-- each number of the list is a byte
+abbrev pub AreBytes : List ℕ → Type 0
+AreBytes numbers = All (λ b. b < 256) numbers
+
+-- A list of the same length that has the same items at all offsets that are not loose. An offset past the end of the
+-- marks counts as loose.
+abbrev pub SameButLoose : List ℕ → List Bool → List ℕ → Type 0
+SameButLoose [] loose [] = Unit {0}
+SameButLoose [] loose (x ∷ c) = ⊥
+SameButLoose (b ∷ now) loose [] = ⊥
+SameButLoose (b ∷ now) [] (x ∷ c) = SameButLoose now [] c
+SameButLoose (b ∷ now) (true ∷ loose) (x ∷ c) = SameButLoose now loose c
+SameButLoose (b ∷ now) (false ∷ loose) (x ∷ c) = (x ≡ b) × SameButLoose now loose c
+
+-- A crash leaves any bytes at the loose offsets and keeps all others. It changes no length.
+pub record MayLeave (now : List ℕ) (loose : List Bool) (c : List ℕ) : Type 0 where
+  pub same : SameButLoose now loose c
+  pub bytes : AreBytes c
 
 -- what a crash may leave of the device as it stands
 abbrev pub Leaves : Medium → List ℕ → Type 0
@@ -35,7 +44,7 @@ Leaves m c = MayLeave m.now m.loose c
 abbrev pub IsSynced : Medium → Type 0
 IsSynced m = m.loose ≡ replicate (length m.now) false
 
--- the list with these items from a place on; what would lie past its end is left out
+-- the list with these items from an offset on; what would lie past its end is left out
 abbrev pub overlaid : {X : Type 0} → List X → ℕ → List X → List X
 overlaid [] at items = []
 overlaid (x ∷ xs) zero [] = x ∷ xs
@@ -46,7 +55,7 @@ overlaid (x ∷ xs) (suc at) items = x ∷ overlaid xs at items
 abbrev pub marked : List Bool → ℕ → ℕ → List Bool
 marked loose at n = overlaid loose at (replicate n true)
 
--- two lists of one length that differ at most in n places from this one on
+-- two lists of one length that differ at most in the n items from this offset on
 pub record SameOutside {X : Type 0} (at n : ℕ) (old new : List X) : Type 0 where
   pub before : take at new ≡ take at old
   pub after : drop (at + n) new ≡ drop (at + n) old

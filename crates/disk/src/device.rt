@@ -1,6 +1,6 @@
 ghost use Rattle.std.specs.Prelude.{◌≡◌, ◌+◌, ◌<◌, ◌^◌, ◌↔◌, length, IsErrOf};
 ghost use Rattle.disk.specs.declared.fault.DiskFault.TheVariants.{OutOfRange};
-ghost use Rattle.disk.specs.Device.{Medium, Reads, Writes, Syncs, CountsFault};
+ghost use Rattle.disk.specs.Device.{Medium, AreBytes, Reads, Writes, Syncs, CountsFault};
 
 use crate::DiskFault;
 
@@ -46,4 +46,7 @@ pub trait Disk {
 
     /// The length is a `u64`.
     ghost fits: { (d : Self) → length (medium d).now < 2 ^ 64 };
+
+    /// Each byte is below 256.
+    ghost bytes: { (d : Self) → AreBytes (medium d).now };
 }

@@ -1,6 +1,6 @@
 ghost use Rattle.std.specs.Prelude.{◌≡◌, ◌<◌, ◌^◌, length, IfOk, replicate};
 ghost use Rattle.std.specs.IoError.{error_kind};
-ghost use Rattle.disk.specs.Device.{begun};
+ghost use Rattle.disk.specs.Device.{AreBytes, begun};
 
 use crate::ranges::start_of;
 use crate::shadow::{FAILED, LOST, SYNCED, Shadow, WRITTEN, ZEROED};
@@ -32,6 +32,7 @@ pub struct FileDisk {
     shadow: Shadow,
     ghost size_is: { length shadow.medium.now ≡ size },
     ghost fits: { length shadow.medium.now < 2 ^ 64 },
+    ghost are_bytes: { AreBytes shadow.medium.now },
 }
 
 impl FileDisk {
@@ -119,4 +120,6 @@ impl Disk for FileDisk {
     }
 
     ghost fits = { λ d. d.fits };
+
+    ghost bytes = { λ d. d.are_bytes };
 }

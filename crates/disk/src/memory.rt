@@ -1,7 +1,7 @@
 ghost use Rattle.std.specs.Prelude.{◌≡◌, ◌+◌, ◌<◌, ◌^◌, ◌↔◌, length, IfOk, IsErrOf, replicate};
 ghost use Rattle.disk.specs.declared.fault.DiskFault.TheVariants.{OutOfRange};
 ghost use Rattle.disk.specs.declared.fuse.Fuse.TheVariants.{FailAt, StopAt};
-ghost use Rattle.disk.specs.Device.{Leaves, Reads, Writes, Syncs, CountsFault};
+ghost use Rattle.disk.specs.Device.{AreBytes, Leaves, Reads, Writes, Syncs, CountsFault};
 ghost use Rattle.disk.specs.Span.{HoldsLoose};
 ghost use Rattle.disk.specs.Torn.{HasBytes};
 
@@ -33,6 +33,7 @@ pub struct MemDisk {
     ghost loose_size: { length loose.items ≡ length bytes.items },
     ghost holds_loose: { HoldsLoose span.start span.end shadow.medium kept.items },
     ghost fits: { length shadow.medium.now < 2 ^ 64 },
+    ghost are_bytes: { AreBytes shadow.medium.now },
 }
 
 impl MemDisk {
@@ -201,4 +202,6 @@ impl Disk for MemDisk {
     }
 
     ghost fits = { λ d. d.fits };
+
+    ghost bytes = { λ d. d.are_bytes };
 }

@@ -1,6 +1,6 @@
-use Rattle.std.proofs.Common.{◌≡◌, List, length, ℕ, ap, sym, subst, ◌∙◌, arith}
+use Rattle.std.proofs.Common.{rules, ◌≡◌, List, length, ℕ, ap, sym, subst, ◌∙◌, arith}
 use Rattle.std.proofs.lemmas.Grind.{common_steps}
-use Rattle.disk.specs.Device.{MayLeave}
+use Rattle.disk.specs.Device.{SameButLoose}
 use Rattle.disk.specs.Torn.{torn_byte, torn_from}
 use Rattle.disk.proofs.Crashes.{torn_leaves}
 use Rattle.disk.proofs.memory.MemDisk.crash.Goals as goal
@@ -13,4 +13,7 @@ returns-clause-may c =
     let loose = self.shadow.medium.loose in
     let size : length loose ≡ length now = ap length self.loose_is ∙ self.loose_size ∙ sym (ap length self.now_is) in
     let is : c.note.new.self.medium.now ≡ torn_from put 0 0 loose now = grind (arith, common_steps) in
-    subst (λ (c : List ℕ). MayLeave now loose c) (sym is) (torn_leaves put 0 0 loose now size)
+    record {
+      same = subst (λ (c : List ℕ). SameButLoose now loose c) (sym is) (torn_leaves put 0 0 loose now size);
+      bytes = search rules;
+    }

@@ -1,7 +1,8 @@
 use Rattle.std.proofs.Common.{refl, sym, subst, arith}
 use Rattle.std.proofs.lemmas.Grind.{common_steps}
-use Rattle.disk.specs.Device.{Medium}
+use Rattle.disk.specs.Device.{AreBytes, Medium}
 use Rattle.disk.specs.Span.{HoldsLoose}
+use Rattle.disk.proofs.Bytes.{bytes_fit, bytes-overlaid}
 use Rattle.disk.proofs.Spans.{holds_lost, holds_written}
 use Rattle.disk.proofs.memory.MemDiskDisk.write_at.Goals as goal
 
@@ -18,6 +19,7 @@ invariant_of-self c =
       holds_loose = subst (λ (m : Medium). HoldsLoose span.start span.end m self.kept.items) (sym c.note.ensures)
           (holds_lost self.span.start self.span.end span.start span.end c.args.at _ self.shadow.medium self.kept.items self.span.ordered (omega (arith, c.in_ok-start.ensures.start, c.in_ok-start.ensures.inside)) (omega (arith, c.in_ok-start.ensures.start, c.in_ok-start.ensures.inside)) (omega (arith, c.in_ok-start.ensures.start, c.in_ok-start.ensures.inside)) c.with-self.ensures.holds_old self.holds_loose);
       fits = grind (arith, common_steps);
+      are_bytes = subst (λ (m : Medium). AreBytes m.now) (sym c.note.ensures) self.are_bytes;
     }
 
 pub invariant_of-self-2 : goal.invariant_of-self-2
@@ -33,4 +35,6 @@ invariant_of-self-2 c =
       holds_loose = subst (λ (m : Medium). HoldsLoose span.start span.end m self.kept.items) (sym c.note-2.ensures)
           (holds_written self.span.start self.span.end span.start span.end c.args.at _ self.shadow.medium self.kept.items self.span.ordered (omega (arith, c.in_ok-start.ensures.start, c.in_ok-start.ensures.inside)) (omega (arith, c.in_ok-start.ensures.start, c.in_ok-start.ensures.inside)) (omega (arith, c.in_ok-start.ensures.start, c.in_ok-start.ensures.inside)) c.with-self.ensures.holds_old self.holds_loose c.args.bytes.now refl);
       fits = grind (arith, common_steps);
+      are_bytes = subst (λ (m : Medium). AreBytes m.now) (sym c.note-2.ensures)
+          (bytes-overlaid self.shadow.medium.now c.args.at c.args.bytes.now self.are_bytes (bytes_fit c.args.bytes.now (λ i. (c.type_inv.bytes i).fits)));
     }
