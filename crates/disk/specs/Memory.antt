@@ -15,7 +15,7 @@ pub record Memory : Type 0 where
   pub medium : Medium
   -- what the last sync left
   pub kept : List ℕ
-  -- at a loose place, the byte that was last asked to be written there
+  -- at a loose offset, the byte that was last asked to be written there
   pub asked : List ℕ
   pub fuse : Fuse
   -- the reads, writes and syncs so far
@@ -35,9 +35,9 @@ made bytes = record { medium = begun bytes; kept = bytes; asked = bytes; fuse = 
 abbrev pub counted : Memory → Memory
 counted m = record m { fuse = burned m.fuse; calls = min (m.calls + 1) (2 ^ 64 - 1) }
 
--- the answer to a call for n bytes from this place on
-abbrev pub answer : ℕ → ℕ → Memory → Result (Unit {0}) DiskFault
-answer at n m =
+-- the answer to a call for n bytes from this offset on
+abbrev pub call_result : ℕ → ℕ → Memory → Result (Unit {0}) DiskFault
+call_result at n m =
     if nat_lt (length m.medium.now) (at + n) then Err OutOfRange
     else if is_blown m.fuse then Err Device
     else Ok tt

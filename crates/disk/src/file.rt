@@ -3,7 +3,7 @@ ghost use Rattle.std.specs.IoError.{error_kind};
 ghost use Rattle.disk.specs.Device.{AreBytes, begun};
 
 use crate::ranges::start_of;
-use crate::shadow::{FAILED, LOST, SYNCED, Shadow, WRITTEN, ZEROED};
+use crate::shadow::{Call, Shadow};
 use crate::{Disk, DiskFault, FileFault};
 use std::fs::{File, OpenOptions};
 use std::io;
@@ -75,7 +75,7 @@ impl FileDisk {
         ensures { file_medium result ≡ begun (replicate size 0) }
     {
         let mut shadow = Shadow::new();
-        shadow.note(&[ZEROED, size], &[]);
+        shadow.note(&Call::Zeroed(size), &[]);
         FileDisk { file, size, shadow }
     }
 }
@@ -94,7 +94,7 @@ impl Disk for FileDisk {
     fn read_at(&mut self, at: u64, out: &mut [u8]) -> Result<(), DiskFault> {
         start_of(self.len(), at, out.len())?;
         if self.file.read_exact_at(out, at).is_err() {
-            self.shadow.note(&[FAILED, at], &[]);
+            self.shadow.note(&Call::Failed, &[]);
             return Err(DiskFault::Device);
         }
         Ok(())
@@ -103,19 +103,19 @@ impl Disk for FileDisk {
     fn write_at(&mut self, at: u64, bytes: &[u8]) -> Result<(), DiskFault> {
         start_of(self.len(), at, bytes.len())?;
         if self.file.write_all_at(bytes, at).is_err() {
-            self.shadow.note(&[LOST, at], bytes);
+            self.shadow.note(&Call::Lost(at), bytes);
             return Err(DiskFault::Device);
         }
-        self.shadow.note(&[WRITTEN, at], bytes);
+        self.shadow.note(&Call::Wrote(at), bytes);
         Ok(())
     }
 
     fn sync(&mut self) -> Result<(), DiskFault> {
         if self.file.sync_data().is_err() {
-            self.shadow.note(&[FAILED, 0], &[]);
+            self.shadow.note(&Call::Failed, &[]);
             return Err(DiskFault::Device);
         }
-        self.shadow.note(&[SYNCED, 0], &[]);
+        self.shadow.note(&Call::Synced, &[]);
         Ok(())
     }
 

@@ -7,7 +7,7 @@ ghost use Rattle.disk.specs.Torn.{HasBytes};
 
 use crate::fuse::{Fuse, Meter};
 use crate::ranges::{clear, mark, overlay, refresh, start_of};
-use crate::shadow::{BEGUN, FAILED, LOST, SYNCED, Shadow, WRITTEN};
+use crate::shadow::{Call, Shadow};
 use crate::span::Span;
 use crate::torn::tear;
 use crate::{Disk, DiskFault, Torn};
@@ -19,7 +19,7 @@ pub struct MemDisk {
     bytes: Vec<u8>,
     // What the last sync left.
     kept: Vec<u8>,
-    // At a loose place, the byte that was last asked to be written there.
+    // At a loose offset, the byte that was last asked to be written there.
     asked: Vec<u8>,
     loose: Vec<bool>,
     // Outside it nothing is loose, and `kept` has the same bytes.
@@ -54,7 +54,7 @@ impl MemDisk {
         let asked = bytes.to_vec(alloc)?;
         let loose = vec![in alloc; false; bytes.len()]?;
         let mut shadow = Shadow::new();
-        shadow.note(&[BEGUN, 0], &bytes);
+        shadow.note(&Call::Begun, &bytes);
         Ok(MemDisk {
             bytes,
             kept,
@@ -108,7 +108,7 @@ impl MemDisk {
         kept.copy_from_slice(&bytes);
         loose.fill(false);
         let mut shadow = Shadow::new();
-        shadow.note(&[BEGUN, 0], &bytes);
+        shadow.note(&Call::Begun, &bytes);
         MemDisk {
             bytes,
             kept,
@@ -130,7 +130,7 @@ impl MemDisk {
 }
 
 impl Disk for MemDisk {
-    ghost use Rattle.disk.specs.Memory.{memory_of, medium_of, answer, after_read, after_write, after_sync};
+    ghost use Rattle.disk.specs.Memory.{memory_of, medium_of, call_result, after_read, after_write, after_sync};
 
     ghost medium = { medium_of };
 
@@ -147,12 +147,12 @@ impl Disk for MemDisk {
         ensures counts { CountsFault result (medium_of self.old).faults (medium_of self.new).faults }
         ensures len { length (medium_of self.new).now ≡ length (medium_of self.old).now }
         ensures reads { Unit {0} → Reads at out.new result (medium_of self.old) (medium_of self.new) }
-        ensures answer { result ≡ answer at (length out.old) (memory_of self.old) }
+        ensures answer { result ≡ call_result at (length out.old) (memory_of self.old) }
         ensures after { memory_of self.new ≡ after_read result (memory_of self.old) }
     {
         let start = start_of(self.len(), at, out.len())?;
         if self.meter.spend() {
-            self.shadow.note(&[FAILED, at], &[]);
+            self.shadow.note(&Call::Failed, &[]);
             return Err(DiskFault::Device);
         }
         out.copy_from_slice(&self.bytes[start..start + out.len()]);
@@ -165,7 +165,7 @@ impl Disk for MemDisk {
         ensures counts { CountsFault result (medium_of self.old).faults (medium_of self.new).faults }
         ensures len { length (medium_of self.new).now ≡ length (medium_of self.old).now }
         ensures writes { Unit {0} → Writes at bytes.now result (medium_of self.old) (medium_of self.new) }
-        ensures answer { result ≡ answer at (length bytes.now) (memory_of self.old) }
+        ensures answer { result ≡ call_result at (length bytes.now) (memory_of self.old) }
         ensures after { memory_of self.new ≡ after_write result at bytes.now (memory_of self.old) }
     {
         let start = start_of(self.len(), at, bytes.len())?;
@@ -174,11 +174,11 @@ impl Disk for MemDisk {
         overlay(&mut self.asked, start, bytes);
         mark(&mut self.loose, start, bytes.len());
         if fails {
-            self.shadow.note(&[LOST, at], bytes);
+            self.shadow.note(&Call::Lost(at), bytes);
             return Err(DiskFault::Device);
         }
         overlay(&mut self.bytes, start, bytes);
-        self.shadow.note(&[WRITTEN, at], bytes);
+        self.shadow.note(&Call::Wrote(at), bytes);
         Ok(())
     }
 
@@ -187,17 +187,17 @@ impl Disk for MemDisk {
         ensures counts { CountsFault result (medium_of self.old).faults (medium_of self.new).faults }
         ensures len { length (medium_of self.new).now ≡ length (medium_of self.old).now }
         ensures syncs { Unit {0} → Syncs result (medium_of self.old) (medium_of self.new) }
-        ensures answer { result ≡ answer 0 0 (memory_of self.old) }
+        ensures answer { result ≡ call_result 0 0 (memory_of self.old) }
         ensures after { memory_of self.new ≡ after_sync result (memory_of self.old) }
     {
         if self.meter.spend() {
-            self.shadow.note(&[FAILED, 0], &[]);
+            self.shadow.note(&Call::Failed, &[]);
             return Err(DiskFault::Device);
         }
         refresh(&mut self.kept, &self.bytes, self.span);
         clear(&mut self.loose, self.span);
         self.span = Span::none();
-        self.shadow.note(&[SYNCED, 0], &[]);
+        self.shadow.note(&Call::Synced, &[]);
         Ok(())
     }
 

@@ -1,23 +1,26 @@
 //! What contracts know of a device and no memory holds: its moments so far, and how often it failed.
-ghost use Rattle.std.specs.Prelude.{◌≡◌, [], slice_index};
+ghost use Rattle.std.specs.Prelude.{◌≡◌, []};
 ghost use Rattle.std.specs.Borrow.{ftrue};
 ghost use Rattle.disk.specs.Device.{Medium, begun};
-ghost use Rattle.disk.specs.Shadow.{after};
+ghost use Rattle.disk.specs.Shadow.{medium_after};
 
 use std::marker::{Model, PhantomData};
 
-/// The numbers by which `note` is told of a call, as `after` reads them.
-pub(crate) const BEGUN: u64 = 0;
-
-pub(crate) const WRITTEN: u64 = 1;
-
-pub(crate) const LOST: u64 = 2;
-
-pub(crate) const SYNCED: u64 = 3;
-
-pub(crate) const FAILED: u64 = 4;
-
-pub(crate) const ZEROED: u64 = 5;
+/// What a device tells of a call.
+#[derive(Clone, Copy, Debug)]
+pub(crate) enum Call {
+    /// It was made, with the bytes that are told.
+    Begun,
+    /// The bytes were written from this offset on.
+    Wrote(u64),
+    /// The bytes were to be written from this offset on, and a read gives what it gave before.
+    Lost(u64),
+    Synced,
+    /// A read or a sync failed.
+    Failed,
+    /// It was made, with so many zeros.
+    Zeroed(u64),
+}
 
 /// It has no bytes, and its calls do nothing when they run. Nothing in itself ties `medium` to a device: each
 /// device does so by its own ghost fields. The proofs of `new` and `note` are written by hand, and no other proof
@@ -41,8 +44,8 @@ impl Shadow {
         }
     }
 
-    /// Notes a call: which it was and where, and the bytes that it was given.
-    pub(crate) fn note(&mut self, _call: &[u64], _bytes: &[u8])
-        ensures { self.new.medium ≡ after (slice_index _call.now 0) (slice_index _call.now 1) _bytes.now self.old.medium }
+    /// Notes a call, with the bytes that it was given.
+    pub(crate) fn note(&mut self, _call: &Call, _bytes: &[u8])
+        ensures { self.new.medium ≡ medium_after _call.now _bytes.now self.old.medium }
     {}
 }
