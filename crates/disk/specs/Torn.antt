@@ -1,4 +1,4 @@
--- What each kind of crash leaves at the loose places.
+-- What each kind of crash leaves at the loose offsets.
 use Rattle.std.specs.Prelude.{ℕ, ◌+◌, ◌%◌, ◌<◌, Bool, true, false, List, [], ◌∷◌, length, slice_index}
 use Rattle.disk.specs.declared.torn.Torn.{Torn}
 use Rattle.disk.specs.declared.torn.Torn.TheVariants.{Old, New, Fill, Mixed}
@@ -8,14 +8,14 @@ abbrev pub HasBytes : Torn → Type 0
 HasBytes (Mixed pattern) = 0 < length pattern.items
 HasBytes _ = Unit {0}
 
--- What a crash of this kind puts at the loose place i, with k loose places below it.
+-- What a crash of this kind puts at the loose offset i, with k loose ones below it.
 abbrev pub torn_byte : Torn → List ℕ → List ℕ → ℕ → ℕ → ℕ
 torn_byte Old kept asked i k = slice_index kept i
 torn_byte New kept asked i k = slice_index asked i
 torn_byte (Fill x) kept asked i k = x
 torn_byte (Mixed pattern) kept asked i k = slice_index pattern.items (k % length pattern.items)
 
--- These bytes, which lie from place i on and have k loose places below them, with `put i k` at each loose place.
+-- These bytes, which lie from offset i on and have k loose ones below them, with `put i k` at each loose offset.
 abbrev pub torn_from : (ℕ → ℕ → ℕ) → ℕ → ℕ → List Bool → List ℕ → List ℕ
 torn_from put i k loose [] = []
 torn_from put i k [] (b ∷ now) = b ∷ now

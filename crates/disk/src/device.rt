@@ -1,3 +1,4 @@
+//! The contract of a device of bytes, on which durable code rests.
 ghost use Rattle.std.specs.Prelude.{◌≡◌, ◌+◌, ◌<◌, ◌^◌, ◌↔◌, length, IsErrOf};
 ghost use Rattle.disk.specs.declared.fault.DiskFault.TheVariants.{OutOfRange};
 ghost use Rattle.disk.specs.Device.{Medium, AreBytes, Reads, Writes, Syncs, CountsFault};

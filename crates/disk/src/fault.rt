@@ -1,3 +1,4 @@
+//! What a device or a file answers where it does not do what it was asked.
 /// What a call of a device answers where it does not do what it was asked.
 #[derive(Clone, Copy, Debug, PartialEq, Eq)]
 pub enum DiskFault {

@@ -1,3 +1,4 @@
+//! A file of the system as a device.
 ghost use Rattle.std.specs.Prelude.{◌≡◌, ◌<◌, ◌^◌, length, IfOk, replicate};
 ghost use Rattle.std.specs.IoError.{error_kind};
 ghost use Rattle.disk.specs.Device.{AreBytes, begun};
@@ -38,7 +39,7 @@ pub struct FileDisk {
 impl FileDisk {
     ghost use Rattle.disk.specs.RealFile.{file_medium};
 
-    /// Makes the file anew, of `len` zeros, in place of one that is there. `OutOfMemory` where the
+    /// Makes the file anew, of `len` zeros, instead of one that is there. `OutOfMemory` where the
     /// system has no memory for it, and `Device` where it refuses for anything else.
     pub fn create<R: Files<File = File>>(
         rt: &R,

@@ -1,3 +1,4 @@
+//! A device in memory, for tests: it fails and crashes on purpose.
 ghost use Rattle.std.specs.Prelude.{◌≡◌, ◌+◌, ◌<◌, ◌^◌, ◌↔◌, length, IfOk, IsErrOf, replicate};
 ghost use Rattle.disk.specs.declared.fault.DiskFault.TheVariants.{OutOfRange};
 ghost use Rattle.disk.specs.declared.fuse.Fuse.TheVariants.{FailAt, StopAt};

@@ -1,4 +1,4 @@
-//! Ranges of places, and writes over them.
+//! Writes over a range of a list, and the test whether a device has the range.
 ghost use Rattle.std.specs.Prelude.{◌≡◌, false, ◌+◌, ◌-◌, ◌<◌, ◌≤◌, ◌↔◌, length, replicate, IfOk, IsErrOf};
 ghost use Rattle.disk.specs.declared.fault.DiskFault.TheVariants.{OutOfRange, Device};
 ghost use Rattle.disk.specs.Device.{SameOutside, overlaid, marked};
@@ -6,7 +6,7 @@ ghost use Rattle.disk.specs.Device.{SameOutside, overlaid, marked};
 use crate::DiskFault;
 use crate::span::Span;
 
-/// The index of a range of n places from `at` on, where a device of this length has it.
+/// The index of a range of n bytes from `at` on, where a device of this length has it.
 pub(crate) fn start_of(len: u64, at: u64, n: usize) -> Result<usize, DiskFault>
     ensures outside { IsErrOf result OutOfRange ↔ len < at + n }
     ensures only { IsErrOf result Device → ⊥ }
@@ -19,7 +19,7 @@ pub(crate) fn start_of(len: u64, at: u64, n: usize) -> Result<usize, DiskFault>
     Ok(at as usize)
 }
 
-/// Writes these bytes from a place on.
+/// Writes these bytes from an offset on.
 pub(crate) fn overlay(bytes: &mut [u8], start: usize, new: &[u8])
     requires { start + length new.now ≤ length bytes.old }
     ensures len { length bytes.new ≡ length bytes.old }
@@ -28,7 +28,7 @@ pub(crate) fn overlay(bytes: &mut [u8], start: usize, new: &[u8])
     bytes[start..start + new.len()].copy_from_slice(new);
 }
 
-/// Marks n places from this one on.
+/// Marks n bytes from this offset on.
 pub(crate) fn mark(marks: &mut [bool], start: usize, n: usize)
     requires { start + n ≤ length marks.old }
     ensures len { length marks.new ≡ length marks.old }

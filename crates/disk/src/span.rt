@@ -1,4 +1,4 @@
-//! A range that holds all places that are loose, so that a sync looks at no more than these.
+//! A range that holds all offsets that are loose, so that a sync looks at no more than these.
 ghost use Rattle.std.specs.Prelude.{◌≡◌, ◌⊎◌, ◌≤◌, ◌==◌, if◌then◌else◌, max, min};
 
 #[derive(Clone, Copy, Debug)]
@@ -16,7 +16,7 @@ impl Span {
         Span { start: 0, end: 0 }
     }
 
-    /// The least span that holds this one and the places from `start` to `end`. Where this one is empty, it is those
+    /// The least span that holds this one and the offsets from `start` to `end`. Where this one is empty, it is those
     /// alone.
     pub(crate) fn with(self, start: usize, end: usize) -> Span
         requires { start ≤ end }

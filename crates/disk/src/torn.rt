@@ -1,7 +1,8 @@
+//! Kinds of crash, and what each leaves of what was not synced.
 ghost use Rattle.std.specs.Prelude.{◌≡◌, ◌<◌, length};
 ghost use Rattle.disk.specs.Torn.{HasBytes, torn_byte, torn_from};
 
-/// What a crash leaves at the places that were written, also by a write that failed, and not synced since.
+/// What a crash leaves at the offsets that were written, also by a write that failed, and not synced since.
 #[derive(Debug, Drop)]
 pub enum Torn {
     /// The bytes of the last sync.
@@ -10,12 +11,12 @@ pub enum Torn {
     New,
     /// This byte.
     Fill(u8),
-    /// These bytes, from the lowest such place upward, and again from the first when they end.
+    /// These bytes, from the lowest such offset upward, and again from the first when they end.
     Mixed(Vec<u8>),
 }
 
 impl Torn {
-    /// The byte that it puts at the loose place i, with k loose places below it.
+    /// The byte that it puts at the loose offset i, with k loose ones below it.
     fn byte(&self, kept: &[u8], asked: &[u8], i: usize, k: usize) -> u8
         requires has_bytes { HasBytes self.now }
         requires in_kept { i < length kept.now }
@@ -31,7 +32,7 @@ impl Torn {
     }
 }
 
-/// Puts at each loose place of these bytes what such a crash leaves there.
+/// Puts at each loose offset of these bytes what such a crash leaves there.
 pub(crate) fn tear(kind: &Torn, kept: &[u8], asked: &[u8], loose: &[bool], bytes: &mut [u8])
     requires has_bytes { HasBytes kind.now }
     requires kept { length kept.now ≡ length bytes.old }
