@@ -3,7 +3,6 @@ pub mod Fuse
 pub mod Memory
 pub mod Moments
 pub mod RealFile
-pub mod Sealing
 pub mod Shadow
 pub mod Span
 pub mod Torn

@@ -19,6 +19,3 @@ pub use fault::{DiskFault, FileFault};
 pub use file::FileDisk;
 pub use memory::MemDisk;
 pub use torn::Torn;
-
-#[cfg(test)]
-mod tests;

@@ -1,4 +1,7 @@
-use super::*;
+//! What each kind of crash leaves.
+use crate::calls::{Call, answers};
+use disk::{MemDisk, Torn};
+use std::alloc::{AllocError, Global};
 use std::test::Fail;
 
 /// A device after some calls: which of them fails, if one does, what a read gives, and what each kind of crash
@@ -30,7 +33,7 @@ const ROWS: [Row; 4] = [
         filled: [7, 7, 7, 7, 14, 15],
         mixed: [1, 77, 1, 1, 14, 15],
     },
-    // Places that do not lie in a row, and a sync that fails.
+    // Offsets that do not lie in a row, and a sync that fails.
     Row {
         calls: &[Call::Write(4, &[8, 9]), Call::Write(1, &[6]), Call::Sync],
         fails: 3,

@@ -2,10 +2,10 @@
 ghost use Rattle.std.specs.Prelude.{◌≡◌, ◌≢◌, ◌+◌, ◌<◌, ◌≤◌, length, slice_index, OnOk, IsErrOf};
 ghost use Rattle.disk.specs.Device.{IsSynced};
 ghost use Rattle.disk.specs.Moments.{LeavesOnly};
-ghost use Rattle.disk.specs.Sealing.{IsSealed};
+ghost use Rattle.disk_tests.specs.Sealing.{IsSealed};
 ghost use Rattle.disk.specs.Torn.{HasBytes};
 
-use crate::{Disk, DiskFault, MemDisk, Torn};
+use disk::{Disk, DiskFault, MemDisk, Torn};
 use std::alloc::{AllocError, Global};
 use std::test::Fail;
 
@@ -31,7 +31,7 @@ fn seal<D: Disk>(disk: &mut D, gate: u64, body: &[u8]) -> Result<(), DiskFault>
     Ok(())
 }
 
-/// What a crash leaves of a device of zeros where the n-th call of a `seal` at place 2 fails.
+/// What a crash leaves of a device of zeros where the n-th call of a `seal` at offset 2 fails.
 fn sealed_until(alloc: Global, n: u64, torn: Torn) -> Result<MemDisk, AllocError>
     requires failing { 0 < n }
     requires torn { HasBytes torn }

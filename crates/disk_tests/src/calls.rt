@@ -1,27 +1,23 @@
-use super::*;
+//! Calls of a device, and what it answers to them.
+use disk::{Disk, DiskFault};
 use std::alloc::{AllocError, Global};
 
-mod files;
-mod fuses;
-mod sealing;
-mod tearing;
-
 #[derive(Drop)]
-enum Call {
-    /// Reads this many bytes from this place on.
+pub(crate) enum Call {
+    /// Reads this many bytes from this offset on.
     Read(u64, usize),
     Write(u64, &'static [u8]),
     Sync,
 }
 
-const FINE: Result<(), DiskFault> = Ok(());
+pub(crate) const FINE: Result<(), DiskFault> = Ok(());
 
-const OUTSIDE: Result<(), DiskFault> = Err(DiskFault::OutOfRange);
+pub(crate) const OUTSIDE: Result<(), DiskFault> = Err(DiskFault::OutOfRange);
 
-const FAULT: Result<(), DiskFault> = Err(DiskFault::Device);
+pub(crate) const FAULT: Result<(), DiskFault> = Err(DiskFault::Device);
 
 /// Makes these calls, and gives what each answered.
-fn answers<D: Disk>(
+pub(crate) fn answers<D: Disk>(
     alloc: Global,
     disk: &mut D,
     calls: &[Call],

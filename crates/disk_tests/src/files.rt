@@ -1,4 +1,6 @@
-use super::*;
+//! Files of the system as devices.
+use crate::calls::{Call, FAULT, FINE, OUTSIDE, answers};
+use disk::{Disk, FileDisk, FileFault};
 use std::fs::{self, OpenOptions, Permissions};
 use std::os::unix::fs::PermissionsExt;
 use std::process;
@@ -94,6 +96,42 @@ fn what_the_system_refuses_is_a_fault(rt: HostRuntime) -> Result<(), Fail> {
     );
     fs::remove_dir_all(&rt, folder.as_str())?;
     Ok(())
+}
+
+/// Each write leaves the device: it is refused, and the file keeps its bytes and its length.
+#[test]
+fn a_write_out_of_range_leaves_the_file(rt: HostRuntime) -> Result<(), Fail> {
+    let folder = new_folder(&rt, "outside")?;
+    let path = format!(in rt.alloc(); "{folder}/device")?;
+    fs::write(&rt, path.as_str(), b"kept".as_slice())?;
+    let mut disk = FileDisk::open(&rt, path.as_str())?;
+    let calls = [
+        Call::Write(3, b"xy"),
+        Call::Write(4, b"x"),
+        Call::Write(0, b"longer"),
+        Call::Write(9, b"x"),
+    ];
+    let got = answers(rt.alloc(), &mut disk, &calls)?;
+    assert_eq!(rt; got.as_slice(), [OUTSIDE; 4].as_slice());
+    let bytes = fs::read(&rt, path.as_str())?;
+    assert_eq!(rt; bytes.as_slice(), b"kept".as_slice());
+    drop(disk);
+    fs::remove_dir_all(&rt, folder.as_str())?;
+    Ok(())
+}
+
+/// The system opens this file and refuses to sync it.
+#[test]
+fn a_file_that_is_not_synced_is_a_fault(rt: HostRuntime) {
+    let path = "/dev/null";
+    assert!(rt;
+        OpenOptions::new()
+            .read(true)
+            .write(true)
+            .open(&rt, path)
+            .is_ok()
+    );
+    assert!(rt; matches!(FileDisk::open(&rt, path), Err(FileFault::Device)));
 }
 
 #[test]

@@ -3,13 +3,13 @@ use Rattle.std.proofs.Common.{◌≡◌, ◌≢◌, ℕ, ◌+◌, ◌<◌, ◌�
 use Rattle.disk.specs.declared.fault.DiskFault.{DiskFault}
 use Rattle.disk.specs.Device.{AreBytes, Medium, IsSynced, SameOutside, Writes, Syncs, synced, overlaid}
 use Rattle.disk.specs.Moments.{LeavesOnly}
-use Rattle.disk.specs.Sealing.{IsSealed}
+use Rattle.disk_tests.specs.Sealing.{IsSealed}
 use Rattle.disk.proofs.Calls.{after_calm_write, after_sync}
 use Rattle.disk.proofs.Leaves.{calm_left}
 use Rattle.disk.proofs.Moments.{started}
 use Rattle.disk.proofs.Outside.{same_all, same_behind, same_both, same_item, wider}
 use Rattle.disk.proofs.Overlays.{item-overlaid, length-overlaid, overlaid_outside, range-overlaid}
-use Rattle.disk.proofs.tests.sealing.seal.Goals as goal
+use Rattle.disk_tests.proofs.sealing.seal.Goals as goal
 
 module _ {gate : ℕ} {body : List ℕ} {w0 w1 : Medium} (inside : gate + 1 + length body ≤ length w0.now) (are : AreBytes w0.now) (calm : IsSynced w0) (closed : slice_index w0.now gate ≢ 1) where
   after_body : {r : Result (Unit {0}) DiskFault} → Writes (gate + 1) body r w0 w1 → LeavesOnly w0 w1 (IsSealed gate body w0.now)

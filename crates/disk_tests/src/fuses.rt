@@ -1,4 +1,7 @@
-use super::*;
+//! Calls that fail by a fuse, and devices for which there is no memory.
+use crate::calls::{Call, FAULT, FINE, OUTSIDE, answers};
+use disk::{DiskFault, MemDisk, Torn};
+use std::alloc::{AllocError, Global};
 use std::test::Fail;
 
 #[derive(Drop)]
