@@ -4,3 +4,4 @@ pub mod Grammar
 pub mod Replies
 pub mod Records
 pub mod Reader
+pub mod Waiting

@@ -1,18 +1,24 @@
 //! The language of the server: messages as lines come in, replies as lines go out.
 #![tactic(auto)]
 
+mod carried;
 mod kinds;
+mod lent_reader;
 mod parsing;
 mod printing;
 mod reading;
 mod records;
+mod reply_buffer;
 #[cfg(test)]
 mod tests;
 
+pub use carried::know_message;
+pub use lent_reader::{LentReader, Loan};
 pub use parsing::parse_line;
 pub use printing::{no_message_line, write_reply};
 pub use reading::{Found, LineReader, ReadFault};
 pub use records::{decode, encode};
+pub use reply_buffer::{REPLY_BUFFER_SIZE, ReplyBuffer, WriteFault};
 
 /// How many bytes a line of the input may have, its newline apart. A longer one is no message.
 pub const LONGEST_LINE: usize = 1100;

@@ -1,0 +1,7 @@
+-- What a writer holds together with what waits to be written to it.
+use Rattle.std.specs.Prelude.{ℕ, List, Option}
+use Rattle.std.specs.Io.KnownBytes.{append_known}
+
+-- all that was answered, where the writer tells what it holds: what is written, and then what waits
+abbrev pub so_far : Option (List ℕ) → List ℕ → Option (List ℕ)
+so_far contents waiting = append_known contents waiting

@@ -1,0 +1,44 @@
+//! What a message carries, told to proofs: its block has 512 bytes, its label 32.
+
+ghost use Rattle.message.specs.Messages.{AreBytes, IsBlock, IsMessage};
+
+use crate::{Block, Msg};
+
+/// A block has 512 bytes.
+fn know_block(content: &Block)
+    ensures { IsBlock content.now }
+{
+    let bytes = content.0.as_slice();
+    let _size = bytes.len();
+}
+
+/// A label has 32 bytes.
+fn know_label(label: &[u8; 32])
+    ensures { AreBytes 32 label.now }
+{
+    let bytes = label.as_slice();
+    let _size = bytes.len();
+}
+
+/// Does nothing: it tells a proof that what a message carries are bytes, 512 of them where it is a
+/// block and 32 where it is a label. The types say so, and a proof knows it of a `&Msg` only here.
+pub fn know_message(m: &Msg)
+    ensures { IsMessage m.now }
+{
+    match m {
+        Msg::Write(_, _, _, _, content) => know_block(content),
+        Msg::SetLabel(_, _, label) => know_label(label),
+        Msg::MakeVol(..)
+        | Msg::DropVol(..)
+        | Msg::Create(..)
+        | Msg::Delete(..)
+        | Msg::Seal(..)
+        | Msg::Unseal(..)
+        | Msg::Punch(..)
+        | Msg::Read(..)
+        | Msg::List(..)
+        | Msg::Usage(..)
+        | Msg::Summary
+        | Msg::Label(..) => {}
+    }
+}

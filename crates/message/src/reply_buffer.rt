@@ -1,0 +1,203 @@
+//! The replies that wait to be written, in a buffer of a fixed length.
+
+ghost use Rattle.std.specs.Prelude.{◌≡◌, ◌+◌, ◌≤◌, ◌⊎◌, ◌↔◌, [], ◌++◌, length, take, vec_len, IsTrue, IsOk, IfOk, OnOk, OnErr};
+ghost use Rattle.std.specs.Io.KnownBytes.{Appends};
+ghost use Rattle.message.specs.Reader.{HoldsLine};
+ghost use Rattle.message.specs.Replies.{no_message, reply_line};
+ghost use Rattle.message.specs.Waiting.{so_far};
+
+use crate::reading::LineReader;
+use crate::{LONGEST_REPLY, Reply, no_message_line, write_reply};
+use std::alloc::{AllocError, Global};
+use std::io::{Read, Write};
+use std::marker::Model;
+
+/// How many bytes of replies may wait.
+pub const REPLY_BUFFER_SIZE: usize = 65536;
+
+/// A writer did not take what was written, or could not be flushed.
+#[derive(Clone, Copy, Debug, PartialEq, Eq)]
+pub struct WriteFault;
+
+/// Writes a line over the bytes from `at` on, and gives where it ends.
+fn put_line(line: &[u8], bytes: &mut Vec<u8>, at: usize) -> usize
+    requires { at + length line.now ≤ vec_len bytes.old }
+    ensures line { take result bytes.new.items ≡ take at bytes.old.items ++ line.now }
+    ensures end { result ≡ at + length line.now }
+    ensures len { vec_len bytes.new ≡ vec_len bytes.old }
+{
+    let end = at + line.len();
+    bytes.as_mut_slice()[at..end].copy_from_slice(line);
+    end
+}
+
+/// Writes the line of a reply to the front of `room`, and gives its length.
+fn write_to_front(reply: &Reply, room: &mut [u8]) -> usize
+    requires { length room.old ≡ LONGEST_REPLY }
+    ensures line { take result room.new ≡ reply_line reply.now }
+    ensures bound { result ≤ LONGEST_REPLY }
+{
+    let Some(out) = room.as_mut_array() else {
+        unreachable!()
+    };
+    write_reply(reply, out)
+}
+
+/// Writes the line of a reply over the bytes from `at` on, and gives where it ends.
+fn put_reply_at(reply: &Reply, bytes: &mut [u8], at: usize) -> usize
+    requires { at + LONGEST_REPLY ≤ length bytes.old }
+    ensures line { take result bytes.new ≡ take at bytes.old ++ reply_line reply.now }
+    ensures bound { result ≤ at + LONGEST_REPLY }
+{
+    at + write_to_front(reply, &mut bytes[at..at + LONGEST_REPLY])
+}
+
+/// The same, in a vector.
+fn put_reply(reply: &Reply, bytes: &mut Vec<u8>, at: usize) -> usize
+    requires { at + LONGEST_REPLY ≤ vec_len bytes.old }
+    ensures line { take result bytes.new.items ≡ take at bytes.old.items ++ reply_line reply.now }
+    ensures bound { result ≤ at + LONGEST_REPLY }
+    ensures len { vec_len bytes.new ≡ vec_len bytes.old }
+{
+    put_reply_at(reply, bytes.as_mut_slice(), at)
+}
+
+/// The lines of replies that wait to be written, in order. A contract sees the bytes that wait.
+/// Once made it takes no memory.
+#[derive(Drop)]
+pub struct ReplyBuffer {
+    bytes: Vec<u8>,
+
+    /// How many of them wait, from the front.
+    len: usize,
+}
+
+impl Model for ReplyBuffer {
+    ghost use Rattle.std.specs.Prelude.{◌≡◌, ℕ, ◌≤◌, List, take, vec_len};
+
+    ghost Value = { List ℕ };
+
+    ghost view = { λ b. take b.len b.bytes.items };
+
+    ghost invariant = { λ b. (vec_len b.bytes ≡ 65536) × (b.len ≤ 65536) };
+}
+
+impl ReplyBuffer {
+    /// An empty one, of 64 KiB.
+    pub fn new(alloc: Global) -> Result<ReplyBuffer, AllocError>
+        ensures { IfOk result (λ out. out ≡ []) }
+    {
+        Ok(ReplyBuffer {
+            bytes: vec![in alloc; 0; REPLY_BUFFER_SIZE]?,
+            len: 0,
+        })
+    }
+
+    /// Whether nothing waits.
+    pub fn is_empty(&self) -> bool
+        ensures { IsTrue result ↔ (self.now ≡ []) }
+    {
+        self.len == 0
+    }
+
+    /// Writes all that waits, and flushes the writer. Where nothing waits it does neither.
+    ///
+    /// # Errors
+    ///
+    /// `WriteFault` where the writer fails. All that waited waits still, and it is open how much
+    /// of it was written.
+    pub fn send<W: Write>(&mut self, w: &mut W) -> Result<(), WriteFault>
+        ensures none_waits { OnOk result (self.new ≡ []) }
+        ensures kept { OnOk result (Appends (so_far (W.contents w.old) self.old)
+            (so_far (W.contents w.new) self.new) []) }
+        ensures idle { self.old ≡ [] → IsOk result × (w.new ≡ w.old) }
+        ensures unchanged { OnErr result (self.new ≡ self.old) }
+    {
+        if self.len == 0 {
+            return Ok(());
+        }
+        if w.write_all(&self.bytes.as_slice()[..self.len]).is_err() {
+            return Err(WriteFault);
+        }
+        if w.flush().is_err() {
+            return Err(WriteFault);
+        }
+        self.len = 0;
+        Ok(())
+    }
+    /// Writes all that waits before a read that may wait: unless a whole line is held, since the
+    /// next line is then found with no read.
+    ///
+    /// # Errors
+    ///
+    /// Those of `send`.
+    pub fn send_before_read<R: Read, W: Write>(
+        &mut self,
+        lines: &LineReader<R>,
+        w: &mut W,
+    ) -> Result<(), WriteFault>
+        ensures none_waits { OnOk result (HoldsLine lines.now ⊎ (self.new ≡ [])) }
+        ensures kept { OnOk result (Appends (so_far (W.contents w.old) self.old)
+            (so_far (W.contents w.new) self.new) []) }
+        ensures idle { HoldsLine lines.now →
+            IsOk result × (self.new ≡ self.old) × (w.new ≡ w.old) }
+        ensures unchanged { OnErr result (self.new ≡ self.old) }
+    {
+        if lines.holds_line() {
+            Ok(())
+        } else {
+            self.send(w)
+        }
+    }
+
+    /// Writes all that waits where the longest reply has no room beside it.
+    fn make_room<W: Write>(&mut self, w: &mut W) -> Result<(), WriteFault>
+        ensures room { OnOk result (length self.new + LONGEST_REPLY ≤ REPLY_BUFFER_SIZE) }
+        ensures kept { OnOk result (Appends (so_far (W.contents w.old) self.old)
+            (so_far (W.contents w.new) self.new) []) }
+        ensures idle { length self.old + LONGEST_REPLY ≤ REPLY_BUFFER_SIZE →
+            IsOk result × (self.new ≡ self.old) × (w.new ≡ w.old) }
+        ensures unchanged { OnErr result (self.new ≡ self.old) }
+    {
+        if self.len <= REPLY_BUFFER_SIZE - LONGEST_REPLY {
+            Ok(())
+        } else {
+            self.send(w)
+        }
+    }
+
+    /// Adds the line of a reply to those that wait. Where the longest reply has no room beside
+    /// them, they are sent first.
+    ///
+    /// # Errors
+    ///
+    /// Those of `send`. The reply is not added then.
+    pub fn add_reply<W: Write>(&mut self, reply: &Reply, w: &mut W) -> Result<(), WriteFault>
+        ensures added { OnOk result (Appends (so_far (W.contents w.old) self.old)
+            (so_far (W.contents w.new) self.new) (reply_line reply.now)) }
+        ensures idle { length self.old + LONGEST_REPLY ≤ REPLY_BUFFER_SIZE →
+            IsOk result × (w.new ≡ w.old) }
+        ensures unchanged { OnErr result (self.new ≡ self.old) }
+    {
+        self.make_room(w)?;
+        self.len = put_reply(reply, &mut self.bytes, self.len);
+        Ok(())
+    }
+
+    /// The same with the line that answers a line that is no message.
+    ///
+    /// # Errors
+    ///
+    /// Those of `send`. The line is not added then.
+    pub fn add_no_message<W: Write>(&mut self, w: &mut W) -> Result<(), WriteFault>
+        ensures added { OnOk result (Appends (so_far (W.contents w.old) self.old)
+            (so_far (W.contents w.new) self.new) no_message) }
+        ensures idle { length self.old + LONGEST_REPLY ≤ REPLY_BUFFER_SIZE →
+            IsOk result × (w.new ≡ w.old) }
+        ensures unchanged { OnErr result (self.new ≡ self.old) }
+    {
+        self.make_room(w)?;
+        self.len = put_line(no_message_line(), &mut self.bytes, self.len);
+        Ok(())
+    }
+}
