@@ -12,7 +12,7 @@ pub trait Loan {
     ghost name: { GName };
 }
 
-/// A call at `Brand` names the loan that its `requires` is about.
+/// For a call that lends: the proof of the function that makes it says which loan it is.
 impl Loan for Brand {
     ghost name = { 0 };
 }
@@ -22,8 +22,8 @@ impl Loan for Brand {
 ///
 /// A function that reads lines through a `&mut R` takes a `PhantomData<L>` for a loan `L`, and
 /// requires that the `&mut R` has the name of `L`. It makes `LineReader::new(LentReader { reader,
-/// of }, buffer)`, takes the reader out of `into_inner` again and gives it back. Its caller calls
-/// it at `Brand`.
+/// of }, buffer)`, takes the reader out of `into_inner` again and gives it back. Its caller calls it
+/// at `Brand`, and picks the name of its own reader for the loan's in its `Invariants.antt`.
 #[derive(Drop)]
 pub struct LentReader<'a, R, L: Loan> {
     pub reader: &'a mut R,
