@@ -12,7 +12,7 @@ use Rattle.hex.specs.declared.error.FromHexError.{FromHexError}
 use Rattle.hex.proofs.HexLemmas.{decode_of-ok, decode_of-even, decode_of-odd, decode_sized-odd}
 use Rattle.hex.proofs.Pairs.{decode_sized-pairs}
 use Rattle.message.specs.declared.Block.{Block}
-use Rattle.message.specs.Lines.{bytes_said, block, label, padded, padded_with}
+use Rattle.message.specs.Lines.{bytes_in_word, block, label, padded, padded_with}
 use Rattle.message.proofs.Words.{HasNoSpace}
 
 -- a word with what makes it say so many bytes
@@ -29,40 +29,40 @@ cond_given : {A : Type 0} (b : Bool) (o : Option A) (x : A) → cond b o None �
 cond_given true o x h = (refl, h)
 cond_given false o x h = cc h
 
-pub bytes_parts : (size : ℕ) (w whole : List ℕ) → bytes_said size w ≡ Some whole → (bytes : List ℕ) × IsDigits size w bytes × (whole ≡ padded size bytes)
-unfolding bytes_said
+pub bytes_parts : (size : ℕ) (w whole : List ℕ) → bytes_in_word size w ≡ Some whole → (bytes : List ℕ) × IsDigits size w bytes × (whole ≡ padded size bytes)
+unfolding bytes_in_word
 bytes_parts size w whole h =
     let p = cond_given (nat_le 2 (length w) && nat_le (length w) (2 * size)) (padded_with size (decode_of w)) whole h in
     let q = and_parts (nat_le 2 (length w)) (nat_le (length w) (2 * size)) p.0 in
     let r = bytes_ok size (decode_of w) whole p.1 in
     (r.0, record { low = leb-true 2 (length w) q.0; high = leb-true (length w) (2 * size) q.1; decoded = r.1 }, r.2)
 
-pub bytes_from : (size : ℕ) (w bytes : List ℕ) → IsDigits size w bytes → bytes_said size w ≡ Some (padded size bytes)
-unfolding bytes_said
+pub bytes_from : (size : ℕ) (w bytes : List ℕ) → IsDigits size w bytes → bytes_in_word size w ≡ Some (padded size bytes)
+unfolding bytes_in_word
 bytes_from size w bytes h =
     cond-true _ _ _ (and_from _ _ (le-leb 2 (length w) h.low) (le-leb (length w) (2 * size) h.high)) ∙ ap (padded_with size) h.decoded
 
-pub no_bytes : (size : ℕ) (w : List ℕ) → ((bytes : List ℕ) → IsDigits size w bytes → ⊥) → bytes_said size w ≡ None
-no_bytes size w h = elim (bytes_said size w) as (λ o. bytes_said size w ≡ o → o ≡ None) [ None ↦ λ e. refl | Some whole ↦ λ e. let p = bytes_parts size w whole e in absurd (h p.0 p.1) ] refl
+pub no_bytes : (size : ℕ) (w : List ℕ) → ((bytes : List ℕ) → IsDigits size w bytes → ⊥) → bytes_in_word size w ≡ None
+no_bytes size w h = elim (bytes_in_word size w) as (λ o. bytes_in_word size w ≡ o → o ≡ None) [ None ↦ λ e. refl | Some whole ↦ λ e. let p = bytes_parts size w whole e in absurd (h p.0 p.1) ] refl
 
 block_made : (o : Option (List ℕ)) (content : Block) → option_map (λ bytes. record { 0 = bytes }) o ≡ Some content → o ≡ Some content.0
 block_made (Some bytes) content h = ap Some (ap (λ (b : Block). b.0) (same_Some _ content h))
 block_made None content h = cc h
 
 -- a block by its bytes
-pub block_bytes : (w : List ℕ) (content : Block) → block w ≡ Some content → bytes_said 512 w ≡ Some content.0
+pub block_bytes : (w : List ℕ) (content : Block) → block w ≡ Some content → bytes_in_word 512 w ≡ Some content.0
 unfolding block
-block_bytes w content h = block_made (bytes_said 512 w) content h
+block_bytes w content h = block_made (bytes_in_word 512 w) content h
 
-pub bytes_block : (w : List ℕ) (content : Block) → bytes_said 512 w ≡ Some content.0 → block w ≡ Some content
+pub bytes_block : (w : List ℕ) (content : Block) → bytes_in_word 512 w ≡ Some content.0 → block w ≡ Some content
 unfolding block
 bytes_block w content h = ap (λ (o : Option (List ℕ)). option_map (λ bytes. record { 0 = bytes }) o) h
 
-pub no_block : (w : List ℕ) → bytes_said 512 w ≡ None → block w ≡ None
+pub no_block : (w : List ℕ) → bytes_in_word 512 w ≡ None → block w ≡ None
 unfolding block
 no_block w h = ap (λ (o : Option (List ℕ)). option_map (λ bytes. record { 0 = bytes }) o) h
 
-pub label_bytes : (w : List ℕ) → label w ≡ bytes_said 32 w
+pub label_bytes : (w : List ℕ) → label w ≡ bytes_in_word 32 w
 unfolding label
 label_bytes w = refl
 
@@ -74,7 +74,7 @@ no_space (c ∷ w) h =
     let digit : is_hex_digit c ≡ true = All-head (λ c. is_hex_digit c ≡ true) c w h in
     (ne_eqb c 32 (λ e. absurd (true≢false (sym digit ∙ ap is_hex_digit e))), no_space w (All-tail (λ c. is_hex_digit c ≡ true) c w h))
 
-pub bytes_no_space : (size : ℕ) (w whole : List ℕ) → bytes_said size w ≡ Some whole → HasNoSpace w
+pub bytes_no_space : (size : ℕ) (w whole : List ℕ) → bytes_in_word size w ≡ Some whole → HasNoSpace w
 bytes_no_space size w whole h = let p = bytes_parts size w whole h in no_space w (decode_of-ok w p.0 p.1.decoded).1
 
 pub block_no_space : (w : List ℕ) (content : Block) → block w ≡ Some content → HasNoSpace w
@@ -110,7 +110,7 @@ room_is : (size n : ℕ) → n ≤ size → length {A = ℕ} (take n (replicate 
 room_is size n h = length-take-le n (replicate size 0) (let e : length {A = ℕ} (replicate size 0) ≡ size = length-replicate {A = ℕ} size 0 in omega arith)
 
 pub bytes_decoded : (size : ℕ) (w : List ℕ) (n : ℕ) (r : Result (Unit {0}) FromHexError) (out : List ℕ) (u : Unit {0}) → n ≡ length w / 2 → 0 < n → n ≤ size → Decoded w (length {A = ℕ} (take n (replicate size 0))) r out → Some u ≡ result_ok r
-    → bytes_said size w ≡ Some (out ++ drop n (replicate size 0))
+    → bytes_in_word size w ≡ Some (out ++ drop n (replicate size 0))
 bytes_decoded size w n r out u half some most told ok =
     let room : ℕ = length {A = ℕ} (take n (replicate size 0)) in
     let decoded : decode_of w ≡ Ok out = sym (decode_sized-half w room (room_is size n most ∙ half)) ∙ decoded_ok (decode_sized w room) r out u told ok in
@@ -120,7 +120,7 @@ bytes_decoded size w n r out u half some most told ok =
     let rest : drop {A = ℕ} n (replicate size 0) ≡ replicate (size - length out) 0 = rw same (drop-replicate (length out) size 0) in
     bytes_from size w out (record { low = omega arith; high = omega arith; decoded = decoded }) ∙ ap (λ (behind : List ℕ). Some (out ++ behind)) (sym rest)
 
-pub bytes_not_decoded : (size : ℕ) (w : List ℕ) (n : ℕ) (r : Result (Unit {0}) FromHexError) (out : List ℕ) → n ≡ length w / 2 → n ≤ size → Decoded w (length {A = ℕ} (take n (replicate size 0))) r out → None ≡ result_ok r → bytes_said size w ≡ None
+pub bytes_not_decoded : (size : ℕ) (w : List ℕ) (n : ℕ) (r : Result (Unit {0}) FromHexError) (out : List ℕ) → n ≡ length w / 2 → n ≤ size → Decoded w (length {A = ℕ} (take n (replicate size 0))) r out → None ≡ result_ok r → bytes_in_word size w ≡ None
 bytes_not_decoded size w n r out half most told err =
     let room : ℕ = length {A = ℕ} (take n (replicate size 0)) in
     no_bytes size w (λ bytes h. decoded_err (decode_sized w room) r out bytes told err (decode_sized-half w room (room_is size n most ∙ half) ∙ h.decoded))

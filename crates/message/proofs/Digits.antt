@@ -6,7 +6,7 @@ use Rattle.hex.specs.declared.error.FromHexError.{FromHexError}
 use Rattle.hex.proofs.HexLemmas.{decode_of-ok, decode_of-even}
 use Rattle.hex.proofs.Pairs.{decode_pairs-ok_pair, cons_byte}
 use Rattle.message.specs.declared.Block.{Block}
-use Rattle.message.specs.Lines.{bytes_said, block, label}
+use Rattle.message.specs.Lines.{bytes_in_word, block, label}
 use Rattle.message.specs.Grammar.{AreDigitsOf, SaysBytes}
 use Rattle.message.proofs.Blocks.{bytes_parts, bytes_from, block_bytes, bytes_block, label_bytes}
 
@@ -60,7 +60,7 @@ decoded_digits i (d ∷ e ∷ digits) bytes h =
 
 -- ---- the bytes that they say
 
-bytes_say : (size : ℕ) (digits whole : List ℕ) → bytes_said size digits ≡ Some whole → SaysBytes size digits whole
+bytes_say : (size : ℕ) (digits whole : List ℕ) → bytes_in_word size digits ≡ Some whole → SaysBytes size digits whole
 bytes_say size digits whole h =
     let p = bytes_parts size digits whole h in
     let ok = decode_of-ok digits p.0 p.1.decoded in
@@ -69,7 +69,7 @@ bytes_say size digits whole h =
     let high = p.1.high in
     (p.0, decoded_digits 0 digits p.0 (sym (decode_of-even digits ok.0) ∙ p.1.decoded), omega arith, omega arith, p.2)
 
-say_bytes : (size : ℕ) (digits whole : List ℕ) → SaysBytes size digits whole → bytes_said size digits ≡ Some whole
+say_bytes : (size : ℕ) (digits whole : List ℕ) → SaysBytes size digits whole → bytes_in_word size digits ≡ Some whole
 say_bytes size digits whole h =
     let len = digits_length digits h.0 h.1 in
     let low = h.2 in

@@ -6,7 +6,7 @@ use Rattle.hex.proofs.OnLiterals.{hex_on_literals}
 use Rattle.message.specs.declared.Refusal.TheVariants.{Range, Volume, Exists, Sealed, File, Space}
 use Rattle.message.specs.declared.Msg.TheVariants.{MakeVol, DropVol, Create, Delete, Seal, Unseal, Write, Punch, Read, List as ListFiles, Usage as AskUsage, Summary as AskSummary, SetLabel, Label as AskLabel}
 use Rattle.message.specs.declared.Reply.TheVariants.{Done, Hole, Block as Found, Files, Usage, Summary, Refused, Label}
-use Rattle.message.specs.Lines.{lines, number, block, label, bytes_said}
+use Rattle.message.specs.Lines.{lines, number, block, label, bytes_in_word}
 use Rattle.message.specs.Grammar.{message_of, kind_named}
 use Rattle.message.specs.Replies.{reply_line, no_message, shown, files_text}
 use Rattle.message.specs.Records.{record_of, data_of}
@@ -22,11 +22,11 @@ unfolding message_of kind_named number
 create = refl
 
 write_two_bytes : message_of (codes "write 0 0 0 0 6162") ≡ Some (Write 0 0 0 0 (record { 0 = 97 ∷ 98 ∷ replicate 510 0 }))
-unfolding message_of kind_named number block bytes_said hex_on_literals
+unfolding message_of kind_named number block bytes_in_word hex_on_literals
 write_two_bytes = refl
 
 write_upper_case : message_of (codes "write 1 2 3 4 aBcD") ≡ Some (Write 1 2 3 4 (record { 0 = 171 ∷ 205 ∷ replicate 510 0 }))
-unfolding message_of kind_named number block bytes_said hex_on_literals
+unfolding message_of kind_named number block bytes_in_word hex_on_literals
 write_upper_case = refl
 
 read : message_of (codes "read 0 0 0 63") ≡ Some (Read 0 0 0 63)
@@ -70,7 +70,7 @@ unfolding message_of kind_named number
 summary = refl
 
 setlabel : message_of (codes "setlabel 0 0 6162") ≡ Some (SetLabel 0 0 (97 ∷ 98 ∷ replicate 30 0))
-unfolding message_of kind_named number label bytes_said hex_on_literals
+unfolding message_of kind_named number label bytes_in_word hex_on_literals
 setlabel = refl
 
 label_asked : message_of (codes "label 0 0") ≡ Some (AskLabel 0 0)
@@ -108,15 +108,15 @@ unfolding message_of kind_named number
 label_without_data = refl
 
 label_of_odd_digits : message_of (codes "setlabel 0 0 616") ≡ None
-unfolding message_of kind_named number label bytes_said hex_on_literals
+unfolding message_of kind_named number label bytes_in_word hex_on_literals
 label_of_odd_digits = refl
 
 longest_label : label (replicate 64 48) ≡ Some (replicate 32 0)
-unfolding label bytes_said hex_on_literals
+unfolding label bytes_in_word hex_on_literals
 longest_label = refl
 
 label_of_33_bytes : label (replicate 66 48) ≡ None
-unfolding label bytes_said
+unfolding label bytes_in_word
 label_of_33_bytes = refl
 
 leading_zero : message_of (codes "read 00 0 0 0") ≡ None
@@ -172,29 +172,29 @@ unfolding message_of kind_named number
 a_number_more = refl
 
 odd_digits : message_of (codes "write 0 0 0 0 6") ≡ None
-unfolding message_of kind_named number block bytes_said hex_on_literals
+unfolding message_of kind_named number block bytes_in_word hex_on_literals
 odd_digits = refl
 
 bad_digit : message_of (codes "write 0 0 0 0 6g") ≡ None
-unfolding message_of kind_named number block bytes_said hex_on_literals
+unfolding message_of kind_named number block bytes_in_word hex_on_literals
 bad_digit = refl
 
 no_digits : message_of (codes "write 0 0 0 0") ≡ None
-unfolding message_of kind_named number block bytes_said
+unfolding message_of kind_named number block bytes_in_word
 no_digits = refl
 
 no_digits_behind_a_space : message_of (codes "write 0 0 0 0 ") ≡ None
-unfolding message_of kind_named number block bytes_said
+unfolding message_of kind_named number block bytes_in_word
 no_digits_behind_a_space = refl
 
 -- ---- the digits of a block
 
 longest_block : block (replicate 1024 48) ≡ Some (record { 0 = replicate 512 0 })
-unfolding block bytes_said hex_on_literals
+unfolding block bytes_in_word hex_on_literals
 longest_block = refl
 
 longer_block : block (replicate 1026 48) ≡ None
-unfolding block bytes_said
+unfolding block bytes_in_word
 longer_block = refl
 
 -- ---- lines too long

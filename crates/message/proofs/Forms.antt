@@ -2,7 +2,7 @@
 use Rattle.std.proofs.Common.{◌≡◌, ℕ, List, [], ◌∷◌, Option, Some, None, refl, ap, sym, ◌∙◌}
 use Rattle.message.specs.declared.Block.{Block}
 use Rattle.message.specs.declared.Msg.{Msg}
-use Rattle.message.specs.Lines.{words, number, block, label, bytes_said}
+use Rattle.message.specs.Lines.{words, number, block, label, bytes_in_word}
 use Rattle.message.proofs.Words.{only, only-words, words_some}
 use Rattle.message.proofs.Numbers.{number_no_space}
 use Rattle.message.proofs.Blocks.{block_no_space, label_no_space, bytes_block, no_block, label_bytes}
@@ -67,7 +67,7 @@ of_digits make ws = only block ws >>= (λ content. Some (make content))
 
 -- the words of a `write` from its third, second and first number on
 abbrev pub from_block : (ℕ → Block → Msg) → List (List ℕ) → Option Msg
-from_block make (b ∷ digits ∷ []) = number b >>= (λ place. block digits >>= (λ content. Some (make place content)))
+from_block make (b ∷ digits ∷ []) = number b >>= (λ block_number. block digits >>= (λ content. Some (make block_number content)))
 from_block make _ = None
 
 abbrev pub from_file : (ℕ → ℕ → Block → Msg) → List (List ℕ) → Option Msg
@@ -164,14 +164,14 @@ of_number-none make line h = let e = only-number line ∙ sym h in rw e refl
 only-label : (line : List ℕ) → only label (words line) ≡ label line
 only-label line = only-words label line (label_no_space line)
 
-pub of_digits-read : (make : Block → Msg) (line bytes : List ℕ) → Some bytes ≡ bytes_said 512 line → of_digits make (words line) ≡ Some (make (record { 0 = bytes }))
+pub of_digits-read : (make : Block → Msg) (line bytes : List ℕ) → Some bytes ≡ bytes_in_word 512 line → of_digits make (words line) ≡ Some (make (record { 0 = bytes }))
 of_digits-read make line bytes h = let e = only-block line ∙ bytes_block line (record { 0 = bytes }) (sym h) in rw e refl
 
-pub of_digits-none : (make : Block → Msg) (line : List ℕ) → None ≡ bytes_said 512 line → of_digits make (words line) ≡ None
+pub of_digits-none : (make : Block → Msg) (line : List ℕ) → None ≡ bytes_in_word 512 line → of_digits make (words line) ≡ None
 of_digits-none make line h = let e = only-block line ∙ no_block line (sym h) in rw e refl
 
-pub of_label_digits-read : (make : List ℕ → Msg) (line bytes : List ℕ) → Some bytes ≡ bytes_said 32 line → of_label_digits make (words line) ≡ Some (make bytes)
+pub of_label_digits-read : (make : List ℕ → Msg) (line bytes : List ℕ) → Some bytes ≡ bytes_in_word 32 line → of_label_digits make (words line) ≡ Some (make bytes)
 of_label_digits-read make line bytes h = let e = only-label line ∙ label_bytes line ∙ sym h in rw e refl
 
-pub of_label_digits-none : (make : List ℕ → Msg) (line : List ℕ) → None ≡ bytes_said 32 line → of_label_digits make (words line) ≡ None
+pub of_label_digits-none : (make : List ℕ → Msg) (line : List ℕ) → None ≡ bytes_in_word 32 line → of_label_digits make (words line) ≡ None
 of_label_digits-none make line h = let e = only-label line ∙ label_bytes line ∙ sym h in rw e refl

@@ -12,7 +12,7 @@ use Rattle.std.proofs.lemmas.Option.{none-some, same_Some}
 use Rattle.std.specs.Prelude.{◌&&◌}
 use Rattle.std.proofs.Math.Seq.{take-add}
 use Rattle.message.specs.Lines.{lines, in_first}
-use Rattle.message.specs.Reader.{first_line, after_line, IsWithinLine, still_to_come, GivesLine, PassesLine, LosesFront, IsClosed, are_none}
+use Rattle.message.specs.Reader.{first_line, behind_first_line, IsWithinLine, still_to_come, GivesLine, PassesLine, LosesFront, IsClosed, are_none}
 
 -- ---- lines and the first line
 
@@ -22,11 +22,11 @@ first_line-newline b bs is = cond-true (eqb b 10) [] (b ∷ first_line bs) (eq-e
 first_line-other : (b : ℕ) (bs : List ℕ) → b ≢ 10 → first_line (b ∷ bs) ≡ b ∷ first_line bs
 first_line-other b bs not = cond-false (eqb b 10) [] (b ∷ first_line bs) (ne_eqb b 10 not)
 
-after_line-newline : (b : ℕ) (bs : List ℕ) → b ≡ 10 → after_line (b ∷ bs) ≡ bs
-after_line-newline b bs is = cond-true (eqb b 10) bs (after_line bs) (eq-eqb b 10 is)
+behind_first_line-newline : (b : ℕ) (bs : List ℕ) → b ≡ 10 → behind_first_line (b ∷ bs) ≡ bs
+behind_first_line-newline b bs is = cond-true (eqb b 10) bs (behind_first_line bs) (eq-eqb b 10 is)
 
-after_line-other : (b : ℕ) (bs : List ℕ) → b ≢ 10 → after_line (b ∷ bs) ≡ after_line bs
-after_line-other b bs not = cond-false (eqb b 10) bs (after_line bs) (ne_eqb b 10 not)
+behind_first_line-other : (b : ℕ) (bs : List ℕ) → b ≢ 10 → behind_first_line (b ∷ bs) ≡ behind_first_line bs
+behind_first_line-other b bs not = cond-false (eqb b 10) bs (behind_first_line bs) (ne_eqb b 10 not)
 
 lines-newline : (b : ℕ) (bs : List ℕ) → b ≡ 10 → lines (b ∷ bs) ≡ [] ∷ lines bs
 lines-newline b bs is = cond-true (eqb b 10) ([] ∷ lines bs) (in_first b (lines bs)) (eq-eqb b 10 is)
@@ -34,18 +34,18 @@ lines-newline b bs is = cond-true (eqb b 10) ([] ∷ lines bs) (in_first b (line
 lines-other : (b : ℕ) (bs : List ℕ) → b ≢ 10 → lines (b ∷ bs) ≡ in_first b (lines bs)
 lines-other b bs not = cond-false (eqb b 10) ([] ∷ lines bs) (in_first b (lines bs)) (ne_eqb b 10 not)
 
-lines-of_rest : (b : ℕ) (bs : List ℕ) → in_first b (lines bs) ≡ (b ∷ first_line bs) ∷ lines (after_line bs) → lines (b ∷ bs) ≡ first_line (b ∷ bs) ∷ lines (after_line (b ∷ bs))
+lines-of_rest : (b : ℕ) (bs : List ℕ) → in_first b (lines bs) ≡ (b ∷ first_line bs) ∷ lines (behind_first_line bs) → lines (b ∷ bs) ≡ first_line (b ∷ bs) ∷ lines (behind_first_line (b ∷ bs))
 lines-of_rest b bs rest = elim (cases_eq b 10) [
-  | inl is ↦ lines-newline b bs is ∙ ap (λ l. l ∷ lines bs) (sym (first_line-newline b bs is)) ∙ ap (λ l. first_line (b ∷ bs) ∷ lines l) (sym (after_line-newline b bs is))
-  | inr not ↦ lines-other b bs not ∙ rest ∙ ap (λ l. l ∷ lines (after_line bs)) (sym (first_line-other b bs not)) ∙ ap (λ l. first_line (b ∷ bs) ∷ lines l) (sym (after_line-other b bs not))
+  | inl is ↦ lines-newline b bs is ∙ ap (λ l. l ∷ lines bs) (sym (first_line-newline b bs is)) ∙ ap (λ l. first_line (b ∷ bs) ∷ lines l) (sym (behind_first_line-newline b bs is))
+  | inr not ↦ lines-other b bs not ∙ rest ∙ ap (λ l. l ∷ lines (behind_first_line bs)) (sym (first_line-other b bs not)) ∙ ap (λ l. first_line (b ∷ bs) ∷ lines l) (sym (behind_first_line-other b bs not))
 ]
 
-lines-cons : (b : ℕ) (bs : List ℕ) → lines (b ∷ bs) ≡ first_line (b ∷ bs) ∷ lines (after_line (b ∷ bs))
+lines-cons : (b : ℕ) (bs : List ℕ) → lines (b ∷ bs) ≡ first_line (b ∷ bs) ∷ lines (behind_first_line (b ∷ bs))
 lines-cons b [] = lines-of_rest b [] refl
 lines-cons b (c ∷ cs) = lines-of_rest b (c ∷ cs) (ap (in_first b) (lines-cons c cs))
 
 -- the lines of some bytes are the first line and the lines of what lies behind it
-pub lines-first : (bs : List ℕ) → bs ≢ [] → lines bs ≡ first_line bs ∷ lines (after_line bs)
+pub lines-first : (bs : List ℕ) → bs ≢ [] → lines bs ≡ first_line bs ∷ lines (behind_first_line bs)
 lines-first [] some = absurd (some refl)
 lines-first (b ∷ bs) some = lines-cons b bs
 
@@ -58,9 +58,9 @@ pub first_line-within : (xs ys : List ℕ) → IsWithinLine xs → first_line (x
 first_line-within [] ys h = refl
 first_line-within (x ∷ xs) ys h = first_line-other x (xs ++ ys) (All-head NoNewline x xs h) ∙ ap (λ l. x ∷ l) (first_line-within xs ys (All-tail NoNewline x xs h))
 
-pub after_line-within : (xs ys : List ℕ) → IsWithinLine xs → after_line (xs ++ ys) ≡ after_line ys
-after_line-within [] ys h = refl
-after_line-within (x ∷ xs) ys h = after_line-other x (xs ++ ys) (All-head NoNewline x xs h) ∙ after_line-within xs ys (All-tail NoNewline x xs h)
+pub behind_first_line-within : (xs ys : List ℕ) → IsWithinLine xs → behind_first_line (xs ++ ys) ≡ behind_first_line ys
+behind_first_line-within [] ys h = refl
+behind_first_line-within (x ∷ xs) ys h = behind_first_line-other x (xs ++ ys) (All-head NoNewline x xs h) ∙ behind_first_line-within xs ys (All-tail NoNewline x xs h)
 
 pub first_line-all : (xs : List ℕ) → IsWithinLine xs → first_line xs ≡ xs
 first_line-all xs h = ap first_line (sym (append-nil xs)) ∙ first_line-within xs [] h ∙ append-nil xs
@@ -78,11 +78,11 @@ first_line-whole (x ∷ xs) ys h = elim (cases_eq x 10) [
   | inr not ↦ first_line-other x (xs ++ ys) not ∙ ap (λ l. x ∷ l) (first_line-whole xs ys (later x xs not h)) ∙ sym (first_line-other x xs not)
 ]
 
-pub after_line-whole : (xs ys : List ℕ) → Contains xs 10 → after_line (xs ++ ys) ≡ after_line xs ++ ys
-after_line-whole [] ys (k, low, is) = absurd (omega arith)
-after_line-whole (x ∷ xs) ys h = elim (cases_eq x 10) [
-  | inl is ↦ after_line-newline x (xs ++ ys) is ∙ ap (λ l. l ++ ys) (sym (after_line-newline x xs is))
-  | inr not ↦ after_line-other x (xs ++ ys) not ∙ after_line-whole xs ys (later x xs not h) ∙ ap (λ l. l ++ ys) (sym (after_line-other x xs not))
+pub behind_first_line-whole : (xs ys : List ℕ) → Contains xs 10 → behind_first_line (xs ++ ys) ≡ behind_first_line xs ++ ys
+behind_first_line-whole [] ys (k, low, is) = absurd (omega arith)
+behind_first_line-whole (x ∷ xs) ys h = elim (cases_eq x 10) [
+  | inl is ↦ behind_first_line-newline x (xs ++ ys) is ∙ ap (λ l. l ++ ys) (sym (behind_first_line-newline x xs is))
+  | inr not ↦ behind_first_line-other x (xs ++ ys) not ∙ behind_first_line-whole xs ys (later x xs not h) ∙ ap (λ l. l ++ ys) (sym (behind_first_line-other x xs not))
 ]
 
 -- what is read later makes the first line no shorter
@@ -143,15 +143,15 @@ first_line-slice xs i k j low high within none there =
     ]) ∙ append-nil (slice_range xs i k)
 
 -- and what lies behind it begins behind that newline
-pub after_line-slice : (xs : List ℕ) (i k j n : ℕ) → i ≤ k → k ≤ j → j ≤ length xs → NoneFrom xs i k → (k < j → get_or xs k 0 ≡ 10) → n ≡ min j (k + 1) → after_line (slice_range xs i j) ≡ slice_range xs n j
-after_line-slice xs i k j n low high within none there next =
+pub behind_first_line-slice : (xs : List ℕ) (i k j n : ℕ) → i ≤ k → k ≤ j → j ≤ length xs → NoneFrom xs i k → (k < j → get_or xs k 0 ≡ 10) → n ≡ min j (k + 1) → behind_first_line (slice_range xs i j) ≡ slice_range xs n j
+behind_first_line-slice xs i k j n low high within none there next =
     let quiet = IsWithinLine-slice xs i k (omega arith) none in
-    ap after_line (slice-split xs i k j low high) ∙ after_line-within (slice_range xs i k) (slice_range xs k j) quiet
+    ap behind_first_line (slice-split xs i k j low high) ∙ behind_first_line-within (slice_range xs i k) (slice_range xs k j) quiet
     ∙ elim (cases_lt k j) [
       | inl below ↦
           let behind : k + 1 ≡ n = omega arith in
-          ap after_line (slice-first xs k j below within) ∙ after_line-newline (get_or xs k 0) (slice_range xs (k + 1) j) (there below) ∙ ap (λ m. slice_range xs m j) behind
-      | inr over ↦ ap after_line (slice-none xs k j over) ∙ sym (slice-none xs n j (omega arith))
+          ap behind_first_line (slice-first xs k j below within) ∙ behind_first_line-newline (get_or xs k 0) (slice_range xs (k + 1) j) (there below) ∙ ap (λ m. slice_range xs m j) behind
+      | inr over ↦ ap behind_first_line (slice-none xs k j over) ∙ sym (slice-none xs n j (omega arith))
     ]
 
 -- ---- what is unread
@@ -182,16 +182,16 @@ pub LosesFront-trans : (a b c : Option (List ℕ)) → IfSome a (λ bs. LosesFro
 LosesFront-trans None b c first next = tt
 LosesFront-trans (Some x) b c first next = losing_twice x b c first next
 
-passing_behind : (x : List ℕ) (b c : Option (List ℕ)) → LosesFront x b → IfSome b (λ bs. c ≡ Some (after_line bs)) → c ≡ Some (after_line x)
+passing_behind : (x : List ℕ) (b c : Option (List ℕ)) → LosesFront x b → IfSome b (λ bs. c ≡ Some (behind_first_line bs)) → c ≡ Some (behind_first_line x)
 passing_behind x b c first next =
-    let P : Option (List ℕ) → Type 0 = λ o. IfSome o (λ bs. c ≡ Some (after_line bs)) in
-    let second : c ≡ Some (after_line first.rest) = subst P first.left_is next in
-    second ∙ ap Some (sym (ap after_line first.parts ∙ after_line-within first.got first.rest first.within_line))
+    let P : Option (List ℕ) → Type 0 = λ o. IfSome o (λ bs. c ≡ Some (behind_first_line bs)) in
+    let second : c ≡ Some (behind_first_line first.rest) = subst P first.left_is next in
+    second ∙ ap Some (sym (ap behind_first_line first.parts ∙ behind_first_line-within first.got first.rest first.within_line))
 
 -- what lies behind the line is the same after some of the line was let go
-pub after_line-behind : (a b c : Option (List ℕ)) → IfSome a (λ bs. LosesFront bs b) → IfSome b (λ bs. c ≡ Some (after_line bs)) → IfSome a (λ bs. c ≡ Some (after_line bs))
-after_line-behind None b c first next = tt
-after_line-behind (Some x) b c first next = passing_behind x b c first next
+pub behind_first_line-later : (a b c : Option (List ℕ)) → IfSome a (λ bs. LosesFront bs b) → IfSome b (λ bs. c ≡ Some (behind_first_line bs)) → IfSome a (λ bs. c ≡ Some (behind_first_line bs))
+behind_first_line-later None b c first next = tt
+behind_first_line-later (Some x) b c first next = passing_behind x b c first next
 
 -- a whole line is held, or nothing is to come
 abbrev pub IsWhole : List ℕ → Option (List ℕ) → Type 0
@@ -202,18 +202,18 @@ first_line-held held None whole = tt
 first_line-held held (Some ys) (inl there) = sym (first_line-whole held ys there)
 first_line-held held (Some ys) (inr none) = ap first_line (sym (ap (λ l. held ++ l) none ∙ append-nil held))
 
-pub after_line-held : (held : List ℕ) (known : Option (List ℕ)) → IsWhole held known → IfSome (prepend_known held known) (λ bs. prepend_known (after_line held) known ≡ Some (after_line bs))
-after_line-held held None whole = tt
-after_line-held held (Some ys) (inl there) = ap Some (sym (after_line-whole held ys there))
-after_line-held held (Some ys) (inr none) = ap Some (ap (λ l. after_line held ++ l) none ∙ append-nil (after_line held) ∙ ap after_line (sym (ap (λ l. held ++ l) none ∙ append-nil held)))
+pub behind_first_line-held : (held : List ℕ) (known : Option (List ℕ)) → IsWhole held known → IfSome (prepend_known held known) (λ bs. prepend_known (behind_first_line held) known ≡ Some (behind_first_line bs))
+behind_first_line-held held None whole = tt
+behind_first_line-held held (Some ys) (inl there) = ap Some (sym (behind_first_line-whole held ys there))
+behind_first_line-held held (Some ys) (inr none) = ap Some (ap (λ l. behind_first_line held ++ l) none ∙ append-nil (behind_first_line held) ∙ ap behind_first_line (sym (ap (λ l. held ++ l) none ∙ append-nil held)))
 
 -- what a search of a part of the buffer says of the buffer
 module _ (xs : List ℕ) (n e r : ℕ) (within : e ≤ length xs) (bound : r ≤ length (slice_range xs n e)) where
   pub NoneFrom-slice : ((m : ℕ) → m < r → get_or (slice_range xs n e) m 0 ≢ 10) → NoneFrom xs n (n + r)
   NoneFrom-slice none m low high is =
       let size = length-between xs n e within in
-      let place : n + (m - n) ≡ m = omega arith in
-      none (m - n) (omega arith) (get_or-between xs n e (m - n) 0 (omega arith) ∙ ap (λ k. get_or xs k 0) place ∙ is)
+      let offset : n + (m - n) ≡ m = omega arith in
+      none (m - n) (omega arith) (get_or-between xs n e (m - n) 0 (omega arith) ∙ ap (λ k. get_or xs k 0) offset ∙ is)
 
   pub newline-slice : (r < length (slice_range xs n e) → get_or (slice_range xs n e) r 0 ≡ 10) → n + r < e → get_or xs (n + r) 0 ≡ 10
   newline-slice there low = sym (get_or-between xs n e r 0 low) ∙ there (omega (arith, length-between xs n e within))
@@ -265,11 +265,11 @@ IsWhole-told ended held known (inl told) = inr (IsAtEnd-told ended known told)
 IsWhole-told ended held known (inr there) = inl there
 
 -- the first line is passed, after some of it was let go
-pub passed : (a known : Option (List ℕ)) (held rest : List ℕ) → IfSome a (λ bs. LosesFront bs (prepend_known held known)) → IsWhole held known → rest ≡ after_line held → IfSome a (λ bs. prepend_known rest known ≡ Some (after_line bs))
-passed a known held rest lost whole is = rw is (after_line-behind a (prepend_known held known) (prepend_known (after_line held) known) lost (after_line-held held known whole))
+pub passed : (a known : Option (List ℕ)) (held rest : List ℕ) → IfSome a (λ bs. LosesFront bs (prepend_known held known)) → IsWhole held known → rest ≡ behind_first_line held → IfSome a (λ bs. prepend_known rest known ≡ Some (behind_first_line bs))
+passed a known held rest lost whole is = rw is (behind_first_line-later a (prepend_known held known) (prepend_known (behind_first_line held) known) lost (behind_first_line-held held known whole))
 
 -- too much of a line is held, so the line is too long
-pub PassesLine-held : (held : List ℕ) (known left : Option (List ℕ)) → 1100 < length (first_line held) → IfSome (prepend_known held known) (λ bs. left ≡ Some (after_line bs)) → IfSome (prepend_known held known) (λ bs. PassesLine bs left)
+pub PassesLine-held : (held : List ℕ) (known left : Option (List ℕ)) → 1100 < length (first_line held) → IfSome (prepend_known held known) (λ bs. left ≡ Some (behind_first_line bs)) → IfSome (prepend_known held known) (λ bs. PassesLine bs left)
 PassesLine-held held None left long passed = tt
 PassesLine-held held (Some ys) left long passed = record { long = omega (arith, length-first_line held ys); left_is = passed }
 
@@ -278,12 +278,12 @@ some_more [] ys some = absurd (some refl)
 some_more (x ∷ xs) ys some = λ is. cc
 
 -- a whole line is held, so it is the first
-pub GivesLine-held : (held line rest : List ℕ) (known : Option (List ℕ)) → IsWhole held known → held ≢ [] → line ≡ first_line held → rest ≡ after_line held → IfSome (prepend_known held known) (λ bs. GivesLine line bs (prepend_known rest known))
+pub GivesLine-held : (held line rest : List ℕ) (known : Option (List ℕ)) → IsWhole held known → held ≢ [] → line ≡ first_line held → rest ≡ behind_first_line held → IfSome (prepend_known held known) (λ bs. GivesLine line bs (prepend_known rest known))
 GivesLine-held held line rest None whole some line_is rest_is = tt
 GivesLine-held held line rest (Some ys) whole some line_is rest_is = record {
   more = some_more held ys some;
   line_is = line_is ∙ first_line-held held (Some ys) whole;
-  left_is = ap (λ l. prepend_known l (Some ys)) rest_is ∙ after_line-held held (Some ys) whole;
+  left_is = ap (λ l. prepend_known l (Some ys)) rest_is ∙ behind_first_line-held held (Some ys) whole;
 }
 
 -- ---- the end of the input
@@ -306,18 +306,18 @@ newline_or_none (x ∷ xs) = elim (cases_eq x 10) [
   ]
 ]
 
-after_line-all : (xs : List ℕ) → IsWithinLine xs → after_line xs ≡ []
-after_line-all xs none = ap after_line (sym (append-nil xs)) ∙ after_line-within xs [] none
+behind_first_line-all : (xs : List ℕ) → IsWithinLine xs → behind_first_line xs ≡ []
+behind_first_line-all xs none = ap behind_first_line (sym (append-nil xs)) ∙ behind_first_line-within xs [] none
 
 -- the first line of what is held ends with a newline, or nothing is behind it
 pub IsClosed-held : (ended : Bool) (held : List ℕ) (known : Option (List ℕ)) → (ended ≡ true) ⊎ Contains held 10
-    → IsClosed (prepend_known held (still_to_come ended known)) (ended && are_none (after_line held))
+    → IsClosed (prepend_known held (still_to_come ended known)) (ended && are_none (behind_first_line held))
 IsClosed-held false held None (inl told) = tt
 IsClosed-held false held (Some more) (inl told) = absurd (false≢true told)
 IsClosed-held true held None h = tt
 IsClosed-held true held (Some more) (inl told) = elim (newline_or_none held) [
   | inl found ↦ inl (contains_front held [] found)
-  | inr none ↦ inr (ap are_none (after_line-all held none))
+  | inr none ↦ inr (ap are_none (behind_first_line-all held none))
 ]
 IsClosed-held false held None (inr found) = tt
 IsClosed-held false held (Some more) (inr found) = inl (contains_front held more found)

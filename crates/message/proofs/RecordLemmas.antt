@@ -13,7 +13,7 @@ use Rattle.message.specs.declared.Block.{Block}
 use Rattle.message.specs.declared.Msg.{Msg}
 use Rattle.message.specs.declared.Msg.TheVariants.{MakeVol, DropVol, Create, Delete, Seal, Unseal, Write, Punch, Read, List as ListFiles, Usage, Summary, SetLabel, Label}
 use Rattle.message.specs.Messages.{kind, numbers, filled, four_numbers, is_in_range, AreBytes, IsMessage}
-use Rattle.message.specs.Records.{HasRoom, assembled, data_of, fields_say, head_with, head_of, kind_number, kind_numbered, numbered_among, record_of}
+use Rattle.message.specs.Records.{HasRoom, assembled, data_of, message_in_fields, head_with, head_of, kind_number, kind_numbered, numbered_among, record_of}
 use Rattle.message.specs.Grammar.{all_kinds}
 use borrow.Rule.Slice.PartMut.{put_mid, post_of}
 
@@ -123,8 +123,8 @@ made_again (Label a v) h = refl
 low_byte : (b : ℕ) → b < 65536 → little_number 2 (little_bytes 2 b) ≡ b
 low_byte b h = omega arith
 
-said : (k : Kind) (n bytes : List ℕ) (a v f b : ℕ) → b < 65536 → n ≡ a ∷ v ∷ f ∷ b ∷ [] → fields_say (head_with (kind_number k) n ++ bytes) ≡ Some (assembled k a v f b bytes)
-unfolding fields_say
+said : (k : Kind) (n bytes : List ℕ) (a v f b : ℕ) → b < 65536 → n ≡ a ∷ v ∷ f ∷ b ∷ [] → message_in_fields (head_with (kind_number k) n ++ bytes) ≡ Some (assembled k a v f b bytes)
+unfolding message_in_fields
 said k n bytes a v f b h e =
     let block = low_byte b h in
     rw (e, kind_again k) (ap (λ (x : ℕ). Some (assembled k a v f x bytes)) block)
@@ -137,7 +137,7 @@ four (a ∷ v ∷ f ∷ []) = refl
 four (a ∷ v ∷ f ∷ b ∷ more) = refl
 
 -- the fields of a record say its message
-pub record_says : (g : Geometry) (m : Msg) → IsMessage m → is_in_range g m ≡ true → fields_say (record_of m) ≡ Some m
+pub record_says : (g : Geometry) (m : Msg) → IsMessage m → is_in_range g m ≡ true → message_in_fields (record_of m) ≡ Some m
 record_says g m whole h =
     said (kind m) (four_numbers m) (data_of m) _ _ _ _ (fits g m h).block (four (numbers m)) ∙ ap Some (made_again m whole)
 
@@ -256,9 +256,9 @@ made : (o : Option Kind) (make : Kind → Msg) (m : Msg) → option_map make o �
 made (Some k) make m h = (k, sym (same_Some _ m h))
 made None make m h = cc h
 
-module _ (bytes : List ℕ) (m : Msg) (size : length bytes ≡ 520) (fit : (i : ℕ) → get_or bytes i 0 < 256) (said : fields_say bytes ≡ Some m) where
+module _ (bytes : List ℕ) (m : Msg) (size : length bytes ≡ 520) (fit : (i : ℕ) → get_or bytes i 0 < 256) (said : message_in_fields bytes ≡ Some m) where
   its_kind : (k : Kind) × (m ≡ assembled k (slice_index bytes 1) (slice_index bytes 2) (slice_index bytes 3) (little_number 2 (take 2 (drop 4 bytes))) (drop 8 bytes))
-  unfolding fields_say
+  unfolding message_in_fields
   its_kind = made (kind_numbered (slice_index bytes 0)) (λ k. assembled k (slice_index bytes 1) (slice_index bytes 2) (slice_index bytes 3) (little_number 2 (take 2 (drop 4 bytes))) (drop 8 bytes)) m said
 
   pub said_whole : IsMessage m
@@ -297,28 +297,28 @@ module _ (bytes : List ℕ) (m : Msg) (size : length bytes ≡ 520) (fit : (i : 
 abbrev IsDecoded : Geometry → List ℕ → Option Msg → Type 0
 IsDecoded g bytes r = (m : Msg) → IsMessage m → (r ≡ Some m) ↔ ((bytes ≡ record_of m) × (is_in_range g m ≡ true))
 
-pub decodes_none : (g : Geometry) (bytes : List ℕ) (r : Option Msg) → r ≡ None → ((m : Msg) → fields_say bytes ≡ Some m → bytes ≡ record_of m → is_in_range g m ≡ true → ⊥) → IsDecoded g bytes r
+pub decodes_none : (g : Geometry) (bytes : List ℕ) (r : Option Msg) → r ≡ None → ((m : Msg) → message_in_fields bytes ≡ Some m → bytes ≡ record_of m → is_in_range g m ≡ true → ⊥) → IsDecoded g bytes r
 decodes_none g bytes r none h = λ m whole. (
   (λ e. let f : None ≡ Some m = sym none ∙ e in cc f),
-  (λ p. absurd (h m (ap fields_say p.0 ∙ record_says g m whole p.1) p.0 p.1)),
+  (λ p. absurd (h m (ap message_in_fields p.0 ∙ record_says g m whole p.1) p.0 p.1)),
 )
 
-pub decodes_some : (g : Geometry) (bytes : List ℕ) (n : Msg) → fields_say bytes ≡ Some n → bytes ≡ record_of n → is_in_range g n ≡ true → IsDecoded g bytes (Some n)
+pub decodes_some : (g : Geometry) (bytes : List ℕ) (n : Msg) → message_in_fields bytes ≡ Some n → bytes ≡ record_of n → is_in_range g n ≡ true → IsDecoded g bytes (Some n)
 decodes_some g bytes n says is there = λ m whole. (
   (λ e. let same : n ≡ m = same_Some n m e in (is ∙ ap record_of same, sym (ap (is_in_range g) same) ∙ there)),
-  (λ p. sym says ∙ ap fields_say p.0 ∙ record_says g m whole p.1),
+  (λ p. sym says ∙ ap message_in_fields p.0 ∙ record_says g m whole p.1),
 )
 
 -- ---- the fields as the code reads them
 
-pub no_fields : (bytes : List ℕ) → None ≡ kind_numbered (slice_index bytes 0) → None ≡ fields_say bytes
-unfolding fields_say
+pub no_fields : (bytes : List ℕ) → None ≡ kind_numbered (slice_index bytes 0) → None ≡ message_in_fields bytes
+unfolding message_in_fields
 no_fields bytes h =
     ap (λ (o : Option Kind). option_map (λ k. assembled k (slice_index bytes 1) (slice_index bytes 2) (slice_index bytes 3) (little_number 2 (take 2 (drop 4 bytes))) (drop 8 bytes)) o) h
 
 pub some_fields : (bytes : List ℕ) (k : Kind) (m : Msg) → Some k ≡ kind_numbered (slice_index bytes 0)
-    → m ≡ assembled k (slice_index bytes 1) (slice_index bytes 2) (slice_index bytes 3) (little_number 2 (take 2 (drop 4 bytes))) (drop 8 bytes) → Some m ≡ fields_say bytes
-unfolding fields_say
+    → m ≡ assembled k (slice_index bytes 1) (slice_index bytes 2) (slice_index bytes 3) (little_number 2 (take 2 (drop 4 bytes))) (drop 8 bytes) → Some m ≡ message_in_fields bytes
+unfolding message_in_fields
 some_fields bytes k m h e =
     ap Some e
     ∙ ap (λ (o : Option Kind). option_map (λ k. assembled k (slice_index bytes 1) (slice_index bytes 2) (slice_index bytes 3) (little_number 2 (take 2 (drop 4 bytes))) (drop 8 bytes)) o) h

@@ -47,8 +47,8 @@ of_block make (a ∷ v ∷ f ∷ b ∷ []) = do
   aggregate ← number a
   volume ← number v
   file ← number f
-  place ← number b
-  Some (make aggregate volume file place)
+  block_number ← number b
+  Some (make aggregate volume file block_number)
 of_block make _ = None
 
 -- four numbers, and the digits of a block
@@ -57,9 +57,9 @@ of_data make (a ∷ v ∷ f ∷ b ∷ digits ∷ []) = do
   aggregate ← number a
   volume ← number v
   file ← number f
-  place ← number b
+  block_number ← number b
   content ← block digits
-  Some (make aggregate volume file place content)
+  Some (make aggregate volume file block_number content)
 of_data make _ = None
 
 -- two numbers, and the digits of a label

@@ -38,13 +38,13 @@ padded_with size (Ok bytes) = Some (padded size bytes)
 padded_with size (Err e) = None
 
 -- the bytes that a word says: hexadecimal digits, two for each byte, at least one byte and at most so many, and zeros behind them
-unfoldable pub bytes_said : ℕ → List ℕ → Option (List ℕ)
-bytes_said size word = if nat_le 2 (length word) && nat_le (length word) (2 * size) then padded_with size (decode_of word) else None
+unfoldable pub bytes_in_word : ℕ → List ℕ → Option (List ℕ)
+bytes_in_word size word = if nat_le 2 (length word) && nat_le (length word) (2 * size) then padded_with size (decode_of word) else None
 
 -- the block that a word says
 unfoldable pub block : List ℕ → Option Block
-block word = option_map (λ bytes. record { 0 = bytes }) (bytes_said 512 word)
+block word = option_map (λ bytes. record { 0 = bytes }) (bytes_in_word 512 word)
 
 -- the label that a word says
 unfoldable pub label : List ℕ → Option (List ℕ)
-label word = bytes_said 32 word
+label word = bytes_in_word 32 word

@@ -16,9 +16,9 @@ first_line [] = []
 first_line (b ∷ bs) = if b == 10 then [] else b ∷ first_line bs
 
 -- the bytes behind the first newline, or none
-abbrev pub after_line : List ℕ → List ℕ
-after_line [] = []
-after_line (b ∷ bs) = if b == 10 then bs else after_line bs
+abbrev pub behind_first_line : List ℕ → List ℕ
+behind_first_line [] = []
+behind_first_line (b ∷ bs) = if b == 10 then bs else behind_first_line bs
 
 -- none of the bytes is a newline
 abbrev pub IsWithinLine : List ℕ → Type 0
@@ -77,12 +77,12 @@ KnowsEnd remaining r = IsTrue (has_ended r) → IsAtEnd (remaining (source r))
 pub record GivesLine (line bs : List ℕ) (left : Option (List ℕ)) : Type 0 where
   pub more : bs ≢ []
   pub line_is : line ≡ first_line bs
-  pub left_is : left ≡ Some (after_line bs)
+  pub left_is : left ≡ Some (behind_first_line bs)
 
 -- The first line of the bytes has more than 1,100 bytes, and those behind it are left.
 pub record PassesLine (bs : List ℕ) (left : Option (List ℕ)) : Type 0 where
   pub long : 1100 < length (first_line bs)
-  pub left_is : left ≡ Some (after_line bs)
+  pub left_is : left ≡ Some (behind_first_line bs)
 
 -- There are no bytes, and none are left.
 pub record IsAtEndOf (bs : List ℕ) (left : Option (List ℕ)) : Type 0 where

@@ -74,7 +74,7 @@ assembled kinds.SetLabel a v f b bytes = SetLabel a v (take 32 bytes)
 assembled kinds.Label a v f b bytes = Label a v
 
 -- the message that the fields of 520 bytes say, whatever stands in those that it doesn't have
-unfoldable pub fields_say : List ℕ → Option Msg
-fields_say bytes =
+unfoldable pub message_in_fields : List ℕ → Option Msg
+message_in_fields bytes =
     option_map (λ k. assembled k (slice_index bytes 1) (slice_index bytes 2) (slice_index bytes 3) (little_number 2 (take 2 (drop 4 bytes))) (drop 8 bytes))
     (kind_numbered (slice_index bytes 0))

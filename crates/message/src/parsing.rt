@@ -3,7 +3,7 @@
 ghost use Rattle.std.specs.Prelude.{◌≡◌, ℕ, ◌∷◌, [], ◌↔◌, MatchOption, option_map};
 ghost use Rattle.message.specs.declared.Msg.{Msg};
 ghost use Rattle.message.specs.declared.Msg.TheVariants.{Write as write, SetLabel as set_label};
-ghost use Rattle.message.specs.Lines.{words, number, block, bytes_said};
+ghost use Rattle.message.specs.Lines.{words, number, block, bytes_in_word};
 ghost use Rattle.message.specs.Grammar.{message_of, Spells, first_number, of_kind, of_volume, of_file, of_block, of_data, of_label, kind_named};
 
 use crate::{Block, LONGEST_LINE, Msg};
@@ -113,7 +113,7 @@ fn write_message(line: &[u8]) -> Option<Msg>
     let (volume, behind) = number_before_space(behind)?;
     let (file, behind) = number_before_space(behind)?;
     let (block, behind) = number_before_space(behind)?;
-    Some(Msg::Write(aggregate, volume, file, block, Block(bytes_said(behind)?)))
+    Some(Msg::Write(aggregate, volume, file, block, Block(bytes_in_word(behind)?)))
 }
 
 /// The message of what stands behind `setlabel`.
@@ -122,7 +122,7 @@ fn label_message(line: &[u8]) -> Option<Msg>
 {
     let (aggregate, behind) = number_before_space(line)?;
     let (volume, behind) = number_before_space(behind)?;
-    Some(Msg::SetLabel(aggregate, volume, bytes_said(behind)?))
+    Some(Msg::SetLabel(aggregate, volume, bytes_in_word(behind)?))
 }
 
 /// The number that stands before the first space of a line, and what stands behind that.
@@ -165,8 +165,8 @@ fn number(word: &[u8]) -> Option<u16>
 }
 
 /// The bytes that a word says in hexadecimal digits, and zeros behind them.
-fn bytes_said<const N: usize>(digits: &[u8]) -> Option<[u8; N]>
-    ensures { result ≡ bytes_said N digits.now }
+fn bytes_in_word<const N: usize>(digits: &[u8]) -> Option<[u8; N]>
+    ensures { result ≡ bytes_in_word N digits.now }
 {
     let size = digits.len() / 2;
     if size == 0 || size > N {

@@ -85,7 +85,7 @@ fn read_over<R: Read>(reader: &mut R, buffer: &mut Vec<u8>, at: usize) -> Result
 }
 
 impl Held {
-    ghost use Rattle.message.specs.Reader.{first_line, after_line, IsWithinLine, held_bytes, held_line};
+    ghost use Rattle.message.specs.Reader.{first_line, behind_first_line, IsWithinLine, held_bytes, held_line};
 
     fn new(buffer: Vec<u8>) -> Held
         requires { 1101 ≤ vec_len buffer }
@@ -139,7 +139,7 @@ impl Held {
 
     /// Lets go of the first line.
     fn pass_line(&mut self)
-        ensures bytes { held_bytes self.new ≡ after_line (held_bytes self.old) }
+        ensures bytes { held_bytes self.new ≡ behind_first_line (held_bytes self.old) }
         ensures line { held_line self.new ≡ held_line self.old }
     {
         self.start = self.end.min(self.newline + 1);
@@ -149,7 +149,7 @@ impl Held {
 
     /// Gives the first line.
     fn take_line(&mut self)
-        ensures bytes { held_bytes self.new ≡ after_line (held_bytes self.old) }
+        ensures bytes { held_bytes self.new ≡ behind_first_line (held_bytes self.old) }
         ensures line { held_line self.new ≡ first_line (held_bytes self.old) }
     {
         self.line_start = self.start;
@@ -242,7 +242,7 @@ pub struct LineReader<R> {
 }
 
 impl<R: Read> LineReader<R> {
-    ghost use Rattle.message.specs.Reader.{first_line, after_line, IsWithinLine, held_bytes, HoldsEnough, unread, line_of, HoldsLine, has_ended, has_failed, source, LosesFront, Finds, Closes, IsClosed, is_drained, KnowsEnd};
+    ghost use Rattle.message.specs.Reader.{first_line, behind_first_line, IsWithinLine, held_bytes, HoldsEnough, unread, line_of, HoldsLine, has_ended, has_failed, source, LosesFront, Finds, Closes, IsClosed, is_drained, KnowsEnd};
 
     /// A reader of lines over a reader, before its first read. The buffer has 1,101 bytes at least.
     /// A read fills it as far as the reader gives, so its length is how much is read at a time.
@@ -422,7 +422,7 @@ impl<R: Read> LineReader<R> {
         requires sound { IsFalse (has_failed self.old) }
         ensures line { line_of self.new ≡ [] }
         ensures passed { OnOk result (IfSome (unread R.remaining self.old)
-            (λ bs. unread R.remaining self.new ≡ Some (after_line bs))) }
+            (λ bs. unread R.remaining self.new ≡ Some (behind_first_line bs))) }
         ensures closed { OnOk result (IsClosed (unread R.remaining self.old) (is_drained self.new)) }
         ensures lost { OnErr result (IfSome (unread R.remaining self.old)
             (λ bs. LosesFront bs (unread R.remaining self.new))) }

@@ -3,7 +3,7 @@
 ghost use Rattle.std.specs.Prelude.{◌≡◌, ◌↔◌, ◌++◌, true, Some, drop, replicate, IfSome, IsTrue, slice_index};
 ghost use Rattle.affinity.specs.declared.kinds.Kind.{Kind};
 ghost use Rattle.message.specs.Messages.{IsMessage, is_in_range};
-ghost use Rattle.message.specs.Records.{HasRoom, assembled, data_of, fields_say, head_of, kind_number, kind_numbered, record_of};
+ghost use Rattle.message.specs.Records.{HasRoom, assembled, data_of, message_in_fields, head_of, kind_number, kind_numbered, record_of};
 ghost use Rattle.message.specs.declared.Msg.{Msg};
 
 use crate::{Block, Msg};
@@ -29,7 +29,7 @@ pub fn decode(bytes: &[u8; 520], g: &Geometry) -> Option<Msg>
     ensures exact { (m : Msg) → IsMessage m → (result ≡ Some m) ↔ ((bytes.now ≡ record_of m) × (is_in_range g.now m ≡ true)) }
     ensures whole { IfSome result IsMessage }
 {
-    let m = fields_say(bytes)?;
+    let m = message_in_fields(bytes)?;
     place_of(g, m.kind(), m.numbers())?;
     if bytes[..8] == head_of(&m)[..] && has_data_of(bytes, &m) {
         Some(m)
@@ -40,7 +40,7 @@ pub fn decode(bytes: &[u8; 520], g: &Geometry) -> Option<Msg>
 
 /// Whether what stands behind the head is the data of a message that the fields say.
 fn has_data_of(bytes: &[u8; 520], m: &Msg) -> bool
-    requires { Some m.now ≡ fields_say bytes.now }
+    requires { Some m.now ≡ message_in_fields bytes.now }
     ensures { IsTrue result ↔ (drop 8 bytes.now ≡ data_of m.now) }
 {
     match m {
@@ -71,8 +71,8 @@ fn label_data(label: &[u8; 32]) -> [u8; 512]
 }
 
 /// The message that the fields say, whatever stands in those that it doesn't have.
-fn fields_say(bytes: &[u8; 520]) -> Option<Msg>
-    ensures { result ≡ fields_say bytes.now }
+fn message_in_fields(bytes: &[u8; 520]) -> Option<Msg>
+    ensures { result ≡ message_in_fields bytes.now }
 {
     let kind = kind_numbered(bytes[0])?;
     let numbers = [

@@ -10,7 +10,7 @@ use Rattle.std.proofs.lemmas.Bool.{eqb-true, eq-eqb, true≢false}
 use Rattle.affinity.specs.declared.geometry.Geometry.{Geometry}
 use Rattle.message.specs.Lines.{lines}
 use Rattle.message.specs.Grammar.{message_of}
-use Rattle.message.specs.Reader.{first_line, after_line as behind_line, GivesLine, PassesLine, IsAtEndOf, LosesFront}
+use Rattle.message.specs.Reader.{first_line, behind_first_line as behind_line, GivesLine, PassesLine, IsAtEndOf, LosesFront}
 use Rattle.message.proofs.Keywords.{too_long}
 use Rattle.message.proofs.ReaderLemmas.{lines-first}
 use Rattle.plain.specs.State.{State, empty}

@@ -20,13 +20,13 @@ returns-in_err-block c =
     ∙ onward_none (λ n. of_digits (write a.aggregate v.volume f.file n)) (words f.behind.now) c.in_err-block.ensures
     )
 
-pub returns-in_err-bytes_said : goal.returns-in_err-bytes_said
-returns-in_err-bytes_said c =
+pub returns-in_err-bytes_in_word : goal.returns-in_err-bytes_in_word
+returns-in_err-bytes_in_word c =
     let a = c.in_ok-aggregate in
     let v = c.in_ok-volume in
     let f = c.in_ok-file in
     let b = c.in_ok-block in
-    c.from_residual-in_err-bytes_said.ensures ∙ sym (
+    c.from_residual-in_err-bytes_in_word.ensures ∙ sym (
     of_data-onward write (words c.args.line.now)
     ∙ onward_some (λ n. from_volume (write n)) (words c.args.line.now) a.aggregate (words a.behind.now) a.ensures
     ∙ from_volume-onward (write a.aggregate) (words a.behind.now)
@@ -35,7 +35,7 @@ returns-in_err-bytes_said c =
     ∙ onward_some (λ n. from_block (write a.aggregate v.volume n)) (words v.behind.now) f.file (words f.behind.now) f.ensures
     ∙ from_block-onward (write a.aggregate v.volume f.file) (words f.behind.now)
     ∙ onward_some (λ n. of_digits (write a.aggregate v.volume f.file n)) (words f.behind.now) b.block (words b.behind.now) b.ensures
-    ∙ of_digits-none (write a.aggregate v.volume f.file b.block) b.behind.now c.in_err-bytes_said.ensures
+    ∙ of_digits-none (write a.aggregate v.volume f.file b.block) b.behind.now c.in_err-bytes_in_word.ensures
     )
 
 pub returns : goal.returns
@@ -53,5 +53,5 @@ returns c =
     ∙ onward_some (λ n. from_block (write a.aggregate v.volume n)) (words v.behind.now) f.file (words f.behind.now) f.ensures
     ∙ from_block-onward (write a.aggregate v.volume f.file) (words f.behind.now)
     ∙ onward_some (λ n. of_digits (write a.aggregate v.volume f.file n)) (words f.behind.now) b.block (words b.behind.now) b.ensures
-    ∙ of_digits-read (write a.aggregate v.volume f.file b.block) b.behind.now c.in_ok-bytes_said.field-0 c.in_ok-bytes_said.ensures
+    ∙ of_digits-read (write a.aggregate v.volume f.file b.block) b.behind.now c.in_ok-bytes_in_word.field-0 c.in_ok-bytes_in_word.ensures
     )

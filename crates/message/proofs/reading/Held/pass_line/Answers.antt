@@ -1,6 +1,6 @@
 use Rattle.std.proofs.Common.{◌≡◌, ◌+◌, ◌<◌, ℕ, List, get_or, sym, subst, arith}
 use Rattle.std.proofs.lemmas.List.Edits.{length-between}
-use Rattle.message.proofs.ReaderLemmas.{NoneFrom, NoneFrom-slice, newline-slice, after_line-slice}
+use Rattle.message.proofs.ReaderLemmas.{NoneFrom, NoneFrom-slice, newline-slice, behind_first_line-slice}
 use Rattle.message.proofs.reading.Held.pass_line.Goals as goal
 
 pub invariant_of-self : goal.invariant_of-self
@@ -26,4 +26,4 @@ invariant_of-self c =
 pub returns-clause-bytes : goal.returns-clause-bytes
 returns-clause-bytes c =
     let h = c.args.self.now in
-    sym (after_line-slice h.buffer.items h.start h.newline h.end c.min-self.result h.starts_before h.newline_within (omega arith) h.none_before h.newline_there c.min-self.ensures)
+    sym (behind_first_line-slice h.buffer.items h.start h.newline h.end c.min-self.result h.starts_before h.newline_within (omega arith) h.none_before h.newline_there c.min-self.ensures)

@@ -2,7 +2,7 @@ use Rattle.std.proofs.Common.{◌≡◌, ◌⊎◌, inl, inr, true, IfSome}
 use Rattle.std.specs.List.{Contains}
 use Rattle.std.specs.Prelude.{◌&&◌}
 use Rattle.std.proofs.KnownBytes.{Keeps-refl}
-use Rattle.message.specs.Reader.{held_bytes, still_to_come, unread, LosesFront, after_line, are_none}
+use Rattle.message.specs.Reader.{held_bytes, still_to_come, unread, LosesFront, behind_first_line, are_none}
 use Rattle.message.proofs.ReaderLemmas.{IsWhole-told, passed, LosesFront-kept, IsClosed-held, IsClosed-behind}
 use Rattle.message.proofs.reading.LineReader.skip_line.Goals as goal
 use Rattle.message.proofs.reading.LineReader.skip_line.Goals.{then-not-self+then-not-has_newline+in_ok-skip, else-not-self, else-not-self-via-then-not-self+else-not-has_newline, else-not-self-via-else-not-self}
@@ -40,5 +40,5 @@ returns-clause-closed g c =
         | else-not-self-via-else-not-self w' ↦ inl w'.if-not-self.false
       ])
     ] in
-    rw c.pass_line.ensures.bytes (IsClosed-behind a (unread g.R.Read.remaining before) (before.ended && are_none (after_line (held_bytes before.held))) lost
+    rw c.pass_line.ensures.bytes (IsClosed-behind a (unread g.R.Read.remaining before) (before.ended && are_none (behind_first_line (held_bytes before.held))) lost
     (IsClosed-held before.ended (held_bytes before.held) (g.R.Read.remaining before.reader) whole))

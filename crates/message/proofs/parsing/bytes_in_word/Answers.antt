@@ -1,6 +1,6 @@
 use Rattle.std.proofs.Common.{◌/◌, length, sym, ◌∙◌, refl, arith, inl, inr}
 use Rattle.message.proofs.Blocks.{no_bytes, bytes_decoded, bytes_not_decoded}
-use Rattle.message.proofs.parsing.bytes_said.Goals as goal
+use Rattle.message.proofs.parsing.bytes_in_word.Goals as goal
 
 pub returns-then-size-eq0 : goal.returns-then-size-eq0
 returns-then-size-eq0 g c = sym (no_bytes g.row.N c.args.digits.now (λ bytes h.

@@ -1,7 +1,7 @@
 use Rattle.std.proofs.Common.{drop, ◌∙◌}
 use Rattle.message.specs.Records.{assembled}
 use Rattle.message.proofs.RecordLemmas.{no_fields, some_fields}
-use Rattle.message.proofs.records.fields_say.Goals as goal
+use Rattle.message.proofs.records.message_in_fields.Goals as goal
 
 pub returns-in_err-kind : goal.returns-in_err-kind
 returns-in_err-kind c = c.from_residual.ensures ∙ no_fields c.args.bytes.now c.in_err-kind.ensures
