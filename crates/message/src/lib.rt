@@ -9,8 +9,6 @@ mod printing;
 mod reading;
 mod records;
 mod reply_buffer;
-#[cfg(test)]
-mod tests;
 
 pub use carried::know_message;
 pub use lent_reader::{LentReader, Loan};

@@ -1,6 +1,6 @@
 //! What a line says.
 
-ghost use Rattle.std.specs.Prelude.{◌≡◌, ℕ, ◌∷◌, [], ◌↔◌, MatchOption, option_map};
+ghost use Rattle.std.specs.Prelude.{◌≡◌, ℕ, ◌<◌, ◌∷◌, [], ◌↔◌, length, slice_index, IsTrue, MatchOption, option_map};
 ghost use Rattle.message.specs.declared.Msg.{Msg};
 ghost use Rattle.message.specs.declared.Msg.TheVariants.{Write as write, SetLabel as set_label};
 ghost use Rattle.message.specs.Lines.{words, number, block, bytes_in_word};
@@ -141,6 +141,13 @@ fn split_at_space(line: &[u8]) -> Option<(&[u8], &[u8])>
     Some((&line[..end], &line[end + 1..]))
 }
 
+/// Whether a zero stands in front of other digits.
+fn has_leading_zero(word: &[u8]) -> bool
+    ensures { IsTrue result ↔ ((1 < length word.now) × (slice_index word.now 0 ≡ 48)) }
+{
+    word.len() > 1 && word[0] == b'0'
+}
+
 /// The number that a word says.
 fn number(word: &[u8]) -> Option<u16>
     ensures { result ≡ number word.now }
@@ -148,7 +155,7 @@ fn number(word: &[u8]) -> Option<u16>
     if word.is_empty() {
         return None;
     }
-    if word.len() > 1 && word[0] == b'0' {
+    if has_leading_zero(word) {
         return None;
     }
     let mut value = 0u32;

@@ -6,9 +6,6 @@ use crate::LONGEST_LINE;
 use memchr::memchr;
 use std::io::Read;
 
-#[cfg(test)]
-mod tests;
-
 /// What was found in an input.
 #[derive(Clone, Copy, Debug, PartialEq, Eq)]
 pub enum Found {
@@ -334,7 +331,7 @@ impl<R: Read> LineReader<R> {
         ensures room { IsTrue result → length (held_bytes self.now.held) ≤ 1100 }
         ensures enough { IsFalse result → HoldsEnough self.now }
     {
-        if self.ended || self.held.has_newline() {
+        if self.held.has_newline() || self.ended {
             return false;
         }
         self.held.first_len() <= LONGEST_LINE

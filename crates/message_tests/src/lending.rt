@@ -36,7 +36,11 @@ fn has_no_line<R: Read>(reader: &mut R, buffer: Vec<u8>) -> bool
 
 #[test]
 fn the_reader_comes_back(rt: HostRuntime) -> Result<(), Fail> {
-    let rows: [(&[u8], bool, &[u8]); 3] = [(b"", true, b""), (b"a\nb", false, b""), (b"\n", false, b"")];
+    let rows: [(&[u8], bool, &[u8]); 3] = [
+        (b"", true, b""),
+        (b"a\nb", false, b""),
+        (b"\n", false, b""),
+    ];
     for (input, none, left) in rows {
         let mut reader = input;
         let buffer = vec![in rt.alloc(); 0u8; 1101]?;

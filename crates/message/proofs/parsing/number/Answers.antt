@@ -1,14 +1,13 @@
-use Rattle.std.proofs.Common.{◌≡◌, ℕ, ◌+◌, ◌-◌, ◌*◌, ◌<◌, length, get_or, take, true, false, Some, arith, List, Result, Ok, Err, ap, sym, ◌∙◌}
+use Rattle.std.proofs.Common.{◌≡◌, ℕ, ◌+◌, ◌-◌, ◌*◌, ◌<◌, length, get_or, take, true, false, Some, arith, List, Result, Ok, Err, ap, sym, ◌∙◌, inl, inr}
 use Rattle.std.specs.Str.{all_ascii_digits}
 use Rattle.std.specs.Str.Parse.{digits_value}
 use Rattle.std.specs.Char.{is_ascii_digit}
 use Rattle.std.specs.Prelude.{◌==◌}
 use Rattle.std.specs.Result.{OkIff, result_ok}
-use Rattle.std.proofs.lemmas.Bool.{true≢false, eqb-true, eqb-false}
+use Rattle.std.proofs.lemmas.Bool.{true≢false, eqb-true, eqb-false, cases_lt}
 use Rattle.std.proofs.lemmas.List.{take_all}
 use Rattle.message.proofs.Numbers.{no_number, number_from, digit_at, digits_more, value_more, too_large}
 use Rattle.message.proofs.parsing.number.Goals as goal
-use Rattle.message.proofs.parsing.number.Goals.{else-word-gt1-via-then-word-gt1+else-word-eq48, else-word-gt1-via-else-word-gt1}
 
 not_empty : (w : List ℕ) → (length w == 0) ≡ false → 0 < length w
 not_empty w h = let some = eqb-false (length w) 0 h in omega arith
@@ -21,8 +20,8 @@ told v (Err e) h fits = absurd (h fits)
 pub returns-then-is_empty : goal.returns-then-is_empty
 returns-then-is_empty c = sym (no_number c.args.word.now (λ n. let some = n.some in let none = eqb-true (length c.args.word.now) 0 (sym c.is_empty.ensures ∙ c.if-is_empty.true) in absurd (omega arith)))
 
-pub returns-then-word-eq48 : goal.returns-then-word-eq48
-returns-then-word-eq48 c = sym (no_number c.args.word.now (λ n. let one = n.plain c.if-word-eq48.true in absurd (omega arith)))
+pub returns-then-has_leading_zero : goal.returns-then-has_leading_zero
+returns-then-has_leading_zero c = sym (no_number c.args.word.now (λ n. let zero = c.has_leading_zero.ensures.0 c.if-has_leading_zero.true in let more = zero.0 in let one = n.plain zero.1 in absurd (omega arith)))
 
 pub returns-then-not-is_ascii_digit : goal.returns-then-not-is_ascii_digit
 returns-then-not-is_ascii_digit c = sym (no_number c.args.word.now (λ n. true≢false (sym (digit_at c.args.word.now c.loop-digit.digit-index n.digits (omega arith)) ∙ sym c.is_ascii_digit.ensures.value ∙ c.if-not-is_ascii_digit.true)))
@@ -51,9 +50,9 @@ returns c =
     let digits : all_ascii_digits w ≡ true = ap all_ascii_digits (sym whole) ∙ c.loop-digit.invariant.digits in
     let fits = c.loop-digit.invariant.fits in
     let some : 0 < length w = not_empty w (sym c.if-is_empty.ensures) in
-    let plain : get_or w 0 0 ≡ 48 → length w ≡ 1 = elim c.else-word-gt1.branch [
-      | else-word-gt1-via-then-word-gt1+else-word-eq48 b ↦ λ e. absurd (b.if-word-eq48.false e)
-      | else-word-gt1-via-else-word-gt1 b ↦ λ e. let short = b.if-word-gt1.false in omega arith
+    let plain : get_or w 0 0 ≡ 48 → length w ≡ 1 = λ e. elim (cases_lt 1 (length w)) [
+      | inl more ↦ absurd (true≢false (sym (c.has_leading_zero.ensures.1 (more, e)) ∙ c.if-has_leading_zero.false))
+      | inr few ↦ omega arith
     ] in
     c.ok.ensures.value ∙ told c.loop-digit.value c.try_from.result c.try_from.ensures fits
     ∙ ap Some value ∙ sym (number_from w (record { digits = digits; some = some; plain = plain; fits = omega arith }))

@@ -1,6 +1,9 @@
+//! The lines of an input, however it is read.
+
 ghost use Rattle.std.specs.Prelude.{◌≤◌};
 
-use super::{Found, LineReader};
+use crate::common::{holds, same};
+use message::{Found, LineReader};
 use std::alloc::{AllocError, Global};
 use std::io;
 use std::io::{ErrorKind, Read};
@@ -25,10 +28,10 @@ impl<'a> Read for Piecewise<'a> {
                 Some(kind) => Err(io::Error::from(kind)),
             };
         }
-        for (given, place) in buf.iter_mut().enumerate() {
+        for (given, slot) in buf.iter_mut().enumerate() {
             match self.bytes.get(self.at) {
                 Some(byte) if given < self.most && self.stop != Some(self.at) => {
-                    *place = *byte;
+                    *slot = *byte;
                     self.at = self.at.saturating_add(1);
                 }
                 _ => return Ok(given),
@@ -92,11 +95,11 @@ fn lines_however_the_reads_are_cut(rt: HostRuntime) -> Result<(), Fail> {
         for most in [1, 2, 5, 4096] {
             for room in [1101, 65536] {
                 let told = answers(rt.alloc(), in_pieces(input, most), room, count)?;
-                assert_eq!(rt; told.as_slice(), want, "{input:?} by {most} in {room}");
+                same(&rt, told.as_slice(), want);
             }
         }
         let told = answers(rt.alloc(), input, 1101, count)?;
-        assert_eq!(rt; told.as_slice(), want, "{input:?} whole");
+        same(&rt, told.as_slice(), want);
     }
     Ok(())
 }
@@ -114,12 +117,12 @@ fn a_line_has_1100_bytes_at_most(rt: HostRuntime) -> Result<(), Fail> {
         for room in [1101, 1102, 65536] {
             let fits = long_then_short(rt.alloc(), 1100)?;
             let told = answers(rt.alloc(), in_pieces(fits.as_slice(), most), room, 2)?;
-            assert_eq!(rt; told.as_slice(), fits.as_slice(), "by {most} in {room}");
+            same(&rt, told.as_slice(), fits.as_slice());
             for size in [1101, 1102, 5000] {
                 let over = long_then_short(rt.alloc(), size)?;
                 let told = answers(rt.alloc(), in_pieces(over.as_slice(), most), room, 3)?;
                 let want: &[u8] = b"(too long)\nshort\n(end)\n";
-                assert_eq!(rt; told.as_slice(), want, "{size} by {most} in {room}");
+                same(&rt, told.as_slice(), want);
             }
         }
     }
@@ -132,11 +135,11 @@ fn a_last_line_without_newline_may_be_too_long(rt: HostRuntime) -> Result<(), Fa
     let want: &[u8] = b"(too long)\n(end)\n(end)\n";
     for most in [1, 1_000_000] {
         let told = answers(rt.alloc(), in_pieces(many.as_slice(), most), 65536, 3)?;
-        assert_eq!(rt; told.as_slice(), want);
+        same(&rt, told.as_slice(), want);
     }
     let just = vec![in rt.alloc(); b'x'; 1101]?;
     let told = answers(rt.alloc(), just.as_slice(), 1101, 3)?;
-    assert_eq!(rt; told.as_slice(), want);
+    same(&rt, told.as_slice(), want);
     Ok(())
 }
 
@@ -158,7 +161,7 @@ fn a_fault_is_for_good(rt: HostRuntime) -> Result<(), Fail> {
                 reader.stop = Some(stop);
                 reader.pause = Some(kind);
                 let told = answers(rt.alloc(), reader, 1101, 3)?;
-                assert_eq!(rt; told.as_slice(), want, "at {stop} by {most}");
+                same(&rt, told.as_slice(), want);
             }
         }
     }
@@ -173,7 +176,7 @@ fn an_end_is_for_good(rt: HostRuntime) -> Result<(), Fail> {
         reader.stop = Some(6);
         let told = answers(rt.alloc(), reader, 1101, 4)?;
         let want: &[u8] = b"one\ntw\n(end)\n(end)\n";
-        assert_eq!(rt; told.as_slice(), want);
+        same(&rt, told.as_slice(), want);
     }
     Ok(())
 }
@@ -182,16 +185,16 @@ fn an_end_is_for_good(rt: HostRuntime) -> Result<(), Fail> {
 fn says_whether_a_line_is_held(rt: HostRuntime) -> Result<(), Fail> {
     let input: &[u8] = b"one\ntwo\nthree";
     let mut lines = LineReader::new(input, vec![in rt.alloc(); 0u8; 65536]?);
-    assert!(rt; !lines.holds_line());
-    assert_eq!(rt; lines.next_line()?, Found::Line);
-    assert!(rt; lines.holds_line());
-    assert_eq!(rt; lines.next_line()?, Found::Line);
-    assert_eq!(rt; lines.line(), b"two".as_slice());
-    assert!(rt; !lines.holds_line());
-    assert_eq!(rt; lines.next_line()?, Found::Line);
-    assert_eq!(rt; lines.line(), b"three".as_slice());
-    assert_eq!(rt; lines.next_line()?, Found::End);
-    assert!(rt; lines.line().is_empty());
+    holds(&rt, !lines.holds_line());
+    holds(&rt, lines.next_line()? == Found::Line);
+    holds(&rt, lines.holds_line());
+    holds(&rt, lines.next_line()? == Found::Line);
+    same(&rt, lines.line(), b"two");
+    holds(&rt, !lines.holds_line());
+    holds(&rt, lines.next_line()? == Found::Line);
+    same(&rt, lines.line(), b"three");
+    holds(&rt, lines.next_line()? == Found::End);
+    holds(&rt, lines.line().is_empty());
     Ok(())
 }
 
@@ -199,8 +202,8 @@ fn says_whether_a_line_is_held(rt: HostRuntime) -> Result<(), Fail> {
 fn the_reader_is_given_back(rt: HostRuntime) -> Result<(), Fail> {
     let buffer = vec![in rt.alloc(); 0u8; 1101]?;
     let mut lines = LineReader::new(in_pieces(b"ab\nc\nd", 5), buffer);
-    assert_eq!(rt; lines.next_line(), Ok(Found::Line));
-    assert_eq!(rt; lines.line(), b"ab".as_slice());
-    assert_eq!(rt; lines.into_inner().at, 5);
+    holds(&rt, lines.next_line() == Ok(Found::Line));
+    same(&rt, lines.line(), b"ab");
+    holds(&rt, lines.into_inner().at == 5);
     Ok(())
 }

@@ -1,0 +1,44 @@
+//! Messages as records.
+
+use crate::common::{block_of, padded, same};
+use affinity::Geometry;
+use message::{Msg, decode, encode};
+use std::process::Abort;
+
+fn decodes(rt: &impl Abort, front: &[u8], g: &Geometry, message: Option<Msg>) {
+    assert_eq!(rt; decode(&padded(front), g), message, "at {front:?}");
+}
+
+#[test]
+fn records_have_one_spelling(rt: HostRuntime) {
+    let g = Geometry::default();
+    let mut out = [7; 520];
+    encode(&Msg::MakeVol(0, 0), &mut out);
+    same(&rt, &out, &padded::<520>(&[1]));
+    encode(&Msg::Write(0, 0, 1, 2, block_of(b"ab")), &mut out);
+    let write = [7, 0, 0, 1, 2, 0, 0, 0, 0x61, 0x62];
+    same(&rt, &out, &padded::<520>(&write));
+    encode(&Msg::SetLabel(0, 0, padded(b"ab")), &mut out);
+    let label = [13, 0, 0, 0, 0, 0, 0, 0, 0x61, 0x62];
+    same(&rt, &out, &padded::<520>(&label));
+    encode(&Msg::Punch(255, 254, 253, 258), &mut out);
+    let punch = [8, 255, 254, 253, 2, 1];
+    same(&rt, &out, &padded::<520>(&punch));
+
+    let rows: [(&[u8], Option<Msg>); 11] = [
+        (&[1], Some(Msg::MakeVol(0, 0))),
+        (&[1, 0, 3], Some(Msg::MakeVol(0, 3))),
+        (&write, Some(Msg::Write(0, 0, 1, 2, block_of(b"ab")))),
+        (&label, Some(Msg::SetLabel(0, 0, padded(b"ab")))),
+        (&[12], Some(Msg::Summary)),
+        (&[14, 0, 1], Some(Msg::Label(0, 1))),
+        (&[1, 0, 4], None),
+        (&[1, 0, 0, 0, 0, 0, 0, 1], None),
+        (&[1, 0, 0, 1], None),
+        (&[15], None),
+        (&[0], None),
+    ];
+    for (front, message) in rows.iter() {
+        decodes(&rt, front, &g, *message);
+    }
+}

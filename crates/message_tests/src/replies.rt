@@ -1,0 +1,81 @@
+//! The lines of replies.
+
+use crate::common::{block_of, holds, padded, same, spells};
+use message::{Block, Refusal, Reply, no_message_line, write_reply};
+
+#[test]
+fn writes_replies(rt: HostRuntime) {
+    let rows: [(Reply, &str); 13] = [
+        (Reply::Done, "done\n"),
+        (Reply::Hole, "hole\n"),
+        (Reply::Block(block_of(b"ab")), "block 6162\n"),
+        (Reply::Block(block_of(b"")), "block 00\n"),
+        (Reply::Block(block_of(&[0, 0, 10])), "block 00000a\n"),
+        (Reply::Block(block_of(&[171, 0, 205, 0])), "block ab00cd\n"),
+        (Reply::Block(block_of(&[255])), "block ff\n"),
+        (Reply::Refused(Refusal::Range), "error range\n"),
+        (Reply::Refused(Refusal::Volume), "error volume\n"),
+        (Reply::Refused(Refusal::Exists), "error exists\n"),
+        (Reply::Refused(Refusal::Sealed), "error sealed\n"),
+        (Reply::Refused(Refusal::File), "error file\n"),
+        (Reply::Refused(Refusal::Space), "error space\n"),
+    ];
+    for (reply, line) in rows.iter() {
+        spells(&rt, reply, line.as_bytes());
+    }
+    same(&rt, no_message_line(), b"error line\n");
+}
+
+#[test]
+fn writes_a_full_block(rt: HostRuntime) {
+    let mut out = [7; 1031];
+    let size = write_reply(&Reply::Block(Block([0x1f; 512])), &mut out);
+    holds(&rt, size == 1031);
+    let mut line = [b'1'; 1031];
+    for (index, digit) in line.iter_mut().enumerate() {
+        if index % 2 == 1 {
+            *digit = b'f';
+        }
+    }
+    same(&rt, &out[6..1030], &line[..1024]);
+    same(&rt, &out[..6], b"block ");
+    same(&rt, &out[1030..], b"\n");
+}
+
+#[test]
+fn writes_each_reply(rt: HostRuntime) {
+    let rows = [
+        (Reply::Files(0), "files\n"),
+        (Reply::Files(3), "files 0 1\n"),
+        (Reply::Files(1 << 63), "files 63\n"),
+        (
+            Reply::Usage {
+                files: 2,
+                blocks: 1,
+                sealed: false,
+            },
+            "usage 2 1 open\n",
+        ),
+        (
+            Reply::Usage {
+                files: 64,
+                blocks: 4294967295,
+                sealed: true,
+            },
+            "usage 64 4294967295 sealed\n",
+        ),
+        (
+            Reply::Summary {
+                volumes: 1,
+                files: 2,
+                blocks: 10,
+            },
+            "summary 1 2 10\n",
+        ),
+        (Reply::Label([0; 32]), "label 00\n"),
+        (Reply::Label(padded(b"ab")), "label 6162\n"),
+    ];
+    for (reply, line) in rows.iter() {
+        spells(&rt, reply, line.as_bytes());
+    }
+}
