@@ -31,13 +31,13 @@ fn writes_a_full_block(rt: HostRuntime) {
     let mut out = [7; 1031];
     let size = write_reply(&Reply::Block(Block([0x1f; 512])), &mut out);
     holds(&rt, size == 1031);
-    let mut line = [b'1'; 1031];
-    for (index, digit) in line.iter_mut().enumerate() {
+    let mut digits = [b'1'; 1024];
+    for (index, digit) in digits.iter_mut().enumerate() {
         if index % 2 == 1 {
             *digit = b'f';
         }
     }
-    same(&rt, &out[6..1030], &line[..1024]);
+    same(&rt, &out[6..1030], &digits);
     same(&rt, &out[..6], b"block ");
     same(&rt, &out[1030..], b"\n");
 }
