@@ -1,76 +1,119 @@
 -- What a device stands for after a crash, from the clauses of a log's calls.
-use Rattle.std.proofs.Common.{◌≡◌, ◌≢◌, ℕ, Bool, true, false, cond, eqb, List, take, get_or, Option, ◌∙◌, sym, ap, arith}
+use Rattle.std.proofs.Common.{◌≡◌, ◌≢◌, ◌<◌, ℕ, Bool, true, false, cond, eqb, List, [], take, get_or, Option, refl, ◌∙◌, sym, ap, subst, arith}
 use Rattle.std.proofs.lemmas.Bool.{ne_eqb}
+use Rattle.disk.specs.Device.{Medium, Leaves, IsSynced}
 use Rattle.disk.proofs.Leaves.{calm_left}
 use Rattle.disk.proofs.Moments.{weaker}
 use Rattle.oplog.specs.Layout.{Layout, part, root, half, image, other}
-use Rattle.oplog.specs.Front.{chain}
-use Rattle.oplog.specs.Stands.{named_area, run, stands_as, stands}
-use Rattle.oplog.specs.Changes.{IsSameBut}
-use Rattle.oplog.specs.Crash.{StandsAlone, SomeStand, AllStand, TornRootStands, FlippedStands, ClearedStands, WrittenImageStands}
-use Rattle.oplog.proofs.Kept.{more_stands, root_kept, half_kept, image_kept}
+use Rattle.oplog.specs.Front.{chain, front}
+use Rattle.oplog.specs.Stands.{Meaning, named_area, current_of, run, stands_as}
+use Rattle.oplog.specs.Changes.{IsSameBut, IsSameButChain, HasMore}
+use Rattle.oplog.specs.Crash.{StandsBy, StandsByNow, AppendStands, AllByArea, ImageByArea, ClearByArea, ChainByArea, ChainedByArea, TornRootStands, FlipByArea}
+use Rattle.oplog.proofs.Kept.{same_named, same_chain, grown_as, root_kept, half_kept, image_kept, chain_kept}
 
-module _ {S : Type 0} (read : List ℕ → Option S) (apply : S → List ℕ → Option S) (is_header : List ℕ → Bool) where
-  pub any_moment : SomeStand read apply is_header
-  any_moment g h x more w0 w1 is_half before moments =
+-- a half that is current by itself has no chain
+no_chain_by : (n : ℕ) (t : Bool) → n < 2 → cond t (other n) n ≡ n → t ≡ false
+no_chain_by n true is_area is = absurd (omega (arith, is, is_area))
+no_chain_by n false is_area is = refl
+
+-- what the root zone names, while another part changes
+pub named_kept : (g : Layout) (p : ℕ) (a c : List ℕ) → root ≢ p → IsSameBut g p a c → named_area g c ≡ named_area g a
+named_kept g p a c apart same = ap (λ (l : List ℕ). cond (eqb (get_or l 0 0) 1) 1 0) (same.others root apart)
+
+-- the current half of an area, while another part than its half changes
+pub current_kept : (g : Layout) (n p : ℕ) (a c : List ℕ) → half n ≢ p → IsSameBut g p a c → current_of g n c ≡ current_of g n a
+current_kept g n p a c apart same = ap (λ (l : List ℕ). cond (eqb (get_or l 0 0) 1) (other n) n) (same.others (half n) apart)
+
+module _ {S : Type 0} (means : Meaning S) where
+  more_by : (g : Layout) (n h : ℕ) (x : Option S) (more : List (List ℕ)) (a c : List ℕ) → n < 2 → h < 2 → HasMore g h more a c → StandsBy means g n h x a → StandsBy means g n h (run means x more) c
+  more_by g n h x more a c is_area is_half has stood = record {
+    named = same_named means g h more a c is_half has ∙ stood.named;
+    current = ap (λ (b : ℕ). cond (eqb b 1) (other n) n) (same_chain means g h more a c is_half has n is_area) ∙ stood.current;
+    is = grown_as means g h more a c is_half has n is_area stood.current ∙ ap (λ (y : Option S). run means y more) stood.is;
+  }
+
+  pub append_stands : AppendStands means
+  append_stands g n h x more w0 w1 is_area is_half before moments =
       weaker w0 w1 _ _ moments
-      (λ c grew.
-      let old = grew.has.old in
-      let stood = before old grew.has.left in
-      let now = more_stands read apply is_header g h (take grew.added more) old c is_half grew.has.change stood.1 in
-      record {
+      (λ c grew. record {
         added = grew.added;
         at_most = grew.at_most;
-        is = now.0 ∙ ap (λ (y : Option S). run read apply is_header y (take grew.added more)) stood.0;
-        current = now.1;
+        by = more_by g n h x (take grew.added more) grew.has.old c is_area is_half grew.has.change (before grew.has.old grew.has.left);
       })
 
-  pub settled : AllStand read apply is_header
-  settled g h k x more w0 w1 is_half before has c left =
+  pub all_by_area : AllByArea means
+  all_by_area g n h k x more w0 w1 is_area is_half before has c left =
       let after = has.left c left in
+      more_by g n h x more after.old c is_area is_half after.change (before after.old after.left)
+
+  pub image_by_area : ImageByArea means
+  image_by_area g n h x w0 w1 is_area before moments =
+      weaker w0 w1 _ _ moments
+      (λ c after.
       let stood = before after.old after.left in
-      let now = more_stands read apply is_header g h more after.old c is_half after.change stood.1 in
-      (now.0 ∙ ap (λ (y : Option S). run read apply is_header y more) stood.0, now.1)
+      record {
+        named = named_kept g (image (other n)) after.old c (λ is. omega (arith, is)) after.change ∙ stood.named;
+        current = current_kept g n (image (other n)) after.old c (λ is. omega (arith, is, is_area)) after.change ∙ stood.current;
+        is = image_kept means g n after.old c is_area after.change ∙ stood.is;
+      })
+
+  pub clear_by_area : ClearByArea means
+  clear_by_area g n x w0 w1 is_area before moments =
+      weaker w0 w1 _ _ moments
+      (λ c after.
+      let stood = before after.old after.left in
+      record {
+        named = named_kept g (half (other n)) after.old c (λ is. omega (arith, is)) after.change.same ∙ stood.named;
+        current = current_kept g n (half (other n)) after.old c (λ is. omega (arith, is, is_area)) after.change.same ∙ stood.current;
+        is = half_kept means g n after.old c is_area (no_chain_by n (eqb (chain g n after.old) 1) is_area stood.current) after.change.same ∙ stood.is;
+      })
+
+  chain_by : (g : Layout) (n : ℕ) (x : Option S) (a c : List ℕ) → n < 2 → front g (other n) a ≡ [] → chain g (other n) a ≢ 1 → IsSameButChain g n a c → named_area g a ≡ n → stands_as means g n a ≡ x → StandsBy means g n (current_of g n c) x c
+  chain_by g n x a c is_area none no_chain change named is = record {
+    named = named_kept g (half n) a c (λ is. omega (arith, is)) change.same ∙ named;
+    current = refl;
+    is = chain_kept means g n a c is_area (ne_eqb (chain g (other n) a) 1 no_chain) none change ∙ is;
+  }
+
+  pub chain_by_area : ChainByArea means
+  chain_by_area g n x w0 w1 is_area before empty moments =
+      weaker w0 w1 _ _ moments
+      (λ c after.
+      let stood = before after.old after.left in
+      let none = empty after.old after.left in
+      chain_by g n x after.old c is_area none.0 none.1 after.change stood.named stood.is)
+
+  -- at a device with nothing loose, of which a crash leaves what a read gives
+  settled : (g : Layout) (n h : ℕ) (x : Option S) (m : Medium) → IsSynced m → StandsBy means g n h x m.now → StandsByNow means g n h x m
+  settled g n h x m calm stands c left = subst (λ (l : List ℕ). StandsBy means g n h x l) (sym (calm_left m c calm left)) stands
+
+  pub chained_by_area : ChainedByArea means
+  chained_by_area g n x w0 w1 is_area before empty chained =
+      let stood = chain_by g n x w0.now w1.now is_area empty.0 empty.1 chained.same before.named before.is in
+      let follows : current_of g n w1.now ≡ other n = ap (λ (b : ℕ). cond (eqb b 1) (other n) n) chained.chain in
+      settled g n (other n) x w1 chained.calm (subst (λ (h : ℕ). StandsBy means g n h x w1.now) follows stood)
 
   either : (x : Option S) (P : ℕ → Option S) (t : Bool) → P 0 ≡ x → P 1 ≡ x → P (cond t 1 0) ≡ x
   either x P true first second = second
   either x P false first second = first
 
-  pub flip_stands : TornRootStands read apply is_header
-  flip_stands g x w0 w1 before moments =
+  pub torn_root_stands : TornRootStands means
+  torn_root_stands g x w0 w1 before moments =
       weaker w0 w1 _ _ moments
       (λ c after.
       let both = before after.old after.left in
-      let kept : (n : ℕ) → stands_as read apply is_header g n c ≡ stands_as read apply is_header g n after.old = λ n. root_kept read apply is_header g n after.old c after.change.same in
-      either x (λ (n : ℕ). stands_as read apply is_header g n c) (eqb (get_or (part g root c) 0 0) 1) (kept 0 ∙ both.0) (kept 1 ∙ both.1))
-
-  pub flipped_stands : FlippedStands read apply is_header
-  flipped_stands g n w0 w1 flip c left =
-      ap (λ (l : List ℕ). stands read apply is_header g l) (calm_left w1 c flip.calm left) ∙ ap (λ (m : ℕ). stands_as read apply is_header g m w1.now) flip.named
-      ∙ root_kept read apply is_header g n w0.now w1.now flip.same.same
-
-  -- A part differs that is neither the root zone nor the half of area n.
-  alone_kept : (g : Layout) (n p : ℕ) (x : Option S) (a c : List ℕ) → root ≢ p → half n ≢ p → IsSameBut g p a c → (eqb (chain g n a) 1 ≡ false → stands_as read apply is_header g n c ≡ stands_as read apply is_header g n a) → StandsAlone read apply is_header g n x a → StandsAlone read apply is_header g n x c
-  alone_kept g n p x a c apart_root apart_half same kept alone =
-      let named : named_area g c ≡ n = ap (λ (l : List ℕ). cond (eqb (get_or l 0 0) 1) 1 0) (same.others root apart_root) ∙ alone.named in
-      let chained : chain g n c ≡ chain g n a = ap (λ (l : List ℕ). get_or l 0 0) (same.others (half n) apart_half) in
+      let kept : (n : ℕ) → stands_as means g n c ≡ stands_as means g n after.old = λ n. root_kept means g n after.old c after.change.same in
       record {
-        named = named;
-        no_chain = λ is. alone.no_chain (sym chained ∙ is);
-        is = ap (λ (m : ℕ). stands_as read apply is_header g m c) named ∙ kept (ne_eqb (chain g n a) 1 alone.no_chain)
-            ∙ ap (λ (m : ℕ). stands_as read apply is_header g m a) (sym alone.named) ∙ alone.is;
-      }
+        named = refl;
+        current = refl;
+        is = either x (λ (n : ℕ). stands_as means g n c) (eqb (get_or (part g root c) 0 0) 1) (kept 0 ∙ both.0) (kept 1 ∙ both.1);
+      })
 
-  pub cleared_stands : ClearedStands read apply is_header
-  cleared_stands g n x w0 w1 is_area before moments =
-      weaker w0 w1 _ _ moments
-      (λ c after.
-      alone_kept g n (half (other n)) x after.old c (λ is. omega (arith, is)) (λ is. omega (arith, is, is_area)) after.change.same
-      (λ no_chain. half_kept read apply is_header g n after.old c is_area no_chain after.change.same) (before after.old after.left))
-
-  pub image_stands : WrittenImageStands read apply is_header
-  image_stands g n x w0 w1 is_area before moments =
-      weaker w0 w1 _ _ moments
-      (λ c after.
-      alone_kept g n (image (other n)) x after.old c (λ is. omega (arith, is)) (λ is. omega (arith, is, is_area)) after.change
-      (λ no_chain. image_kept read apply is_header g n after.old c is_area after.change) (before after.old after.left))
+  pub flip_by_area : FlipByArea means
+  flip_by_area g n h x w0 w1 flip current is =
+      settled g n h x w1 flip.calm
+      (record {
+        named = flip.named;
+        current = current_kept g n root w0.now w1.now (λ is. omega (arith, is)) flip.same.same ∙ current;
+        is = root_kept means g n w0.now w1.now flip.same.same ∙ is;
+      })

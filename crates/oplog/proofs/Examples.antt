@@ -4,7 +4,7 @@ use Rattle.std.proofs.Common.{◌≡◌, ℕ, ◌+◌, true, List, [], ◌∷◌
 use Rattle.affinity.specs.Geometry.{small}
 use Rattle.oplog.specs.Layout.{Layout, image_size, layout_of, part_at, device_size, half, image}
 use Rattle.oplog.specs.Front.{open_gates}
-use Rattle.oplog.specs.Stands.{named_area, in_force, current, stands}
+use Rattle.oplog.specs.Stands.{Meaning, named_area, in_force, current, stands}
 
 -- ---- the layout
 image_of_small : image_size small ≡ 2208
@@ -68,8 +68,11 @@ torn_root : named_area g (device 77 0 0 (0 ∷ 0 ∷ 0 ∷ 0 ∷ []) (0 ∷ 0 �
 torn_root = refl
 
 -- What a device stands for, where an image holds its first byte and a record adds its kind.
+abbrev counting : Meaning ℕ
+counting = record { read = λ bytes. Some (length (take 1 bytes)); apply = λ x r. Some (x + length (take 1 r)); is_header = λ bytes. true }
+
 abbrev stood : List ℕ → Option ℕ
-stood c = stands (λ bytes. Some (length (take 1 bytes))) (λ x r. Some (x + length (take 1 r))) (λ bytes. true) g c
+stood c = stands counting g c
 
 records_are_run : stood (device 0 1 0 (1 ∷ 1 ∷ 0 ∷ 0 ∷ []) (1 ∷ 0 ∷ 1 ∷ 1 ∷ [])) ≡ Some 4
 records_are_run = refl

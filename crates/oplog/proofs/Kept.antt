@@ -1,11 +1,11 @@
 -- What keeps or changes what a device stands for.
-use Rattle.std.proofs.Common.{◌≡◌, ◌≢◌, ◌<◌, ℕ, zero, suc, Bool, true, false, not, ◌&&◌, cond, eqb, nat_le, List, [], ◌∷◌, ◌++◌, length, get_or, Option, Some, None, ⊎_elim, refl, sym, ◌∙◌, ap, subst, arith}
+use Rattle.std.proofs.Common.{◌≡◌, ◌≢◌, ◌<◌, ℕ, zero, suc, Bool, true, false, not, ◌&&◌, cond, eqb, nat_le, ◌+◌, List, [], ◌∷◌, ◌++◌, length, take, drop, get_or, Option, Some, None, ⊎_elim, refl, sym, ◌∙◌, ap, subst, arith}
 use Rattle.std.proofs.lemmas.Bool.{cases_eq}
-use Rattle.std.proofs.lemmas.List.{append_assoc, get_or-take}
+use Rattle.std.proofs.lemmas.List.{append_assoc, append-nil, drop-drop, get_or-take}
 use Rattle.oplog.specs.Layout.{Layout, part, device_size, header, root, half, image, other}
-use Rattle.oplog.specs.Front.{chain, front, front_in}
-use Rattle.oplog.specs.Stands.{named_area, current_of, current, in_force, run, is_laid_out, stands_as, stands}
-use Rattle.oplog.specs.Changes.{IsSameBut, HasMore}
+use Rattle.oplog.specs.Front.{chain, front, front_in, open_gates, rows}
+use Rattle.oplog.specs.Stands.{Meaning, named_area, current_of, current, in_force, run, is_laid_out, stands_as, stands}
+use Rattle.oplog.specs.Changes.{IsSameBut, IsSameButChain, HasMore}
 
 named_below : (t : Bool) → cond t 1 0 < 2
 named_below true = omega arith
@@ -15,25 +15,43 @@ named_below false = omega arith
 pub named_area-below : (g : Layout) (c : List ℕ) → named_area g c < 2
 named_area-below g c = named_below (eqb (get_or (part g root c) 0 0) 1)
 
-module _ {S : Type 0} (read : List ℕ → Option S) (apply : S → List ℕ → Option S) (is_header : List ℕ → Bool) where
-  pub run-append : (x : Option S) (rs ss : List (List ℕ)) → run read apply is_header x (rs ++ ss) ≡ run read apply is_header (run read apply is_header x rs) ss
+-- where one chain byte isn't 1, not both are
+one_chain : (g : Layout) (m : ℕ) (d : List ℕ) → m < 2 → eqb (chain g m d) 1 ≡ false → not (eqb (chain g 0 d) 1 && eqb (chain g 1 d) 1) ≡ true
+one_chain g zero d is_half shut = ap (λ (b : Bool). not (b && eqb (chain g 1 d) 1)) shut
+one_chain g (suc zero) d is_half shut = ap (λ (b : Bool). not (eqb (chain g 0 d) 1 && b)) shut ∙ never (eqb (chain g 0 d) 1)
+  where
+    never : (b : Bool) → not (b && false) ≡ true
+    never true = refl
+    never false = refl
+one_chain g (suc (suc m)) d is_half shut = absurd (omega (arith, is_half))
+
+-- The front doesn't depend on the chain byte.
+front_beside : (slots : ℕ) (old new : List ℕ) → drop 1 new ≡ drop 1 old → front_in slots new ≡ front_in slots old
+front_beside slots old new beside =
+    let from : (k : ℕ) → drop (1 + k) new ≡ drop (1 + k) old = λ k. sym (drop-drop k 1 new) ∙ ap (λ (l : List ℕ). drop k l) beside ∙ drop-drop k 1 old in
+    let count : 1 + (63 + slots) ≡ 64 + slots = omega arith in
+    let records : drop (64 + slots) new ≡ drop (64 + slots) old = subst (λ (k : ℕ). drop k new ≡ drop k old) count (from (63 + slots)) in
+    λ i. rows 520 (open_gates (take slots (from 63 i))) (records i)
+
+module _ {S : Type 0} (means : Meaning S) where
+  pub run-append : (x : Option S) (rs ss : List (List ℕ)) → run means x (rs ++ ss) ≡ run means (run means x rs) ss
   run-append None rs ss = refl
   run-append (Some x) [] ss = refl
-  run-append (Some x) (r ∷ rs) ss = run-append (apply x r) rs ss
+  run-append (Some x) (r ∷ rs) ss = run-append (means.apply x r) rs ss
 
   -- ---- one part differs, and what counts of it is the same
-  same_stands : (g : Layout) (n : ℕ) (a c : List ℕ) → is_laid_out read apply is_header g c ≡ is_laid_out read apply is_header g a → part g (image n) c ≡ part g (image n) a → in_force g n c ≡ in_force g n a → stands_as read apply is_header g n c ≡ stands_as read apply is_header g n a
-  same_stands g n a c laid bytes forced = λ i. cond (laid i) (run read apply is_header (read (bytes i)) (forced i)) None
+  same_stands : (g : Layout) (n : ℕ) (a c : List ℕ) → is_laid_out means g c ≡ is_laid_out means g a → part g (image n) c ≡ part g (image n) a → in_force g n c ≡ in_force g n a → stands_as means g n c ≡ stands_as means g n a
+  same_stands g n a c laid bytes forced = λ i. cond (laid i) (run means (means.read (bytes i)) (forced i)) None
 
-  same_laid : (g : Layout) (a c : List ℕ) → part g header c ≡ part g header a → length c ≡ length a → chain g 0 c ≡ chain g 0 a → chain g 1 c ≡ chain g 1 a → is_laid_out read apply is_header g c ≡ is_laid_out read apply is_header g a
-  same_laid g a c head size first second = λ i. is_header (head i) && nat_le (device_size g) (size i) && not (eqb (first i) 1 && eqb (second i) 1)
+  same_laid : (g : Layout) (a c : List ℕ) → part g header c ≡ part g header a → length c ≡ length a → chain g 0 c ≡ chain g 0 a → chain g 1 c ≡ chain g 1 a → is_laid_out means g c ≡ is_laid_out means g a
+  same_laid g a c head size first second = λ i. means.is_header (head i) && nat_le (device_size g) (size i) && not (eqb (first i) 1 && eqb (second i) 1)
 
   same_forced : (g : Layout) (n : ℕ) (a c : List ℕ) → part g (half n) c ≡ part g (half n) a → part g (half (other n)) c ≡ part g (half (other n)) a → in_force g n c ≡ in_force g n a
   same_forced g n a c named others =
       λ i. cond (eqb (get_or (named i) 0 0) 1) (front_in g.slots (named i) ++ front_in g.slots (others i)) (front_in g.slots (named i))
 
   -- The root zone may hold anything: only the area that it names counts.
-  pub root_kept : (g : Layout) (n : ℕ) (a c : List ℕ) → IsSameBut g root a c → stands_as read apply is_header g n c ≡ stands_as read apply is_header g n a
+  pub root_kept : (g : Layout) (n : ℕ) (a c : List ℕ) → IsSameBut g root a c → stands_as means g n c ≡ stands_as means g n a
   root_kept g n a c same =
       let of_half : (h : ℕ) → part g (half h) c ≡ part g (half h) a = λ h. same.others (half h) (λ is. omega (arith, is)) in
       same_stands g n a c
@@ -41,7 +59,7 @@ module _ {S : Type 0} (read : List ℕ → Option S) (apply : S → List ℕ →
       (same.others (image n) (λ is. omega (arith, is))) (same_forced g n a c (of_half n) (of_half (other n)))
 
   -- So may the image that isn't named.
-  pub image_kept : (g : Layout) (n : ℕ) (a c : List ℕ) → n < 2 → IsSameBut g (image (other n)) a c → stands_as read apply is_header g n c ≡ stands_as read apply is_header g n a
+  pub image_kept : (g : Layout) (n : ℕ) (a c : List ℕ) → n < 2 → IsSameBut g (image (other n)) a c → stands_as means g n c ≡ stands_as means g n a
   image_kept g n a c is_area same =
       let of_half : (h : ℕ) → h < 2 → part g (half h) c ≡ part g (half h) a = λ h is_half. same.others (half h) (λ is. omega (arith, is)) in
       same_stands g n a c
@@ -49,29 +67,36 @@ module _ {S : Type 0} (read : List ℕ → Option S) (apply : S → List ℕ →
       (same.others (image n) (λ is. omega (arith, is))) (same_forced g n a c (of_half n is_area) (of_half (other n) (omega arith)))
 
   -- So may the half that isn't named, while the chain byte of the named one isn't 1.
-  pub half_kept : (g : Layout) (n : ℕ) (a c : List ℕ) → n < 2 → eqb (chain g n a) 1 ≡ false → IsSameBut g (half (other n)) a c → stands_as read apply is_header g n c ≡ stands_as read apply is_header g n a
+  pub half_kept : (g : Layout) (n : ℕ) (a c : List ℕ) → n < 2 → eqb (chain g n a) 1 ≡ false → IsSameBut g (half (other n)) a c → stands_as means g n c ≡ stands_as means g n a
   half_kept g n a c is_area no_chain same =
       let named : part g (half n) c ≡ part g (half n) a = same.others (half n) (λ is. omega (arith, is)) in
       let no_chain' : eqb (chain g n c) 1 ≡ false = ap (λ (l : List ℕ). eqb (get_or l 0 0) 1) named ∙ no_chain in
-      let one : (m : ℕ) (d : List ℕ) → m < 2 → eqb (chain g m d) 1 ≡ false → not (eqb (chain g 0 d) 1 && eqb (chain g 1 d) 1) ≡ true = one_chain g in
-      let laid : is_laid_out read apply is_header g c ≡ is_laid_out read apply is_header g a =
-      (λ i. is_header (same.others header (λ is. omega (arith, is)) i) && nat_le (device_size g) (same.size i) && (one n c is_area no_chain' ∙ sym (one n a is_area no_chain)) i) in
+      let laid : is_laid_out means g c ≡ is_laid_out means g a =
+      (λ i. means.is_header (same.others header (λ is. omega (arith, is)) i) && nat_le (device_size g) (same.size i) && (one_chain g n c is_area no_chain' ∙ sym (one_chain g n a is_area no_chain)) i) in
       same_stands g n a c laid (same.others (image n) (λ is. omega (arith, is)))
       ((λ i. cond (no_chain' i) (front g n c ++ front g (other n) c) (front g n c)) ∙ ap (λ (l : List ℕ). front_in g.slots l) named
       ∙ sym (λ i. cond (no_chain i) (front g n a ++ front g (other n) a) (front g n a)))
+
+  -- So may the chain byte of the named half, while the other half has no record in its front and no chain.
+  pub chain_kept : (g : Layout) (n : ℕ) (a c : List ℕ) → n < 2 → eqb (chain g (other n) a) 1 ≡ false → front g (other n) a ≡ [] → IsSameButChain g n a c → stands_as means g n c ≡ stands_as means g n a
+  chain_kept g n a c is_area no_chain none change =
+      let same = change.same in
+      let others : part g (half (other n)) c ≡ part g (half (other n)) a = same.others (half (other n)) (λ is. omega (arith, is, is_area)) in
+      let no_chain' : eqb (chain g (other n) c) 1 ≡ false = ap (λ (l : List ℕ). eqb (get_or l 0 0) 1) others ∙ no_chain in
+      let none' : front g (other n) c ≡ [] = ap (λ (l : List ℕ). front_in g.slots l) others ∙ none in
+      let laid : is_laid_out means g c ≡ is_laid_out means g a =
+      (λ i. means.is_header (same.others header (λ is. omega (arith, is)) i) && nat_le (device_size g) (same.size i) && (one_chain g (other n) c (omega arith) no_chain' ∙ sym (one_chain g (other n) a (omega arith) no_chain)) i) in
+      same_stands g n a c laid (same.others (image n) (λ is. omega (arith, is, is_area)))
+      (alone (eqb (chain g n c) 1) (front g n c) (front g (other n) c) none' ∙ front_beside g.slots (part g (half n) a) (part g (half n) c) change.beside
+      ∙ sym (alone (eqb (chain g n a) 1) (front g n a) (front g (other n) a) none))
     where
-      one_chain : (g : Layout) (m : ℕ) (d : List ℕ) → m < 2 → eqb (chain g m d) 1 ≡ false → not (eqb (chain g 0 d) 1 && eqb (chain g 1 d) 1) ≡ true
-      one_chain g zero d is_half shut = ap (λ (b : Bool). not (b && eqb (chain g 1 d) 1)) shut
-      one_chain g (suc zero) d is_half shut = ap (λ (b : Bool). not (eqb (chain g 0 d) 1 && b)) shut ∙ never (eqb (chain g 0 d) 1)
-        where
-          never : (b : Bool) → not (b && false) ≡ true
-          never true = refl
-          never false = refl
-      one_chain g (suc (suc m)) d is_half shut = absurd (omega (arith, is_half))
+      alone : (t : Bool) (rs ss : List (List ℕ)) → ss ≡ [] → cond t (rs ++ ss) rs ≡ rs
+      alone true rs ss empty = ap (λ (l : List (List ℕ)). rs ++ l) empty ∙ append-nil rs
+      alone false rs ss empty = refl
 
   -- ---- records added to half h
   module _ (g : Layout) (h : ℕ) (more : List (List ℕ)) (a c : List ℕ) (is_half : h < 2) (has : HasMore g h more a c) where
-    same_chain : (m : ℕ) → m < 2 → chain g m c ≡ chain g m a
+    pub same_chain : (m : ℕ) → m < 2 → chain g m c ≡ chain g m a
     same_chain m below =
         ⊎_elim
         (λ (is : m ≡ h).
@@ -80,7 +105,7 @@ module _ {S : Type 0} (read : List ℕ → Option S) (apply : S → List ℕ →
         (λ (differs : m ≢ h). ap (λ (l : List ℕ). get_or l 0 0) (has.same.others (half m) (λ is. differs (omega (arith, is)))))
         (cases_eq m h)
 
-    grown_laid : is_laid_out read apply is_header g c ≡ is_laid_out read apply is_header g a
+    grown_laid : is_laid_out means g c ≡ is_laid_out means g a
     grown_laid = same_laid g a c (has.same.others header (λ is. omega (arith, is))) has.same.size (same_chain 0 (omega arith)) (same_chain 1 (omega arith))
 
     grown_by : (n : ℕ) (t : Bool) → n < 2 → cond t (other n) n ≡ h → cond t (front g n c ++ front g (other n) c) (front g n c) ≡ cond t (front g n a ++ front g (other n) a) (front g n a) ++ more
@@ -94,23 +119,23 @@ module _ {S : Type 0} (read : List ℕ → Option S) (apply : S → List ℕ →
     grown_force n is_area is =
         (λ i. cond (eqb (same_chain n is_area i) 1) (front g n c ++ front g (other n) c) (front g n c)) ∙ grown_by n (eqb (chain g n a) 1) is_area is
 
-    run_more : (laid : Bool) (x : Option S) (rs : List (List ℕ)) → cond laid (run read apply is_header x (rs ++ more)) None ≡ run read apply is_header (cond laid (run read apply is_header x rs) None) more
+    run_more : (laid : Bool) (x : Option S) (rs : List (List ℕ)) → cond laid (run means x (rs ++ more)) None ≡ run means (cond laid (run means x rs) None) more
     run_more true x rs = run-append x rs more
     run_more false x rs = refl
 
-    grown_as : (n : ℕ) → n < 2 → current_of g n a ≡ h → stands_as read apply is_header g n c ≡ run read apply is_header (stands_as read apply is_header g n a) more
+    pub grown_as : (n : ℕ) → n < 2 → current_of g n a ≡ h → stands_as means g n c ≡ run means (stands_as means g n a) more
     grown_as n is_area is =
-        (λ i. cond (grown_laid i) (run read apply is_header (read (has.same.others (image n) (λ same. omega (arith, same)) i)) (grown_force n is_area is i)) None)
-        ∙ run_more (is_laid_out read apply is_header g a) (read (part g (image n) a)) (in_force g n a)
+        (λ i. cond (grown_laid i) (run means (means.read (has.same.others (image n) (λ same. omega (arith, same)) i)) (grown_force n is_area is i)) None)
+        ∙ run_more (is_laid_out means g a) (means.read (part g (image n) a)) (in_force g n a)
 
-    same_named : named_area g c ≡ named_area g a
+    pub same_named : named_area g c ≡ named_area g a
     same_named = ap (λ (l : List ℕ). cond (eqb (get_or l 0 0) 1) 1 0) (has.same.others root (λ is. omega (arith, is)))
 
     -- They are run on what the device stood for, if half h was the current one, which it stays.
-    pub more_stands : current g a ≡ h → (stands read apply is_header g c ≡ run read apply is_header (stands read apply is_header g a) more) × (current g c ≡ h)
+    pub more_stands : current g a ≡ h → (stands means g c ≡ run means (stands means g a) more) × (current g c ≡ h)
     more_stands is =
         let n = named_area g a in
         let below : named_area g a < 2 = named_area-below g a in (
-          ap (λ (m : ℕ). stands_as read apply is_header g m c) same_named ∙ grown_as (named_area g a) below is,
+          ap (λ (m : ℕ). stands_as means g m c) same_named ∙ grown_as (named_area g a) below is,
           ap (λ (m : ℕ). current_of g m c) same_named ∙ ap (λ (x : ℕ). cond (eqb x 1) (other (named_area g a)) (named_area g a)) (same_chain (named_area g a) below) ∙ is,
         )

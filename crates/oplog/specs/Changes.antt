@@ -1,7 +1,7 @@
 -- How the calls of a log change the bytes of a device, and what a crash leaves while they do.
 use Rattle.std.specs.Prelude.{◌≡◌, ◌≢◌, ◌≤◌, ℕ, ◌+◌, false, List, ◌++◌, length, take, drop, replicate}
 use Rattle.disk.specs.Device.{Medium, Leaves, IsSynced}
-use Rattle.oplog.specs.Layout.{Layout, slice, root, half, part, part_at, part_size, device_size}
+use Rattle.oplog.specs.Layout.{Layout, slice, root, half, part, part_at, part_size, device_size, chain_area}
 use Rattle.oplog.specs.Stands.{named_area}
 use Rattle.oplog.specs.Front.{chain, gates, front, open_gates, IsShutBehind}
 
@@ -17,13 +17,18 @@ pub record IsSameBut (g : Layout) (p : ℕ) (old c : List ℕ) : Type 0 where
 pub record HasMore (g : Layout) (h : ℕ) (more : List (List ℕ)) (old c : List ℕ) : Type 0 where
   pub same : IsSameBut g (half h) old c
   -- its chain byte and the bytes beside it
-  pub area : take 64 (part g (half h) c) ≡ take 64 (part g (half h) old)
+  pub area : take chain_area (part g (half h) c) ≡ take chain_area (part g (half h) old)
   pub front : front g h c ≡ front g h old ++ more
 
 -- Only the chain byte of half h, the bytes beside it, and its gates differ: its records stay.
 pub record IsSameButGates (g : Layout) (h : ℕ) (old c : List ℕ) : Type 0 where
   pub same : IsSameBut g (half h) old c
-  pub records : drop (64 + g.slots) (part g (half h) c) ≡ drop (64 + g.slots) (part g (half h) old)
+  pub records : drop (chain_area + g.slots) (part g (half h) c) ≡ drop (chain_area + g.slots) (part g (half h) old)
+
+-- Only the chain byte of half h differs.
+pub record IsSameButChain (g : Layout) (h : ℕ) (old c : List ℕ) : Type 0 where
+  pub same : IsSameBut g (half h) old c
+  pub beside : drop 1 (part g (half h) c) ≡ drop 1 (part g (half h) old)
 
 -- Only the first byte of the root zone differs.
 pub record IsSameButRoot (g : Layout) (old c : List ℕ) : Type 0 where
@@ -67,9 +72,15 @@ pub record HasAll (g : Layout) (h k : ℕ) (more : List (List ℕ)) (old new : M
 -- The chain byte of half h, the bytes beside it and its gates are 0, and nothing is loose.
 pub record Cleared (g : Layout) (h : ℕ) (old new : Medium) : Type 0 where
   pub same : IsSameButGates g h old.now new.now
-  pub zeros : take (64 + g.slots) (part g (half h) new.now) ≡ replicate (64 + g.slots) 0
+  pub zeros : take (chain_area + g.slots) (part g (half h) new.now) ≡ replicate (chain_area + g.slots) 0
   pub chain : chain g h new.now ≡ 0
   pub ready : IsReady g h 0 new
+  pub calm : IsSynced new
+
+-- The chain byte of half h is 1, and nothing is loose.
+pub record Chained (g : Layout) (h : ℕ) (old new : Medium) : Type 0 where
+  pub same : IsSameButChain g h old.now new.now
+  pub chain : chain g h new.now ≡ 1
   pub calm : IsSynced new
 
 -- The root zone names area n, and nothing is loose.

@@ -1,62 +1,79 @@
--- What a device stands for after a crash, for the layer above: in its words no place of a byte occurs.
-use Rattle.std.specs.Prelude.{◌≡◌, ◌≢◌, ◌<◌, ◌≤◌, ℕ, Bool, List, length, take, Option}
+-- What a device stands for after a crash, for the layer above: in its words no place of a byte occurs. Each law takes
+-- `StandsByNow` of the device before a stretch of calls and gives `StandsBy` of whatever a crash leaves during it, so
+-- that what one law gives is what the next one takes.
+use Rattle.std.specs.Prelude.{◌≡◌, ◌≢◌, ◌<◌, ◌≤◌, ℕ, List, [], length, take, Option}
 use Rattle.disk.specs.Device.{Medium, Leaves}
 use Rattle.disk.specs.Moments.{LeavesOnly}
 use Rattle.oplog.specs.Layout.{Layout, image, other}
-use Rattle.oplog.specs.Front.{chain}
-use Rattle.oplog.specs.Stands.{named_area, stands_as, stands, run, current}
-use Rattle.oplog.specs.Changes.{After, Grew, HasAll, IsSameBut, IsSameButGates, IsSameButRoot, Flipped}
+use Rattle.oplog.specs.Front.{chain, front}
+use Rattle.oplog.specs.Stands.{Meaning, named_area, current_of, stands_as, run}
+use Rattle.oplog.specs.Changes.{After, Grew, HasAll, IsSameBut, IsSameButGates, IsSameButChain, IsSameButRoot, Chained, Flipped}
 
-module _ {S : Type 0} (read : List ℕ → Option S) (apply : S → List ℕ → Option S) (is_header : List ℕ → Bool) where
-  -- Whatever a crash leaves now stands for x, and has h as its current half.
-  abbrev pub StandsNow : Layout → ℕ → Option S → Medium → Type 0
-  StandsNow g h x m = (c : List ℕ) → Leaves m c → (stands read apply is_header g c ≡ x) × (current g c ≡ h)
+module _ {S : Type 0} (means : Meaning S) where
+  -- These bytes stand for x by area n, which they name, with half h as their current one. Where h is n it is by that
+  -- area alone, and else both fronts are in force.
+  pub record StandsBy (g : Layout) (n h : ℕ) (x : Option S) (c : List ℕ) : Type 0 where
+    pub named : named_area g c ≡ n
+    pub current : current_of g n c ≡ h
+    pub is : stands_as means g n c ≡ x
+
+  -- So does whatever a crash leaves now.
+  abbrev pub StandsByNow : Layout → ℕ → ℕ → Option S → Medium → Type 0
+  StandsByNow g n h x m = (c : List ℕ) → Leaves m c → StandsBy g n h x c
 
   -- These bytes stand for the first so many of these records, run on x.
-  pub record StandsForSome (g : Layout) (h : ℕ) (x : Option S) (more : List (List ℕ)) (c : List ℕ) : Type 0 where
+  pub record StandsBySome (g : Layout) (n h : ℕ) (x : Option S) (more : List (List ℕ)) (c : List ℕ) : Type 0 where
     pub added : ℕ
     pub at_most : added ≤ length more
-    pub is : stands read apply is_header g c ≡ run read apply is_header x (take added more)
-    pub current : current g c ≡ h
+    pub by : StandsBy g n h (run means x (take added more)) c
+
+  -- These bytes stand for x by the area that they name, whichever half is current.
+  abbrev pub StandsByNamed : Layout → Option S → List ℕ → Type 0
+  StandsByNamed g x c = StandsBy g (named_area g c) (current_of g (named_area g c) c) x c
 
   -- Whatever a crash leaves now would stand for x, whichever area it named.
   abbrev pub StandsEitherWay : Layout → Option S → Medium → Type 0
-  StandsEitherWay g x m = (c : List ℕ) → Leaves m c → (stands_as read apply is_header g 0 c ≡ x) × (stands_as read apply is_header g 1 c ≡ x)
+  StandsEitherWay g x m = (c : List ℕ) → Leaves m c → (stands_as means g 0 c ≡ x) × (stands_as means g 1 c ≡ x)
 
-  -- These bytes stand for x by the area n alone: they name it, and its half has no chain to the other one.
-  pub record StandsAlone (g : Layout) (n : ℕ) (x : Option S) (c : List ℕ) : Type 0 where
-    pub named : named_area g c ≡ n
-    pub no_chain : chain g n c ≢ 1
-    pub is : stands read apply is_header g c ≡ x
+  -- Records are appended to the current half. A crash at any moment leaves the first so many of them.
+  abbrev pub AppendStands : Type 0
+  AppendStands = (g : Layout) (n h : ℕ) (x : Option S) (more : List (List ℕ)) (old new : Medium) → n < 2 → h < 2 → StandsByNow g n h x old
+      → LeavesOnly old new (Grew g h more old) → LeavesOnly old new (StandsBySome g n h x more)
 
-  -- Whatever a crash leaves now stands for x by the area n alone.
-  abbrev pub StandsAloneNow : Layout → ℕ → Option S → Medium → Type 0
-  StandsAloneNow g n x m = (c : List ℕ) → Leaves m c → StandsAlone g n x c
+  -- Once all of them are there, a crash leaves all of them.
+  abbrev pub AllByArea : Type 0
+  AllByArea = (g : Layout) (n h k : ℕ) (x : Option S) (more : List (List ℕ)) (old new : Medium) → n < 2 → h < 2 → StandsByNow g n h x old
+      → HasAll g h k more old new → StandsByNow g n h (run means x more) new
 
-  -- ---- what holds of each device, before and after a stretch of calls
+  -- The image that isn't named is written, be one front in force or both.
+  abbrev pub ImageByArea : Type 0
+  ImageByArea = (g : Layout) (n h : ℕ) (x : Option S) (old new : Medium) → n < 2 → StandsByNow g n h x old
+      → LeavesOnly old new (After old (IsSameBut g (image (other n)))) → LeavesOnly old new (StandsBy g n h x)
 
-  -- Records are appended to the current half of a device that stands for x. A crash at any moment leaves one that
-  -- stands for the first so many of them, run on x.
-  abbrev pub SomeStand : Type 0
-  SomeStand = (g : Layout) (h : ℕ) (x : Option S) (more : List (List ℕ)) (old new : Medium) → h < 2 → StandsNow g h x old → LeavesOnly old new (Grew g h more old) → LeavesOnly old new (StandsForSome g h x more)
+  -- The half that isn't named is cleared, while it isn't the current one.
+  abbrev pub ClearByArea : Type 0
+  ClearByArea = (g : Layout) (n : ℕ) (x : Option S) (old new : Medium) → n < 2 → StandsByNow g n n x old
+      → LeavesOnly old new (After old (IsSameButGates g (other n))) → LeavesOnly old new (StandsBy g n n x)
 
-  -- Once all of them are there, it stands for all of them, run on x.
-  abbrev pub AllStand : Type 0
-  AllStand = (g : Layout) (h k : ℕ) (x : Option S) (more : List (List ℕ)) (old new : Medium) → h < 2 → StandsNow g h x old → HasAll g h k more old new → StandsNow g h (run read apply is_header x more) new
+  -- The chain byte of the named half is written, while the other half has no record in its front and no chain.
+  -- Whatever becomes of the byte, the device stands for the same.
+  abbrev pub ChainByArea : Type 0
+  ChainByArea = (g : Layout) (n : ℕ) (x : Option S) (old new : Medium) → n < 2 → StandsByNow g n n x old
+      → ((c : List ℕ) → Leaves old c → (front g (other n) c ≡ []) × (chain g (other n) c ≢ 1))
+      → LeavesOnly old new (After old (IsSameButChain g n)) → LeavesOnly old new (λ c. StandsBy g n (current_of g n c) x c)
+
+  -- Once it is 1, the other half is current.
+  abbrev pub ChainedByArea : Type 0
+  ChainedByArea = (g : Layout) (n : ℕ) (x : Option S) (old new : Medium) → n < 2 → StandsBy g n n x old.now
+      → (front g (other n) old.now ≡ []) × (chain g (other n) old.now ≢ 1) → Chained g n old new → StandsByNow g n (other n) x new
 
   -- The byte that names an area is written on a device that would stand for x either way. Whatever a crash leaves of
-  -- that byte, it stands for x.
+  -- that byte, the device stands for x.
   abbrev pub TornRootStands : Type 0
-  TornRootStands = (g : Layout) (x : Option S) (old new : Medium) → StandsEitherWay g x old → LeavesOnly old new (After old (IsSameButRoot g)) → LeavesOnly old new (λ c. stands read apply is_header g c ≡ x)
+  TornRootStands = (g : Layout) (x : Option S) (old new : Medium) → StandsEitherWay g x old
+      → LeavesOnly old new (After old (IsSameButRoot g)) → LeavesOnly old new (StandsByNamed g x)
 
-  -- Once area n is named, it stands for what that area stood for before.
-  abbrev pub FlippedStands : Type 0
-  FlippedStands = (g : Layout) (n : ℕ) (old new : Medium) → Flipped g n old new → (c : List ℕ) → Leaves new c → stands read apply is_header g c ≡ stands_as read apply is_header g n old.now
-
-  -- The other half is cleared on a device that stands for x by the area n alone. So does whatever a crash leaves.
-  abbrev pub ClearedStands : Type 0
-  ClearedStands = (g : Layout) (n : ℕ) (x : Option S) (old new : Medium) → n < 2 → StandsAloneNow g n x old → LeavesOnly old new (After old (IsSameButGates g (other n))) → LeavesOnly old new (StandsAlone g n x)
-
-  -- So it is where the other image is written.
-  abbrev pub WrittenImageStands : Type 0
-  WrittenImageStands = (g : Layout) (n : ℕ) (x : Option S) (old new : Medium) → n < 2 → StandsAloneNow g n x old → LeavesOnly old new (After old (IsSameBut g (image (other n)))) → LeavesOnly old new (StandsAlone g n x)
+  -- Once area n is named, the device has what that area had.
+  abbrev pub FlipByArea : Type 0
+  FlipByArea = (g : Layout) (n h : ℕ) (x : Option S) (old new : Medium) → Flipped g n old new
+      → current_of g n old.now ≡ h → stands_as means g n old.now ≡ x → StandsByNow g n h x new

@@ -1,7 +1,7 @@
 -- What a half holds: its chain byte, its gates, and the records that its gates put in force.
 use Rattle.std.specs.Prelude.{◌≡◌, ℕ, zero, suc, ◌+◌, ◌-◌, ◌*◌, ◌==◌, List, [], ◌∷◌, take, drop, get_or, replicate}
 use Rattle.std.specs.List.{prefix_len}
-use Rattle.oplog.specs.Layout.{Layout, slice, part, half}
+use Rattle.oplog.specs.Layout.{Layout, slice, part, half, chain_area, record_size}
 
 -- how many gates are 1 before the first that isn't
 abbrev pub open_gates : List ℕ → ℕ
@@ -18,15 +18,15 @@ abbrev pub chain_in : List ℕ → ℕ
 chain_in h = get_or h 0 0
 
 abbrev pub gates_in : ℕ → List ℕ → List ℕ
-gates_in slots h = slice h 64 slots
+gates_in slots h = slice h chain_area slots
 
 -- the open front: the records, each as its bytes, before the first gate that isn't 1
 abbrev pub front_in : ℕ → List ℕ → List (List ℕ)
-front_in slots h = rows 520 (open_gates (gates_in slots h)) (drop (64 + slots) h)
+front_in slots h = rows record_size (open_gates (gates_in slots h)) (drop (chain_area + slots) h)
 
 -- record i, whatever its gate is
 abbrev pub record_in : ℕ → ℕ → List ℕ → List ℕ
-record_in slots i h = slice h (64 + slots + i * 520) 520
+record_in slots i h = slice h (chain_area + slots + i * record_size) record_size
 
 -- ---- of the bytes of a device
 

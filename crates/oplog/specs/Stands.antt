@@ -22,22 +22,28 @@ in_force g n c = if chain g n c == 1 then front g n c ++ front g (other n) c els
 abbrev pub current : Layout → List ℕ → ℕ
 current g c = current_of g (named_area g c) c
 
--- `read` gives the state that an image's bytes hold, and `apply` what becomes of a state by the record with these
--- bytes. They are none where the bytes are no image, and no record that can stand there.
-module _ {S : Type 0} (read : List ℕ → Option S) (apply : S → List ℕ → Option S) (is_header : List ℕ → Bool) where
+-- The words of the layer above: the state that an image's bytes hold, what becomes of a state by the record with these
+-- bytes, and whether bytes are a header. `read` and `apply` are none where the bytes are no image, and no record that can
+-- stand there.
+pub record Meaning (S : Type 0) : Type 0 where
+  pub read : List ℕ → Option S
+  pub apply : S → List ℕ → Option S
+  pub is_header : List ℕ → Bool
+
+module _ {S : Type 0} (means : Meaning S) where
   -- these records, one after the other
   abbrev pub run : Option S → List (List ℕ) → Option S
   run None rs = None
   run (Some x) [] = Some x
-  run (Some x) (r ∷ rs) = run (apply x r) rs
+  run (Some x) (r ∷ rs) = run (means.apply x r) rs
 
   -- The header and the length are as they should, and at most one chain byte is 1.
   abbrev pub is_laid_out : Layout → List ℕ → Bool
-  is_laid_out g c = is_header (part g header c) && nat_le (device_size g) (length c) && not ((chain g 0 c == 1) && (chain g 1 c == 1))
+  is_laid_out g c = means.is_header (part g header c) && nat_le (device_size g) (length c) && not ((chain g 0 c == 1) && (chain g 1 c == 1))
 
   -- what the device would stand for, were area n the named one
   abbrev pub stands_as : Layout → ℕ → List ℕ → Option S
-  stands_as g n c = if is_laid_out g c then run (read (part g (image n) c)) (in_force g n c) else None
+  stands_as g n c = if is_laid_out g c then run (means.read (part g (image n) c)) (in_force g n c) else None
 
   -- the state that the device stands for; none where it isn't sound
   abbrev pub stands : Layout → List ℕ → Option S

@@ -1,8 +1,8 @@
-use Rattle.oplog.proofs.AfterCrash.{flip_stands, flipped_stands}
+use Rattle.oplog.proofs.AfterCrash.{torn_root_stands, flip_by_area}
 use Rattle.oplog.proofs.laws.a_torn_root_does_no_harm.Goals as goal
 
 pub returns-clause-torn : goal.returns-clause-torn
-returns-clause-torn g c = flip_stands
+returns-clause-torn g c = torn_root_stands
 
 pub returns-clause-flipped : goal.returns-clause-flipped
-returns-clause-flipped g c = flipped_stands
+returns-clause-flipped g c = flip_by_area
