@@ -7,7 +7,7 @@ mod Gates
 mod InHalf
 pub mod Kept
 mod OneStore
-mod Placed
+mod OneWrite
 pub mod Reading
 pub mod Ready
 pub mod RecordRows

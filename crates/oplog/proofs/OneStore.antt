@@ -9,7 +9,7 @@ use Rattle.disk.proofs.Outside.{same_drop}
 use Rattle.disk.proofs.Overlays.{overlaid_outside, range-overlaid, length-overlaid, item-overlaid}
 use Rattle.oplog.specs.Layout.{Layout, slice, part, part_at, part_size, half, root, device_size}
 use Rattle.oplog.specs.Front.{open_gates, gates}
-use Rattle.oplog.specs.Changes.{IsSameButGates, IsSameButRoot, After, Cleared, Flipped}
+use Rattle.oplog.specs.Changes.{IsSameButGates, IsSameButChain, IsSameButRoot, After, Cleared, Chained, Flipped}
 use Rattle.oplog.specs.Store.{Stored}
 use Rattle.oplog.proofs.Slices.{within, same_but, half_sized, half_inside}
 use Rattle.oplog.proofs.Gates.{open_none}
@@ -66,6 +66,31 @@ module _ (g : Layout) (h at : ℕ) (bytes : List ℕ) (is_half : h < 2) (place :
       };
       calm = stored.calm;
     }
+
+-- ---- the chain byte of half h
+module _ (g : Layout) (h at : ℕ) (is_half : h < 2) (place : at ≡ part_at g (half h)) where
+  chain_alone : (old c : List ℕ) → SameOutside at 1 old c → IsSameButChain g h old c
+  chain_alone old c same =
+      let at0 : at ≡ part_at g (half h) + 0 = omega (arith, place) in
+      let same' = subst (λ (a : ℕ). SameOutside a 1 old c) at0 same in
+      let room : 0 + 1 ≤ part_size g (half h) = omega (arith, half_sized g h is_half) in
+      record {
+        same = same_but g (half h) 0 1 at old c (omega (arith, is_half)) at0 room same;
+        beside = same_drop 0 1 (part g (half h) old) (part g (half h) c) (within (part_at g (half h)) (part_size g (half h)) 0 1 old c room same') 1 (omega arith);
+      }
+
+  pub chain_moments : (w0 w1 : Medium) → LeavesOnly w0 w1 (After w0 (SameOutside {X = ℕ} at 1)) → LeavesOnly w0 w1 (After w0 (IsSameButChain g h))
+  chain_moments w0 w1 moments = weaker w0 w1 _ _ moments (λ c after. record { old = after.old; left = after.left; change = chain_alone after.old c after.change })
+
+  pub chained : (w0 w1 : Medium) → device_size g ≤ length w0.now → Stored at (1 ∷ []) w0 w1 → Chained g h w0 w1
+  chained w0 w1 fits stored = record {
+    same = chain_alone w0.now w1.now (changed w0 w1 at (1 ∷ []) stored);
+    chain =
+        get_or-take (part_size g (half h)) (drop (part_at g (half h)) w1.now) 0 0 (omega (arith, half_sized g h is_half)) ∙ get_or-drop (part_at g (half h)) w1.now 0 0
+        ∙ ap (λ (a : ℕ). get_or w1.now a 0) (omega (arith, place)) ∙ ap (λ (l : List ℕ). get_or l at 0) stored.now
+        ∙ item-overlaid w0.now at 1 0 [] (omega (arith, place, fits, half_inside g h is_half));
+    calm = stored.calm;
+  }
 
 -- ---- the first byte of the root zone
 module _ (g : Layout) (n : ℕ) where

@@ -1,6 +1,7 @@
 -- How the calls of a log change the bytes of a device, and what a crash leaves while they do.
 use Rattle.std.specs.Prelude.{◌≡◌, ◌≢◌, ◌≤◌, ℕ, ◌+◌, false, List, ◌++◌, length, take, drop, replicate}
 use Rattle.disk.specs.Device.{Medium, Leaves, IsSynced}
+use Rattle.disk.specs.Moments.{LeavesOnly}
 use Rattle.oplog.specs.Layout.{Layout, slice, root, half, part, part_at, part_size, device_size, chain_area}
 use Rattle.oplog.specs.Stands.{named_area}
 use Rattle.oplog.specs.Front.{chain, gates, front, open_gates, IsShutBehind}
@@ -42,6 +43,10 @@ pub record After (before : Medium) (Change : List ℕ → List ℕ → Type 0) (
   pub old : List ℕ
   pub left : Leaves before old
   pub change : Change old c
+
+-- A crash at any moment from `old` to `new` leaves what a crash before might have left, changed in this way.
+abbrev pub ChangesOnly : Medium → Medium → (List ℕ → List ℕ → Type 0) → Type 0
+ChangesOnly old new Change = LeavesOnly old new (After old Change)
 
 -- This is what a crash before might have left, with the first so many of these records added to half h.
 pub record Grew (g : Layout) (h : ℕ) (more : List (List ℕ)) (before : Medium) (c : List ℕ) : Type 0 where

@@ -6,3 +6,4 @@ pub mod Log
 pub mod Crash
 pub mod Store
 pub mod Logged
+pub mod Calls

@@ -6,7 +6,6 @@ use Rattle.message.specs.Messages.{IsMessage}
 use Rattle.message.specs.Records.{record_of}
 use Rattle.oplog.specs.declared.fault.LogFault.{LogFault}
 use Rattle.oplog.specs.declared.fault.LogFault.TheVariants.{Device, BadRecord}
-use Rattle.oplog.specs.declared.halves.Halves.{Halves}
 use Rattle.oplog.specs.Layout.{Layout, layout_of, other}
 use Rattle.oplog.specs.Logged.{IsLogged}
 
@@ -21,9 +20,6 @@ pub record Log : Type 0 where
   pub cleared : Bool
   -- whether the device has failed in a call
   pub failed : Bool
-
-abbrev pub log_of : Halves → Log
-log_of h = record { geometry = h.geometry; named = h.named; current = h.current; used = h.used; cleared = h.cleared; failed = h.failed }
 
 -- where the parts of its device lie
 abbrev pub layout : Log → Layout
@@ -53,11 +49,15 @@ flipped log =
     }
     else record log { named = other log.named; cleared = false }
 
+-- With the other half's records in force behind those of the named one. The other half is current, with all its room.
+abbrev pub chained : Log → Log
+chained log = record log { current = other log.named; used = 0; cleared = false }
+
 -- after a call with this answer: at `Ok` as given
-abbrev pub after : {T : Type 0} → Result T LogFault → Log → Log → Log
-after (Ok _) log done = done
-after (Err Device) log done = record log { failed = true }
-after (Err (BadRecord h i)) log done = log
+abbrev pub log_after : {T : Type 0} → Result T LogFault → Log → Log → Log
+log_after (Ok _) log done = done
+log_after (Err Device) log done = record log { failed = true }
+log_after (Err (BadRecord h i)) log done = log
 
 -- A call adds one to the count of failures exactly where it answers `Device`.
 abbrev pub CountsLogFault : {T : Type 0} → Result T LogFault → ℕ → ℕ → Type 0
@@ -71,11 +71,11 @@ IsNotBad (Ok _) = Unit {0}
 IsNotBad (Err Device) = Unit {0}
 IsNotBad (Err (BadRecord h i)) = ⊥
 
--- the answer to a call for record i of half h, where these are its bytes
-abbrev pub IsOfRecord : Geometry → ℕ → ℕ → List ℕ → Result Msg LogFault → Type 0
-IsOfRecord g h i bytes (Ok m) = bytes ≡ record_of m
-IsOfRecord g h i bytes (Err Device) = Unit {0}
-IsOfRecord g h i bytes (Err (BadRecord a b)) = (m : Msg) → IsMessage m → IsLogged g m → bytes ≢ record_of m
+-- the answer to a call for the record with these bytes
+abbrev pub IsOfRecord : Geometry → List ℕ → Result Msg LogFault → Type 0
+IsOfRecord g bytes (Ok m) = bytes ≡ record_of m
+IsOfRecord g bytes (Err Device) = Unit {0}
+IsOfRecord g bytes (Err (BadRecord h i)) = (m : Msg) → IsMessage m → IsLogged g m → bytes ≢ record_of m
 
 -- A bad record is told by its half and its number there.
 abbrev pub IsAbout : ℕ → ℕ → Result Msg LogFault → Type 0

@@ -1,6 +1,11 @@
--- What is there once bytes were written and synced.
+-- What is there once bytes were written.
 use Rattle.std.specs.Prelude.{◌≡◌, ℕ, List}
-use Rattle.disk.specs.Device.{Medium, IsSynced, overlaid}
+use Rattle.disk.specs.Device.{Medium, SameOutside, IsSynced, overlaid}
+
+-- Outside these n places nothing has changed, neither what a read gives nor what is loose.
+pub record Touched (at n : ℕ) (old new : Medium) : Type 0 where
+  pub now : SameOutside at n old.now new.now
+  pub loose : SameOutside at n old.loose new.loose
 
 -- The bytes stand there, all others are as they were, and nothing is loose.
 pub record Stored (at : ℕ) (bytes : List ℕ) (old new : Medium) : Type 0 where

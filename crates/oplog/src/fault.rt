@@ -1,3 +1,4 @@
+//! What goes wrong with a log.
 /// What a call of a log answers where it could not do what it was asked.
 #[derive(Clone, Copy, Debug, PartialEq, Eq)]
 pub enum LogFault {

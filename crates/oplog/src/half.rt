@@ -1,29 +1,16 @@
 //! One half of a log: where its parts lie, and how records are added to it.
 ghost use Rattle.std.specs.Prelude.{◌≡◌, ◌+◌, ◌*◌, ◌<◌, ◌≤◌, length, IfOk, OnOk, IsErrOf, min, replicate, vec_len};
 ghost use Rattle.disk.specs.Device.{CountsFault, moments};
-ghost use Rattle.disk.specs.Moments.{LeavesOnly};
-ghost use Rattle.oplog.specs.Changes.{Grew, HasAll, IsReady};
 ghost use Rattle.oplog.specs.Front.{front, open_gates};
-ghost use Rattle.oplog.specs.Layout.{layout_of, part_at, device_size, half};
-ghost use Rattle.oplog.specs.Logged.{records_of, AreLogged};
+ghost use Rattle.oplog.specs.Layout.{layout_of, part_at, half};
+ghost use Rattle.oplog.specs.Logged.{AreLogged};
 
-use crate::staging::{RECORD_SIZE, stage};
+use crate::layout::{BATCH, CHAIN_AREA, MOST_RECORDS, RECORD_SIZE, half_at};
+use crate::staging::stage;
 use crate::store::store;
 use affinity::Geometry;
 use disk::{Disk, DiskFault};
 use message::Msg;
-
-/// How many records a half can hold, at most.
-pub(crate) const MOST_RECORDS: usize = 1024;
-
-/// How many records are written at a time.
-pub(crate) const BATCH: usize = 64;
-
-/// How many bytes lie before the gates of a half: its chain byte and the bytes beside it.
-pub(crate) const CHAIN_AREA: usize = 64;
-
-/// How many bytes lie before the halves: the header and the root zone.
-const HEADER_AND_ROOT: u64 = 128;
 
 const OPEN_GATES: [u8; BATCH] = [1; BATCH];
 
@@ -57,6 +44,8 @@ pub(crate) struct Half {
 }
 
 impl Half {
+    ghost use Rattle.oplog.specs.Calls.{HasHalf, IsHalfReady, HalfGrows, HalfHasAdded};
+
     /// How many records it can hold.
     pub(crate) fn slots(self) -> usize
         ensures { result ≡ self.geometry.half }
@@ -68,12 +57,7 @@ impl Half {
     pub(crate) fn start(self) -> u64
         ensures { result ≡ part_at (layout_of self.geometry) (half self.number) }
     {
-        let slots = self.slots();
-        if self.number == 0 {
-            HEADER_AND_ROOT
-        } else {
-            HEADER_AND_ROOT + (CHAIN_AREA + slots + slots * RECORD_SIZE) as u64
-        }
+        half_at(&self.geometry, self.number)
     }
 
     /// Where this gate lies.
@@ -87,7 +71,8 @@ impl Half {
     /// Where this record lies.
     pub(crate) fn record_at(self, i: usize) -> u64
         requires { i ≤ self.geometry.half }
-        ensures { result ≡ part_at (layout_of self.geometry) (half self.number) + (64 + self.geometry.half + i * 520) }
+        ensures { result ≡
+            part_at (layout_of self.geometry) (half self.number) + (64 + self.geometry.half + i * 520) }
     {
         self.start() + (CHAIN_AREA + self.slots() + i * RECORD_SIZE) as u64
     }
@@ -104,10 +89,12 @@ impl Half {
         requires batch { length messages.now ≤ 64 }
         requires room { used + length messages.now ≤ self.geometry.half }
         requires buffer { length messages.now * 520 ≤ vec_len buffer.old }
-        requires whole { device_size (layout_of self.geometry) ≤ length (D.medium disk.old).now }
-        requires ready { D.keeps → IsReady (layout_of self.geometry) self.number used (D.medium disk.old) }
-        ensures any_moment { D.keeps → LeavesOnly (D.medium disk.old) (D.medium disk.new) (Grew (layout_of self.geometry) self.number (records_of messages.now) (D.medium disk.old)) }
-        ensures added { OnOk result (D.keeps → HasAll (layout_of self.geometry) self.number used (records_of messages.now) (D.medium disk.old) (D.medium disk.new)) }
+        requires whole { HasHalf self (D.medium disk.old) }
+        requires ready { D.keeps → IsHalfReady self used (D.medium disk.old) }
+        ensures any_moment { D.keeps →
+            HalfGrows self messages.now (D.medium disk.old) (D.medium disk.new) }
+        ensures added { OnOk result (D.keeps →
+            HalfHasAdded self used messages.now (D.medium disk.old) (D.medium disk.new)) }
         ensures buffer { vec_len buffer.new ≡ vec_len buffer.old }
         ensures inside { IsErrOf result DiskFault.OutOfRange → ⊥ }
         ensures counts { CountsFault result (D.medium disk.old).faults (D.medium disk.new).faults }
@@ -131,10 +118,12 @@ impl Half {
         requires logged { AreLogged self.geometry messages.now }
         requires room { used + length messages.now ≤ self.geometry.half }
         requires buffer { min self.geometry.half 64 * 520 ≤ vec_len buffer.old }
-        requires whole { device_size (layout_of self.geometry) ≤ length (D.medium disk.old).now }
-        requires ready { D.keeps → IsReady (layout_of self.geometry) self.number used (D.medium disk.old) }
-        ensures any_moment { D.keeps → LeavesOnly (D.medium disk.old) (D.medium disk.new) (Grew (layout_of self.geometry) self.number (records_of messages.now) (D.medium disk.old)) }
-        ensures added { OnOk result (D.keeps → HasAll (layout_of self.geometry) self.number used (records_of messages.now) (D.medium disk.old) (D.medium disk.new)) }
+        requires whole { HasHalf self (D.medium disk.old) }
+        requires ready { D.keeps → IsHalfReady self used (D.medium disk.old) }
+        ensures any_moment { D.keeps →
+            HalfGrows self messages.now (D.medium disk.old) (D.medium disk.new) }
+        ensures added { OnOk result (D.keeps →
+            HalfHasAdded self used messages.now (D.medium disk.old) (D.medium disk.new)) }
         ensures none { length messages.now ≡ 0 → disk.new ≡ disk.old }
         ensures buffer { vec_len buffer.new ≡ vec_len buffer.old }
         ensures inside { IsErrOf result DiskFault.OutOfRange → ⊥ }
@@ -153,8 +142,9 @@ impl Half {
     /// How many records its open front has. The gates are read into `gates`.
     pub(crate) fn front<D: Disk>(self, disk: &mut D, gates: &mut [u8]) -> Result<usize, DiskFault>
         requires size { length gates.old ≡ self.geometry.half }
-        requires whole { device_size (layout_of self.geometry) ≤ length (D.medium disk.old).now }
-        ensures front { IfOk result (λ n. D.keeps → n ≡ length (front (layout_of self.geometry) self.number (D.medium disk.old).now)) }
+        requires whole { HasHalf self (D.medium disk.old) }
+        ensures front { IfOk result (λ n. D.keeps →
+            n ≡ length (front (layout_of self.geometry) self.number (D.medium disk.old).now)) }
         ensures within { IfOk result (λ n. n ≤ self.geometry.half) }
         ensures untouched { D.keeps → moments (D.medium disk.new) ≡ moments (D.medium disk.old) }
         ensures inside { IsErrOf result DiskFault.OutOfRange → ⊥ }

@@ -1,27 +1,24 @@
 //! The two halves of a log as one value.
-ghost use Rattle.std.specs.Prelude.{◌≡◌, ◌≢◌, ◌+◌, ◌*◌, ◌<◌, ◌≤◌, true, false, length, IfOk, IfSome, IsNone, OnOk, min, vec_len};
+ghost use Rattle.std.specs.Prelude.{◌≡◌, ◌≢◌, ◌+◌, ◌<◌, ◌≤◌, true, false, length, IfOk, IfSome, IsNone, OnOk};
 ghost use Rattle.disk.specs.Device.{moments};
-ghost use Rattle.disk.specs.Moments.{LeavesOnly};
 ghost use Rattle.message.specs.Messages.{IsMessage};
-ghost use Rattle.oplog.specs.Changes.{After, Grew, HasAll, IsReady, IsSameButGates, IsSameButRoot, Cleared, Flipped};
 ghost use Rattle.message.specs.Records.{record_of};
 ghost use Rattle.message.specs.declared.Msg.{Msg};
-ghost use Rattle.oplog.specs.Front.{front, record_at};
-ghost use Rattle.oplog.specs.Layout.{device_size, other};
-ghost use Rattle.oplog.specs.Logged.{records_of, AreLogged, IsLogged};
+ghost use Rattle.oplog.specs.Logged.{AreLogged, IsLogged};
 
 use crate::LogFault;
-use crate::half::{BATCH, CHAIN_AREA, Half, MOST_RECORDS, zeros};
-use crate::staging::RECORD_SIZE;
+use crate::half::{Half, zeros};
+use crate::layout::{BATCH, CHAIN_AREA, MOST_RECORDS, RECORD_SIZE, ROOT_ZONE_AT};
 use crate::store::store;
 use affinity::{Geometry, changing};
 use disk::Disk;
 use message::{Msg, decode};
 use std::alloc::{AllocError, Global};
+use std::marker::Model;
 
 /// The log of a device: which of its halves is named, which one records are appended to, and how many it has.
 ///
-/// Only `new` takes memory. After a fault of the device it has failed, and only `room` and `failed` may be called.
+/// Only `new` takes memory. After a fault of the device it has failed, and only calls that ask for no device go on.
 #[derive(Drop)]
 pub struct Halves {
     geometry: Geometry,
@@ -33,22 +30,31 @@ pub struct Halves {
 
     /// Where the records of a batch are encoded.
     buffer: Vec<u8>,
-    ghost named_range: { named < 2 },
-    ghost current_range: { current < 2 },
-    ghost used_range: { used ≤ geometry.half },
-    ghost buffer_size: { vec_len buffer ≡ min geometry.half 64 * 520 },
 }
 
-/// Where the byte lies that names a half.
-const ROOT_ZONE: u64 = 64;
+impl Model for Halves {
+    ghost use Rattle.std.specs.Prelude.{◌≡◌, ◌*◌, ◌<◌, ◌≤◌, min, vec_len};
+    ghost use Rattle.oplog.specs.Layout.{batch, record_size};
+    ghost use Rattle.oplog.specs.Log.{Log};
+
+    ghost Value = { Log };
+
+    ghost view = { λ h. record {
+        geometry = h.geometry; named = h.named; current = h.current;
+        used = h.used; cleared = h.cleared; failed = h.failed } };
+
+    ghost invariant = { λ h. (h.named < 2) × (h.current < 2) × (h.used ≤ h.geometry.half)
+        × (vec_len h.buffer ≡ min h.geometry.half batch * record_size) };
+}
 
 impl Halves {
-    ghost use Rattle.oplog.specs.Log.{log_of, layout, new_log, renamed, flipped, after, CountsLogFault, IsNotBad, IsOfRecord, IsAbout};
+    ghost use Rattle.oplog.specs.Log.{new_log, renamed, flipped, chained, log_after, CountsLogFault, IsNotBad, IsAbout};
+    ghost use Rattle.oplog.specs.Calls.{HasParts, IsReadyFor, Grows, HasAdded, Clears, HasCleared, Chains, HasChained, Flips, HasFlipped, HasFront, IsOfRecordAt};
 
     /// A log of which nothing is known: half 0 is named and current, and there is no room.
     /// `AllocError` where there is no memory.
     pub fn new(alloc: Global, g: &Geometry) -> Result<Halves, AllocError>
-        ensures { IfOk result (λ log. log_of log ≡ new_log g.now) }
+        ensures { IfOk result (λ log. log ≡ new_log g.now) }
     {
         let geometry = *g;
         let slots = usize::from(geometry.half);
@@ -66,9 +72,9 @@ impl Halves {
 
     /// Makes this half named and current, with no room. The device isn't touched.
     pub fn name(&mut self, half: usize)
-        requires sound { (log_of self.old).failed ≡ false }
+        requires sound { self.old.failed ≡ false }
         requires half { half < 2 }
-        ensures { log_of self.new ≡ renamed half (log_of self.old) }
+        ensures { self.new ≡ renamed half self.old }
     {
         self.cleared = self.cleared && half == self.named && self.current == self.named;
         self.named = half;
@@ -76,16 +82,39 @@ impl Halves {
         self.used = usize::from(self.geometry.half);
     }
 
+    /// The numbers of the device's server.
+    pub fn geometry(&self) -> Geometry
+        ensures { result ≡ self.now.geometry }
+    {
+        self.geometry
+    }
+
+    /// The half that the root zone names; the image of the same number is named too.
+    pub fn named(&self) -> usize
+        ensures named { result ≡ self.now.named }
+        ensures half { result < 2 }
+    {
+        self.named
+    }
+
+    /// The half that records are appended to.
+    pub fn current(&self) -> usize
+        ensures current { result ≡ self.now.current }
+        ensures half { result < 2 }
+    {
+        self.current
+    }
+
     /// How many records can still be appended to the current half.
     pub fn room(&self) -> usize
-        ensures { result + (log_of self.now).used ≡ (log_of self.now).geometry.half }
+        ensures { result + self.now.used ≡ self.now.geometry.half }
     {
         usize::from(self.geometry.half) - self.used
     }
 
     /// Whether the device has failed in a call.
     pub fn failed(&self) -> bool
-        ensures { result ≡ (log_of self.now).failed }
+        ensures { result ≡ self.now.failed }
     {
         self.failed
     }
@@ -93,66 +122,112 @@ impl Halves {
     /// Appends these messages to the current half, in order: their records, a sync, their gates, a sync, for as many
     /// of them at a time as the buffer holds. With no message the device isn't touched.
     pub fn append<D: Disk>(&mut self, disk: &mut D, messages: &[Msg]) -> Result<(), LogFault>
-        requires sound { (log_of self.old).failed ≡ false }
-        requires logged { AreLogged (log_of self.old).geometry messages.now }
-        requires room { (log_of self.old).used + length messages.now ≤ (log_of self.old).geometry.half }
-        requires whole { device_size (layout (log_of self.old)) ≤ length (D.medium disk.old).now }
-        requires ready { D.keeps → IsReady (layout (log_of self.old)) (log_of self.old).current (log_of self.old).used (D.medium disk.old) }
+        requires sound { self.old.failed ≡ false }
+        requires logged { AreLogged self.old.geometry messages.now }
+        requires room { self.old.used + length messages.now ≤ self.old.geometry.half }
+        requires whole { HasParts self.old (D.medium disk.old) }
+        requires ready { D.keeps → IsReadyFor self.old (D.medium disk.old) }
 
         // A crash at any moment of the call leaves the front with the first so many of the messages.
-        ensures any_moment { D.keeps → LeavesOnly (D.medium disk.old) (D.medium disk.new) (Grew (layout (log_of self.old)) (log_of self.old).current (records_of messages.now) (D.medium disk.old)) }
-        ensures added { OnOk result (D.keeps → HasAll (layout (log_of self.old)) (log_of self.old).current (log_of self.old).used (records_of messages.now) (D.medium disk.old) (D.medium disk.new)) }
+        ensures any_moment { D.keeps →
+            Grows self.old messages.now (D.medium disk.old) (D.medium disk.new) }
+        ensures added { OnOk result (D.keeps →
+            HasAdded self.old messages.now (D.medium disk.old) (D.medium disk.new)) }
         ensures none { length messages.now ≡ 0 → disk.new ≡ disk.old }
-        ensures log { log_of self.new ≡ after result (log_of self.old) (record (log_of self.old) { used = (log_of self.old).used + length messages.now }) }
+        ensures log { self.new ≡ log_after result self.old
+            (record self.old { used = self.old.used + length messages.now }) }
         ensures not_bad { IsNotBad result }
         ensures counts { CountsLogFault result (D.medium disk.old).faults (D.medium disk.new).faults }
         ensures len { length (D.medium disk.new).now ≡ length (D.medium disk.old).now }
     {
-        let half = self.half(self.current);
+        let half = Half {
+            geometry: self.geometry,
+            number: self.current,
+        };
         if half
             .append(disk, self.used, messages, &mut self.buffer)
             .is_err()
         {
-            return Err(self.fail());
+            self.failed = true;
+            return Err(LogFault::Device);
         }
         self.used += messages.len();
         Ok(())
     }
 
     /// Clears the half that isn't named: its chain byte, the bytes beside it and its gates become 0. Its records stay.
+    /// The named half is the current one.
     pub fn clear_other<D: Disk>(&mut self, disk: &mut D) -> Result<(), LogFault>
-        requires sound { (log_of self.old).failed ≡ false }
-        requires whole { device_size (layout (log_of self.old)) ≤ length (D.medium disk.old).now }
-        ensures any_moment { D.keeps → LeavesOnly (D.medium disk.old) (D.medium disk.new) (After (D.medium disk.old) (IsSameButGates (layout (log_of self.old)) (other (log_of self.old).named))) }
-        ensures cleared { OnOk result (D.keeps → Cleared (layout (log_of self.old)) (other (log_of self.old).named) (D.medium disk.old) (D.medium disk.new)) }
-        ensures log { log_of self.new ≡ after result (log_of self.old) (record (log_of self.old) { cleared = true }) }
+        requires sound { self.old.failed ≡ false }
+        requires alone { self.old.current ≡ self.old.named }
+        requires whole { HasParts self.old (D.medium disk.old) }
+        ensures any_moment { D.keeps → Clears self.old (D.medium disk.old) (D.medium disk.new) }
+        ensures cleared { OnOk result (D.keeps →
+            HasCleared self.old (D.medium disk.old) (D.medium disk.new)) }
+        ensures log { self.new ≡ log_after result self.old (record self.old { cleared = true }) }
         ensures not_bad { IsNotBad result }
         ensures counts { CountsLogFault result (D.medium disk.old).faults (D.medium disk.new).faults }
         ensures len { length (D.medium disk.new).now ≡ length (D.medium disk.old).now }
     {
-        let half = self.half(1 - self.named);
+        let half = Half {
+            geometry: self.geometry,
+            number: 1 - self.named,
+        };
         if store(disk, half.start(), zeros(CHAIN_AREA + half.slots())).is_err() {
-            return Err(self.fail());
+            self.failed = true;
+            return Err(LogFault::Device);
         }
         self.cleared = true;
         Ok(())
     }
 
+    /// Puts the records of the other half in force behind those of the named one, by the chain byte of the named half.
+    /// The other half becomes current, with room for all records. It was cleared since it was last named or current.
+    pub fn open_chain<D: Disk>(&mut self, disk: &mut D) -> Result<(), LogFault>
+        requires sound { self.old.failed ≡ false }
+        requires alone { self.old.current ≡ self.old.named }
+        requires cleared { self.old.cleared ≡ true }
+        requires whole { HasParts self.old (D.medium disk.old) }
+        ensures any_moment { D.keeps → Chains self.old (D.medium disk.old) (D.medium disk.new) }
+        ensures chained { OnOk result (D.keeps →
+            HasChained self.old (D.medium disk.old) (D.medium disk.new)) }
+        ensures log { self.new ≡ log_after result self.old (chained self.old) }
+        ensures not_bad { IsNotBad result }
+        ensures counts { CountsLogFault result (D.medium disk.old).faults (D.medium disk.new).faults }
+        ensures len { length (D.medium disk.new).now ≡ length (D.medium disk.old).now }
+    {
+        let half = Half {
+            geometry: self.geometry,
+            number: self.named,
+        };
+        if store(disk, half.start(), &[1]).is_err() {
+            self.failed = true;
+            return Err(LogFault::Device);
+        }
+        self.current = 1 - self.named;
+        self.used = 0;
+        self.cleared = false;
+        Ok(())
+    }
+
     /// Names the other half, by the first byte of the root zone. If the current half was the named one, the other
-    /// half becomes current, with room for all records if it was cleared since it was last named or current.
+    /// half becomes current, with room for all records if it was cleared since it was last named or current. Else the
+    /// current half and its room stay.
     pub fn flip_root<D: Disk>(&mut self, disk: &mut D) -> Result<(), LogFault>
-        requires sound { (log_of self.old).failed ≡ false }
-        requires whole { device_size (layout (log_of self.old)) ≤ length (D.medium disk.old).now }
-        ensures any_moment { D.keeps → LeavesOnly (D.medium disk.old) (D.medium disk.new) (After (D.medium disk.old) (IsSameButRoot (layout (log_of self.old)))) }
-        ensures flipped { OnOk result (D.keeps → Flipped (layout (log_of self.old)) (other (log_of self.old).named) (D.medium disk.old) (D.medium disk.new)) }
-        ensures log { log_of self.new ≡ after result (log_of self.old) (flipped (log_of self.old)) }
+        requires sound { self.old.failed ≡ false }
+        requires whole { HasParts self.old (D.medium disk.old) }
+        ensures any_moment { D.keeps → Flips self.old (D.medium disk.old) (D.medium disk.new) }
+        ensures flipped { OnOk result (D.keeps →
+            HasFlipped self.old (D.medium disk.old) (D.medium disk.new)) }
+        ensures log { self.new ≡ log_after result self.old (flipped self.old) }
         ensures not_bad { IsNotBad result }
         ensures counts { CountsLogFault result (D.medium disk.old).faults (D.medium disk.new).faults }
         ensures len { length (D.medium disk.new).now ≡ length (D.medium disk.old).now }
     {
         let other = 1 - self.named;
-        if store(disk, ROOT_ZONE, &[other as u8]).is_err() {
-            return Err(self.fail());
+        if store(disk, ROOT_ZONE_AT, &[other as u8]).is_err() {
+            self.failed = true;
+            return Err(LogFault::Device);
         }
         if self.current == self.named {
             self.current = other;
@@ -169,68 +244,58 @@ impl Halves {
 
     /// How many records the open front of this half has.
     pub fn front<D: Disk>(&mut self, disk: &mut D, half: usize) -> Result<usize, LogFault>
-        requires sound { (log_of self.old).failed ≡ false }
+        requires sound { self.old.failed ≡ false }
         requires half { half < 2 }
-        requires whole { device_size (layout (log_of self.old)) ≤ length (D.medium disk.old).now }
-        ensures front { IfOk result (λ n. D.keeps → n ≡ length (front (layout (log_of self.old)) half (D.medium disk.old).now)) }
-        ensures within { IfOk result (λ n. n ≤ (log_of self.old).geometry.half) }
+        requires whole { HasParts self.old (D.medium disk.old) }
+        ensures front { IfOk result (λ n. D.keeps → HasFront self.old half n (D.medium disk.old)) }
+        ensures within { IfOk result (λ n. n ≤ self.old.geometry.half) }
         ensures untouched { D.keeps → moments (D.medium disk.new) ≡ moments (D.medium disk.old) }
-        ensures log { log_of self.new ≡ after result (log_of self.old) (log_of self.old) }
+        ensures log { self.new ≡ log_after result self.old self.old }
         ensures not_bad { IsNotBad result }
         ensures counts { CountsLogFault result (D.medium disk.old).faults (D.medium disk.new).faults }
         ensures len { length (D.medium disk.new).now ≡ length (D.medium disk.old).now }
     {
-        let half = self.half(half);
-        let mut bytes = [0; MOST_RECORDS];
-        match half.front(disk, &mut bytes[..half.slots()]) {
+        let half = Half {
+            geometry: self.geometry,
+            number: half,
+        };
+        let mut gates = [0; MOST_RECORDS];
+        match half.front(disk, &mut gates[..half.slots()]) {
             Ok(count) => Ok(count),
-            Err(_) => Err(self.fail()),
+            Err(_) => {
+                self.failed = true;
+                Err(LogFault::Device)
+            }
         }
     }
 
     /// Record `i` of this half, whatever its gate is. `BadRecord` comes exactly where its bytes are no changing
     /// message in range.
     pub fn record<D: Disk>(&mut self, disk: &mut D, half: usize, i: usize) -> Result<Msg, LogFault>
-        requires sound { (log_of self.old).failed ≡ false }
+        requires sound { self.old.failed ≡ false }
         requires half { half < 2 }
-        requires i { i < (log_of self.old).geometry.half }
-        requires whole { device_size (layout (log_of self.old)) ≤ length (D.medium disk.old).now }
-        ensures record { D.keeps → IsOfRecord (log_of self.old).geometry half i (record_at (layout (log_of self.old)) half i (D.medium disk.old).now) result }
-        ensures logged { IfOk result (λ m. IsMessage m × IsLogged (log_of self.old).geometry m) }
+        requires i { i < self.old.geometry.half }
+        requires whole { HasParts self.old (D.medium disk.old) }
+        ensures record { D.keeps → IsOfRecordAt self.old half i (D.medium disk.old) result }
+        ensures logged { IfOk result (λ m. IsMessage m × IsLogged self.old.geometry m) }
         ensures about { IsAbout half i result }
         ensures untouched { D.keeps → moments (D.medium disk.new) ≡ moments (D.medium disk.old) }
-        ensures log { log_of self.new ≡ after result (log_of self.old) (log_of self.old) }
+        ensures log { self.new ≡ log_after result self.old self.old }
         ensures counts { CountsLogFault result (D.medium disk.old).faults (D.medium disk.new).faults }
         ensures len { length (D.medium disk.new).now ≡ length (D.medium disk.old).now }
     {
-        let place = self.half(half);
+        let place = Half {
+            geometry: self.geometry,
+            number: half,
+        };
         let mut bytes = [0; RECORD_SIZE];
         if disk.read_at(place.record_at(i), &mut bytes).is_err() {
-            return Err(self.fail());
+            self.failed = true;
+            return Err(LogFault::Device);
         }
         match logged_message(&self.geometry, &bytes) {
             Some(m) => Ok(m),
             None => Err(LogFault::BadRecord(half, i)),
-        }
-    }
-
-    /// Marks the log as failed, and gives the fault.
-    fn fail(&mut self) -> LogFault
-        ensures log { log_of self.new ≡ record (log_of self.old) { failed = true } }
-        ensures fault { result ≡ LogFault.Device }
-    {
-        self.failed = true;
-        LogFault::Device
-    }
-
-    /// One of its halves.
-    fn half(&self, number: usize) -> Half
-        requires { number < 2 }
-        ensures { (result.geometry ≡ self.now.geometry) × (result.number ≡ number) }
-    {
-        Half {
-            geometry: self.geometry,
-            number,
         }
     }
 }

@@ -2,17 +2,16 @@
 //! that isn't open are in force.
 //!
 //! `Halves` writes them so that a crash at any moment leaves each front whole, with records at its end or without.
+//! `layout` is the map of such a device, `store` has the writes of a range, and `laws` say what a crash leaves.
 #![tactic(auto)]
 
 mod fault;
 mod half;
 mod halves;
 pub mod laws;
+pub mod layout;
 mod staging;
-mod store;
+pub mod store;
 
 pub use fault::LogFault;
 pub use halves::Halves;
-
-#[cfg(test)]
-mod tests;

@@ -4,10 +4,8 @@ ghost use Rattle.std.specs.List.{concat, All, AllByRecursion};
 ghost use Rattle.message.specs.Records.{record_of, HasRoom};
 ghost use Rattle.oplog.specs.Logged.{records_of};
 
+use crate::layout::RECORD_SIZE;
 use message::{Msg, encode};
-
-/// How many bytes a record has.
-pub(crate) const RECORD_SIZE: usize = 520;
 
 /// Writes the record of a message into a place of 520 bytes.
 fn put_record(m: &Msg, place: &mut [u8])

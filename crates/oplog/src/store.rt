@@ -1,21 +1,42 @@
+//! Writes over a range of a device, with a sync or without.
 ghost use Rattle.std.specs.Prelude.{◌≡◌, ◌+◌, ◌≤◌, length, OnOk, IsErrOf};
-ghost use Rattle.disk.specs.Device.{SameOutside, CountsFault};
-ghost use Rattle.disk.specs.Moments.{LeavesOnly};
-ghost use Rattle.oplog.specs.Changes.{After};
-ghost use Rattle.oplog.specs.Store.{Stored};
+ghost use Rattle.disk.specs.Device.{SameOutside, CountsFault, overlaid};
+ghost use Rattle.oplog.specs.Changes.{ChangesOnly};
+ghost use Rattle.oplog.specs.Store.{Stored, Touched};
 
 use disk::{Disk, DiskFault};
 
-/// Writes these bytes, and makes them last.
-pub(crate) fn store<D: Disk>(disk: &mut D, at: u64, bytes: &[u8]) -> Result<(), DiskFault>
+/// Writes these bytes from the byte `at` on. Until a sync succeeds, a crash may leave any bytes there.
+/// `Device` exactly where the device failed, and then what a read gives there is open too.
+pub fn write<D: Disk>(disk: &mut D, at: u64, bytes: &[u8]) -> Result<(), DiskFault>
     requires { at + length bytes.now ≤ length (D.medium disk.old).now }
-    ensures any_moment { D.keeps → LeavesOnly (D.medium disk.old) (D.medium disk.new) (After (D.medium disk.old) (SameOutside at (length bytes.now))) }
-    ensures stored { OnOk result (D.keeps → Stored at bytes.now (D.medium disk.old) (D.medium disk.new)) }
+    ensures any_moment { D.keeps →
+        ChangesOnly (D.medium disk.old) (D.medium disk.new) (SameOutside at (length bytes.now)) }
+    ensures touched { D.keeps →
+        Touched at (length bytes.now) (D.medium disk.old) (D.medium disk.new) }
+    ensures written { OnOk result (D.keeps →
+        (D.medium disk.new).now ≡ overlaid (D.medium disk.old).now at bytes.now) }
     ensures inside { IsErrOf result DiskFault.OutOfRange → ⊥ }
     ensures counts { CountsFault result (D.medium disk.old).faults (D.medium disk.new).faults }
     ensures len { length (D.medium disk.new).now ≡ length (D.medium disk.old).now }
 {
     disk.write_at(at, bytes)?;
+    Ok(())
+}
+
+/// Writes these bytes from the byte `at` on, and syncs: then nothing on the device is loose. `Device`
+/// exactly where the device failed, and then what a read gives there is open too.
+pub fn store<D: Disk>(disk: &mut D, at: u64, bytes: &[u8]) -> Result<(), DiskFault>
+    requires { at + length bytes.now ≤ length (D.medium disk.old).now }
+    ensures any_moment { D.keeps →
+        ChangesOnly (D.medium disk.old) (D.medium disk.new) (SameOutside at (length bytes.now)) }
+    ensures stored { OnOk result (D.keeps →
+        Stored at bytes.now (D.medium disk.old) (D.medium disk.new)) }
+    ensures inside { IsErrOf result DiskFault.OutOfRange → ⊥ }
+    ensures counts { CountsFault result (D.medium disk.old).faults (D.medium disk.new).faults }
+    ensures len { length (D.medium disk.new).now ≡ length (D.medium disk.old).now }
+{
+    write(disk, at, bytes)?;
     disk.sync()?;
     Ok(())
 }

@@ -1,16 +1,24 @@
-use Rattle.std.proofs.Common.{sym, ◌∙◌, arith}
+use Rattle.std.proofs.Common.{sym, ◌∙◌, subst, arith}
+use Rattle.oplog.specs.Calls.{HasParts, Flips, HasFlipped}
 use Rattle.oplog.specs.Layout.{layout_of, other}
+use Rattle.oplog.specs.Log.{Log}
 use Rattle.oplog.proofs.Answered.{on_ok}
 use Rattle.oplog.proofs.OneStore.{root_moments, named}
 use Rattle.oplog.proofs.halves.Halves.flip_root.Goals as goal
 
 pub returns-then-is_err-clause-any_moment : goal.returns-then-is_err-clause-any_moment
-returns-then-is_err-clause-any_moment g c = λ k. root_moments (layout_of c.args.self.now.geometry) (other c.args.self.now.named) _ _ (c.store.ensures.any_moment k)
+returns-then-is_err-clause-any_moment g c = λ k.
+    subst (λ (log : Log). Flips log (g.D.Disk.medium c.args.disk.now) (g.D.Disk.medium c.store.new.disk)) c.self.view_is
+    (root_moments (layout_of c.self.inside.geometry) (other c.self.inside.named) _ _ (c.store.ensures.any_moment k))
 
 pub returns-clause-any_moment : goal.returns-clause-any_moment
-returns-clause-any_moment g c = λ k. root_moments (layout_of c.args.self.now.geometry) (other c.args.self.now.named) _ _ (c.store.ensures.any_moment k)
+returns-clause-any_moment g c = λ k.
+    subst (λ (log : Log). Flips log (g.D.Disk.medium c.args.disk.now) (g.D.Disk.medium c.store.new.disk)) c.self.view_is
+    (root_moments (layout_of c.self.inside.geometry) (other c.self.inside.named) _ _ (c.store.ensures.any_moment k))
 
 pub returns-clause-flipped : goal.returns-clause-flipped
 returns-clause-flipped g c = λ k.
-    named (layout_of c.args.self.now.geometry) (other c.args.self.now.named) (g.D.Disk.medium c.args.disk.now) (g.D.Disk.medium c.store.new.disk) (omega arith) c.requires.whole
-    (on_ok c.store.result _ (sym c.is_err.ensures.value ∙ c.if-is_err.false) c.store.ensures.stored k)
+    let whole = subst (λ (log : Log). HasParts log (g.D.Disk.medium c.args.disk.now)) (sym c.self.view_is) c.requires.whole in
+    subst (λ (log : Log). HasFlipped log (g.D.Disk.medium c.args.disk.now) (g.D.Disk.medium c.store.new.disk)) c.self.view_is
+    (named (layout_of c.self.inside.geometry) (other c.self.inside.named) _ _ (omega arith) whole
+    (on_ok c.store.result _ (sym c.is_err.ensures.value ∙ c.if-is_err.false) c.store.ensures.stored k))

@@ -1,0 +1,29 @@
+-- What a write of a range leaves, done or failed.
+use Rattle.std.proofs.Common.{◌≡◌, ℕ, ◌+◌, ◌≤◌, List, length, Result, Ok, Err, refl, sym, subst}
+use Rattle.disk.specs.declared.fault.DiskFault.{DiskFault}
+use Rattle.disk.specs.declared.fault.DiskFault.TheVariants.{OutOfRange, Device}
+use Rattle.disk.specs.Device.{Medium, SameOutside, Writes, marked}
+use Rattle.disk.specs.Moments.{LeavesOnly}
+use Rattle.disk.proofs.Calls.{after_write}
+use Rattle.disk.proofs.Moments.{started}
+use Rattle.disk.proofs.Outside.{same_all}
+use Rattle.disk.proofs.Overlays.{overlaid_outside, marked_outside}
+use Rattle.oplog.specs.Changes.{After}
+use Rattle.oplog.specs.Store.{Touched}
+
+module _ (w0 w1 : Medium) (at : ℕ) (bytes : List ℕ) where
+  pub written : (r : Result (Unit {0}) DiskFault) → at + length bytes ≤ length w0.now → Writes at bytes r w0 w1 → LeavesOnly w0 w1 (After w0 (SameOutside {X = ℕ} at (length bytes)))
+  written r inside writes =
+      after_write w0 w0 w1 _
+      (started w0 _ (λ c left. record { old = c; left = left; change = same_all at (length bytes) c })) at bytes inside r writes
+      (λ c torn left same. record { old = c; left = left; change = same })
+
+  -- done, or nothing done, or failed
+  pub touched : (r : Result (Unit {0}) DiskFault) → at + length bytes ≤ length w0.now → Writes at bytes r w0 w1 → Touched at (length bytes) w0 w1
+  touched (Ok u) inside writes =
+      subst (λ (m : Medium). Touched at (length bytes) w0 m) (sym writes.ok) (record { now = overlaid_outside w0.now at bytes; loose = marked_outside w0.loose at (length bytes) })
+  touched (Err OutOfRange) inside writes =
+      subst (λ (m : Medium). Touched at (length bytes) w0 m) (sym (writes.outside refl)) (record { now = same_all at (length bytes) w0.now; loose = same_all at (length bytes) w0.loose })
+  touched (Err Device) inside writes =
+      let fails = writes.device refl in
+      record { now = fails.bytes; loose = subst (λ l. SameOutside at (length bytes) w0.loose l) (sym fails.loose) (marked_outside w0.loose at (length bytes)) }

@@ -1,0 +1,20 @@
+use Rattle.std.proofs.Common.{ℕ, ◌+◌, ◌*◌, ◌≤◌, arith}
+use Rattle.std.proofs.lemmas.Nat.{mul-le}
+use Rattle.oplog.specs.Layout.{image_size}
+use Rattle.oplog.proofs.layout.image_size.Goals as goal
+
+pub returns-clause-size : goal.returns-clause-size
+unfolding image_size
+returns-clause-size c = λ i. 64 + c.from.ensures i * c.from-2.ensures i * (64 + c.from-3.ensures i * (c.from-4.ensures i * 520))
+
+at_most : (a v s q : ℕ) → a ≤ 4 → v ≤ 8 → s ≤ 8 → q ≤ 64 → 64 + a * v * (64 + s * (q * 520)) ≤ 8521792
+at_most a v s q few_a few_v few_s few_q =
+    let stripes : s * (q * 520) ≤ 8 * 33280 = mul-le s (q * 520) 8 33280 few_s (omega (arith, few_q)) in
+    let volumes : a * v ≤ 4 * 8 = mul-le a v 4 8 few_a few_v in
+    let all : a * v * (64 + s * (q * 520)) ≤ 32 * 266304 = mul-le (a * v) (64 + s * (q * 520)) 32 266304 volumes (omega (arith, stripes)) in
+    omega (arith, all)
+
+pub returns-clause-most : goal.returns-clause-most
+returns-clause-most c =
+    let g = c.args.g.now in
+    at_most _ _ _ _ (omega (arith, c.from.ensures, g.aggregates_range.1)) (omega (arith, c.from-2.ensures, g.volumes_range.1)) (omega (arith, c.from-3.ensures, g.stripes_range.1)) (omega (arith, c.from-4.ensures, g.quota_range.1))

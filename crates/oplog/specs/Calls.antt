@@ -1,0 +1,76 @@
+-- What the calls of a log ask of its device and do to it, in the words of contracts.
+use Rattle.std.specs.Prelude.{◌≡◌, ◌≤◌, ℕ, ◌+◌, List, length, Result}
+use Rattle.disk.specs.Device.{Medium}
+use Rattle.disk.specs.Moments.{LeavesOnly}
+use Rattle.message.specs.declared.Msg.{Msg}
+use Rattle.oplog.specs.declared.fault.LogFault.{LogFault}
+use Rattle.oplog.specs.declared.half.Half.{Half}
+use Rattle.oplog.specs.Layout.{layout_of, device_size, other}
+use Rattle.oplog.specs.Front.{front, record_at}
+use Rattle.oplog.specs.Changes.{ChangesOnly, Grew, HasAll, IsReady, IsSameButGates, IsSameButChain, IsSameButRoot, Cleared, Chained, Flipped}
+use Rattle.oplog.specs.Logged.{records_of}
+use Rattle.oplog.specs.Log.{Log, layout, IsOfRecord}
+
+-- ---- what they ask
+
+-- The device is long enough for all its parts.
+abbrev pub HasParts : Log → Medium → Type 0
+HasParts log m = device_size (layout log) ≤ length m.now
+
+-- The current half has as many records as the log says, shut gates behind them, and nothing loose.
+abbrev pub IsReadyFor : Log → Medium → Type 0
+IsReadyFor log m = IsReady (layout log) log.current log.used m
+
+-- ---- what a crash leaves at any moment of a call, and what is there at `Ok`
+
+-- The current half grows by the first so many of these messages.
+abbrev pub Grows : Log → List Msg → Medium → Medium → Type 0
+Grows log messages old new = LeavesOnly old new (Grew (layout log) log.current (records_of messages) old)
+
+abbrev pub HasAdded : Log → List Msg → Medium → Medium → Type 0
+HasAdded log messages old new = HasAll (layout log) log.current log.used (records_of messages) old new
+
+-- In the half that isn't named only its chain area and gates change.
+abbrev pub Clears : Log → Medium → Medium → Type 0
+Clears log old new = ChangesOnly old new (IsSameButGates (layout log) (other log.named))
+
+abbrev pub HasCleared : Log → Medium → Medium → Type 0
+HasCleared log old new = Cleared (layout log) (other log.named) old new
+
+-- Only the chain byte of the named half changes.
+abbrev pub Chains : Log → Medium → Medium → Type 0
+Chains log old new = ChangesOnly old new (IsSameButChain (layout log) log.named)
+
+abbrev pub HasChained : Log → Medium → Medium → Type 0
+HasChained log old new = Chained (layout log) log.named old new
+
+-- Only the byte that names an area changes.
+abbrev pub Flips : Log → Medium → Medium → Type 0
+Flips log old new = ChangesOnly old new (IsSameButRoot (layout log))
+
+abbrev pub HasFlipped : Log → Medium → Medium → Type 0
+HasFlipped log old new = Flipped (layout log) (other log.named) old new
+
+-- ---- what they read
+
+-- The open front of half h has n records.
+abbrev pub HasFront : Log → ℕ → ℕ → Medium → Type 0
+HasFront log h n m = n ≡ length (front (layout log) h m.now)
+
+-- the answer to a call for record i of half h
+abbrev pub IsOfRecordAt : Log → ℕ → ℕ → Medium → Result Msg LogFault → Type 0
+IsOfRecordAt log h i m result = IsOfRecord log.geometry (record_at (layout log) h i m.now) result
+
+-- ---- the same of one half alone
+
+abbrev pub HasHalf : Half → Medium → Type 0
+HasHalf half m = device_size (layout_of half.geometry) ≤ length m.now
+
+abbrev pub IsHalfReady : Half → ℕ → Medium → Type 0
+IsHalfReady half used m = IsReady (layout_of half.geometry) half.number used m
+
+abbrev pub HalfGrows : Half → List Msg → Medium → Medium → Type 0
+HalfGrows half messages old new = LeavesOnly old new (Grew (layout_of half.geometry) half.number (records_of messages) old)
+
+abbrev pub HalfHasAdded : Half → ℕ → List Msg → Medium → Medium → Type 0
+HalfHasAdded half used messages old new = HasAll (layout_of half.geometry) half.number used (records_of messages) old new
