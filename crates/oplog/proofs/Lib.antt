@@ -1,16 +1,20 @@
+-- ---- For the layer above. The laws of AfterCrash and what keeps what a device stands for (Kept); a half that is ready
+-- ---- (Ready, Batches); parts of a device, written and read (Slices, OneWrite, Reading); records as rows (RecordRows).
 pub mod AfterCrash
+pub mod Kept
+pub mod Ready
+pub mod Batches
+pub mod Slices
+pub mod OneWrite
+pub mod Reading
+pub mod RecordRows
+
+-- ---- For this crate alone.
 mod Answered
 mod Batch
 mod BatchMoments
-pub mod Batches
+mod Examples
 mod Gates
 mod InHalf
-pub mod Kept
 mod OneStore
-mod OneWrite
-pub mod Reading
-pub mod Ready
-pub mod RecordRows
-mod Examples
-pub mod Slices
 mod Staged

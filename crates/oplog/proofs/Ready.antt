@@ -1,13 +1,14 @@
 -- A half stays ready while other parts of the device change, and a cleared one is ready when it is named.
-use Rattle.std.proofs.Common.{◌≡◌, ◌≢◌, ◌<◌, ◌≤◌, ℕ, Bool, true, false, cond, List, length, drop, sym, ◌∙◌, ap, subst, arith}
+use Rattle.std.proofs.Common.{◌≡◌, ◌≢◌, ◌<◌, ◌≤◌, ◌+◌, ℕ, Bool, true, false, cond, List, length, drop, sym, ◌∙◌, ap, subst, arith}
 use Rattle.std.proofs.lemmas.Bool.{eq-eqb}
 use Rattle.disk.specs.Device.{Medium, IsSynced}
 use Rattle.disk.proofs.Leaves.{calm_range}
 use Rattle.oplog.specs.Layout.{Layout, layout_of, part_at, part_size, half, root, other, device_size}
 use Rattle.oplog.specs.Front.{open_gates, gates_in}
-use Rattle.oplog.specs.Changes.{IsSameBut, IsReady, Cleared, Flipped}
-use Rattle.oplog.specs.Log.{Log, flipped}
-use Rattle.oplog.proofs.Slices.{half_sized, half_inside}
+use Rattle.oplog.specs.Changes.{IsSameBut, IsReady, Cleared, Chained, Flipped}
+use Rattle.oplog.specs.Log.{Log, chained, flipped}
+use Rattle.oplog.specs.Store.{Touched}
+use Rattle.oplog.proofs.Slices.{half_sized, half_inside, other_part}
 
 pub ready_kept : (g : Layout) (h k p : ℕ) (w w' : Medium) → h < 2 → half h ≢ p → device_size g ≤ length w'.now → IsReady g h k w → IsSameBut g p w.now w'.now → IsSynced w' → IsReady g h k w'
 ready_kept g h k p w w' is_half apart fits ready same calm =
@@ -17,6 +18,24 @@ ready_kept g h k p w w' is_half apart fits ready same calm =
       shut = ap (λ (l : List ℕ). drop k (gates_in g.slots l)) kept ∙ ready.shut;
       calm = calm_range (part_at g (half h)) (part_size g (half h)) w' calm (omega (arith, fits, half_sized g h is_half, half_inside g h is_half));
     }
+
+-- It stays so while a range of another part is written, synced or not.
+pub ready_beside : (g : Layout) (h k p i n at : ℕ) (w w' : Medium) → p < 6 → half h ≢ p → at ≡ part_at g p + i → i + n ≤ part_size g p → Touched at n w w' → IsReady g h k w → IsReady g h k w'
+ready_beside g h k p i n at w w' is_part apart place inside wrote ready =
+    let kept = other_part g p (half h) i n at w.now w'.now place inside apart wrote.now in
+    record {
+      used = ap (λ (l : List ℕ). open_gates (gates_in g.slots l)) kept ∙ ready.used;
+      shut = ap (λ (l : List ℕ). drop k (gates_in g.slots l)) kept ∙ ready.shut;
+      calm = other_part g p (half h) i n at w.loose w'.loose place inside apart wrote.loose ∙ ready.calm;
+    }
+
+-- The current half was the named one, the other was cleared, and then the chain to it was opened.
+pub ready_chained : (log cleared opened : Log) (w0 w1 w2 : Medium) → log.named < 2 → cleared ≡ record log { cleared = true } → opened ≡ chained cleared → device_size (layout_of log.geometry) ≤ length w2.now → Cleared (layout_of log.geometry) (other log.named) w0 w1 → Chained (layout_of cleared.geometry) cleared.named w1 w2 → IsReady (layout_of opened.geometry) opened.current opened.used w2
+ready_chained log cleared opened w0 w1 w2 is_half first second fits clear chain =
+    let is : opened ≡ chained (record log { cleared = true }) = second ∙ ap chained first in
+    let chain' : Chained (layout_of log.geometry) log.named w1 w2 = subst (λ (x : Log). Chained (layout_of x.geometry) x.named w1 w2) first chain in
+    subst (λ (x : Log). IsReady (layout_of x.geometry) x.current x.used w2) (sym is)
+    (ready_kept (layout_of log.geometry) (other log.named) 0 (half log.named) w1 w2 (omega arith) (λ same. omega (arith, same, is_half)) fits clear.ready chain'.same.same chain'.calm)
 
 -- The current half was the named one, the other was cleared, and then it was named.
 pub ready_named : (log cleared named : Log) (w0 w1 w2 : Medium) → log.current ≡ log.named → cleared ≡ record log { cleared = true } → named ≡ flipped cleared → device_size (layout_of log.geometry) ≤ length w2.now → Cleared (layout_of log.geometry) (other log.named) w0 w1 → Flipped (layout_of cleared.geometry) (other cleared.named) w1 w2 → IsReady (layout_of named.geometry) named.current named.used w2

@@ -1,10 +1,11 @@
--- Parts of a list, and lists that differ in one of them at most.
-use Rattle.std.proofs.Common.{◌≡◌, ◌≢◌, ℕ, min, zero, suc, ◌+◌, ◌-◌, ◌<◌, ◌≤◌, List, [], ◌∷◌, take, drop, get_or, ⊎_elim, refl, sym, ◌∙◌, ap, subst, arith}
+-- Parts of a list and of a device, and what is left of the others where one of them is written.
+use Rattle.std.proofs.Common.{◌≡◌, ◌≢◌, ℕ, min, zero, suc, ◌+◌, ◌-◌, ◌<◌, ◌≤◌, List, [], ◌∷◌, ◌++◌, length, take, drop, get_or, ⊎_elim, refl, sym, ◌∙◌, ap, subst, arith}
 use Rattle.std.proofs.lemmas.Bool.{cases_lt}
-use Rattle.std.proofs.lemmas.List.{take-take, drop-drop, drop-take, length-take, length-drop}
-use Rattle.disk.specs.Device.{SameOutside}
+use Rattle.std.proofs.lemmas.List.{take-take, take-append-drop, drop-drop, drop-take, length-take, length-take-le, length-drop}
+use Rattle.disk.specs.Device.{SameOutside, overlaid}
 use Rattle.disk.proofs.Outside.{same_before, same_behind, same_drop}
-use Rattle.oplog.specs.Layout.{Layout, slice, sizes, half_size, offset, part_at, part_size, device_size, half}
+use Rattle.disk.proofs.Overlays.{overlaid_outside, overlaid_parts, range-overlaid}
+use Rattle.oplog.specs.Layout.{Layout, slice, sizes, half_size, offset, part, part_at, part_size, device_size, half, image}
 use Rattle.oplog.specs.Changes.{IsSameBut}
 
 -- ---- a part of a part
@@ -43,22 +44,51 @@ offset_below (s ∷ ss) p zero less = absurd (omega (arith, less))
 offset_below (s ∷ ss) zero (suc q) less = omega arith
 offset_below (s ∷ ss) (suc p) (suc q) less = omega (arith, offset_below ss p q (omega (arith, less)))
 
--- A change within a part leaves all others.
-pub same_but : (g : Layout) (p i n at : ℕ) (old c : List ℕ) → p < 6 → at ≡ part_at g p + i → i + n ≤ part_size g p → SameOutside at n old c → IsSameBut g p old c
-same_but g p i n at old c is_part place inside same = record {
-  size = same.size;
-  others = λ q differs.
-      ⊎_elim
-      (λ (less : q < p). same_before at n old c same (part_at g q) (part_size g q) (omega (arith, place, offset_below (sizes g) q p less)))
-      (λ (no_less : p ≤ q).
-      let more : p < q = greater p q differs no_less in
-      same_behind at n old c same (part_at g q) (part_size g q) (omega (arith, place, inside, offset_below (sizes g) p q more)))
-      (cases_lt q p);
-  rest = same_drop at n old c same (device_size g) (omega (arith, place, inside, offset_below (sizes g) p 6 is_part));
-}
+-- a part lies on the device
+pub part_inside : (g : Layout) (p : ℕ) → p < 6 → part_at g p + part_size g p ≤ device_size g
+part_inside g p is_part = offset_below (sizes g) p 6 is_part
+
+-- A change within part p, of bytes or of marks, leaves each other part.
+pub other_part : {X : Type 0} (g : Layout) (p q i n at : ℕ) (xs ys : List X) → at ≡ part_at g p + i → i + n ≤ part_size g p → q ≢ p → SameOutside at n xs ys → slice ys (part_at g q) (part_size g q) ≡ slice xs (part_at g q) (part_size g q)
+other_part g p q i n at xs ys place inside differs same =
+    ⊎_elim
+    (λ (less : q < p). same_before at n xs ys same (part_at g q) (part_size g q) (omega (arith, place, offset_below (sizes g) q p less)))
+    (λ (no_less : p ≤ q).
+    let more : p < q = greater p q differs no_less in
+    same_behind at n xs ys same (part_at g q) (part_size g q) (omega (arith, place, inside, offset_below (sizes g) p q more)))
+    (cases_lt q p)
   where
     greater : (p q : ℕ) → q ≢ p → p ≤ q → p < q
     greater p q differs no_less = ⊎_elim (λ (less : p < q). less) (λ (no_more : q ≤ p). absurd (differs (omega (arith, no_less, no_more)))) (cases_lt p q)
+
+-- So nothing but that part differs.
+pub same_but : (g : Layout) (p i n at : ℕ) (old c : List ℕ) → p < 6 → at ≡ part_at g p + i → i + n ≤ part_size g p → SameOutside at n old c → IsSameBut g p old c
+same_but g p i n at old c is_part place inside same = record {
+  size = same.size;
+  others = λ q differs. other_part g p q i n at old c place inside differs same;
+  rest = same_drop at n old c same (device_size g) (omega (arith, place, inside, part_inside g p is_part));
+}
+
+-- Bytes that are written within a part are written into the part's own bytes.
+pub part_overlaid : (g : Layout) (p i at : ℕ) (bytes old : List ℕ) → p < 6 → at ≡ part_at g p + i → i + length bytes ≤ part_size g p → device_size g ≤ length old → part g p (overlaid old at bytes) ≡ overlaid (part g p old) i bytes
+part_overlaid g p i at bytes old is_part place inside fits =
+    let new = overlaid old at bytes in
+    let same : SameOutside (part_at g p + i) (length bytes) old new = subst (λ (a : ℕ). SameOutside a (length bytes) old new) place (overlaid_outside old at bytes) in
+    let ends = part_inside g p is_part in
+    let written : slice (part g p new) i (length bytes) ≡ bytes =
+    slice_slice new (part_at g p) (part_size g p) i (length bytes) inside ∙ ap (λ (a : ℕ). slice new a (length bytes)) (sym place)
+    ∙ range-overlaid old at bytes (omega (arith, place, inside, fits, ends)) in
+    let size : length (part g p old) ≡ part_size g p =
+    length-take-le (part_size g p) (drop (part_at g p) old) (omega (arith, length-drop (part_at g p) old, fits, ends)) in
+    put_in (part g p old) (part g p new) i bytes (omega (arith, inside, size)) (within (part_at g p) (part_size g p) i (length bytes) old new inside same) written
+  where
+    put_in : (xs ys : List ℕ) (i : ℕ) (bytes : List ℕ) → i + length bytes ≤ length xs → SameOutside i (length bytes) xs ys → slice ys i (length bytes) ≡ bytes → ys ≡ overlaid xs i bytes
+    put_in xs ys i bytes inside same written =
+        let behind : drop (length bytes) (drop i ys) ≡ drop (length bytes) (drop i xs) = drop-drop (length bytes) i ys ∙ same.after ∙ sym (drop-drop (length bytes) i xs) in
+        sym (take-append-drop i ys)
+        ∙ ap (λ (l : List ℕ). take i ys ++ l) (sym (take-append-drop (length bytes) (drop i ys)))
+        ∙ (λ j. same.before j ++ (written j ++ behind j))
+        ∙ sym (overlaid_parts xs i bytes inside)
 
 -- one change after another
 pub same_but_both : (g : Layout) (p : ℕ) (xs ys zs : List ℕ) → IsSameBut g p xs ys → IsSameBut g p ys zs → IsSameBut g p xs zs
@@ -70,6 +100,12 @@ same_but_both g p xs ys zs first second = record {
 
 pub same_but_none : (g : Layout) (p : ℕ) (xs : List ℕ) → IsSameBut g p xs xs
 same_but_none g p xs = record { size = refl; others = λ q differs. refl; rest = refl }
+
+-- the size of either image
+pub image_sized : (g : Layout) (i : ℕ) → i < 2 → part_size g (image i) ≡ g.image
+image_sized g zero is_image = refl
+image_sized g (suc zero) is_image = refl
+image_sized g (suc (suc i)) is_image = absurd (omega (arith, is_image))
 
 -- the size of either half
 pub half_sized : (g : Layout) (h : ℕ) → h < 2 → part_size g (half h) ≡ half_size g.slots
