@@ -2,7 +2,7 @@
 use Rattle.std.proofs.Common.{◌≡◌, ℕ, ◌+◌, ◌-◌, ◌*◌, ◌<◌, ◌≤◌, List, [], length, take, drop, replicate, refl, sym, ◌∙◌, ap, subst, arith}
 use Rattle.std.proofs.lemmas.List.{length-replicate}
 use Rattle.std.specs.List.{concat}
-use Rattle.disk.specs.Device.{Medium, SameOutside, overlaid}
+use Rattle.disk.specs.Device.{AreBytes, Medium, SameOutside, overlaid}
 use Rattle.disk.proofs.Leaves.{itself, calm_left, calm_range, range_kept}
 use Rattle.disk.proofs.Overlays.{overlaid_outside, range-overlaid, length-overlaid}
 use Rattle.oplog.specs.Layout.{Layout, slice, part, part_at, part_size, half, half_size, device_size}
@@ -14,7 +14,7 @@ use Rattle.oplog.proofs.RecordRows.{AreRows, length-concat}
 use Rattle.oplog.proofs.InHalf.{HasMoreIn, body_at, bodies_written, gates_torn, gates_written, now_used, now_shut}
 
 -- These records are added to half h behind k others. Places in the half count from its first byte.
-module _ (g : Layout) (h k : ℕ) (more : List (List ℕ)) (is_half : h < 2) (sized : AreRows more) (room : k + length more ≤ g.slots) (w0 w1 : Medium) (fits : device_size g ≤ length w0.now) (ready : IsReady g h k w0) where
+module _ (g : Layout) (h k : ℕ) (more : List (List ℕ)) (is_half : h < 2) (sized : AreRows more) (room : k + length more ≤ g.slots) (w0 w1 : Medium) (fits : device_size g ≤ length w0.now) (are_bytes : AreBytes w0.now) (ready : IsReady g h k w0) where
   size : part_size g (half h) ≡ half_size g.slots
   size = half_sized g h is_half
 
@@ -90,7 +90,7 @@ module _ (g : Layout) (h k : ℕ) (more : List (List ℕ)) (is_half : h < 2) (si
       grew = record {
         added = torn.0;
         at_most = torn.1;
-        has = record { old = w0.now; left = itself w0.now w0.loose; change = torn.2 };
+        has = record { old = w0.now; left = itself w0.now w0.loose are_bytes; change = torn.2 };
       }
 
       module _ (ones : slice c (part_at g (half h) + (64 + k)) (length more) ≡ replicate (length more) 1) where
@@ -143,7 +143,7 @@ module _ (g : Layout) (h k : ℕ) (more : List (List ℕ)) (is_half : h < 2) (si
         };
         left = λ c left. record {
           old = w0.now;
-          left = itself w0.now w0.loose;
+          left = itself w0.now w0.loose are_bytes;
           change = subst (HasMore g h more w0.now) (sym (calm_left w2 c gates.calm left)) (has_all w2.now put_gates are_ones);
         };
         calm = λ _. gates.calm;

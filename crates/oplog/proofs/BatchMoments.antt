@@ -2,7 +2,7 @@
 use Rattle.std.proofs.Common.{◌≡◌, ℕ, ◌+◌, ◌<◌, ◌≤◌, List, length, replicate, ap, subst, ◌∙◌}
 use Rattle.std.proofs.lemmas.List.{length-replicate}
 use Rattle.std.specs.List.{concat}
-use Rattle.disk.specs.Device.{Medium, SameOutside}
+use Rattle.disk.specs.Device.{AreBytes, Medium, SameOutside}
 use Rattle.disk.specs.Moments.{LeavesOnly}
 use Rattle.disk.proofs.Moments.{weaker, then}
 use Rattle.oplog.specs.Layout.{Layout, part_at, half, device_size}
@@ -12,12 +12,12 @@ use Rattle.oplog.proofs.RecordRows.{AreRows}
 use Rattle.oplog.proofs.InHalf.{body_at}
 use Rattle.oplog.proofs.Batch.{first, second, third}
 
-module _ (g : Layout) (h k : ℕ) (more : List (List ℕ)) (is_half : h < 2) (sized : AreRows more) (room : k + length more ≤ g.slots) (w0 w1 : Medium) (fits : device_size g ≤ length w0.now) (ready : IsReady g h k w0) (at : ℕ) (bytes : List ℕ) (place : at ≡ part_at g (half h) + body_at g.slots k) (are : bytes ≡ concat more) where
+module _ (g : Layout) (h k : ℕ) (more : List (List ℕ)) (is_half : h < 2) (sized : AreRows more) (room : k + length more ≤ g.slots) (w0 w1 : Medium) (fits : device_size g ≤ length w0.now) (are_bytes : AreBytes w0.now) (ready : IsReady g h k w0) (at : ℕ) (bytes : List ℕ) (place : at ≡ part_at g (half h) + body_at g.slots k) (are : bytes ≡ concat more) where
   pub bodies_moments : LeavesOnly w0 w1 (After w0 (SameOutside {X = ℕ} at (length bytes))) → LeavesOnly w0 w1 (Grew g h more w0)
   bodies_moments moments =
       let moments' = subst (λ (a : ℕ). LeavesOnly w0 w1 (After w0 (SameOutside {X = ℕ} a (length (concat more))))) place
       (subst (λ (l : List ℕ). LeavesOnly w0 w1 (After w0 (SameOutside {X = ℕ} at (length l)))) are moments) in
-      weaker w0 w1 _ _ moments' (first g h k more is_half sized room w0 w1 fits ready)
+      weaker w0 w1 _ _ moments' (first g h k more is_half sized room w0 w1 fits are_bytes ready)
 
   module _ (bodies : Stored at bytes w0 w1) (w2 : Medium) (at2 : ℕ) (ones : List ℕ) (place2 : at2 ≡ part_at g (half h) + (64 + k)) (are_ones : ones ≡ replicate (length more) 1) where
     stored : Stored (part_at g (half h) + body_at g.slots k) (concat more) w0 w1
@@ -27,9 +27,9 @@ module _ (g : Layout) (h k : ℕ) (more : List (List ℕ)) (is_half : h < 2) (si
     gates_moments moments moments2 =
         let moments2' = subst (λ (a : ℕ). LeavesOnly w1 w2 (After w1 (SameOutside {X = ℕ} a (length ones)))) place2 moments2 in
         then w0 w1 w2 _ (bodies_moments moments)
-        (weaker w1 w2 _ _ moments2' (second g h k more is_half sized room w0 w1 fits ready stored ones (ap length are_ones ∙ length-replicate (length more) 1)))
+        (weaker w1 w2 _ _ moments2' (second g h k more is_half sized room w0 w1 fits are_bytes ready stored ones (ap length are_ones ∙ length-replicate (length more) 1)))
 
     pub batch_added : Stored at2 ones w1 w2 → HasAll g h k more w0 w2
     batch_added gates =
-        third g h k more is_half sized room w0 w1 fits ready stored w2
+        third g h k more is_half sized room w0 w1 fits are_bytes ready stored w2
         (subst (λ (a : ℕ). Stored a (replicate (length more) 1) w1 w2) place2 (subst (λ (l : List ℕ). Stored at2 l w1 w2) are_ones gates))

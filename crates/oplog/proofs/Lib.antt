@@ -1,5 +1,6 @@
 -- ---- For the layer above. The laws of AfterCrash and what keeps what a device stands for (Kept); a half that is ready
--- ---- (Ready, Batches); parts of a device, written and read (Slices, OneWrite, Reading); records as rows (RecordRows).
+-- ---- (Ready, Batches); parts of a device, written and read (Slices, OneWrite, Reading); records as rows (RecordRows),
+-- ---- and which are bad (BadRecords).
 pub mod AfterCrash
 pub mod Kept
 pub mod Ready
@@ -8,6 +9,7 @@ pub mod Slices
 pub mod OneWrite
 pub mod Reading
 pub mod RecordRows
+pub mod BadRecords
 
 -- ---- For this crate alone.
 mod Answered

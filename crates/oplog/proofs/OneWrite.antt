@@ -2,7 +2,7 @@
 use Rattle.std.proofs.Common.{◌≡◌, ℕ, ◌+◌, ◌≤◌, List, length, Result, Ok, Err, refl, sym, subst}
 use Rattle.disk.specs.declared.fault.DiskFault.{DiskFault}
 use Rattle.disk.specs.declared.fault.DiskFault.TheVariants.{OutOfRange, Device}
-use Rattle.disk.specs.Device.{Medium, SameOutside, Writes, marked}
+use Rattle.disk.specs.Device.{AreBytes, Medium, SameOutside, Writes, marked}
 use Rattle.disk.specs.Moments.{LeavesOnly}
 use Rattle.disk.proofs.Calls.{after_write}
 use Rattle.disk.proofs.Moments.{started}
@@ -12,10 +12,10 @@ use Rattle.oplog.specs.Changes.{After}
 use Rattle.oplog.specs.Store.{Touched}
 
 module _ (w0 w1 : Medium) (at : ℕ) (bytes : List ℕ) where
-  pub written : (r : Result (Unit {0}) DiskFault) → at + length bytes ≤ length w0.now → Writes at bytes r w0 w1 → LeavesOnly w0 w1 (After w0 (SameOutside {X = ℕ} at (length bytes)))
-  written r inside writes =
+  pub written : (r : Result (Unit {0}) DiskFault) → at + length bytes ≤ length w0.now → AreBytes w0.now → Writes at bytes r w0 w1 → LeavesOnly w0 w1 (After w0 (SameOutside {X = ℕ} at (length bytes)))
+  written r inside are writes =
       after_write w0 w0 w1 _
-      (started w0 _ (λ c left. record { old = c; left = left; change = same_all at (length bytes) c })) at bytes inside r writes
+      (started w0 _ (λ c left. record { old = c; left = left; change = same_all at (length bytes) c })) at bytes inside are r writes
       (λ c torn left same. record { old = c; left = left; change = same })
 
   -- done, or nothing done, or failed

@@ -1,13 +1,12 @@
 -- A log as contracts see it, and what its calls make of it and answer.
-use Rattle.std.specs.Prelude.{◌≡◌, ◌≢◌, ℕ, ◌+◌, Bool, true, false, ◌&&◌, ◌==◌, if◌then◌else◌, List, Result, Ok, Err}
+use Rattle.std.specs.Prelude.{◌≡◌, ℕ, ◌+◌, Bool, true, false, ◌&&◌, ◌==◌, if◌then◌else◌, List, Result, Ok, Err}
 use Rattle.affinity.specs.declared.geometry.Geometry.{Geometry}
 use Rattle.message.specs.declared.Msg.{Msg}
-use Rattle.message.specs.Messages.{IsMessage}
 use Rattle.message.specs.Records.{record_of}
 use Rattle.oplog.specs.declared.fault.LogFault.{LogFault}
 use Rattle.oplog.specs.declared.fault.LogFault.TheVariants.{Device, BadRecord}
 use Rattle.oplog.specs.Layout.{Layout, layout_of, other}
-use Rattle.oplog.specs.Logged.{IsLogged}
+use Rattle.oplog.specs.Logged.{IsNoRecord}
 
 pub record Log : Type 0 where
   pub geometry : Geometry
@@ -75,7 +74,7 @@ IsNotBad (Err (BadRecord h i)) = ⊥
 abbrev pub IsOfRecord : Geometry → List ℕ → Result Msg LogFault → Type 0
 IsOfRecord g bytes (Ok m) = bytes ≡ record_of m
 IsOfRecord g bytes (Err Device) = Unit {0}
-IsOfRecord g bytes (Err (BadRecord h i)) = (m : Msg) → IsMessage m → IsLogged g m → bytes ≢ record_of m
+IsOfRecord g bytes (Err (BadRecord h i)) = IsNoRecord g bytes
 
 -- A bad record is told by its half and its number there.
 abbrev pub IsAbout : ℕ → ℕ → Result Msg LogFault → Type 0

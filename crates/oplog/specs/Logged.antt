@@ -1,15 +1,22 @@
 -- The messages that the log keeps, and their records.
-use Rattle.std.specs.Prelude.{◌≡◌, ℕ, true, List, map}
+use Rattle.std.specs.Prelude.{◌≡◌, ◌≢◌, ℕ, ◌<◌, ◌≤◌, true, List, length, map, Some}
 use Rattle.std.specs.List.{All}
 use Rattle.affinity.specs.declared.geometry.Geometry.{Geometry}
 use Rattle.affinity.specs.Kind.{is_changing}
+use Rattle.disk.specs.Device.{AreBytes}
 use Rattle.message.specs.declared.Msg.{Msg}
-use Rattle.message.specs.Messages.{kind, is_in_range}
-use Rattle.message.specs.Records.{record_of}
+use Rattle.message.specs.Messages.{IsMessage, kind, is_in_range}
+use Rattle.message.specs.Records.{fields_say, record_of}
+use Rattle.oplog.specs.Layout.{Layout, device_size, record_size}
+use Rattle.oplog.specs.Front.{record_at}
 
 -- Its kind is changing, and its numbers are in range.
 abbrev pub IsLogged : Geometry → Msg → Type 0
 IsLogged g m = (is_changing (kind m) ≡ true) × (is_in_range g m ≡ true)
+
+-- These bytes are the record of no such message.
+abbrev pub IsNoRecord : Geometry → List ℕ → Type 0
+IsNoRecord g bytes = (m : Msg) → IsMessage m → IsLogged g m → bytes ≢ record_of m
 
 -- each of them is such a message
 abbrev pub AreLogged : Geometry → List Msg → Type 0
@@ -18,3 +25,16 @@ AreLogged g messages = All (λ (m : Msg). IsLogged g m) messages
 -- the records of messages, each as its bytes
 abbrev pub records_of : List Msg → List (List ℕ)
 records_of messages = map record_of messages
+
+-- ---- which records are bad
+
+-- Each record of a device, whatever its gate is, has its size, and is made of bytes where the device is.
+abbrev pub RecordsAreBytes : Type 0
+RecordsAreBytes = (g : Layout) (h i : ℕ) (c : List ℕ) → h < 2 → i < g.slots → device_size g ≤ length c → AreBytes c
+    → (length (record_at g h i c) ≡ record_size) × AreBytes (record_at g h i c)
+
+-- Bytes that are no record say no message that the log keeps and whose record they are, not even one that carries other
+-- numbers than bytes.
+abbrev pub NoRecordSaysNone : Type 0
+NoRecordSaysNone = (g : Geometry) (bytes : List ℕ) → length bytes ≡ record_size → AreBytes bytes → IsNoRecord g bytes
+    → (m : Msg) → fields_say bytes ≡ Some m → IsLogged g m → bytes ≢ record_of m

@@ -1,10 +1,9 @@
 //! The two halves of a log as one value.
-ghost use Rattle.std.specs.Prelude.{◌≡◌, ◌≢◌, ◌+◌, ◌<◌, ◌≤◌, true, false, length, IfOk, IfSome, IsNone, OnOk};
+ghost use Rattle.std.specs.Prelude.{◌≡◌, ◌+◌, ◌<◌, ◌≤◌, true, false, length, IfOk, IfSome, IsNone, OnOk};
 ghost use Rattle.disk.specs.Device.{moments};
 ghost use Rattle.message.specs.Messages.{IsMessage};
 ghost use Rattle.message.specs.Records.{record_of};
-ghost use Rattle.message.specs.declared.Msg.{Msg};
-ghost use Rattle.oplog.specs.Logged.{AreLogged, IsLogged};
+ghost use Rattle.oplog.specs.Logged.{AreLogged, IsLogged, IsNoRecord};
 
 use crate::LogFault;
 use crate::half::{Half, zeros};
@@ -303,7 +302,7 @@ impl Halves {
 /// The changing message in range whose record these bytes are.
 fn logged_message(g: &Geometry, bytes: &[u8; 520]) -> Option<Msg>
     ensures some { IfSome result (λ m. (bytes.now ≡ record_of m) × IsMessage m × IsLogged g.now m) }
-    ensures none { IsNone result → (m : Msg) → IsMessage m → IsLogged g.now m → bytes.now ≢ record_of m }
+    ensures none { IsNone result → IsNoRecord g.now bytes.now }
 {
     decode(bytes, g).filter(|m| changing(m.kind()))
 }

@@ -10,6 +10,7 @@ ghost use Rattle.std.specs.Prelude.{◌≡◌, ◌<◌, ℕ, [], List, get_or, l
 ghost use Rattle.oplog.specs.Crash.{AllByArea, AppendStands, ChainByArea, ChainedByArea, ClearByArea, FlipByArea, ImageByArea, TornRootStands};
 ghost use Rattle.oplog.specs.Front.{front, record_at};
 ghost use Rattle.oplog.specs.Layout.{Layout};
+ghost use Rattle.oplog.specs.Logged.{NoRecordSaysNone, RecordsAreBytes};
 ghost use Rattle.oplog.specs.Stands.{Meaning};
 
 /// While records are appended to the current half, a crash leaves a device that stands for the first
@@ -38,6 +39,13 @@ pub fn a_torn_chain_does_no_harm<S>()
 pub fn a_torn_root_does_no_harm<S>()
     ensures torn { (means : Meaning S) → TornRootStands means }
     ensures flipped { (means : Meaning S) → FlipByArea means }
+{}
+
+/// Where `record` answers `BadRecord`, the bytes have the size of a record and are below 256, and the
+/// fields say no message that the log keeps and whose record they are.
+pub fn a_bad_record_says_no_message()
+    ensures bytes { RecordsAreBytes }
+    ensures none { NoRecordSaysNone }
 {}
 
 /// What `record` reads below the count that `front` gives are the records of the front, in order.

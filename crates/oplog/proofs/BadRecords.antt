@@ -1,0 +1,30 @@
+-- Which bytes are no record of the log.
+use Rattle.std.proofs.Common.{◌≡◌, ℕ, ◌+◌, ◌*◌, ◌<◌, ◌≤◌, List, length, take, drop, get_or, ⊎_elim, sym, ◌∙◌, ap, subst, arith}
+use Rattle.std.proofs.lemmas.Bool.{cases_lt}
+use Rattle.std.proofs.lemmas.List.{length-take-le, length-drop, get_or_past}
+use Rattle.disk.specs.Device.{AreBytes}
+use Rattle.disk.proofs.Bytes.{bytes-range, byte-get_or}
+use Rattle.message.proofs.RecordLemmas.{said_whole}
+use Rattle.oplog.specs.Layout.{Layout, slice, part, part_at, part_size, half}
+use Rattle.oplog.specs.Logged.{RecordsAreBytes, NoRecordSaysNone}
+use Rattle.oplog.proofs.Slices.{slice_slice, half_sized, half_inside}
+
+-- a record as a range of the device
+pub records_are_bytes : RecordsAreBytes
+records_are_bytes g h i c is_half few fits are =
+    let size = half_sized g h is_half in
+    let at = part_at g (half h) + (64 + g.slots + i * 520) in
+    let is = slice_slice c (part_at g (half h)) (part_size g (half h)) (64 + g.slots + i * 520) 520 (omega (arith, size, few)) in (
+      ap length is ∙ length-take-le 520 (drop at c) (omega (arith, length-drop at c, fits, few, half_inside g h is_half)),
+      subst AreBytes (sym is) (bytes-range at 520 c are),
+    )
+
+byte_at : (bytes : List ℕ) → AreBytes bytes → (i : ℕ) → get_or bytes i 0 < 256
+byte_at bytes are i =
+    ⊎_elim
+    (λ (inside : i < length bytes). byte-get_or bytes i 0 inside are)
+    (λ (beyond : length bytes ≤ i). subst (λ (b : ℕ). b < 256) (sym (get_or_past bytes i 0 beyond)) (omega arith))
+    (cases_lt i (length bytes))
+
+pub no_record_says_none : NoRecordSaysNone
+no_record_says_none g bytes size are none m said logged is = none m (said_whole bytes m size (byte_at bytes are) said) logged is
