@@ -1,9 +1,12 @@
 -- Worked examples of the definitions, on a small server: one volume of two stripes that hold two blocks each, and four
 -- records in a half.
-use Rattle.std.proofs.Common.{◌≡◌, ℕ, ◌+◌, true, List, [], ◌∷◌, ◌++◌, length, take, replicate, Option, Some, None, refl}
+use Rattle.std.proofs.Common.{◌≡◌, ℕ, zero, suc, ◌+◌, true, List, [], ◌∷◌, ◌++◌, length, take, get_or, replicate, Option, Some, None, refl, ap, subst, arith, length-append}
+use Rattle.disk.specs.Device.{Medium, begun}
+use Rattle.disk.proofs.Leaves.{calm_left}
 use Rattle.affinity.specs.Geometry.{small}
 use Rattle.oplog.specs.Layout.{Layout, image_size, layout_of, part_at, device_size, half, image}
-use Rattle.oplog.specs.Front.{open_gates}
+use Rattle.oplog.specs.Front.{open_gates, front}
+use Rattle.oplog.specs.Changes.{Grew}
 use Rattle.oplog.specs.Stands.{Meaning, named_area, in_force, current, stands}
 
 -- ---- the layout
@@ -82,3 +85,42 @@ two_chains_are_not_sound = refl
 
 too_short : stood (take 8839 (device 0 0 0 (1 ∷ 1 ∷ 0 ∷ 0 ∷ []) (1 ∷ 0 ∷ 1 ∷ 1 ∷ []))) ≡ None
 too_short = refl
+
+-- ---- what is no growth of half 0, which has two records in its front and nothing loose
+abbrev before : Medium
+before = begun (device 0 0 0 (1 ∷ 1 ∷ 0 ∷ 0 ∷ []) (0 ∷ 0 ∷ 0 ∷ 0 ∷ []))
+
+-- the front, if this is a growth
+front_after : (more : List (List ℕ)) (c : List ℕ) → (grew : Grew g 0 more before c) → front g 0 c ≡ front g 0 before.now ++ take grew.added more
+front_after more c grew =
+    subst (λ (l : List ℕ). front g 0 c ≡ front g 0 l ++ take grew.added more) (calm_left before grew.has.old refl grew.has.left) grew.has.change.front
+
+-- earlier gates that are shut for a moment
+abbrev shut_again : List ℕ
+shut_again = device 0 0 0 (0 ∷ 0 ∷ 0 ∷ 0 ∷ []) (0 ∷ 0 ∷ 0 ∷ 0 ∷ [])
+
+earlier_gates_shut : (more : List (List ℕ)) → Grew g 0 more before shut_again → ⊥
+earlier_gates_shut more grew =
+    let none : length (front g 0 shut_again) ≡ 0 = refl in
+    let two : length (front g 0 before.now) ≡ 2 = refl in
+    omega (arith, none, two, ap length (front_after more shut_again grew), length-append (front g 0 before.now) (take grew.added more))
+
+-- a third gate that is open with zeros behind it, and not yet the record that is appended
+abbrev open_early : List ℕ
+open_early = device 0 0 0 (1 ∷ 1 ∷ 1 ∷ 0 ∷ []) (0 ∷ 0 ∷ 0 ∷ 0 ∷ [])
+
+abbrev third_kind : List (List ℕ) → ℕ
+third_kind records = get_or (get_or records 2 []) 0 0
+
+no_third : (j : ℕ) → front g 0 open_early ≡ front g 0 before.now ++ take j (record_of_kind 3 ∷ []) → ⊥
+no_third zero is =
+    let three : length (front g 0 open_early) ≡ 3 = refl in
+    let two : length (front g 0 before.now ++ []) ≡ 2 = refl in
+    omega (arith, three, two, ap length is)
+no_third (suc j) is =
+    let zeros : third_kind (front g 0 open_early) ≡ 0 = refl in
+    let appended : third_kind (front g 0 before.now ++ take (suc j) (record_of_kind 3 ∷ [])) ≡ 3 = refl in
+    omega (arith, zeros, appended, ap third_kind is)
+
+gate_open_early : Grew g 0 (record_of_kind 3 ∷ []) before open_early → ⊥
+gate_open_early grew = no_third grew.added (front_after (record_of_kind 3 ∷ []) open_early grew)

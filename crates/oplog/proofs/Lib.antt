@@ -1,6 +1,6 @@
 -- ---- For the layer above. The laws of AfterCrash and what keeps what a device stands for (Kept); a half that is ready
 -- ---- (Ready, Batches); parts of a device, written and read (Slices, OneWrite, Reading); records as rows (RecordRows),
--- ---- and which are bad (BadRecords).
+-- ---- and which are bad (BadRecords); a call that is known not to have failed (Answered).
 pub mod AfterCrash
 pub mod Kept
 pub mod Ready
@@ -10,9 +10,9 @@ pub mod OneWrite
 pub mod Reading
 pub mod RecordRows
 pub mod BadRecords
+pub mod Answered
 
 -- ---- For this crate alone.
-mod Answered
 mod Batch
 mod BatchMoments
 mod Examples
