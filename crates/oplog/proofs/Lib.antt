@@ -11,7 +11,6 @@ pub mod Reading
 pub mod RecordRows
 pub mod BadRecords
 pub mod Answered
-
 -- ---- For this crate alone.
 mod Batch
 mod BatchMoments

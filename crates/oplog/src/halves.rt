@@ -39,8 +39,13 @@ impl Model for Halves {
     ghost Value = { Log };
 
     ghost view = { λ h. record {
-        geometry = h.geometry; named = h.named; current = h.current;
-        used = h.used; cleared = h.cleared; failed = h.failed } };
+      geometry = h.geometry;
+      named = h.named;
+      current = h.current;
+      used = h.used;
+      cleared = h.cleared;
+      failed = h.failed;
+    } };
 
     ghost invariant = { λ h. (h.named < 2) × (h.current < 2) × (h.used ≤ h.geometry.half)
         × (vec_len h.buffer ≡ min h.geometry.half batch * record_size) };

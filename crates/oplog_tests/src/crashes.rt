@@ -3,7 +3,9 @@ ghost use Rattle.std.specs.Prelude.{◌<◌, ◌≤◌, length, IfOk};
 ghost use Rattle.disk.specs.Memory.{medium_of};
 ghost use Rattle.oplog.specs.Layout.{layout_of, device_size};
 
-use crate::common::{KINDS, begins_with, byte, counts, front_of, goes_on_with, holds, same_messages, small, torn};
+use crate::common::{
+    KINDS, begins_with, byte, counts, front_of, goes_on_with, holds, same_messages, small, torn,
+};
 use affinity::Geometry;
 use disk::MemDisk;
 use message::Msg;

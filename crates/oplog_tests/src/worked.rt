@@ -1,5 +1,7 @@
 //! Worked examples on a device of 8,840 bytes.
-use crate::common::{answers, appends, begins_with, byte, change_halves, counts, finds, holds, reads, small};
+use crate::common::{
+    answers, appends, begins_with, byte, change_halves, counts, finds, holds, reads, small,
+};
 use affinity::Geometry;
 use disk::Disk;
 use message::Msg;
@@ -52,11 +54,18 @@ fn a_chain_goes_on_in_the_other_half(rt: HostRuntime) -> Result<(), Fail> {
 #[test]
 fn zeros_are_no_record(rt: HostRuntime) -> Result<(), Fail> {
     let (g, mut disk) = small(rt.alloc(), 4)?;
-    holds(&rt, begins_with(rt.alloc(), &g, &mut disk, &[Msg::MakeVol(0, 0)])?);
+    holds(
+        &rt,
+        begins_with(rt.alloc(), &g, &mut disk, &[Msg::MakeVol(0, 0)])?,
+    );
     disk.write_at(2341, &[1])?;
     let mut log = Halves::new(rt.alloc(), &g)?;
     finds(&rt, log.front(&mut disk, 1), Ok(2));
-    reads(&rt, log.record(&mut disk, 1, 1), Err(LogFault::BadRecord(1, 1)));
+    reads(
+        &rt,
+        log.record(&mut disk, 1, 1),
+        Err(LogFault::BadRecord(1, 1)),
+    );
     reads(&rt, log.record(&mut disk, 1, 0), Ok(Msg::MakeVol(0, 0)));
     Ok(())
 }
