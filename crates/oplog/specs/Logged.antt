@@ -6,7 +6,7 @@ use Rattle.affinity.specs.Kind.{is_changing}
 use Rattle.disk.specs.Device.{AreBytes}
 use Rattle.message.specs.declared.Msg.{Msg}
 use Rattle.message.specs.Messages.{IsMessage, kind, is_in_range}
-use Rattle.message.specs.Records.{fields_say, record_of}
+use Rattle.message.specs.Records.{message_in_fields, record_of}
 use Rattle.oplog.specs.Layout.{Layout, device_size, record_size}
 use Rattle.oplog.specs.Front.{record_at}
 
@@ -37,4 +37,4 @@ RecordsAreBytes = (g : Layout) (h i : ℕ) (c : List ℕ) → h < 2 → i < g.sl
 -- numbers than bytes.
 abbrev pub NoRecordSaysNone : Type 0
 NoRecordSaysNone = (g : Geometry) (bytes : List ℕ) → length bytes ≡ record_size → AreBytes bytes → IsNoRecord g bytes
-    → (m : Msg) → fields_say bytes ≡ Some m → IsLogged g m → bytes ≢ record_of m
+    → (m : Msg) → message_in_fields bytes ≡ Some m → IsLogged g m → bytes ≢ record_of m
