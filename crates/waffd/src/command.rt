@@ -7,9 +7,9 @@ ghost use Rattle.waffd.specs.Ends.{Ends, EndsHelp, EndsPlain, EndsRefused};
 ghost use Rattle.waffd.specs.Words.{AsksHelp, AsksNoService, AsksPlain, IsRefused};
 ghost use Rattle.affinity.specs.declared.geometry.Geometry.{Geometry};
 
+use crate::commands::answer_input;
 use crate::faults::Fault;
 use crate::words::{Refusal, Request, read_words};
-use plain::serve_from;
 use std::alloc::Global;
 use std::io;
 use std::io::{ErrorKind, Read, Write};
@@ -38,7 +38,7 @@ pub fn run<R: Read, W: Write>(
             write!(w, "{text}").map_err(|_| Fault::Write)?;
             w.flush().map_err(|_| Fault::Write)
         }
-        Request::Plain(geometry) => Ok(serve_from(alloc, &geometry, r, w)?),
+        Request::Plain(geometry) => answer_input(alloc, &geometry, r, w),
     }
 }
 

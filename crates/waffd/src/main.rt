@@ -2,7 +2,9 @@
 #![tactic(auto)]
 
 mod command;
+mod commands;
 mod faults;
+mod streams;
 #[cfg(test)]
 mod tests;
 mod words;
@@ -10,6 +12,7 @@ mod words;
 use command::{command, report_unread_words};
 use std::process::ExitCode;
 use std::{env, io};
+use streams::take_stream_numbers;
 
 /// The words that the program was called with, its own name first.
 fn called_with(rt: &HostRuntime) -> io::Result<Vec<String>> {
@@ -18,6 +21,7 @@ fn called_with(rt: &HostRuntime) -> io::Result<Vec<String>> {
 }
 
 fn main(rt: HostRuntime) -> ExitCode {
+    let _kept_to_the_end = take_stream_numbers(&rt);
     let status = match called_with(&rt) {
         Ok(words) => command(
             rt.alloc(),
