@@ -1,0 +1,87 @@
+/* Stands between a program and the GNU C library. It refuses one request for memory, or one and all behind
+ * it, or fails one read of standard input or one write of standard output. The environment says which,
+ * counted from 1: REFUSE_ONE, REFUSE_FROM, FAIL_READ, FAIL_WRITE. Once it has happened it makes the file
+ * that HAPPENED names. */
+#define _GNU_SOURCE
+#include <errno.h>
+#include <fcntl.h>
+#include <stdlib.h>
+#include <unistd.h>
+#include <sys/syscall.h>
+
+extern void *__libc_malloc(size_t);
+extern void *__libc_realloc(void *, size_t);
+
+/* The status of a run that writes to standard output after a write of it has failed. */
+#define WROTE_AGAIN 99
+
+struct turn {
+    const char *name;
+    long wanted, so_far;
+};
+
+static struct turn refused_one = {"REFUSE_ONE", -1, 0};
+static struct turn refused_from = {"REFUSE_FROM", -1, 0};
+static struct turn read_turn = {"FAIL_READ", -1, 0};
+static struct turn write_turn = {"FAIL_WRITE", -1, 0};
+
+static int is_due(struct turn *turn) {
+    if (turn->wanted < 0) {
+        const char *given = getenv(turn->name);
+        turn->wanted = given ? atol(given) : 0;
+    }
+    if (++turn->so_far != turn->wanted)
+        return 0;
+    const char *happened = getenv("HAPPENED");
+    if (happened) {
+        long file = syscall(SYS_openat, AT_FDCWD, happened, O_WRONLY | O_CREAT | O_CLOEXEC, 0600);
+        if (file >= 0)
+            syscall(SYS_close, file);
+    }
+    return 1;
+}
+
+static int is_behind(const struct turn *turn) {
+    return turn->wanted > 0 && turn->so_far > turn->wanted;
+}
+
+static int is_refused(void) {
+    int one = is_due(&refused_one);
+    return is_due(&refused_from) || is_behind(&refused_from) || one;
+}
+
+void *malloc(size_t size) {
+    if (is_refused()) {
+        errno = ENOMEM;
+        return NULL;
+    }
+    return __libc_malloc(size);
+}
+
+void *realloc(void *old, size_t size) {
+    if (is_refused()) {
+        errno = ENOMEM;
+        return NULL;
+    }
+    return __libc_realloc(old, size);
+}
+
+ssize_t read(int file, void *to, size_t size) {
+    if (file == 0 && is_due(&read_turn)) {
+        errno = EIO;
+        return -1;
+    }
+    return syscall(SYS_read, file, to, size);
+}
+
+ssize_t write(int file, const void *from, size_t size) {
+    if (file == 1) {
+        if (is_due(&write_turn)) {
+            errno = ENOSPC;
+            return -1;
+        }
+        if (is_behind(&write_turn))
+            syscall(SYS_exit_group, WROTE_AGAIN);
+    }
+    return syscall(SYS_write, file, from, size);
+}
