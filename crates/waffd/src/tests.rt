@@ -77,6 +77,33 @@ fn text(bytes: &[u8]) -> &str {
     str::from_utf8(bytes).unwrap_or("no text")
 }
 
+/// That a call ended so: its status, all that it printed, and all that it printed of faults.
+fn expect(name: &str, ended: &Ended, status: u8, output: &str, faults: &str) -> Result<(), Fail> {
+    let printed = text(ended.output.as_slice());
+    let told = text(ended.faults.as_slice());
+    if ended.status == status && printed == output && told == faults {
+        return Ok(());
+    }
+    let found = ended.status;
+    Err(Fail::new(format_args!("{name}: {found}, {printed}, {told}")))
+}
+
+/// That this text has that one in it.
+fn expect_part(name: &str, whole: &str, part: &str) -> Result<(), Fail> {
+    if whole.contains(part) {
+        return Ok(());
+    }
+    Err(Fail::new(format_args!("{name}: no {part} in {whole}")))
+}
+
+/// That a call for help printed this, and no fault.
+fn expect_help(alloc: Global, words: &[&str], part: &str) -> Result<(), Fail> {
+    let ended = call(alloc, words, b"".as_slice())?;
+    let printed = text(ended.output.as_slice());
+    expect_part("help", printed, part)?;
+    expect("help", &ended, 0, printed, "")
+}
+
 #[test]
 fn help_goes_to_the_output(rt: HostRuntime) -> Result<(), Fail> {
     let calls = [
@@ -87,25 +114,15 @@ fn help_goes_to_the_output(rt: HostRuntime) -> Result<(), Fail> {
         ["waffd", "help", "plain"].as_slice(),
     ];
     for words in calls {
-        let ended = call(rt.alloc(), words, b"".as_slice())?;
-        assert_eq!(rt; ended.status, 0, "{words:?}");
-        let help = text(ended.output.as_slice());
-        assert!(rt; help.contains("Usage: waffd "), "{words:?}: {help}");
-        assert!(rt; ended.faults.is_empty(), "{words:?}");
+        expect_help(rt.alloc(), words, "Usage: waffd ")?;
     }
     Ok(())
 }
 
 #[test]
 fn help_names_the_commands_and_the_options(rt: HostRuntime) -> Result<(), Fail> {
-    let top = call(rt.alloc(), ["waffd", "--help"].as_slice(), b"".as_slice())?;
-    assert!(rt; text(top.output.as_slice()).contains("  plain  Answers the messages"));
-    let plain = call(
-        rt.alloc(),
-        ["waffd", "plain", "-h"].as_slice(),
-        b"".as_slice(),
-    )?;
-    let help = text(plain.output.as_slice());
+    let command = "  plain  Answers the messages";
+    expect_help(rt.alloc(), ["waffd", "--help"].as_slice(), command)?;
     for option in [
         "--aggregates <N>  Aggregates, 1 to 4 [default: 1]",
         "--volumes <N>     Volumes of each aggregate, 1 to 8 [default: 4]",
@@ -116,7 +133,7 @@ fn help_names_the_commands_and_the_options(rt: HostRuntime) -> Result<(), Fail> 
         "--quota <N>       Blocks that a stripe can hold, 1 to 64 [default: 64]",
         "--half <N>        Records in each half of the log, 4 to 1024 [default: 256]",
     ] {
-        assert!(rt; help.contains(option), "{option} in {help}");
+        expect_help(rt.alloc(), ["waffd", "plain", "-h"].as_slice(), option)?;
     }
     Ok(())
 }
@@ -162,11 +179,9 @@ const WRONG_CALLS: [(&[&str], &str); 12] = [
 fn wrong_words_are_told_on_the_standard_error(rt: HostRuntime) -> Result<(), Fail> {
     for (words, told) in WRONG_CALLS {
         let ended = call(rt.alloc(), words, b"makevol 0 0\n".as_slice())?;
-        assert_eq!(rt; ended.status, 2, "{words:?}");
-        assert!(rt; ended.output.is_empty(), "{words:?}");
         let faults = text(ended.faults.as_slice());
-        assert!(rt; faults.contains(told), "{words:?}: {faults}");
-        assert!(rt; !faults.starts_with("waffd: "), "{words:?}: {faults}");
+        expect_part("wrong words", faults, told)?;
+        expect("wrong words", &ended, 2, "", faults)?;
     }
     Ok(())
 }
@@ -187,54 +202,75 @@ fn numbers_out_of_range_are_refused(rt: HostRuntime) -> Result<(), Fail> {
         for number in [below, above, "65535"] {
             let words = ["waffd", "plain", option, number];
             let ended = call(rt.alloc(), words.as_slice(), b"makevol 0 0\n".as_slice())?;
-            assert_eq!(rt; ended.status, 2, "{option} {number}");
-            assert!(rt; ended.output.is_empty(), "{option} {number}");
-            let faults = text(ended.faults.as_slice());
-            assert_eq!(rt;
-                faults,
-                "waffd: geometry out of range\n",
-                "{option} {number}"
-            );
+            expect(option, &ended, 2, "", "waffd: geometry out of range\n")?;
         }
     }
     Ok(())
 }
 
-/// A call for help that goes to `w`: its status, and what it printed of faults.
-fn help_to<W: Write>(alloc: Global, w: &mut W) -> Result<(u8, Vec<u8>), AllocError> {
-    let words = owned(alloc, ["waffd", "--help"].as_slice())?;
+/// A call with these words on this input, whose output goes to `w`, where nothing is looked at.
+fn call_to<R: Read, W: Write>(
+    alloc: Global,
+    words: &[&str],
+    mut input: R,
+    w: &mut W,
+) -> Result<Ended, AllocError>
+where
+    R: Drop,
+{
+    let words = owned(alloc, words)?;
     let mut faults = Vec::new(alloc);
-    let mut input = b"".as_slice();
     let status = command(alloc, words.as_slice(), &mut input, w, &mut faults);
-    Ok((status, faults))
+    Ok(Ended {
+        status,
+        output: Vec::new(alloc),
+        faults,
+    })
 }
 
 #[test]
-fn help_that_cannot_be_written_is_a_write_fault(rt: HostRuntime) -> Result<(), Fail> {
-    let closed = help_to(rt.alloc(), &mut Closed)?;
-    let stuck = help_to(rt.alloc(), &mut Stuck)?;
-    for (status, faults) in [closed, stuck] {
-        assert_eq!(rt; status, 1);
-        assert_eq!(rt; text(faults.as_slice()), "waffd: write fault\n");
+fn what_cannot_be_written_is_a_write_fault(rt: HostRuntime) -> Result<(), Fail> {
+    let help = ["waffd", "--help"].as_slice();
+    let plain = ["waffd", "plain"].as_slice();
+    let rows = [
+        (
+            "closed",
+            call_to(rt.alloc(), help, b"".as_slice(), &mut Closed)?,
+        ),
+        (
+            "stuck",
+            call_to(rt.alloc(), help, b"".as_slice(), &mut Stuck)?,
+        ),
+        (
+            "plain",
+            call_to(rt.alloc(), plain, b"summary\n".as_slice(), &mut Closed)?,
+        ),
+    ];
+    for (name, ended) in rows {
+        expect(name, &ended, 1, "", "waffd: write fault\n")?;
     }
     Ok(())
 }
 
 #[test]
 fn words_that_are_no_text_are_wrong_words(rt: HostRuntime) -> Result<(), Fail> {
+    let not_text = "error: invalid UTF-8 was detected in one or more arguments
+
+For more information, try '--help'.
+";
     let rows = [
-        (
-            ErrorKind::InvalidData,
-            2,
-            "error: invalid UTF-8 was detected in one or more arguments\n",
-        ),
+        (ErrorKind::InvalidData, 2, not_text),
         (ErrorKind::OutOfMemory, 3, "waffd: out of memory\n"),
     ];
-    for (kind, want, told) in rows {
+    for (kind, status, told) in rows {
         let mut faults = Vec::new(rt.alloc());
-        let status = report_unread_words(&io::Error::from(kind), &mut faults);
-        assert_eq!(rt; status, want, "{told}");
-        assert!(rt; text(faults.as_slice()).starts_with(told), "{told}");
+        let found = report_unread_words(&io::Error::from(kind), &mut faults);
+        let ended = Ended {
+            status: found,
+            output: Vec::new(rt.alloc()),
+            faults,
+        };
+        expect("unread words", &ended, status, "", told)?;
     }
     Ok(())
 }
@@ -242,17 +278,22 @@ fn words_that_are_no_text_are_wrong_words(rt: HostRuntime) -> Result<(), Fail> {
 #[test]
 fn a_fault_that_cannot_be_told_keeps_its_status(rt: HostRuntime) -> Result<(), Fail> {
     let alloc = rt.alloc();
-    for (last, want) in [("--help", 1), ("--what", 2)] {
+    for (last, status) in [("--help", 1), ("--what", 2)] {
         let words = owned(alloc, ["waffd", last].as_slice())?;
         let mut input = b"".as_slice();
-        let status = command(
+        let found = command(
             alloc,
             words.as_slice(),
             &mut input,
             &mut Closed,
             &mut Closed,
         );
-        assert_eq!(rt; status, want, "{last}");
+        let ended = Ended {
+            status: found,
+            output: Vec::new(alloc),
+            faults: Vec::new(alloc),
+        };
+        expect(last, &ended, status, "", "")?;
     }
     Ok(())
 }

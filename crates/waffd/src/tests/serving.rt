@@ -1,9 +1,9 @@
 //! Calls of the command `plain` on messages.
-use super::{Closed, Ended, call, owned, text};
-use crate::command::command;
+use super::{Ended, call, call_to, expect};
 use std::alloc::{AllocError, Global};
+use std::cell::Cell;
 use std::io;
-use std::io::Read;
+use std::io::{Read, Write};
 use std::test::Fail;
 
 /// A reader that gives its bytes one at a time.
@@ -68,9 +68,7 @@ fn answers_each_line_with_a_line(rt: HostRuntime) -> Result<(), Fail> {
     ];
     for (input, want) in rows {
         let ended = serve(rt.alloc(), input)?;
-        assert_eq!(rt; ended.status, 0, "{}", text(input));
-        assert_eq!(rt; text(ended.output.as_slice()), want, "{}", text(input));
-        assert!(rt; ended.faults.is_empty(), "{}", text(input));
+        expect("lines", &ended, 0, want, "")?;
     }
     Ok(())
 }
@@ -121,9 +119,7 @@ summary 0 0 0
 #[test]
 fn answers_each_kind(rt: HostRuntime) -> Result<(), Fail> {
     let ended = serve(rt.alloc(), EACH_KIND)?;
-    assert_eq!(rt; ended.status, 0);
-    assert_eq!(rt; text(ended.output.as_slice()), EACH_REPLY);
-    Ok(())
+    expect("each kind", &ended, 0, EACH_REPLY, "")
 }
 
 #[test]
@@ -158,8 +154,7 @@ fn the_options_give_the_ranges(rt: HostRuntime) -> Result<(), Fail> {
     for ([option, number], input, want) in rows {
         let words = ["waffd", "plain", option, number];
         let ended = call(rt.alloc(), words.as_slice(), input.as_bytes())?;
-        assert_eq!(rt; ended.status, 0, "{option}");
-        assert_eq!(rt; text(ended.output.as_slice()), want, "{option}");
+        expect(option, &ended, 0, want, "")?;
     }
     Ok(())
 }
@@ -190,8 +185,7 @@ fn the_ends_of_the_ranges_are_taken(rt: HostRuntime) -> Result<(), Fail> {
             h,
         ];
         let ended = call(rt.alloc(), words.as_slice(), b"".as_slice())?;
-        assert_eq!(rt; ended.status, 0, "{a}");
-        assert!(rt; ended.output.is_empty(), "{a}");
+        expect("ends of the ranges", &ended, 0, "", "")?;
     }
     Ok(())
 }
@@ -203,12 +197,7 @@ fn long_lines_are_one_line(rt: HostRuntime) -> Result<(), Fail> {
         let mut input = vec![in alloc; b'a'; length]?;
         input.extend_from_slice(b"\nmakevol 0 0\n")?;
         let ended = serve(alloc, input.as_slice())?;
-        assert_eq!(rt; ended.status, 0, "{length}");
-        assert_eq!(rt;
-            text(ended.output.as_slice()),
-            "error line\ndone\n",
-            "{length}"
-        );
+        expect("long line", &ended, 0, "error line\ndone\n", "")?;
     }
     Ok(())
 }
@@ -216,38 +205,78 @@ fn long_lines_are_one_line(rt: HostRuntime) -> Result<(), Fail> {
 #[test]
 fn reads_of_one_byte_change_nothing(rt: HostRuntime) -> Result<(), Fail> {
     let ended = call(rt.alloc(), PLAIN.as_slice(), ByteByByte { left: MADE })?;
-    assert_eq!(rt; ended.status, 0);
-    assert_eq!(rt;
-        text(ended.output.as_slice()),
-        "done\ndone\ndone\nblock 6162\n"
-    );
-    Ok(())
+    expect(
+        "byte by byte",
+        &ended,
+        0,
+        "done\ndone\ndone\nblock 6162\n",
+        "",
+    )
 }
 
 #[test]
 fn a_read_that_fails_leaves_the_answers_to_whole_lines(rt: HostRuntime) -> Result<(), Fail> {
     let input = b"makevol 0 0\ncreate 0 0 0\nread 0 0 0 0".as_slice();
     let ended = call(rt.alloc(), PLAIN.as_slice(), Failing { left: input })?;
-    assert_eq!(rt; ended.status, 1);
-    assert_eq!(rt; text(ended.output.as_slice()), "done\ndone\n");
-    assert_eq!(rt; text(ended.faults.as_slice()), "waffd: read fault\n");
-    Ok(())
+    expect("failing", &ended, 1, "done\ndone\n", "waffd: read fault\n")
+}
+
+/// A client that gives one line at a time, and fails where it has no reply to each line before.
+#[derive(Drop)]
+struct Client<'a> {
+    left: &'a [u8],
+    sent: u64,
+    answered: &'a Cell<u64>,
+}
+
+impl Read for Client<'_> {
+    fn read(&mut self, buf: &mut [u8]) -> io::Result<usize> {
+        if self.answered.get() != self.sent {
+            return Err(io::Error::from(io::ErrorKind::Other));
+        }
+        let Some(end) = self.left.iter().position(|byte| *byte == b'\n') else {
+            return Ok(0);
+        };
+        let mut line = self.left.get(..=end).unwrap_or_default();
+        self.left = self.left.get(end..).unwrap_or_default();
+        self.left = self.left.get(1..).unwrap_or_default();
+        self.sent = self.sent.wrapping_add(1);
+        line.read(buf)
+    }
+}
+
+/// A writer that counts the lines that it is given.
+#[derive(Drop)]
+struct Counting<'a> {
+    answered: &'a Cell<u64>,
+}
+
+impl Write for Counting<'_> {
+    fn write(&mut self, buf: &[u8]) -> io::Result<usize> {
+        for byte in buf {
+            if *byte == b'\n' {
+                self.answered.set(self.answered.get().wrapping_add(1));
+            }
+        }
+        Ok(buf.len())
+    }
+
+    fn flush(&mut self) -> io::Result<()> {
+        Ok(())
+    }
 }
 
 #[test]
-fn a_write_that_fails_is_a_write_fault(rt: HostRuntime) -> Result<(), Fail> {
-    let alloc = rt.alloc();
-    let words = owned(alloc, PLAIN.as_slice())?;
-    let mut faults = Vec::new(alloc);
-    let mut input = MADE;
-    let status = command(
-        alloc,
-        words.as_slice(),
-        &mut input,
-        &mut Closed,
-        &mut faults,
-    );
-    assert_eq!(rt; status, 1);
-    assert_eq!(rt; text(faults.as_slice()), "waffd: write fault\n");
-    Ok(())
+fn each_reply_is_written_before_the_next_read(rt: HostRuntime) -> Result<(), Fail> {
+    let answered = Cell::new(0);
+    let client = Client {
+        left: MADE,
+        sent: 0,
+        answered: &answered,
+    };
+    let mut writer = Counting {
+        answered: &answered,
+    };
+    let ended = call_to(rt.alloc(), PLAIN.as_slice(), client, &mut writer)?;
+    expect("client", &ended, 0, "", "")
 }
