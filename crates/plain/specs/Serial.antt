@@ -10,27 +10,19 @@ use Rattle.message.specs.declared.Refusal.{Refusal}
 use Rattle.message.specs.declared.Refusal.TheVariants.{Range, Volume, Exists, Sealed, File, Space}
 use Rattle.message.specs.declared.Reply.{Reply}
 use Rattle.message.specs.declared.Reply.TheVariants.{Done, Hole, Block as Found, Files, Usage, Summary, Refused, Label}
-use Rattle.message.specs.Messages.{kind, is_in_range}
+use Rattle.message.specs.Messages.{kind, four_numbers, is_in_range}
 use Rattle.plain.specs.State.{State, BlockKey, adding, dropping, setting, clearing, is_volume, is_file, is_block, is_file_of, is_block_of, is_block_of_file, sum_below, one_if, file_count, block_count, group_count, over_volumes}
 
 -- ---- the tests
 
+-- what four numbers are, in this order: an aggregate, a volume, a file and a block
+abbrev pub key_of : List ℕ → BlockKey
+key_of (a ∷ v ∷ f ∷ b ∷ []) = (a, v, f, b)
+key_of _ = (0, 0, 0, 0)
+
 -- what a message speaks of: its volume, its file and its block, where a number that it doesn't have is 0
 abbrev pub key : Msg → BlockKey
-key (MakeVol a v) = (a, v, 0, 0)
-key (DropVol a v) = (a, v, 0, 0)
-key (Create a v f) = (a, v, f, 0)
-key (Delete a v f) = (a, v, f, 0)
-key (Seal a v) = (a, v, 0, 0)
-key (Unseal a v) = (a, v, 0, 0)
-key (Write a v f b content) = (a, v, f, b)
-key (Punch a v f b) = (a, v, f, b)
-key (Read a v f b) = (a, v, f, b)
-key (ListFiles a v) = (a, v, 0, 0)
-key (AskUsage a v) = (a, v, 0, 0)
-key AskSummary = (0, 0, 0, 0)
-key (SetLabel a v bytes) = (a, v, 0, 0)
-key (AskLabel a v) = (a, v, 0, 0)
+key m = key_of (four_numbers m)
 
 -- the tests of each kind, in order
 abbrev pub tests : Msg → List Refusal
