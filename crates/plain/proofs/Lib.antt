@@ -16,4 +16,7 @@ pub mod Removals
 pub mod RemovalOrders
 pub mod Totals
 pub mod Walks
-pub mod ProgressLemmas
+pub mod LineLemmas
+pub mod OutputLemmas
+pub mod Taking
+pub mod SessionSteps

@@ -6,5 +6,4 @@ pub mod Laws
 pub mod Server
 pub mod Removals
 pub mod Output
-pub mod Waiting
 pub mod Progress

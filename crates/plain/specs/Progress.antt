@@ -1,33 +1,26 @@
--- How far a serial server has come: which lines of the input it has answered, and what is left.
+-- How far a session has come: the lines that it has taken of its input and answered, what is left of the input, and what was written.
 use Rattle.std.specs.Prelude.{◌≡◌, ◌⊎◌, ℕ, Bool, true, List, ◌++◌, Option, Some, None}
 use Rattle.std.specs.List.{AllByRecursion}
 use Rattle.std.specs.Io.KnownBytes.{Appends}
 use Rattle.affinity.specs.declared.geometry.Geometry.{Geometry}
 use Rattle.message.specs.Lines.{lines}
-use Rattle.plain.specs.State.{State, empty}
-use Rattle.plain.specs.Output.{after_lines, output_lines, joined, with_newlines, HasNoNewline}
+use Rattle.plain.specs.State.{State}
+use Rattle.plain.specs.Output.{state_after_lines, output_lines, joined, with_newlines, HasNoNewline}
 
--- Some lines of the input were answered and rest is left, unless the input has ended.
-pub record Progress (g : Geometry) (input rest : List ℕ) (ended : Bool) (x : State) (written : List ℕ) : Type 0 where
+-- These lines were taken of the input and the rest is left of it, unless the input has ended.
+pub record AreTaken (input rest : List ℕ) (ended : Bool) (taken : List (List ℕ)) : Type 0 where
+  pub to_come : lines input ≡ taken ++ lines rest
+  pub are_lines : AllByRecursion HasNoNewline taken
+  pub whole : (ended ≡ true) ⊎ (input ≡ with_newlines taken ++ rest)
+
+-- the same of an input that may be unknown
+abbrev pub Takes : Option (List ℕ) → Option (List ℕ) → Bool → List (List ℕ) → Type 0
+Takes None left ended taken = Unit {0}
+Takes (Some input) left ended taken = (rest : List ℕ) × (left ≡ Some rest) × AreTaken input rest ended taken
+
+-- From a state on, a session has answered lines of its input behind what was written before. So much of the input is left, this is its state now, and this is what was written.
+pub record HasAnswered (g : Geometry) (start : State) (input left : Option (List ℕ)) (ended : Bool) (now : State) (before written : Option (List ℕ)) : Type 0 where
   pub answered : List (List ℕ)
-  pub to_come : lines input ≡ answered ++ lines rest
-  pub are_lines : AllByRecursion HasNoNewline answered
-  pub given : (ended ≡ true) ⊎ (input ≡ with_newlines answered ++ rest)
-  pub state : x ≡ after_lines g empty answered
-  pub output : written ≡ joined (output_lines g empty answered)
-
-pub record Known (g : Geometry) (input : List ℕ) (rest : Option (List ℕ)) (ended : Bool) (x : State) (old new : Option (List ℕ)) : Type 0 where
-  pub left : List ℕ
-  pub written : List ℕ
-  pub left_is : rest ≡ Some left
-  pub appended : Appends old new written
-  pub progress : Progress g input left ended x written
-
--- the same, of an input that may be unknown
-abbrev pub Stands : Geometry → Option (List ℕ) → Option (List ℕ) → Bool → State → Option (List ℕ) → Option (List ℕ) → Type 0
-Stands g None rest ended x old new = Unit {0}
-Stands g (Some input) rest ended x old new = Known g input rest ended x old new
-
--- How far the server has come with an input that may be unknown.
-pub record Goes (g : Geometry) (input rest : Option (List ℕ)) (ended : Bool) (x : State) (old new : Option (List ℕ)) : Type 0 where
-  pub stands : Stands g input rest ended x old new
+  pub taken : Takes input left ended answered
+  pub state : now ≡ state_after_lines g start answered
+  pub output : Appends before written (joined (output_lines g start answered))

@@ -1,13 +1,15 @@
 //! The serial server: what every message means, one after the other.
 #![tactic(auto)]
 
+mod answering;
+mod fault;
 pub mod laws;
-mod output;
 mod server;
 mod serving;
 mod table;
 
-pub use serving::{PlainFault, serve_from, serve_plain};
+pub use fault::PlainFault;
+pub use serving::{serve_from, serve_plain};
 pub use table::tests_of;
 
 #[cfg(test)]

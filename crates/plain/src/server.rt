@@ -5,13 +5,12 @@ ghost use Rattle.plain.specs.Serial.{reply_to, next_state};
 ghost use Rattle.plain.specs.Server.{server_state, IsConsistent};
 
 use affinity::Geometry;
-use message::{Block, Msg, Reply};
+use message::{Block, Msg, Reply, know_message};
 use std::alloc::{AllocError, Global};
 use std::collections::{BTreeMap, BTreeSet};
 
 mod blocks;
 mod effects;
-mod known;
 mod lookups;
 mod refusals;
 mod removals;
@@ -68,7 +67,7 @@ impl Server {
         if let Some(why) = self.refusal(g, m) {
             return Ok(Reply::Refused(why));
         }
-        known::know_message(m);
+        know_message(m);
         let reply = self.reply(g, m);
         self.apply(g, m)?;
         Ok(reply)

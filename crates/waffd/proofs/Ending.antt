@@ -2,6 +2,7 @@
 use Rattle.std.proofs.Common.{◌≡◌, ◌∙◌, refl, sym, subst, inl, inr, ℕ, List, [], ◌∷◌, true, false, Option, Some, None}
 use Rattle.std.specs.Prelude.{Err, Ok, Result}
 use Rattle.std.specs.List.{list_all}
+use Rattle.std.proofs.KnownBytes.{Appends-nil}
 use Rattle.std.proofs.lemmas.Bool.{and_parts}
 use Rattle.affinity.specs.declared.geometry.Geometry.{Geometry}
 use Rattle.affinity.specs.Limits.{AreInRange}
@@ -9,7 +10,7 @@ use Rattle.affinity.proofs.Numbers.{geometry_same}
 use Rattle.clap.specs.Words.{IsAmong, Kinds, Text, kind_of}
 use Rattle.clap.specs.declared.error.kind.ErrorKind.{ErrorKind}
 use Rattle.plain.specs.Output.{Writes, IsBeginning}
-use Rattle.plain.proofs.ProgressLemmas.{appends_nothing}
+use Rattle.plain.specs.State.{empty}
 use Rattle.waffd.proofs.Options.{in_range}
 use Rattle.waffd.specs.Ends.{Ends, EndsHelp, EndsPlain, EndsRefused, status_at}
 use Rattle.waffd.specs.Faults.{status_of}
@@ -62,9 +63,9 @@ is_told OutOfMemory none = cc
 
 -- ---- want of memory while the words are read
 
-nothing_written : (g : Geometry) (input old : Option (List ℕ)) → Writes input old old (IsBeginning g)
+nothing_written : (g : Geometry) (input old : Option (List ℕ)) → Writes input old old (IsBeginning g empty)
 nothing_written g None old = tt
-nothing_written g (Some bytes) old = ([], appends_nothing old, (0, refl))
+nothing_written g (Some bytes) old = ([], Appends-nil old, (0, refl))
 
 pub served_nothing : (words : List Text) (g : Geometry) (fault : Fault) (input old : Option (List ℕ)) → AsksPlain words g → IsReason words (by_fault fault)
     → EndsPlain g (status_of fault) input input old old

@@ -17,9 +17,9 @@ Ends (Help text) (Ok _) input left old new = left ≡ input
 Ends (Help text) (Err Write) input left old new = left ≡ input
 Ends (Help text) (Err _) input left old new = ⊥
 Ends (Plain g) (Ok _) input left old new = Writes input old new (λ read written. written ≡ serial_out g empty read) × IsAtEnd left
-Ends (Plain g) (Err Read) input left old new = Writes input old new (AnswersWholeLines g left)
+Ends (Plain g) (Err Read) input left old new = Writes input old new (AnswersWholeLines g empty left)
 Ends (Plain g) (Err Write) input left old new = Unit {0}
-Ends (Plain g) (Err OutOfMemory) input left old new = Writes input old new (IsBeginning g)
+Ends (Plain g) (Err OutOfMemory) input left old new = Writes input old new (IsBeginning g empty)
 Ends (Plain g) (Err GeometryOutOfRange) input left old new = ⊥
 
 abbrev pub status_at : Result (Unit {0}) Fault → ℕ

@@ -2,8 +2,8 @@
 use Rattle.std.specs.Prelude.{ℕ}
 use Rattle.std.specs.declared.io.ErrorKind.{ErrorKind}
 use Rattle.std.specs.declared.io.ErrorKind.TheVariants as kind
-use Rattle.plain.specs.declared.serving.PlainFault.{PlainFault}
-use Rattle.plain.specs.declared.serving.PlainFault.TheVariants as plain
+use Rattle.plain.specs.declared.fault.PlainFault.{PlainFault}
+use Rattle.plain.specs.declared.fault.PlainFault.TheVariants as plain
 use Rattle.waffd.specs.declared.faults.Fault.{Fault}
 use Rattle.waffd.specs.declared.faults.Fault.TheVariants.{Read, Write, GeometryOutOfRange, OutOfMemory}
 

@@ -1,4 +1,4 @@
-use Rattle.plain.proofs.serving.lent.answer_lent.Goals as goal
+use Rattle.plain.proofs.answering.answer_lent.Goals as goal
 
 pub answer_all-answered-requires-clause-sound : goal.answer_all-answered-requires-clause-sound
 answer_all-answered-requires-clause-sound g c = c.new-server.ensures.sound c.args.g.now

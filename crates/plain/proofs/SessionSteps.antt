@@ -1,0 +1,134 @@
+-- Each step of a session that began in any state keeps what it has answered, and what it has written when it ends.
+use Rattle.std.proofs.Common.{◌≡◌, ◌≢◌, ℕ, ◌⊎◌, Bool, true, false, List, [], ◌∷◌, ◌++◌, length, take, Option, Some, None, refl, sym, ap, ◌∙◌, subst, append_assoc, append-nil, ⊎_elim}
+use Rattle.std.specs.Prelude.{IfSome}
+use Rattle.std.specs.Io.KnownBytes.{Appends, append_known}
+use Rattle.std.proofs.KnownBytes.{Appends-nil, Appends-trans}
+use Rattle.std.proofs.lemmas.List.Elements.{recursion_from_All}
+use Rattle.std.proofs.lemmas.Option.{none-some, same_Some, IfSome_then}
+use Rattle.std.proofs.lemmas.Bool.{true≢false}
+use Rattle.affinity.specs.declared.geometry.Geometry.{Geometry}
+use Rattle.message.specs.Lines.{lines}
+use Rattle.message.specs.Grammar.{message_of}
+use Rattle.message.specs.Reader.{GivesLine, PassesLine, IsClosed, IsAtEndOf, LosesFront}
+use Rattle.plain.specs.State.{State}
+use Rattle.plain.specs.Output.{answer_line, state_after_line, state_after_lines, output_lines, joined, serial_out, with_newlines, AnswersWholeLines, IsBeginning, Writes}
+use Rattle.plain.specs.Progress.{HasAnswered}
+use Rattle.plain.proofs.OutputLemmas.{state_after_lines-append, joined-one_more, take-output_lines}
+use Rattle.plain.proofs.Taking.{takes_nothing, takes_line, takes_long_line}
+
+appends_more : (a b c : Option (List ℕ)) (xs : List ℕ) → Appends a b xs → Appends b c [] → Appends a c xs
+appends_more a b c xs h j = subst (λ (z : List ℕ). Appends a c z) (append-nil xs) (Appends-trans a b c xs [] h j)
+
+-- ---- what waits
+
+appends_bare : (old sent : Option (List ℕ)) (first rest w : List ℕ) → first ≡ [] → rest ≡ [] → Appends (append_known old first) (append_known sent rest) w → Appends old sent w
+appends_bare None sent first rest w none_first none h = tt
+appends_bare (Some xs) None first rest w none_first none h = absurd h
+appends_bare (Some xs) (Some ys) first rest w none_first none h =
+    sym (ap (λ z. ys ++ z) none ∙ append-nil ys) ∙ h ∙ ap (λ z. z ++ w) (ap (λ z. xs ++ z) none_first ∙ append-nil xs)
+
+-- nothing waited at the start, and what waited at the end was written
+pub writes_sent : (input old known sent : Option (List ℕ)) (first waiting rest : List ℕ) (P : List ℕ → List ℕ → Type 0) → first ≡ [] → Writes input (append_known old first) (append_known known waiting) P
+    → Appends (append_known known waiting) (append_known sent rest) [] → rest ≡ [] → Writes input old sent P
+writes_sent None old known sent first waiting rest P none_first h kept none = tt
+writes_sent (Some input) old known sent first waiting rest P none_first h kept none =
+    (h.0, appends_bare old sent first rest h.0 none_first none (appends_more (append_known old first) (append_known known waiting) (append_known sent rest) h.0 h.1 kept), h.2)
+
+-- ---- how a session ends
+
+writes_all : (g : Geometry) (start : State) (input left : Option (List ℕ)) (ended : Bool) (x : State) (old new : Option (List ℕ)) → HasAnswered g start input left ended x old new → IfSome left (λ bs. bs ≡ [])
+    → Writes input old new (λ bytes written. written ≡ serial_out g start bytes)
+writes_all g start None left ended x old new h all = tt
+writes_all g start (Some input) None ended x old new h all = absurd (none-some h.taken.0 h.taken.1)
+writes_all g start (Some input) (Some bs) ended x old new h all =
+    let t = h.taken.2 in
+    let none_left : lines h.taken.0 ≡ [] = ap lines (sym (same_Some bs h.taken.0 h.taken.1) ∙ all) in
+    (joined (output_lines g start h.answered), h.output, sym (ap (λ z. joined (output_lines g start z)) (t.to_come ∙ ap (λ z. h.answered ++ z) none_left ∙ append-nil h.answered)))
+
+writes_whole_lines : (g : Geometry) (start : State) (input left now_left : Option (List ℕ)) (ended : Bool) (x : State) (old new : Option (List ℕ)) → HasAnswered g start input left ended x old new
+    → ended ≡ false → IfSome left (λ bs. LosesFront bs now_left) → Writes input old new (AnswersWholeLines g start now_left)
+writes_whole_lines g start None left now_left ended x old new h going lost = tt
+writes_whole_lines g start (Some input) None now_left ended x old new h going lost = absurd (none-some h.taken.0 h.taken.1)
+writes_whole_lines g start (Some input) (Some bs) now_left ended x old new h going lost =
+    let t = h.taken.2 in
+    let same = same_Some bs h.taken.0 h.taken.1 in (
+      joined (output_lines g start h.answered),
+      h.output,
+      record {
+        whole = h.answered;
+        begun = lost.got;
+        rest = lost.rest;
+        parts = ⊎_elim (λ e. absurd (true≢false (sym e ∙ going))) (λ whole. whole ∙ ap (λ z. with_newlines h.answered ++ z) (sym same ∙ lost.parts) ∙ sym (append_assoc (with_newlines h.answered) lost.got lost.rest)) t.whole;
+        left_is = lost.left_is;
+        are_lines = t.are_lines;
+        no_line = recursion_from_All (λ b. b ≢ 10) lost.got lost.within_line;
+        answered = refl;
+      },
+    )
+
+writes_beginning : (g : Geometry) (start : State) (input left : Option (List ℕ)) (ended : Bool) (x : State) (old new : Option (List ℕ)) → HasAnswered g start input left ended x old new
+    → Writes input old new (IsBeginning g start)
+writes_beginning g start None left ended x old new h = tt
+writes_beginning g start (Some input) left ended x old new h =
+    let t = h.taken.2 in
+    (
+      joined (output_lines g start h.answered),
+      h.output,
+      (length h.answered, sym (ap joined (ap (λ z. take (length h.answered) (output_lines g start z)) t.to_come ∙ take-output_lines g start h.answered (lines h.taken.0)))),
+    )
+
+-- ---- the steps
+
+pub begins : {g : Geometry} {start : State} {input old : Option (List ℕ)} → HasAnswered g start input input false start old old
+begins {g} {start} {input} {old} = record { answered = []; taken = takes_nothing input; state = refl; output = Appends-nil old }
+
+module _ {g : Geometry} {start : State} {input left : Option (List ℕ)} {ended : Bool} {x : State} {old new : Option (List ℕ)} where
+  -- what waits was written, or was not, and nothing else happened
+  pub goes_on : {newer : Option (List ℕ)} → HasAnswered g start input left ended x old new → Appends new newer [] → HasAnswered g start input left ended x old newer
+  goes_on {newer} h j = record { answered = h.answered; taken = h.taken; state = h.state; output = appends_more old new newer (joined (output_lines g start h.answered)) h.output j }
+
+  -- a line was answered
+  pub answers_line : {newer : Option (List ℕ)} {y : State} (now_left : Option (List ℕ)) (now_ended : Bool) (line added : List ℕ) → HasAnswered g start input left ended x old new → ended ≡ false
+      → IfSome left (λ bs. GivesLine line bs now_left) → IsClosed left now_ended
+      → y ≡ state_after_line g x (message_of line) → added ≡ answer_line g x (message_of line) → Appends new newer added
+      → HasAnswered g start input now_left now_ended y old newer
+  answers_line {newer} {y} now_left now_ended line added h going found closes state output appended = record {
+    answered = h.answered ++ line ∷ [];
+    taken = takes_line input left now_left ended now_ended h.answered line h.taken going found closes;
+    state = state ∙ ap (λ z. state_after_line g z (message_of line)) h.state ∙ sym (state_after_lines-append g start h.answered (line ∷ []));
+    output = subst (λ (z : List ℕ). Appends old newer z)
+        (ap (λ z. joined (output_lines g start h.answered) ++ z) (output ∙ ap (λ z. answer_line g z (message_of line)) h.state) ∙ sym (joined-one_more g start h.answered line))
+        (Appends-trans old new newer (joined (output_lines g start h.answered)) added h.output appended);
+  }
+
+  -- a line that is too long was answered
+  pub answers_long_line : {newer : Option (List ℕ)} (now_left : Option (List ℕ)) (now_ended : Bool) (added : List ℕ) → HasAnswered g start input left ended x old new → ended ≡ false
+      → IfSome left (λ bs. PassesLine bs now_left) → IsClosed left now_ended
+      → added ≡ answer_line g x None → Appends new newer added
+      → HasAnswered g start input now_left now_ended x old newer
+  answers_long_line {newer} now_left now_ended added h going found closes output appended =
+      let t = takes_long_line input left now_left ended now_ended h.answered h.taken going found closes in
+      record {
+        answered = h.answered ++ t.line ∷ [];
+        taken = t.takes;
+        state = h.state ∙ sym (state_after_lines-append g start h.answered (t.line ∷ []) ∙ ap (state_after_line g (state_after_lines g start h.answered)) t.no_message);
+        output = subst (λ (z : List ℕ). Appends old newer z)
+            (ap (λ z. joined (output_lines g start h.answered) ++ z) (output ∙ ap (λ z. answer_line g z None) h.state ∙ sym (ap (answer_line g (state_after_lines g start h.answered)) t.no_message)) ∙ sym (joined-one_more g start h.answered t.line))
+            (Appends-trans old new newer (joined (output_lines g start h.answered)) added h.output appended);
+      }
+
+  -- nothing was left
+  pub ends : HasAnswered g start input left ended x old new → IfSome left (λ bs. bs ≡ []) → Writes input old new (λ bytes written. written ≡ serial_out g start bytes)
+  ends h all = writes_all g start input left ended x old new h all
+
+  -- the end was found
+  pub ends_now : (now_left : Option (List ℕ)) → HasAnswered g start input left ended x old new → IfSome left (λ bs. IsAtEndOf bs now_left) → Writes input old new (λ bytes written. written ≡ serial_out g start bytes)
+  ends_now now_left h at_end = ends h (IfSome_then left at_end (λ bs e. e.none))
+
+  -- a read failed
+  pub fails : (now_left : Option (List ℕ)) → HasAnswered g start input left ended x old new → ended ≡ false → IfSome left (λ bs. LosesFront bs now_left) → Writes input old new (AnswersWholeLines g start now_left)
+  fails now_left h going lost = writes_whole_lines g start input left now_left ended x old new h going lost
+
+  -- the session stopped behind a line
+  pub stops_short : HasAnswered g start input left ended x old new → Writes input old new (IsBeginning g start)
+  stops_short h = writes_beginning g start input left ended x old new h

@@ -1,0 +1,12 @@
+use Rattle.message.specs.Reader.{unread, is_drained, KnowsEnd}
+use Rattle.message.specs.Waiting.{so_far}
+use Rattle.plain.specs.Server.{server_state, IsConsistent}
+use Rattle.plain.specs.Progress.{HasAnswered}
+use Rattle.plain.proofs.answering.answer_all.Given as goal
+
+abbrev pub invariant-loop : goal.invariant-loop
+invariant-loop g l = record {
+  sound : IsConsistent l.g l.server;
+  knows : KnowsEnd g.R.Read.remaining l.lines;
+  answered : HasAnswered l.g (server_state l.initial.server) (unread g.R.Read.remaining l.initial.lines) (unread g.R.Read.remaining l.lines) (is_drained l.lines) (server_state l.server) (so_far (g.W.Write.contents l.initial.w) l.initial.out) (so_far (g.W.Write.contents l.w) l.out);
+}

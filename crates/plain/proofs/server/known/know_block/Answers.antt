@@ -1,7 +1,0 @@
-use Rattle.std.proofs.Common.{rules, ◌<◌, subst}
-use Rattle.std.specs.List.{AllByRecursion}
-use Rattle.message.proofs.RecordLemmas.{bytes_fit}
-use Rattle.plain.proofs.server.known.know_block.Goals as goal
-
-pub returns : goal.returns
-returns c = (search rules, subst (AllByRecursion (λ b. b < 256)) c.as_slice-bytes.ensures (bytes_fit c.as_slice-bytes.result.now (λ i. search rules)))

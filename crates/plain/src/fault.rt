@@ -1,0 +1,26 @@
+//! Why a serial server ends before the end of its input.
+
+ghost use Rattle.std.specs.Prelude.{◌≡◌};
+
+use message::WriteFault;
+
+/// Why the serial server ended before the end of its input.
+#[derive(Clone, Copy, Debug, PartialEq, Eq)]
+pub enum PlainFault {
+    /// The input could not be read.
+    Read,
+    /// The output could not be written. What was written of it is open.
+    Write,
+    /// There was no memory, or there were more than 2^64 - 1 lines.
+    OutOfMemory,
+}
+
+impl From<WriteFault> for PlainFault {
+    ghost use Rattle.plain.specs.declared.fault.PlainFault.TheVariants.{Write};
+
+    ghost from_gives = { λ _ fault. fault ≡ Write };
+
+    fn from(_: WriteFault) -> PlainFault {
+        PlainFault::Write
+    }
+}
