@@ -1,13 +1,20 @@
+-- For other crates: sums and counts, states that agree, what a step keeps, reads and changes.
+pub mod Sums
+pub mod Counts
 pub mod Agree
-pub mod Effects
-pub mod Frame
 pub mod ShareLaws
+pub mod Kept
+pub mod Frame
+-- For other crates that answer lines: lines and their output, lines taken, and the steps of a session.
+pub mod LineLemmas
+pub mod OutputLemmas
+pub mod Taking
+pub mod SessionSteps
+-- For this crate.
+pub mod Effects
 pub mod ByTicket
 pub mod Unchanged
-pub mod Sums
-pub mod Kept
 pub mod Examples
-pub mod Counts
 pub mod Keys
 pub mod ServerCounts
 pub mod Writes
@@ -16,7 +23,3 @@ pub mod Removals
 pub mod RemovalOrders
 pub mod Totals
 pub mod Walks
-pub mod LineLemmas
-pub mod OutputLemmas
-pub mod Taking
-pub mod SessionSteps

@@ -1,4 +1,4 @@
--- How far a session has come: the lines that it has taken of its input and answered, what is left of the input, and what was written.
+-- How far a session has come: the lines that it has taken of its input and answered, what is left of the input, and what was written. No public clause of this crate cites this module.
 use Rattle.std.specs.Prelude.{◌≡◌, ◌⊎◌, ℕ, Bool, true, List, ◌++◌, Option, Some, None}
 use Rattle.std.specs.List.{AllByRecursion}
 use Rattle.std.specs.Io.KnownBytes.{Appends}

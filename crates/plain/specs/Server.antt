@@ -1,4 +1,4 @@
--- What the maps of a server stand for.
+-- What the maps of a server stand for. No public clause cites this module.
 use Rattle.std.specs.Prelude.{◌≡◌, ℕ, Bool, ◌&&◌, ◌==◌, unwrap_or}
 use Rattle.std.specs.Ordering.{nat_cmp, ordering_then}
 use Rattle.std.specs.declared.cmp.Ordering.{Ordering}

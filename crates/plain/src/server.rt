@@ -1,3 +1,5 @@
+//! The state of a serial server, and what one message does to it.
+
 ghost use Rattle.std.specs.Prelude.{◌≡◌, IfOk, OnOk, OnErr};
 ghost use Rattle.affinity.specs.declared.geometry.Geometry.{Geometry};
 ghost use Rattle.plain.specs.State.{empty};

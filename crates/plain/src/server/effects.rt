@@ -1,3 +1,5 @@
+//! What a message changes that passes its tests.
+
 ghost use Rattle.std.specs.Prelude.{◌≡◌, OnOk, OnErr, None, false};
 ghost use Rattle.affinity.specs.declared.geometry.Geometry.{Geometry};
 ghost use Rattle.message.specs.declared.Msg.{Msg};

@@ -1,3 +1,5 @@
+//! What the server has: volumes, files, blocks, and how many blocks a stripe has.
+
 ghost use Rattle.std.specs.Prelude.{◌≡◌, is_some};
 ghost use Rattle.plain.specs.Server.{server_state, noted};
 

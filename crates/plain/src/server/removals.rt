@@ -1,3 +1,5 @@
+//! Blocks, files and volumes are removed, with all that they have.
+
 ghost use Rattle.std.specs.Prelude.{◌≡◌, ◌+◌, ◌<◌, true, false, is_some, IfSome, IfNone};
 ghost use Rattle.std.specs.BTreeMap.{btree_map_len};
 ghost use Rattle.std.specs.BTreeSet.{btree_set_len};
