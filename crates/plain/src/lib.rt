@@ -11,6 +11,3 @@ mod table;
 pub use fault::PlainFault;
 pub use serving::{serve_from, serve_plain};
 pub use table::tests_of;
-
-#[cfg(test)]
-mod tests;

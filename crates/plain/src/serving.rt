@@ -90,6 +90,3 @@ pub fn serve_plain<R: Read + Drop, W: Write>(
     let mut reader = r;
     serve_from(alloc, g, &mut reader, w)
 }
-
-#[cfg(test)]
-mod tests;

@@ -1,6 +1,7 @@
-use super::{PlainFault, serve_from, serve_plain};
-use crate::tests::SMALL;
+//! How a session ends: at the end of its input, at a failed read, at a failed write.
+use crate::rows::SMALL;
 use affinity::Geometry;
+use plain::{PlainFault, serve_from, serve_plain};
 use std::alloc::{AllocError, Global};
 use std::io;
 use std::io::{ErrorKind, Read, Write};

@@ -1,9 +1,5 @@
 //! Each kind of message at the greatest number that it may have at each place, and at the limit.
-use super::SMALL;
-use crate::serve_plain;
-use affinity::Geometry;
-use std::alloc::Global;
-use std::process::Abort;
+use crate::rows::{SMALL, expect_lines};
 use std::test::Fail;
 
 /// Two aggregates of three volumes, each of three files of five blocks. No number is 1.
@@ -112,32 +108,6 @@ const WIDE_ROWS: [(&str, &str); 48] = [
     ("dropvol 2 2", "error range"),
     ("dropvol 1 3", "error range"),
 ];
-
-/// Serves the lines at a geometry, and looks at the replies.
-fn expect_lines(
-    rt: &impl Abort,
-    alloc: Global,
-    numbers: [u16; 8],
-    rows: &[(&str, &str)],
-) -> Result<(), Fail> {
-    let geometry = Geometry::new(numbers)?;
-    let mut input = Vec::new(alloc);
-    let mut replies = Vec::new(alloc);
-    for (line, reply) in rows {
-        input.extend_from_slice(line.as_bytes())?;
-        input.push(b'\n')?;
-        replies.extend_from_slice(reply.as_bytes())?;
-        replies.push(b'\n')?;
-    }
-    let mut output = Vec::new(alloc);
-    let end = serve_plain(alloc, &geometry, input.as_slice(), &mut output);
-    assert_eq!(rt; end, Ok(()));
-    assert_eq!(rt;
-        str::from_utf8(output.as_slice()),
-        str::from_utf8(replies.as_slice())
-    );
-    Ok(())
-}
 
 #[test]
 fn each_kind_is_in_range_up_to_its_limits(rt: HostRuntime) -> Result<(), Fail> {
