@@ -7,7 +7,7 @@ use Rattle.affinity.specs.Interval.{IsPath}
 use Rattle.affinity.specs.Path.{Path, are_related}
 use Rattle.parcel.specs.Nodes.{Node, Nodes, in_row, put_at}
 use Rattle.parcel.specs.Nodes.Node.{Inner, Marks, Files, Slots, Text}
-use Rattle.parcel.specs.Stripe.{StripePart}
+use Rattle.stripe.specs.Stripe.{StripePart}
 use Rattle.parcel.specs.Tree.{HasGap, IsOut, standing_at}
 
 abbrev no_blocks : StripePart

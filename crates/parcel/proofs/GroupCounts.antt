@@ -8,7 +8,7 @@ use Rattle.affinity.specs.Geometry.{group}
 use Rattle.plain.specs.State.{State, sum_below, one_if, group_count}
 use Rattle.plain.proofs.Sums.{sum_same, sum_zero, sum_one_more}
 use Rattle.parcel.specs.Fits.{FitsStripe}
-use Rattle.parcel.specs.Stripe.{Entry, StripePart, ComesBefore, IsAscending, IsKept, content_at}
+use Rattle.stripe.specs.Stripe.{Entry, StripePart, ComesBefore, IsAscending, IsKept, content_at}
 
 -- ---- an entry isn't there again behind itself
 

@@ -8,8 +8,6 @@ pub mod SerialRuns
 pub mod Starting
 pub mod Serving
 mod Examples
-pub mod StripeEntries
-pub mod StripePlaces
 pub mod OneVolume
 pub mod GroupCounts
 pub mod FileBits

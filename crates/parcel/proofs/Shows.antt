@@ -7,7 +7,7 @@ use Rattle.affinity.specs.declared.geometry.Geometry.{Geometry}
 use Rattle.affinity.specs.Geometry.{group}
 use Rattle.affinity.specs.Path.{Path, begins, are_related}
 use Rattle.plain.specs.Shares.{AgreeOn}
-use Rattle.parcel.specs.Stripe.{StripePart}
+use Rattle.stripe.specs.Stripe.{StripePart}
 use Rattle.parcel.specs.Volume.{Facts, facts_if, state_by, only}
 use Rattle.parcel.specs.Shown.{has_bit, blocks_in, by_stripe, by_logical, by_label, files_in, blocks_below, label_in, by_volume, by_child, by_aggregate, shown}
 use Rattle.parcel.specs.Fits.{IsKindOf}

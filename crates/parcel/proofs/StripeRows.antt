@@ -8,7 +8,7 @@ use Rattle.message.specs.declared.Block.{Block}
 use Rattle.parcel.specs.Dropping.{IsWithoutFile, IsEmptied}
 use Rattle.parcel.specs.Fits.{FitsStripe, EachFits, IsWholeChild}
 use Rattle.parcel.specs.Shown.{blocks_in}
-use Rattle.parcel.specs.Stripe.{StripePart, content_at}
+use Rattle.stripe.specs.Stripe.{StripePart, content_at}
 
 -- ---- rows, pair by pair
 

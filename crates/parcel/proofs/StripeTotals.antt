@@ -7,7 +7,7 @@ use Rattle.plain.specs.State.{State, group_count}
 use Rattle.plain.proofs.Sums.{sum_same, sum_zero}
 use Rattle.parcel.specs.Fits.{FitsStripe}
 use Rattle.parcel.specs.Shown.{blocks_in, blocks_of}
-use Rattle.parcel.specs.Stripe.{StripePart, IsKept}
+use Rattle.stripe.specs.Stripe.{StripePart, IsKept}
 use Rattle.parcel.specs.Totals.{entry_count, file_total, block_total, totals_of, sum_totals}
 use Rattle.parcel.specs.Volume.{nothing, state_by}
 use Rattle.parcel.proofs.GroupCounts.{count_is_length, count_is_none}

@@ -5,7 +5,7 @@ use Rattle.std.specs.List.{AllByRecursion, list_all}
 use Rattle.std.proofs.lemmas.Bool.{and_parts, true≢false}
 use Rattle.affinity.specs.Path.{Path}
 use Rattle.affinity.specs.declared.geometry.Geometry.{Geometry}
-use Rattle.parcel.specs.Stripe.{StripePart}
+use Rattle.stripe.specs.Stripe.{StripePart}
 use Rattle.parcel.specs.Fits.{EachFits, FitsLogical, FitsVolume, FitsAggregate, FitsRoot, IsWholeChild, IsWholeLogical, IsWholeVolume, IsWholeAggregate, IsWholeRoot}
 use Rattle.parcel.specs.Levels.{IsLeafPath, IsRowPath, IsLogicalPath, IsVolumePath, IsAggregatePath, IsRootPath, is_whole_logical, is_whole_volume, is_whole_aggregate, is_whole_root, IsTaken, IsRefused}
 use Rattle.parcel.specs.Nodes.{Node, Nodes, in_child, in_row, in_parcels, in_stripe, in_label, in_logical, in_volume, in_aggregate, in_root}

@@ -1,6 +1,6 @@
 -- What is left of stripes of which blocks are removed.
 use Rattle.std.specs.Prelude.{ℕ, ◌==◌, if◌then◌else◌, Option, Some, None}
-use Rattle.parcel.specs.Stripe.{StripePart, NowHolds, content_at}
+use Rattle.stripe.specs.Stripe.{StripePart, NowHolds, content_at}
 
 -- The stripe, where it is in, has no block of the file any more, and its other blocks as before.
 abbrev pub IsWithoutFile : ℕ → Option StripePart → Option StripePart → Type 0

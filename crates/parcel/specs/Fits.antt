@@ -6,7 +6,7 @@ use Rattle.affinity.specs.Geometry.{group}
 use Rattle.affinity.specs.Path.{Path}
 use Rattle.message.specs.declared.Msg.{Msg}
 use Rattle.message.specs.Messages.{place, is_in_range}
-use Rattle.parcel.specs.Stripe.{StripePart, content_at}
+use Rattle.stripe.specs.Stripe.{StripePart, content_at}
 use Rattle.parcel.specs.declared.parts.Logical.{Logical}
 use Rattle.parcel.specs.declared.parts.Vol.{Vol}
 use Rattle.parcel.specs.declared.parts.Aggr.{Aggr}

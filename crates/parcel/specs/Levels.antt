@@ -3,7 +3,7 @@ use Rattle.std.specs.Prelude.{◌≡◌, ℕ, zero, suc, ◌<◌, Bool, true, fa
 use Rattle.std.specs.List.{AllByRecursion, list_all}
 use Rattle.affinity.specs.declared.geometry.Geometry.{Geometry}
 use Rattle.affinity.specs.Path.{Path, are_related}
-use Rattle.parcel.specs.Stripe.{StripePart}
+use Rattle.stripe.specs.Stripe.{StripePart}
 use Rattle.parcel.specs.Fits.{IsWholeChild}
 use Rattle.parcel.specs.Nodes.{Nodes, in_parcels, IsTakenOut, IsPutBack, IsSame}
 use Rattle.parcel.specs.Tree.{IsOut}

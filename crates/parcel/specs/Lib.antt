@@ -1,5 +1,3 @@
-pub mod Stripe
-pub mod Places
 pub mod Volume
 pub mod Shown
 pub mod Fits

@@ -5,7 +5,7 @@ use Rattle.affinity.specs.Geometry.{group}
 use Rattle.affinity.specs.Path.{Path, begins, volume, logical, stripe, label}
 use Rattle.message.specs.declared.Block.{Block}
 use Rattle.plain.specs.State.{State}
-use Rattle.parcel.specs.Stripe.{StripePart, content_at}
+use Rattle.stripe.specs.Stripe.{StripePart, content_at}
 use Rattle.parcel.specs.Shown.{has_bit}
 use Rattle.parcel.specs.declared.parts.Label.{Label}
 use Rattle.parcel.specs.declared.parts.Logical.{Logical}

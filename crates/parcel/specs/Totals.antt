@@ -4,7 +4,7 @@ use Rattle.affinity.specs.declared.geometry.Geometry.{Geometry}
 use Rattle.message.specs.declared.Block.{Block}
 use Rattle.plain.specs.State.{sum_below, count_below, one_if}
 use Rattle.plain.specs.Serial.{no_label}
-use Rattle.parcel.specs.Stripe.{StripePart}
+use Rattle.stripe.specs.Stripe.{StripePart}
 use Rattle.parcel.specs.Volume.{Facts}
 use Rattle.parcel.specs.declared.running.totals.Totals.{Totals}
 

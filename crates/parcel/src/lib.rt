@@ -6,7 +6,6 @@ mod job;
 pub mod laws;
 mod parts;
 mod running;
-mod stripe;
 mod tree;
 
 pub use job::{Done, Job, run};

@@ -1,7 +1,6 @@
 mod running;
 mod serial;
 mod serving;
-mod stripe;
 mod tree;
 
 use message::Block;

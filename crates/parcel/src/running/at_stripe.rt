@@ -10,7 +10,7 @@ ghost use Rattle.parcel.specs.Fits.{FitsStripe, Suits};
 ghost use Rattle.parcel.specs.Run.{IsStep};
 ghost use Rattle.parcel.specs.Shown.{by_stripe, has_bit, shown};
 ghost use Rattle.parcel.specs.Steps.{unless, unless_closed, IsStepWithin};
-ghost use Rattle.parcel.specs.Stripe.{IsKept, content_at};
+ghost use Rattle.stripe.specs.Stripe.{IsKept, content_at};
 ghost use Rattle.parcel.specs.declared.parts.Parcels.{Parcels};
 
 use super::refusals::{file_change_refusal, read_refusal};

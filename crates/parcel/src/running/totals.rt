@@ -3,7 +3,7 @@
 ghost use Rattle.std.specs.Prelude.{◌≡◌, ◌+◌, ◌<◌, ◌≤◌, ◌^◌, IfSome};
 ghost use Rattle.parcel.specs.Fits.{FitsAggregate, FitsLogical, FitsRoot, FitsVolume};
 ghost use Rattle.parcel.specs.Shown.{blocks_of, by_aggregate, by_child, by_root, by_volume, has_bit};
-ghost use Rattle.parcel.specs.Stripe.{IsKept};
+ghost use Rattle.stripe.specs.Stripe.{IsKept};
 ghost use Rattle.parcel.specs.Totals.{block_total, entry_count, file_total, sum_totals, totals_of};
 ghost use Rattle.plain.specs.State.{sum_below};
 

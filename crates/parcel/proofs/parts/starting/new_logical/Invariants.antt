@@ -2,7 +2,7 @@
 use Rattle.std.proofs.Common.{◌≡◌, ◌≤◌, [], length, vec_capacity}
 use Rattle.std.specs.List.{AllByRecursion}
 use Rattle.parcel.specs.Fits.{IsWholeChild}
-use Rattle.parcel.specs.Stripe.{StripePart}
+use Rattle.stripe.specs.Stripe.{StripePart}
 use Rattle.parcel.proofs.parts.starting.new_logical.Given as goal
 
 abbrev pub invariant-loop : goal.invariant-loop

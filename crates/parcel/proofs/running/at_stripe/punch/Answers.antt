@@ -1,7 +1,7 @@
 use Rattle.std.proofs.Common.{refl, sym, ◌∙◌}
 use Rattle.message.specs.declared.Msg.TheVariants.{Punch}
 use Rattle.parcel.specs.Shown.{by_stripe}
-use Rattle.parcel.specs.Stripe.{content_at}
+use Rattle.stripe.specs.Stripe.{content_at}
 use Rattle.parcel.specs.Volume.{only}
 use Rattle.parcel.proofs.OneVolume.{passed, punch_tests, effect_punch}
 use Rattle.parcel.proofs.running.at_stripe.punch.Goals as goal

@@ -3,7 +3,7 @@ use Rattle.affinity.specs.Geometry.{group}
 use Rattle.message.specs.declared.Msg.TheVariants.{Write}
 use Rattle.plain.specs.State.{group_count}
 use Rattle.parcel.specs.Shown.{by_stripe}
-use Rattle.parcel.specs.Stripe.{content_at}
+use Rattle.stripe.specs.Stripe.{content_at}
 use Rattle.parcel.specs.Volume.{only}
 use Rattle.parcel.proofs.GroupCounts.{count_is_length}
 use Rattle.parcel.proofs.OneVolume.{at_volume, refused, passed, write_tests, effect_write}

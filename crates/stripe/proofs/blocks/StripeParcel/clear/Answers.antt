@@ -1,0 +1,35 @@
+-- The block at its index is cut out, and where it isn't there nothing changes.
+use Rattle.std.proofs.Common.{◌+◌, ◌<◌, ◌≤◌, length, refl, arith, add-one}
+use Rattle.stripe.proofs.EntryLemmas.{content-cleared, content-gap, content-missing, ascending-removed, length-removed}
+use Rattle.stripe.proofs.blocks.StripeParcel.clear.Goals as goal
+
+pub overflow_add-n : goal.overflow_add-n
+overflow_add-n c =
+    let low : c.in-Ok.n < length c.args.self.now.entries = c.in-Ok.ensures.found.within in
+    let most : length c.args.self.now.entries ≤ 64 = c.in-Ok.ensures.most in
+    omega arith
+
+pub returns-in-Ok-clause-holds : goal.returns-in-Ok-clause-holds
+returns-in-Ok-clause-holds c =
+    rw c.cut.ensures (record {
+      quota = refl;
+      content = λ i j. rw add-one (content-cleared c.args.self.now.entries c.args.f c.args.b c.in-Ok.n c.in-Ok.ensures.kept.ascending c.in-Ok.ensures.found i j);
+    })
+
+pub returns-in-Ok-clause-kept : goal.returns-in-Ok-clause-kept
+returns-in-Ok-clause-kept c =
+    let fewer = length-removed c.args.self.now.entries c.in-Ok.n (c.in-Ok.n + 1) (omega arith) in
+    let fits : length c.args.self.now.entries ≤ c.args.self.now.quota = c.in-Ok.ensures.kept.within in
+    rw c.cut.ensures (record {
+      ascending = ascending-removed c.args.self.now.entries c.in-Ok.n (c.in-Ok.n + 1) (omega arith) c.in-Ok.ensures.kept.ascending;
+      within = omega arith;
+    })
+
+pub returns-in_default-clause-holds : goal.returns-in_default-clause-holds
+returns-in_default-clause-holds c =
+    let gap = c.in_default.ensures.found in
+    record {
+      quota = refl;
+      content = content-missing c.args.self.now.entries c.args.f c.args.b
+          (content-gap c.args.self.now.entries c.args.f c.args.b c.in_default.field-0 gap.before gap.behind);
+    }

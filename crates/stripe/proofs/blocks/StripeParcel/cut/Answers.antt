@@ -1,0 +1,50 @@
+-- The slots of the run are freed, and the index loses the run.
+use Rattle.std.proofs.Common.{◌≡◌, ◌-◌, ◌≤◌, ap, ◌∙◌, arith, length}
+use Rattle.stripe.specs.Stripe.{StripePart}
+use Rattle.stripe.proofs.IndexLemmas.{IsTaken, run_of, taken-none, taken-next, entries-cut, stored-cut, part_same, length-entries, length-run}
+use Rattle.stripe.proofs.blocks.StripeParcel.cut.Goals as goal
+
+pub loop-place-init : goal.loop-place-init
+loop-place-init c = taken-none c.self.inside.blocks _ c.self.invariant.0.parted
+
+pub loop-place-preserved : goal.loop-place-preserved
+loop-place-preserved c =
+    rw (c.take.ensures.row, c.from.ensures, c.deref.ensures.value)
+    (taken-next c.self.inside.blocks c.loop-place.self-inside.1.0 c.self.inside.index.items c.args.from c.args.end c.loop-place.place-index
+    (record { file = 0; block = 0; slot = 0 }) c.self.invariant.0 c.requires.order
+    (rw c.deref.ensures.value at c.loop-place.invariant)
+    (rw c.deref.ensures.value at c.loop-place-test.true)
+    (rw (c.take.ensures.row, c.from.ensures, c.deref.ensures.value) at c.take.ensures.parted))
+
+pub invariant_of-self : goal.invariant_of-self
+invariant_of-self c =
+    let same = ap (λ (s : StripePart). s.entries) c.self.view_is in
+    let within : c.args.end ≤ length c.self.inside.index.items =
+    (let full = rw (← same) at c.requires.within in let long = length-entries c.self.inside.blocks.values c.self.inside.index.items in omega arith) in
+    let run = length-run c.self.inside.index.items c.args.from c.args.end c.requires.order within in
+    let all = rw c.deref.ensures.value at c.loop-place-test.false in
+    let most = rw c.deref.ensures.value at c.loop-place.auto.place-index-end in
+    let count : c.loop-place.place-index ≡ c.args.end - c.args.from = omega arith in
+    let taken : IsTaken c.self.inside.blocks c.loop-place.self-inside.1.0 (run_of c.self.inside.index.items c.args.from c.args.end) (c.args.end - c.args.from) =
+    rw (c.deref.ensures.value, count) at c.loop-place.invariant in
+    rw (c.drop-drain.ensures.items, c.drain.ensures.kept) (
+      stored-cut c.self.inside.blocks c.loop-place.self-inside.1.0 c.self.inside.index.items c.args.from (c.args.end - c.args.from) c.args.end c.self.invariant.0
+          (omega arith) within taken,
+      rw (c.drop-drain.ensures.capacity ∙ c.drain.ensures.capacity, taken.long) c.self.invariant.1,
+    )
+
+pub returns : goal.returns
+returns c =
+    let same = ap (λ (s : StripePart). s.entries) c.self.view_is in
+    let within : c.args.end ≤ length c.self.inside.index.items =
+    (let full = rw (← same) at c.requires.within in let long = length-entries c.self.inside.blocks.values c.self.inside.index.items in omega arith) in
+    let run = length-run c.self.inside.index.items c.args.from c.args.end c.requires.order within in
+    let all = rw c.deref.ensures.value at c.loop-place-test.false in
+    let most = rw c.deref.ensures.value at c.loop-place.auto.place-index-end in
+    let count : c.loop-place.place-index ≡ c.args.end - c.args.from = omega arith in
+    let taken : IsTaken c.self.inside.blocks c.loop-place.self-inside.1.0 (run_of c.self.inside.index.items c.args.from c.args.end) (c.args.end - c.args.from) =
+    rw (c.deref.ensures.value, count) at c.loop-place.invariant in
+    rw (← c.self.view_is, c.drop-drain.ensures.items, c.drain.ensures.kept)
+    (part_same _ _ _ _ taken.long
+    (entries-cut c.self.inside.blocks c.loop-place.self-inside.1.0 c.self.inside.index.items c.args.from (c.args.end - c.args.from) c.args.end c.self.invariant.0
+    (omega arith) within taken))

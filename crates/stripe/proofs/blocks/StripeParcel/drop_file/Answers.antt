@@ -1,0 +1,32 @@
+-- The run of the file is cut out, and no other block.
+use Rattle.std.proofs.Common.{◌+◌, ◌≤◌, length, refl, arith}
+use Rattle.stripe.specs.Index.{IsSplit}
+use Rattle.stripe.proofs.EntryLemmas.{run-order, content-file, ascending-removed, length-removed}
+use Rattle.stripe.proofs.blocks.StripeParcel.drop_file.Goals as goal
+
+pub cut-requires-clause-order : goal.cut-requires-clause-order
+cut-requires-clause-order c =
+    let low : IsSplit c.args.self.now.entries c.args.f 0 c.split-first.result = rw c.from.ensures at c.split-first.ensures.parts in
+    let high : IsSplit c.args.self.now.entries (c.args.f + 1) 0 c.split-end.result = rw c.from-2.ensures at c.split-end.ensures.parts in
+    run-order c.args.self.now.entries c.args.f c.split-first.result c.split-end.result low.within low.before high.behind
+
+pub returns-clause-holds : goal.returns-clause-holds
+returns-clause-holds c =
+    let low : IsSplit c.args.self.now.entries c.args.f 0 c.split-first.result = rw c.from.ensures at c.split-first.ensures.parts in
+    let high : IsSplit c.args.self.now.entries (c.args.f + 1) 0 c.split-end.result = rw c.from-2.ensures at c.split-end.ensures.parts in
+    rw c.cut.ensures (record {
+      quota = refl;
+      content = content-file c.args.self.now.entries c.args.f c.split-first.result c.split-end.result low high;
+    })
+
+pub returns-clause-kept : goal.returns-clause-kept
+returns-clause-kept c =
+    let low : IsSplit c.args.self.now.entries c.args.f 0 c.split-first.result = rw c.from.ensures at c.split-first.ensures.parts in
+    let high : IsSplit c.args.self.now.entries (c.args.f + 1) 0 c.split-end.result = rw c.from-2.ensures at c.split-end.ensures.parts in
+    let order = run-order c.args.self.now.entries c.args.f c.split-first.result c.split-end.result low.within low.before high.behind in
+    let fewer = length-removed c.args.self.now.entries c.split-first.result c.split-end.result order in
+    let fits : length c.args.self.now.entries ≤ c.args.self.now.quota = c.split-first.ensures.kept.within in
+    rw c.cut.ensures (record {
+      ascending = ascending-removed c.args.self.now.entries c.split-first.result c.split-end.result order c.split-first.ensures.kept.ascending;
+      within = omega arith;
+    })

@@ -1,0 +1,13 @@
+-- All slots are free, and the index is empty.
+use Rattle.std.proofs.Common.{arith, None, Option}
+use Rattle.std.proofs.lemmas.List.{length-replicate}
+use Rattle.message.specs.declared.Block.{Block}
+use Rattle.stripe.proofs.IndexLemmas.{stored-empty}
+use Rattle.stripe.proofs.blocks.StripeParcel.new.Goals as goal
+
+pub invariant_of-result : goal.invariant_of-result
+invariant_of-result c =
+    rw (c.in_ok-index.ensures.items, c.in_ok-blocks.ensures.row) (
+      stored-empty c.args.quota 0 c.requires.most (rw c.in_ok-blocks.ensures.row at c.in_ok-blocks.ensures.parted),
+      (let long = length-replicate {A = Option Block} c.args.quota None in let room = c.in_ok-index.ensures.capacity in omega arith),
+    )

@@ -1,0 +1,173 @@
+//! A stripe: a row of buffers, and an index that says which block lies in which of them.
+ghost use Rattle.std.specs.Prelude.{◌≡◌, ℕ, ◌<◌, ◌≤◌, ◌&&◌, ◌||◌, ◌==◌, true, is_some, length, nat_lt, [], Some, None, IfOk, MatchResult, option_copied, if◌then◌else◌, insert, vec_capacity};
+ghost use Rattle.std.specs.List.{remove_range};
+ghost use Rattle.stripe.specs.Stripe.{StripePart, IsKept, NowHolds, content_at};
+ghost use Rattle.stripe.specs.Index.{entries_of, IsStored, IsSplit, IsAt, IsGap, rewritten};
+
+use arena::Arena;
+use message::Block;
+use std::alloc::{AllocError, Global};
+use std::marker::Model;
+
+/// The blocks of one stripe of a volume, at most as many as its quota. All memory is taken at the
+/// start.
+#[derive(Drop)]
+pub struct StripeParcel {
+    blocks: Arena<Block>,
+    index: Vec<IndexEntry>, // ascending by file, then block
+}
+
+// Where a block of a file lies in the row of buffers.
+#[derive(Clone, Copy)]
+struct IndexEntry {
+    file: u16,
+    block: u16,
+    slot: u16,
+}
+
+impl Model for StripeParcel {
+    ghost Value = { StripePart };
+
+    ghost view = { λ s. record { quota = length s.blocks.values; entries = entries_of s.blocks.values s.index.items } };
+
+    ghost invariant = { λ s. IsStored s.blocks s.index.items × (length s.blocks.values ≤ vec_capacity s.index) };
+}
+
+impl StripeParcel {
+    /// An empty stripe that can hold so many blocks.
+    pub fn new(alloc: Global, quota: usize) -> Result<StripeParcel, AllocError>
+        requires most { quota ≤ 64 }
+        ensures { IfOk result (λ s. s ≡ record { quota = quota; entries = [] }) }
+    {
+        let blocks = Arena::with_capacity(alloc, quota, 0)?;
+        let index = Vec::with_capacity(alloc, quota)?;
+        Ok(StripeParcel { blocks, index })
+    }
+
+    /// How many blocks there are.
+    pub fn len(&self) -> usize
+        ensures count { result ≡ length self.now.entries }
+        ensures kept { IsKept self.now }
+    {
+        self.index.len()
+    }
+
+    /// What a block of a file holds, if it is there.
+    pub fn get(&self, f: u16, b: u16) -> Option<&Block>
+        ensures content { option_copied result ≡ content_at self.now.entries f b }
+        ensures kept { IsKept self.now }
+    {
+        match self.find(f, b) {
+            Ok(n) => self.blocks.get(usize::from(self.index[n].slot)),
+            Err(_) => None,
+        }
+    }
+
+    /// Puts content into a block that is there, or makes the block. There has to be room for it.
+    pub fn set(&mut self, f: u16, b: u16, content: &Block)
+        requires room { (is_some (content_at self.old.entries f b) || nat_lt (length self.old.entries) self.old.quota) ≡ true }
+        ensures holds { NowHolds self.old self.new (λ i j. if (f == i) && (b == j) then Some content.now else content_at self.old.entries i j) }
+        ensures kept { IsKept self.new }
+    {
+        match self.find(f, b) {
+            Ok(n) => self.write(n, content),
+            Err(n) => self.insert(n, f, b, content),
+        }
+    }
+
+    /// Removes a block, if it is there.
+    pub fn clear(&mut self, f: u16, b: u16)
+        ensures holds { NowHolds self.old self.new (λ i j. if (f == i) && (b == j) then None else content_at self.old.entries i j) }
+        ensures kept { IsKept self.new }
+    {
+        if let Ok(n) = self.find(f, b) {
+            self.cut(n, n + 1);
+        }
+    }
+
+    /// Removes the blocks of a file.
+    pub fn drop_file(&mut self, f: u16)
+        ensures holds { NowHolds self.old self.new (λ i j. if f == i then None else content_at self.old.entries i j) }
+        ensures kept { IsKept self.new }
+    {
+        let first = self.split(usize::from(f), 0);
+        let end = self.split(usize::from(f) + 1, 0);
+        self.cut(first, end);
+    }
+
+    /// Removes all blocks.
+    pub fn drop_all(&mut self)
+        ensures { self.new ≡ record { quota = self.old.quota; entries = [] } }
+    {
+        let end = self.len();
+        self.cut(0, end);
+    }
+
+    // How many blocks come before block `b` of file `f`.
+    fn split(&self, f: usize, b: usize) -> usize
+        ensures parts { IsSplit self.now.entries f b result }
+        ensures most { length self.now.entries ≤ 64 }
+        ensures kept { IsKept self.now }
+    {
+        self.index.partition_point(|place| {
+            let file = usize::from(place.file);
+            file < f || file == f && usize::from(place.block) < b
+        })
+    }
+
+    // The index of a block, or the one at which it would stand.
+    fn find(&self, f: u16, b: u16) -> Result<usize, usize>
+        ensures found { MatchResult result (IsAt self.now.entries f b) (IsGap self.now.entries f b) }
+        ensures most { length self.now.entries ≤ 64 }
+        ensures kept { IsKept self.now }
+    {
+        let n = self.split(usize::from(f), usize::from(b));
+        match self.index.get(n) {
+            Some(place) if place.file == f && place.block == b => Ok(n),
+            _ => Err(n),
+        }
+    }
+
+    // Puts content into the block at an index.
+    fn write(&mut self, n: usize, content: &Block)
+        requires { n < length self.old.entries }
+        ensures { self.new ≡ record self.old { entries = rewritten self.old.entries n content.now } }
+    {
+        let slot = usize::from(self.index[n].slot);
+        match self.blocks.get_mut(slot) {
+            Some(there) => *there = *content,
+            None => unreachable!(),
+        }
+    }
+
+    // Makes a block at an index.
+    fn insert(&mut self, n: usize, f: u16, b: u16, content: &Block)
+        requires gap { IsGap self.old.entries f b n }
+        requires room { length self.old.entries < self.old.quota }
+        ensures { self.new ≡ record self.old { entries = insert self.old.entries n (record { file = f; block = b; content = content.now }) } }
+    {
+        let Ok(slot) = self.blocks.put(*content) else {
+            unreachable!()
+        };
+        let place = IndexEntry {
+            file: f,
+            block: b,
+            slot: slot as u16,
+        };
+        let Ok(()) = self.index.insert(n, place) else {
+            unreachable!()
+        };
+    }
+
+    // Removes the blocks from one index up to another.
+    fn cut(&mut self, from: usize, end: usize)
+        requires order { from ≤ end }
+        requires within { end ≤ length self.old.entries }
+        ensures { self.new ≡ record self.old { entries = remove_range self.old.entries from end } }
+    {
+        for place in &self.index[from..end] {
+            self.blocks.take(usize::from(place.slot));
+        }
+        self.index.drain(from..end);
+    }
+}
