@@ -7,6 +7,7 @@ pub mod Leaving
 pub mod SerialRuns
 pub mod Starting
 pub mod Serving
+pub mod Holding
 mod Examples
 pub mod OneVolume
 pub mod GroupCounts

@@ -52,7 +52,7 @@ served_step job done old lent new h =
     record { reply = run.reply; state = agree_in_and_out g p (tree_state g new) (next_state g x m) there elsewhere }
 
 -- what begins with a path is that path and the rest
-begins_split : (p q : Path) → begins p q ≡ true → (r : Path) × (q ≡ p ++ r)
+pub begins_split : (p q : Path) → begins p q ≡ true → (r : Path) × (q ≡ p ++ r)
 begins_split [] q h = (q, refl)
 begins_split (x ∷ p) [] h = absurd (true≢false (sym h))
 begins_split (x ∷ p) (y ∷ q) h =

@@ -9,3 +9,4 @@ pub mod Steps
 pub mod Dropping
 pub mod Totals
 pub mod RunLaws
+pub mod Holding

@@ -3,22 +3,40 @@ use Rattle.std.specs.Prelude.{◌≡◌}
 use Rattle.message.specs.Messages.{place}
 use Rattle.plain.specs.State.{State}
 use Rattle.plain.specs.Serial.{reply_to, next_state}
+use Rattle.affinity.specs.declared.geometry.Geometry.{Geometry}
+use Rattle.affinity.specs.Path.{Path}
+use Rattle.parcel.specs.Fits.{Fits, IsKindOf}
 use Rattle.parcel.specs.Nodes.{Nodes}
 use Rattle.parcel.specs.Run.{Asked, IsRun, Shows}
-use Rattle.parcel.specs.Tree.{IsLent, IsRestored}
+use Rattle.parcel.specs.Tree.{IsLent, IsOut, IsRestored}
 use Rattle.parcel.specs.declared.job.Done.{Done}
+use Rattle.parcel.specs.declared.parts.Parcels.{Parcels}
+
+-- the place of the message of a job
+abbrev pub job_place : Asked → Path
+job_place job = place job.geometry job.message
 
 -- The job was lent from a state: its parcels and standing show what lies there at the message's place, below it and above it.
 abbrev pub IsLentOf : Asked → State → Type 0
-IsLentOf job x = Shows job.geometry (place job.geometry job.message) job.standing job.parcels x
+IsLentOf job x = Shows job.geometry (job_place job) job.standing job.parcels x
+
+-- The job was made of what a tree lent at the message's place.
+abbrev pub IsLentBy : Asked → Nodes → Nodes → Type 0
+IsLentBy job old lent = IsLent job.geometry (job_place job) job.standing job.parcels old lent
 
 -- The reply is that of the serial step from the state, and with the standing the parcels show the state after it.
 pub record IsSerialStepOf (job : Asked) (done : Done) (x : State) : Type 0 where
   pub reply : done.reply ≡ reply_to job.geometry x job.message
-  pub shows : Shows job.geometry (place job.geometry job.message) job.standing done.parcels (next_state job.geometry x job.message)
+  pub shows : Shows job.geometry (job_place job) job.standing done.parcels (next_state job.geometry x job.message)
 
 -- The job was made of what a tree lent at the message's place, it was run, and what it left was put back there.
 pub record IsServed (job : Asked) (done : Done) (old lent new : Nodes) : Type 0 where
-  pub taken : IsLent job.geometry (place job.geometry job.message) job.standing job.parcels old lent
+  pub taken : IsLentBy job old lent
   pub ran : IsRun job done
-  pub put : IsRestored job.geometry (place job.geometry job.message) done.parcels lent new
+  pub put : IsRestored job.geometry (job_place job) done.parcels lent new
+
+-- Parcels can be put back at a path: it is out, and they are of its kind and fit there.
+pub record CanBePutBack (g : Geometry) (p : Path) (l : Parcels) (n : Nodes) : Type 0 where
+  pub out : IsOut p n
+  pub kind : IsKindOf p l
+  pub fits : Fits g p l

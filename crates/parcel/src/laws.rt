@@ -1,20 +1,23 @@
 //! What holds of every tree, and of every run on what it lends: laws of the definitions alone. No
 //! function here does anything; its contract is the law.
 
-ghost use Rattle.std.specs.Prelude.{◌≡◌, ◌++◌, [], is_some, true};
+ghost use Rattle.std.specs.Prelude.{◌≡◌, ◌++◌, [], is_some, Bool, false, true};
 ghost use Rattle.affinity.specs.Interval.{IsPath};
-ghost use Rattle.affinity.specs.Path.{Path};
+ghost use Rattle.affinity.specs.Path.{Path, are_related};
 ghost use Rattle.affinity.specs.declared.geometry.Geometry.{Geometry};
-ghost use Rattle.message.specs.Messages.{IsMessage};
+ghost use Rattle.message.specs.declared.Msg.{Msg};
+ghost use Rattle.message.specs.Messages.{IsMessage, place};
 ghost use Rattle.plain.specs.Laws.{outside};
+ghost use Rattle.plain.specs.Serial.{next_state, reply_to};
 ghost use Rattle.plain.specs.Shares.{AgreeOn, share, standing};
 ghost use Rattle.plain.specs.State.{State, IsState};
-ghost use Rattle.parcel.specs.Fits.{Fits};
+ghost use Rattle.parcel.specs.Fits.{Fits, IsKindOf};
+ghost use Rattle.parcel.specs.Holding.{IsApart, IsJobOut, TreeHolds, nowhere, with_place};
 ghost use Rattle.parcel.specs.Nodes.{Nodes, in_parcels, tree_state, IsTakenOut, IsPutBack};
 ghost use Rattle.parcel.specs.Run.{Asked, IsRun, IsStep, Shows};
-ghost use Rattle.parcel.specs.RunLaws.{IsLentOf, IsSerialStepOf, IsServed};
+ghost use Rattle.parcel.specs.RunLaws.{CanBePutBack, IsLentBy, IsLentOf, IsSerialStepOf, IsServed, job_place};
 ghost use Rattle.parcel.specs.Shown.{shown};
-ghost use Rattle.parcel.specs.Tree.{IsIn};
+ghost use Rattle.parcel.specs.Tree.{HasGap, IsIn, IsLent, IsOut, IsRestored};
 ghost use Rattle.parcel.specs.declared.job.Done.{Done};
 ghost use Rattle.parcel.specs.declared.parts.Parcels.{Parcels};
 ghost use Rattle.parcel.specs.declared.parts.Standing.{Standing};
@@ -57,4 +60,60 @@ pub fn shown_is_share_and_standing()
         → standing g p (shown g p t l) ≡ standing g p x }
     ensures shows { (g : Geometry) (p : Path) (t : Standing) (l : Parcels) (x : State) → share g p (shown g p t l) ≡ share g p x
         → standing g p (shown g p t l) ≡ standing g p x → Shows g p t l x }
+{}
+
+/// What was lent and run can be put back: its place is out, and what the run left is of the kind of
+/// that place and fits there.
+pub fn lent_and_run_can_be_put_back()
+    ensures out { (g : Geometry) (p : Path) (t : Standing) (l : Parcels) (old lent : Nodes) →
+        IsPath g p → IsLent g p t l old lent → IsOut p lent }
+    ensures kind { (g : Geometry) (p : Path) (l : Parcels) → Fits g p l → IsKindOf p l }
+    ensures ran { (job : Asked) (done : Done) (old lent : Nodes) → IsLentBy job old lent →
+        IsRun job done → CanBePutBack job.geometry (job_place job) done.parcels lent }
+{}
+
+/// A tree of which nothing is out holds the state of its nodes, and no other.
+pub fn whole_tree_holds_its_state()
+    ensures start { (g : Geometry) (n : Nodes) (x : State) → IsIn g [] n → tree_state g n ≡ x →
+        IsState g x → TreeHolds g nowhere n x }
+    ensures whole { (g : Geometry) (n : Nodes) (x : State) → TreeHolds g nowhere n x →
+        IsIn g [] n × (tree_state g n ≡ x) }
+{}
+
+/// Where a place is unrelated to all that is out of a tree that holds a state, the tree lends it:
+/// nothing there, above or below is out. What it lends shows that state, and the tree holds the
+/// state with one place more out.
+pub fn place_apart_is_lent()
+    ensures some { (g : Geometry) (out : Path → Bool) (p : Path) (n : Nodes) (x : State) →
+        TreeHolds g out n x → IsApart p out → HasGap g p n → ⊥ }
+    ensures shows { (g : Geometry) (out : Path → Bool) (p : Path) (t : Standing) (l : Parcels)
+        (n lent : Nodes) (x : State) → TreeHolds g out n x → IsApart p out →
+        IsLent g p t l n lent → Shows g p t l x }
+    ensures holds { (g : Geometry) (out : Path → Bool) (p : Path) (t : Standing) (l : Parcels)
+        (n lent : Nodes) (x : State) → TreeHolds g out n x → IsApart p out →
+        IsLent g p t l n lent → TreeHolds g (with_place p out) lent x }
+    ensures alike { (g : Geometry) (out set : Path → Bool) (n : Nodes) (x : State) →
+        ((q : Path) → out q ≡ set q) → TreeHolds g out n x → TreeHolds g set n x }
+{}
+
+/// A serial step at an unrelated place leaves what is out showing the new state.
+pub fn step_elsewhere_is_shown()
+    ensures { (g : Geometry) (p : Path) (t : Standing) (l : Parcels) (x : State) (m : Msg) →
+        are_related p (place g m) ≡ false → Shows g p t l x → Shows g p t l (next_state g x m) }
+{}
+
+/// A job that is out of a tree that holds a state, whatever is out beside it, can be put back once
+/// it ran: its reply is that of the serial step of that state, and then the tree holds the state
+/// after the step, with one place fewer out.
+pub fn job_back_is_a_step()
+    ensures ok { (out : Path → Bool) (job : Asked) (done : Done) (n : Nodes) (x : State) →
+        IsJobOut out job n x → IsRun job done →
+        CanBePutBack job.geometry (job_place job) done.parcels n }
+    ensures reply { (out : Path → Bool) (job : Asked) (done : Done) (n : Nodes) (x : State) →
+        IsJobOut out job n x → IsRun job done →
+        done.reply ≡ reply_to job.geometry x job.message }
+    ensures holds { (out : Path → Bool) (job : Asked) (done : Done) (n new : Nodes) (x : State) →
+        IsJobOut out job n x → IsRun job done → IsMessage job.message →
+        IsRestored job.geometry (job_place job) done.parcels n new →
+        TreeHolds job.geometry out new (next_state job.geometry x job.message) }
 {}

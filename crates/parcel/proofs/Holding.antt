@@ -1,0 +1,230 @@
+-- What was lent and run can be put back, and a tree keeps to the serial state while parcels are out at several places.
+use Rattle.std.proofs.Common.{◌≡◌, ℕ, zero, suc, Bool, true, false, [], ◌∷◌, ◌++◌, refl, sym, ap, subst, ◌∙◌, ⊎_elim}
+use Rattle.std.specs.Prelude.{◌&&◌, ◌||◌, ◌==◌, not, Option, None, Some, is_some}
+use Rattle.std.proofs.lemmas.Bool.{and_parts, and_from, cond-false, cond-true, eq-eqb, false_from_ne_true, not_from_false, not-true, or_cases, or_left, or_parts, or_right, true≢false}
+use Rattle.affinity.specs.declared.geometry.Geometry.{Geometry}
+use Rattle.affinity.specs.Interval.{IsPath}
+use Rattle.affinity.specs.Path.{Path, begins, are_related}
+use Rattle.affinity.proofs.Paths.{begins-refl, unrelated_below, unrelated_turned}
+use Rattle.affinity.proofs.Placed.{IsPath-place}
+use Rattle.message.specs.declared.Msg.{Msg}
+use Rattle.message.specs.Messages.{place, is_in_range, kind, four_numbers, IsMessage}
+use Rattle.plain.specs.State.{State, IsState}
+use Rattle.plain.specs.Serial.{reply_to, next_state}
+use Rattle.plain.specs.Shares.{AgreeOn}
+use Rattle.plain.specs.Laws.{outside}
+use Rattle.plain.proofs.Agree.{agree-refl, agree-sym, agree-trans, agree_either, agree_everywhere, agree_within}
+use Rattle.plain.proofs.Frame.{changes_only}
+use Rattle.plain.proofs.Kept.{step_kept}
+use Rattle.parcel.specs.Fits.{Fits, IsKindOf}
+use Rattle.parcel.specs.Holding.{TreeHolds, IsApart, IsJobOut, nowhere, with_place}
+use Rattle.parcel.specs.Nodes.{Node, Nodes, in_parcels, tree_state, IsTakenOut}
+use Rattle.parcel.specs.Run.{Asked, IsRun, Shows}
+use Rattle.parcel.specs.RunLaws.{CanBePutBack, IsLentBy, job_place}
+use Rattle.parcel.specs.Shown.{shown}
+use Rattle.parcel.specs.Tree.{IsIn, HasGap, IsOut, IsLent, IsRestored, above}
+use Rattle.parcel.specs.declared.job.Done.{Done}
+use Rattle.parcel.specs.declared.parts.Parcels.{Parcels}
+use Rattle.parcel.specs.declared.parts.Standing.{Standing}
+use Rattle.parcel.proofs.Leaving.{taken_leaves, put_leaves, put_outside}
+use Rattle.parcel.proofs.Lending.{kind_of, restored_is_in}
+use Rattle.parcel.proofs.SerialRuns.{begins_split, serial_run}
+
+-- ---- the path above
+
+above_path : (g : Geometry) (p : Path) → IsPath g p → IsPath g (above p)
+above_path g [] h = tt
+above_path g (a ∷ []) h = tt
+above_path g (a ∷ v ∷ []) h = h.0
+above_path g (a ∷ v ∷ zero ∷ []) h = h
+above_path g (a ∷ v ∷ zero ∷ s ∷ []) h = (h.0, h.1)
+above_path g (a ∷ v ∷ zero ∷ s ∷ x ∷ p) h = absurd h
+above_path g (a ∷ v ∷ suc zero ∷ []) h = h
+above_path g (a ∷ v ∷ suc zero ∷ x ∷ p) h = absurd h
+above_path g (a ∷ v ∷ suc (suc i) ∷ p) h = absurd h
+
+above_begins : (p : Path) → begins (above p) p ≡ true
+above_begins [] = refl
+above_begins (x ∷ []) = refl
+above_begins (x ∷ y ∷ p) = and_from (x == x) _ (eq-eqb x x refl) (above_begins (y ∷ p))
+
+begins-above : (x : ℕ) (p : Path) → begins (x ∷ p) (above (x ∷ p)) ≡ false
+begins-above x [] = refl
+begins-above x (y ∷ p) = false_from_ne_true _ (λ e. true≢false (sym (and_parts (x == x) (begins (y ∷ p) (above (y ∷ p))) e).1 ∙ begins-above y p))
+
+above_related : (p : Path) → are_related p (above p) ≡ true
+above_related p = or_right (begins p (above p)) (begins (above p) p) (above_begins p)
+
+is_there : (o : Option Node) → (o ≡ None → ⊥) → is_some o ≡ true
+is_there None h = absurd (h refl)
+is_there (Some n) h = refl
+
+not_there : (o : Option Node) → o ≡ None → is_some o ≡ true → ⊥
+not_there None e h = true≢false (sym h)
+not_there (Some n) e h = true≢false (sym h ∙ ap is_some e)
+
+-- ---- what was lent and run can be put back
+
+pub lent_is_out : (g : Geometry) (p : Path) (t : Standing) (l : Parcels) (old lent : Nodes) → IsPath g p → IsLent g p t l old lent → IsOut p lent
+lent_is_out g [] t l old lent path h = h.rest []
+lent_is_out g (x ∷ p) t l old lent path h =
+    let up = above (x ∷ p) in (
+      h.rest (x ∷ p) ∙ cond-true (begins (x ∷ p) (x ∷ p)) None (old (x ∷ p)) (begins-refl (x ∷ p)),
+      ap is_some (h.rest up ∙ cond-false (begins (x ∷ p) up) None (old up) (begins-above x p)) ∙ h.all_in up (above_path g (x ∷ p) path) (above_related (x ∷ p)),
+    )
+
+pub place_is_path : (g : Geometry) (m : Msg) → is_in_range g m ≡ true → IsPath g (place g m)
+place_is_path g m h = IsPath-place g (kind m) (four_numbers m) h
+
+pub ran_goes_back : (job : Asked) (done : Done) (old lent : Nodes) → IsLentBy job old lent → IsRun job done
+    → CanBePutBack job.geometry (job_place job) done.parcels lent
+ran_goes_back job done old lent h ran =
+    let g = job.geometry in
+    let p = place g job.message in
+    record {
+      out = lent_is_out g p job.standing job.parcels old lent (place_is_path g job.message ran.suits.range) h;
+      kind = kind_of g p done.parcels ran.suits.fits;
+      fits = ran.suits.fits;
+    }
+
+-- ---- where nothing is out
+
+pub holds_whole : (g : Geometry) (n : Nodes) (x : State) → IsIn g [] n → tree_state g n ≡ x → IsState g x → TreeHolds g nowhere n x
+holds_whole g n x whole same is = record {
+  agrees = subst (λ (y : State). AgreeOn g (λ q. not (nowhere q)) (tree_state g n) y) same (agree-refl (tree_state g n));
+  others = λ q path none. absurd (not_there (n q) none (whole q path refl));
+  gone = λ q r. absurd (true≢false (sym r));
+  state = is;
+}
+
+pub whole_holds : (g : Geometry) (n : Nodes) (x : State) → TreeHolds g nowhere n x → IsIn g [] n × (tree_state g n ≡ x)
+whole_holds g n x h = (
+  λ q path related. is_there (n q) (λ none. true≢false (sym (h.others q path none))),
+  agree_everywhere {g = g} {R = λ q. true} (λ q. refl) h.agrees,
+)
+
+-- where two tests pick the same paths
+pub holds_alike : (g : Geometry) (out set : Path → Bool) (n : Nodes) (x : State) → ((q : Path) → out q ≡ set q) → TreeHolds g out n x → TreeHolds g set n x
+holds_alike g out set n x same h = record {
+  agrees = agree_within (λ q r. ap not (same q) ∙ r) h.agrees;
+  others = λ q path none. sym (same q) ∙ h.others q path none;
+  gone = λ q is. h.gone q (same q ∙ is);
+  state = h.state;
+}
+
+-- ---- a place that is unrelated to all that is out
+
+module _ (g : Geometry) (out : Path → Bool) (p : Path) (apart : IsApart p out) where
+  not_out : (q : Path) → are_related p q ≡ true → out q ≡ false
+  not_out q related = false_from_ne_true (out q) (λ is. true≢false (sym related ∙ apart q is))
+
+  below_not_out : (q : Path) → begins p q ≡ true → out q ≡ false
+  below_not_out q below = not_out q (or_left (begins p q) (begins q p) below)
+
+  pub can_be_lent : (n : Nodes) (x : State) → TreeHolds g out n x → HasGap g p n → ⊥
+  can_be_lent n x h gap = true≢false (sym (h.others gap.0 gap.1 gap.3) ∙ not_out gap.0 gap.2)
+
+  pub lent_shows : (t : Standing) (l : Parcels) (n lent : Nodes) (x : State) → TreeHolds g out n x → IsLent g p t l n lent → Shows g p t l x
+  lent_shows t l n lent x h taken = agree-trans taken.shows (agree_within (λ q related. not_from_false (out q) (not_out q related)) h.agrees)
+
+  pub lent_holds : (t : Standing) (l : Parcels) (n lent : Nodes) (x : State) → TreeHolds g out n x → IsLent g p t l n lent → TreeHolds g (with_place p out) lent x
+  lent_holds t l n lent x h taken = record {
+    agrees = agree-trans
+        (agree_within (λ q r. not_from_false (begins p q) (or_parts (begins p q) (out q) (not-true (begins p q || out q) r)).0) (taken_leaves g p n lent taken.rest))
+        (agree_within (λ q r. not_from_false (out q) (or_parts (begins p q) (out q) (not-true (begins p q || out q) r)).1) h.agrees);
+    others = λ q path none. elim (begins p q) as (λ b. begins p q ≡ b → (b || out q) ≡ true) [
+      | true ↦ λ e. refl
+      | false ↦ λ e. h.others q path (sym (taken.rest q ∙ cond-false (begins p q) None (n q) e) ∙ none)
+    ] refl;
+    gone = λ q is. elim (begins p q) as (λ b. begins p q ≡ b → (b || out q) ≡ true → lent q ≡ None) [
+      | true ↦ λ e r. taken.rest q ∙ cond-true (begins p q) None (n q) e
+      | false ↦ λ e r. taken.rest q ∙ cond-false (begins p q) None (n q) e ∙ h.gone q r
+    ] refl is;
+    state = h.state;
+  }
+
+  -- ---- it is out as well, and comes back
+
+  pub place_is_out : (n : Nodes) (x : State) → IsPath g p → TreeHolds g (with_place p out) n x → IsOut p n
+  place_is_out n x path h = by p path (begins-refl p) (λ q. apart q) h
+    where
+      by : (r : Path) → IsPath g r → begins r r ≡ true → IsApart r out → TreeHolds g (with_place r out) n x → IsOut r n
+      by [] path self far h = h.gone [] refl
+      by (y ∷ r) path self far h =
+          let up = above (y ∷ r) in
+          let stays : out up ≡ false = false_from_ne_true (out up) (λ is. true≢false (sym (above_related (y ∷ r)) ∙ far up is)) in (
+            h.gone (y ∷ r) (or_left (begins (y ∷ r) (y ∷ r)) (out (y ∷ r)) self),
+            is_there (n up) (λ none. ⊎_elim
+            (λ is. true≢false (sym is ∙ begins-above y r))
+            (λ is. true≢false (sym is ∙ stays))
+            (or_cases (begins (y ∷ r) up) (out up) (h.others up (above_path g (y ∷ r) path) none))),
+          )
+
+  module _ (m : Msg) (at : place g m ≡ p) (t : Standing) (l : Parcels) (n new : Nodes) (x : State) (h : TreeHolds g (with_place p out) n x) (put : IsRestored g p l n new)
+      (fits : Fits g p l) (shows : Shows g p t l (next_state g x m)) (message : IsMessage m) where
+    here : AgreeOn g (begins p) (tree_state g new) (next_state g x m)
+    here = agree-trans (agree-sym (put.share t)) (agree_within (λ q r. or_left (begins p q) (begins q p) r) shows)
+
+    changes : AgreeOn g (outside p) (next_state g x m) x
+    changes = subst (λ (r : Path). AgreeOn g (outside r) (next_state g x m) x) at (changes_only g x m)
+
+    still : (q : Path) → begins p q ≡ false → out q ≡ false → (begins p q || out q) ≡ false
+    still q e d = ap (λ b. b || out q) e ∙ d
+
+    elsewhere : AgreeOn g (λ q. not (with_place p out q)) (tree_state g new) (next_state g x m)
+    elsewhere =
+        let beside : (q : Path) → not (with_place p out q) ≡ true → outside p q ≡ true = λ q r. not_from_false (begins p q) (or_parts (begins p q) (out q) (not-true (begins p q || out q) r)).0 in
+        agree-trans (agree_within beside (put_leaves g p (in_parcels l) n new put.nodes)) (agree-trans h.agrees (agree_within beside (agree-sym changes)))
+
+    either_way : (q : Path) → not (out q) ≡ true → (begins p q || not (with_place p out q)) ≡ true
+    either_way q r = elim (begins p q) as (λ b. (b || not (b || out q)) ≡ true) [ true ↦ refl | false ↦ r ]
+
+    back_in : (q : Path) → IsPath g q → begins p q ≡ true → is_some (new q) ≡ true
+    back_in q path below =
+        let rest = begins_split p q below in
+        subst (λ (r : Path). is_some (new r) ≡ true) (sym rest.1) (restored_is_in g p l n new put.nodes fits rest.0 (subst (λ (r : Path). IsPath g r) rest.1 path))
+
+    unchanged : (q : Path) → begins p q ≡ false → new q ≡ n q
+    unchanged q beside = put.nodes q ∙ put_outside p (in_parcels l) n q beside
+
+    pub restored_holds : TreeHolds g out new (next_state g x m)
+    restored_holds = record {
+      agrees = agree_within either_way (agree_either here elsewhere);
+      others = λ q path none. elim (begins p q) as (λ b. begins p q ≡ b → out q ≡ true) [
+        | true ↦ λ below. absurd (not_there (new q) none (back_in q path below))
+        | false ↦ λ beside. ⊎_elim
+            (λ is. absurd (true≢false (sym is ∙ beside)))
+            (λ is. is)
+            (or_cases (begins p q) (out q) (h.others q path (sym (unchanged q beside) ∙ none)))
+      ] refl;
+      gone = λ q is. unchanged q (false_from_ne_true (begins p q) (λ below. true≢false (sym is ∙ below_not_out q below))) ∙ h.gone q (or_right (begins p q) (out q) is);
+      state = step_kept g x m h.state message;
+    }
+
+-- ---- a step elsewhere
+
+pub shows_still : (g : Geometry) (p : Path) (t : Standing) (l : Parcels) (x : State) (m : Msg) → are_related p (place g m) ≡ false → Shows g p t l x → Shows g p t l (next_state g x m)
+shows_still g p t l x m apart shows = agree-trans shows (agree_within (λ q related. not_from_false (begins (place g m) q) (beside q related)) (agree-sym (changes_only g x m)))
+  where
+    beside : (q : Path) → are_related p q ≡ true → begins (place g m) q ≡ false
+    beside q related = false_from_ne_true (begins (place g m) q) (λ below. true≢false (sym related ∙ unrelated_turned q p (unrelated_below (place g m) p q (unrelated_turned p (place g m) apart) below)))
+
+-- ---- a job that is out, and what it left when it ran
+
+pub job_goes_back : (out : Path → Bool) (job : Asked) (done : Done) (n : Nodes) (x : State) → IsJobOut out job n x → IsRun job done → CanBePutBack job.geometry (job_place job) done.parcels n
+job_goes_back out job done n x h ran =
+    let g = job.geometry in
+    let p = place g job.message in
+    record {
+      out = place_is_out g out p h.apart n x (place_is_path g job.message ran.suits.range) h.holds;
+      kind = kind_of g p done.parcels ran.suits.fits;
+      fits = ran.suits.fits;
+    }
+
+pub job_reply : (out : Path → Bool) (job : Asked) (done : Done) (n : Nodes) (x : State) → IsJobOut out job n x → IsRun job done → done.reply ≡ reply_to job.geometry x job.message
+job_reply out job done n x h ran = (serial_run job done x ran h.shows).reply
+
+pub job_is_back : (out : Path → Bool) (job : Asked) (done : Done) (n new : Nodes) (x : State) → IsJobOut out job n x → IsRun job done → IsMessage job.message
+    → IsRestored job.geometry (job_place job) done.parcels n new → TreeHolds job.geometry out new (next_state job.geometry x job.message)
+job_is_back out job done n new x h ran message put =
+    restored_holds job.geometry out (job_place job) h.apart job.message refl job.standing done.parcels n new x h.holds put ran.suits.fits (serial_run job done x ran h.shows).shows message

@@ -1,0 +1,11 @@
+use Rattle.parcel.proofs.Holding.{job_goes_back, job_reply, job_is_back}
+use Rattle.parcel.proofs.laws.job_back_is_a_step.Goals as goal
+
+pub returns-clause-ok : goal.returns-clause-ok
+returns-clause-ok c = job_goes_back
+
+pub returns-clause-reply : goal.returns-clause-reply
+returns-clause-reply c = job_reply
+
+pub returns-clause-holds : goal.returns-clause-holds
+returns-clause-holds c = job_is_back

@@ -1,0 +1,12 @@
+use Rattle.parcel.proofs.Holding.{lent_is_out, ran_goes_back}
+use Rattle.parcel.proofs.Lending.{kind_of}
+use Rattle.parcel.proofs.laws.lent_and_run_can_be_put_back.Goals as goal
+
+pub returns-clause-out : goal.returns-clause-out
+returns-clause-out c = lent_is_out
+
+pub returns-clause-kind : goal.returns-clause-kind
+returns-clause-kind c = kind_of
+
+pub returns-clause-ran : goal.returns-clause-ran
+returns-clause-ran c = ran_goes_back

@@ -1,0 +1,5 @@
+use Rattle.parcel.proofs.Holding.{shows_still}
+use Rattle.parcel.proofs.laws.step_elsewhere_is_shown.Goals as goal
+
+pub returns : goal.returns
+returns c = shows_still

@@ -1,0 +1,35 @@
+-- A tree beside the serial state, while parcels are out at several places.
+use Rattle.std.specs.Prelude.{◌≡◌, Bool, true, false, not, ◌||◌, None}
+use Rattle.affinity.specs.declared.geometry.Geometry.{Geometry}
+use Rattle.affinity.specs.Interval.{IsPath}
+use Rattle.affinity.specs.Path.{Path, begins, are_related}
+use Rattle.plain.specs.Shares.{AgreeOn}
+use Rattle.plain.specs.State.{State, IsState}
+use Rattle.parcel.specs.Nodes.{Nodes, tree_state}
+use Rattle.parcel.specs.Run.{Asked}
+use Rattle.parcel.specs.RunLaws.{IsLentOf, job_place}
+
+-- the set of no path
+abbrev pub nowhere : Path → Bool
+nowhere q = false
+
+-- a set of paths, and one place with all that lies below it
+abbrev pub with_place : Path → (Path → Bool) → Path → Bool
+with_place p out q = begins p q || out q
+
+-- A place is unrelated to each path of a set.
+abbrev pub IsApart : Path → (Path → Bool) → Type 0
+IsApart p out = (q : Path) → out q ≡ true → are_related p q ≡ false
+
+-- The tree holds a state of its geometry but for the paths that are out, and just these are out.
+pub record TreeHolds (g : Geometry) (out : Path → Bool) (n : Nodes) (x : State) : Type 0 where
+  pub agrees : AgreeOn g (λ q. not (out q)) (tree_state g n) x
+  pub others : (q : Path) → IsPath g q → n q ≡ None → out q ≡ true
+  pub gone : (q : Path) → out q ≡ true → n q ≡ None
+  pub state : IsState g x
+
+-- A job is out of a tree that holds a state, beside others at unrelated places: it shows that state.
+pub record IsJobOut (out : Path → Bool) (job : Asked) (n : Nodes) (x : State) : Type 0 where
+  pub holds : TreeHolds job.geometry (with_place (job_place job) out) n x
+  pub apart : IsApart (job_place job) out
+  pub shows : IsLentOf job x
