@@ -18,11 +18,11 @@ use Rattle.plain.proofs.Frame.{changes_only}
 use Rattle.plain.proofs.Kept.{step_kept}
 use Rattle.parcel.specs.Fits.{Fits, IsKindOf}
 use Rattle.parcel.specs.Holding.{TreeHolds, IsApart, IsJobOut, nowhere, with_place}
-use Rattle.parcel.specs.Nodes.{Node, Nodes, in_parcels, tree_state, IsTakenOut}
+use Rattle.parcel.specs.Nodes.{Node, Nodes, in_parcels, tree_state, TakesOut}
 use Rattle.parcel.specs.Run.{Asked, IsRun, Shows}
-use Rattle.parcel.specs.RunLaws.{CanBePutBack, IsLentBy, job_place}
-use Rattle.parcel.specs.Shown.{shown}
-use Rattle.parcel.specs.Tree.{IsIn, HasGap, IsOut, IsLent, IsRestored, above}
+use Rattle.parcel.specs.RunLaws.{CanBePutBack, LendsJob, job_place}
+use Rattle.parcel.specs.Shown.{shown_state}
+use Rattle.parcel.specs.Tree.{IsIn, HasGap, IsOut, LendsAt, RestoresAt, path_above}
 use Rattle.parcel.specs.declared.job.Done.{Done}
 use Rattle.parcel.specs.declared.parts.Parcels.{Parcels}
 use Rattle.parcel.specs.declared.parts.Standing.{Standing}
@@ -32,7 +32,7 @@ use Rattle.parcel.proofs.SerialRuns.{begins_split, serial_run}
 
 -- ---- the path above
 
-above_path : (g : Geometry) (p : Path) → IsPath g p → IsPath g (above p)
+above_path : (g : Geometry) (p : Path) → IsPath g p → IsPath g (path_above p)
 above_path g [] h = tt
 above_path g (a ∷ []) h = tt
 above_path g (a ∷ v ∷ []) h = h.0
@@ -43,17 +43,17 @@ above_path g (a ∷ v ∷ suc zero ∷ []) h = h
 above_path g (a ∷ v ∷ suc zero ∷ x ∷ p) h = absurd h
 above_path g (a ∷ v ∷ suc (suc i) ∷ p) h = absurd h
 
-above_begins : (p : Path) → begins (above p) p ≡ true
+above_begins : (p : Path) → begins (path_above p) p ≡ true
 above_begins [] = refl
 above_begins (x ∷ []) = refl
 above_begins (x ∷ y ∷ p) = and_from (x == x) _ (eq-eqb x x refl) (above_begins (y ∷ p))
 
-begins-above : (x : ℕ) (p : Path) → begins (x ∷ p) (above (x ∷ p)) ≡ false
-begins-above x [] = refl
-begins-above x (y ∷ p) = false_from_ne_true _ (λ e. true≢false (sym (and_parts (x == x) (begins (y ∷ p) (above (y ∷ p))) e).1 ∙ begins-above y p))
+begins-path_above : (x : ℕ) (p : Path) → begins (x ∷ p) (path_above (x ∷ p)) ≡ false
+begins-path_above x [] = refl
+begins-path_above x (y ∷ p) = false_from_ne_true _ (λ e. true≢false (sym (and_parts (x == x) (begins (y ∷ p) (path_above (y ∷ p))) e).1 ∙ begins-path_above y p))
 
-above_related : (p : Path) → are_related p (above p) ≡ true
-above_related p = or_right (begins p (above p)) (begins (above p) p) (above_begins p)
+above_related : (p : Path) → are_related p (path_above p) ≡ true
+above_related p = or_right (begins p (path_above p)) (begins (path_above p) p) (above_begins p)
 
 is_there : (o : Option Node) → (o ≡ None → ⊥) → is_some o ≡ true
 is_there None h = absurd (h refl)
@@ -65,18 +65,18 @@ not_there (Some n) e h = true≢false (sym h ∙ ap is_some e)
 
 -- ---- what was lent and run can be put back
 
-pub lent_is_out : (g : Geometry) (p : Path) (t : Standing) (l : Parcels) (old lent : Nodes) → IsPath g p → IsLent g p t l old lent → IsOut p lent
+pub lent_is_out : (g : Geometry) (p : Path) (t : Standing) (l : Parcels) (old lent : Nodes) → IsPath g p → LendsAt g p t l old lent → IsOut p lent
 lent_is_out g [] t l old lent path h = h.rest []
 lent_is_out g (x ∷ p) t l old lent path h =
-    let up = above (x ∷ p) in (
+    let up = path_above (x ∷ p) in (
       h.rest (x ∷ p) ∙ cond-true (begins (x ∷ p) (x ∷ p)) None (old (x ∷ p)) (begins-refl (x ∷ p)),
-      ap is_some (h.rest up ∙ cond-false (begins (x ∷ p) up) None (old up) (begins-above x p)) ∙ h.all_in up (above_path g (x ∷ p) path) (above_related (x ∷ p)),
+      ap is_some (h.rest up ∙ cond-false (begins (x ∷ p) up) None (old up) (begins-path_above x p)) ∙ h.all_in up (above_path g (x ∷ p) path) (above_related (x ∷ p)),
     )
 
 pub place_is_path : (g : Geometry) (m : Msg) → is_in_range g m ≡ true → IsPath g (place g m)
 place_is_path g m h = IsPath-place g (kind m) (four_numbers m) h
 
-pub ran_goes_back : (job : Asked) (done : Done) (old lent : Nodes) → IsLentBy job old lent → IsRun job done
+pub ran_goes_back : (job : Asked) (done : Done) (old lent : Nodes) → LendsJob job old lent → IsRun job done
     → CanBePutBack job.geometry (job_place job) done.parcels lent
 ran_goes_back job done old lent h ran =
     let g = job.geometry in
@@ -124,10 +124,10 @@ module _ (g : Geometry) (out : Path → Bool) (p : Path) (apart : IsApart p out)
   pub can_be_lent : (n : Nodes) (x : State) → TreeHolds g out n x → HasGap g p n → ⊥
   can_be_lent n x h gap = true≢false (sym (h.others gap.0 gap.1 gap.3) ∙ not_out gap.0 gap.2)
 
-  pub lent_shows : (t : Standing) (l : Parcels) (n lent : Nodes) (x : State) → TreeHolds g out n x → IsLent g p t l n lent → Shows g p t l x
+  pub lent_shows : (t : Standing) (l : Parcels) (n lent : Nodes) (x : State) → TreeHolds g out n x → LendsAt g p t l n lent → Shows g p t l x
   lent_shows t l n lent x h taken = agree-trans taken.shows (agree_within (λ q related. not_from_false (out q) (not_out q related)) h.agrees)
 
-  pub lent_holds : (t : Standing) (l : Parcels) (n lent : Nodes) (x : State) → TreeHolds g out n x → IsLent g p t l n lent → TreeHolds g (with_place p out) lent x
+  pub lent_holds : (t : Standing) (l : Parcels) (n lent : Nodes) (x : State) → TreeHolds g out n x → LendsAt g p t l n lent → TreeHolds g (with_place p out) lent x
   lent_holds t l n lent x h taken = record {
     agrees = agree-trans
         (agree_within (λ q r. not_from_false (begins p q) (or_parts (begins p q) (out q) (not-true (begins p q || out q) r)).0) (taken_leaves g p n lent taken.rest))
@@ -151,16 +151,16 @@ module _ (g : Geometry) (out : Path → Bool) (p : Path) (apart : IsApart p out)
       by : (r : Path) → IsPath g r → begins r r ≡ true → IsApart r out → TreeHolds g (with_place r out) n x → IsOut r n
       by [] path self far h = h.gone [] refl
       by (y ∷ r) path self far h =
-          let up = above (y ∷ r) in
+          let up = path_above (y ∷ r) in
           let stays : out up ≡ false = false_from_ne_true (out up) (λ is. true≢false (sym (above_related (y ∷ r)) ∙ far up is)) in (
             h.gone (y ∷ r) (or_left (begins (y ∷ r) (y ∷ r)) (out (y ∷ r)) self),
             is_there (n up) (λ none. ⊎_elim
-            (λ is. true≢false (sym is ∙ begins-above y r))
-            (λ is. true≢false (sym is ∙ stays))
-            (or_cases (begins (y ∷ r) up) (out up) (h.others up (above_path g (y ∷ r) path) none))),
+                (λ is. true≢false (sym is ∙ begins-path_above y r))
+                (λ is. true≢false (sym is ∙ stays))
+                (or_cases (begins (y ∷ r) up) (out up) (h.others up (above_path g (y ∷ r) path) none))),
           )
 
-  module _ (m : Msg) (at : place g m ≡ p) (t : Standing) (l : Parcels) (n new : Nodes) (x : State) (h : TreeHolds g (with_place p out) n x) (put : IsRestored g p l n new)
+  module _ (m : Msg) (at : place g m ≡ p) (t : Standing) (l : Parcels) (n new : Nodes) (x : State) (h : TreeHolds g (with_place p out) n x) (put : RestoresAt g p l n new)
       (fits : Fits g p l) (shows : Shows g p t l (next_state g x m)) (message : IsMessage m) where
     here : AgreeOn g (begins p) (tree_state g new) (next_state g x m)
     here = agree-trans (agree-sym (put.share t)) (agree_within (λ q r. or_left (begins p q) (begins q p) r) shows)
@@ -225,6 +225,6 @@ pub job_reply : (out : Path → Bool) (job : Asked) (done : Done) (n : Nodes) (x
 job_reply out job done n x h ran = (serial_run job done x ran h.shows).reply
 
 pub job_is_back : (out : Path → Bool) (job : Asked) (done : Done) (n new : Nodes) (x : State) → IsJobOut out job n x → IsRun job done → IsMessage job.message
-    → IsRestored job.geometry (job_place job) done.parcels n new → TreeHolds job.geometry out new (next_state job.geometry x job.message)
+    → RestoresAt job.geometry (job_place job) done.parcels n new → TreeHolds job.geometry out new (next_state job.geometry x job.message)
 job_is_back out job done n new x h ran message put =
     restored_holds job.geometry out (job_place job) h.apart job.message refl job.standing done.parcels n new x h.holds put ran.suits.fits (serial_run job done x ran h.shows).shows message

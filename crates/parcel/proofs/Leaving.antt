@@ -7,7 +7,7 @@ use Rattle.affinity.specs.Geometry.{group}
 use Rattle.affinity.specs.Path.{Path, begins, volume, logical, stripe, label}
 use Rattle.plain.specs.Shares.{AgreeOn}
 use Rattle.plain.specs.Laws.{outside}
-use Rattle.parcel.specs.Nodes.{Node, Nodes, marks_made, marks_sealed, files_have, slots_hold, text_of, tree_state, put_at, IsTakenOut, IsPutBack}
+use Rattle.parcel.specs.Nodes.{Node, Nodes, marks_made, marks_sealed, files_have, slots_hold, text_of, tree_state, put_at, TakesOut, PutsBack}
 
 -- nodes that are the same at the paths that a test picks hold the same state there
 pub agree_where_same : (g : Geometry) (R : Path → Bool) (m n : Nodes) → ((q : Path) → R q ≡ true → m q ≡ n q) → AgreeOn g R (tree_state g m) (tree_state g n)
@@ -19,7 +19,7 @@ agree_where_same g R m n same = record {
   labels = λ k r. ap text_of (same (label k.0 k.1) r);
 }
 
-pub taken_leaves : (g : Geometry) (p : Path) (old new : Nodes) → IsTakenOut p old new → AgreeOn g (outside p) (tree_state g new) (tree_state g old)
+pub taken_leaves : (g : Geometry) (p : Path) (old new : Nodes) → TakesOut p old new → AgreeOn g (outside p) (tree_state g new) (tree_state g old)
 taken_leaves g p old new h = agree_where_same g (outside p) new old (λ q r. h q ∙ cond-false (begins p q) None (old q) (not-true (begins p q) r))
 
 put_elsewhere : (b : Bool) (p q : Path) (part below : Nodes) (o : Option Node) → (b && begins p q) ≡ false → (begins p q ≡ false → put_at p part below q ≡ below q) → below q ≡ o → (if b then put_at p part below q else o) ≡ o
@@ -31,5 +31,5 @@ put_outside [] part old q h = absurd (true≢false h)
 put_outside (x ∷ p) part old [] h = refl
 put_outside (x ∷ p) part old (y ∷ q) h = put_elsewhere (x == y) p q part (λ r. old (y ∷ r)) (old (y ∷ q)) h (put_outside p part (λ r. old (y ∷ r)) q) refl
 
-pub put_leaves : (g : Geometry) (p : Path) (part old new : Nodes) → IsPutBack p part old new → AgreeOn g (outside p) (tree_state g new) (tree_state g old)
+pub put_leaves : (g : Geometry) (p : Path) (part old new : Nodes) → PutsBack p part old new → AgreeOn g (outside p) (tree_state g new) (tree_state g old)
 put_leaves g p part old new h = agree_where_same g (outside p) new old (λ q r. h q ∙ put_outside p part old q (not-true (begins p q) r))

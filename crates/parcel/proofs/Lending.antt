@@ -6,9 +6,9 @@ use Rattle.affinity.specs.declared.geometry.Geometry.{Geometry}
 use Rattle.affinity.specs.Interval.{IsPath}
 use Rattle.affinity.specs.Path.{Path}
 use Rattle.parcel.specs.Fits.{Fits, IsKindOf}
-use Rattle.parcel.specs.Levels.{IsRootPath, IsRefused, IsTaken, IsPut}
-use Rattle.parcel.specs.Nodes.{Nodes, in_parcels, put_at, IsPutBack, IsSame}
-use Rattle.parcel.specs.Tree.{HasGap, IsLent, IsRestored, standing_at}
+use Rattle.parcel.specs.Levels.{IsRootPath, Refuses, Takes, Puts}
+use Rattle.parcel.specs.Nodes.{Nodes, in_parcels, put_at, PutsBack, SameNodes}
+use Rattle.parcel.specs.Tree.{HasGap, LendsAt, RestoresAt, standing_at}
 use Rattle.parcel.specs.declared.parts.Parcels.{Parcels}
 use Rattle.parcel.specs.declared.parts.Parcels.TheVariants as parcels
 use Rattle.parcel.specs.declared.parts.Standing.{Standing}
@@ -46,10 +46,10 @@ kind_of g (a ∷ v ∷ zero ∷ s ∷ []) (parcels.Stripe p) h = tt
 kind_of g (a ∷ v ∷ suc zero ∷ []) (parcels.Label l) h = tt
 kind_of g p l h = absurd h
 
-pub gap_from_refused : (g : Geometry) (p : Path) (old new : Nodes) → IsRefused (IsRootPath g) p old new → HasGap g p old × IsSame old new
+pub gap_from_refused : (g : Geometry) (p : Path) (old new : Nodes) → Refuses (IsRootPath g) p old new → HasGap g p old × SameNodes old new
 gap_from_refused g p old new h = ((h.gap.0, path_there g h.gap.0 h.gap.1, h.gap.2, h.gap.3), h.same)
 
-pub lent_from_taken : (g : Geometry) (p : Path) (t : Standing) (l : Parcels) (old new : Nodes) → IsTaken (IsRootPath g) p l old new → Fits g p l → t ≡ standing_at p old → IsLent g p t l old new
+pub lent_from_taken : (g : Geometry) (p : Path) (t : Standing) (l : Parcels) (old new : Nodes) → Takes (IsRootPath g) p l old new → Fits g p l → t ≡ standing_at p old → LendsAt g p t l old new
 lent_from_taken g p t l old new h fits stands = record {
   all_in = λ q path related. h.all_in q (root_path g q path) related;
   fits = fits;
@@ -63,7 +63,7 @@ put_there : (p q : Path) (part old : Nodes) → put_at p part old (p ++ q) ≡ p
 put_there [] q part old = refl
 put_there (x ∷ p) q part old = cond-true _ _ _ (eq-eqb x x refl) ∙ put_there p q part (λ r. old (x ∷ r))
 
-pub restored_from_put : (g : Geometry) (p : Path) (l : Parcels) (old new : Nodes) → IsPut p l old new → IsKindOf p l → IsRestored g p l old new
+pub restored_from_put : (g : Geometry) (p : Path) (l : Parcels) (old new : Nodes) → Puts p l old new → IsKindOf p l → RestoresAt g p l old new
 restored_from_put g p l old new h kind = record {
   out = h.out;
   kind = kind;
@@ -83,5 +83,5 @@ whole_is_in g (a ∷ v ∷ suc zero ∷ []) (parcels.Label l) h [] path = refl
 whole_is_in g (a ∷ v ∷ suc zero ∷ []) (parcels.Label l) h (i ∷ q) path = absurd path
 whole_is_in g p l h q path = absurd h
 
-pub restored_is_in : (g : Geometry) (p : Path) (l : Parcels) (old new : Nodes) → IsPutBack p (in_parcels l) old new → Fits g p l → (q : Path) → IsPath g (p ++ q) → is_some (new (p ++ q)) ≡ true
+pub restored_is_in : (g : Geometry) (p : Path) (l : Parcels) (old new : Nodes) → PutsBack p (in_parcels l) old new → Fits g p l → (q : Path) → IsPath g (p ++ q) → is_some (new (p ++ q)) ≡ true
 restored_is_in g p l old new h fits q path = ap is_some (h (p ++ q) ∙ put_there p q (in_parcels l) old) ∙ whole_is_in g p l fits q path

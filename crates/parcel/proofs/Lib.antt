@@ -1,4 +1,4 @@
-pub mod Rows
+pub mod ChildRows
 pub mod Whole
 pub mod Levels
 pub mod Shows

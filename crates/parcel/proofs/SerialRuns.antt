@@ -16,8 +16,8 @@ use Rattle.plain.proofs.Kept.{step_kept}
 use Rattle.plain.proofs.ShareLaws.{agree_in_and_out, part_from_agree}
 use Rattle.parcel.specs.Nodes.{Nodes, in_parcels, tree_state}
 use Rattle.parcel.specs.Run.{Asked, IsRun, IsStep, Shows}
-use Rattle.parcel.specs.RunLaws.{IsLentOf, IsSerialStepOf, IsServed}
-use Rattle.parcel.specs.Shown.{shown}
+use Rattle.parcel.specs.RunLaws.{IsLentOf, IsSerialStepOf, LendsRunsRestores}
+use Rattle.parcel.specs.Shown.{shown_state}
 use Rattle.parcel.specs.Tree.{IsIn}
 use Rattle.parcel.specs.declared.job.Done.{Done}
 use Rattle.parcel.specs.declared.parts.Parcels.{Parcels}
@@ -30,14 +30,14 @@ serial_run job done x run lent =
     let g = job.geometry in
     let m = job.message in
     let p = place g m in
-    let same = reads_only g (are_related p) (shown g p job.standing job.parcels) x m lent (λ q r. r) in
+    let same = reads_only g (are_related p) (shown_state g p job.standing job.parcels) x m lent (λ q r. r) in
     record {
       reply = run.step.reply ∙ same.0;
       shows = subst (λ (y : State). AgreeOn g (are_related p) y (next_state g x m)) (sym run.step.state) same.1;
     }
 
 -- At the place and below, the tree has what the run left, and elsewhere what it had before.
-pub served_step : (job : Asked) (done : Done) (old lent new : Nodes) → IsServed job done old lent new
+pub served_step : (job : Asked) (done : Done) (old lent new : Nodes) → LendsRunsRestores job done old lent new
     → IsStep job.geometry (tree_state job.geometry old) job.message done.reply (tree_state job.geometry new)
 served_step job done old lent new h =
     let g = job.geometry in
@@ -60,7 +60,7 @@ begins_split (x ∷ p) (y ∷ q) h =
     let rest = begins_split p q both.1 in
     (rest.0, sym (ap (λ z. z ∷ q) (eqb-true x y both.0)) ∙ ap (λ r. x ∷ r) rest.1)
 
-pub served_is_in : (job : Asked) (done : Done) (old lent new : Nodes) → IsServed job done old lent new → IsIn job.geometry [] old → IsIn job.geometry [] new
+pub served_is_in : (job : Asked) (done : Done) (old lent new : Nodes) → LendsRunsRestores job done old lent new → IsIn job.geometry [] old → IsIn job.geometry [] new
 served_is_in job done old lent new h whole q path related =
     let g = job.geometry in
     let p = place g job.message in
@@ -70,15 +70,15 @@ served_is_in job done old lent new h whole q path related =
       | false ↦ λ e. ap is_some (h.put.nodes q ∙ put_outside p (in_parcels done.parcels) lent q e ∙ h.taken.rest q ∙ cond-false (begins p q) None (old q) e) ∙ whole q path refl
     ] refl
 
-pub served_state : (job : Asked) (done : Done) (old lent new : Nodes) → IsServed job done old lent new → IsMessage job.message
+pub served_state : (job : Asked) (done : Done) (old lent new : Nodes) → LendsRunsRestores job done old lent new → IsMessage job.message
     → IsState job.geometry (tree_state job.geometry old) → IsState job.geometry (tree_state job.geometry new)
 served_state job done old lent new h message is = subst (λ (y : State). IsState job.geometry y) (sym (served_step job done old lent new h).state) (step_kept job.geometry (tree_state job.geometry old) job.message is message)
 
 -- ---- to show a state is to have its share and its standing
 
-pub shown_share : (g : Geometry) (p : Path) (t : Standing) (l : Parcels) (x : State) → Shows g p t l x → share g p (shown g p t l) ≡ share g p x
-shown_share g p t l x h = part_from_agree g (begins p) (shown g p t l) x (agree_within (λ q r. or_left (begins p q) (begins q p) r) h)
+pub shown_share : (g : Geometry) (p : Path) (t : Standing) (l : Parcels) (x : State) → Shows g p t l x → share g p (shown_state g p t l) ≡ share g p x
+shown_share g p t l x h = part_from_agree g (begins p) (shown_state g p t l) x (agree_within (λ q r. or_left (begins p q) (begins q p) r) h)
 
-pub shown_standing : (g : Geometry) (p : Path) (t : Standing) (l : Parcels) (x : State) → Shows g p t l x → standing g p (shown g p t l) ≡ standing g p x
+pub shown_standing : (g : Geometry) (p : Path) (t : Standing) (l : Parcels) (x : State) → Shows g p t l x → standing g p (shown_state g p t l) ≡ standing g p x
 shown_standing g p t l x h =
-    part_from_agree g (λ q. begins q p && not (begins p q)) (shown g p t l) x (agree_within (λ q r. or_right (begins p q) (begins q p) (and_parts (begins q p) (not (begins p q)) r).0) h)
+    part_from_agree g (λ q. begins q p && not (begins p q)) (shown_state g p t l) x (agree_within (λ q r. or_right (begins p q) (begins q p) (and_parts (begins q p) (not (begins p q)) r).0) h)

@@ -9,7 +9,7 @@ use Rattle.affinity.specs.Path.{Path, begins, are_related}
 use Rattle.plain.specs.Shares.{AgreeOn}
 use Rattle.stripe.specs.Stripe.{StripePart}
 use Rattle.parcel.specs.Volume.{Facts, facts_if, state_by, only}
-use Rattle.parcel.specs.Shown.{has_bit, blocks_in, by_stripe, by_logical, by_label, files_in, blocks_below, label_in, by_volume, by_child, by_aggregate, shown}
+use Rattle.parcel.specs.Shown.{has_bit, blocks_in, by_stripe, by_logical, by_label, files_in, blocks_below, label_in, by_volume, by_child, by_aggregate, shown_state}
 use Rattle.parcel.specs.Fits.{IsKindOf}
 use Rattle.parcel.specs.Nodes.{Node, Nodes, in_child, in_stripe, in_label, in_logical, in_volume, in_aggregate, in_root, in_parcels, marks_made, marks_sealed, files_have, files_bits, slots_hold, text_of, tree_state}
 use Rattle.parcel.specs.Nodes.Node.{Inner, Marks, Files, Slots, Text}
@@ -22,7 +22,7 @@ use Rattle.parcel.specs.declared.parts.Aggr.{Aggr}
 use Rattle.parcel.specs.declared.parts.Parcels.{Parcels}
 use Rattle.parcel.specs.declared.parts.Parcels.TheVariants as parcels
 use Rattle.parcel.specs.declared.parts.Standing.{Standing}
-use Rattle.parcel.proofs.Rows.{related_first, related_rest}
+use Rattle.parcel.proofs.ChildRows.{related_first, related_rest}
 
 -- The facts of a volume are those of the nodes from it on, at the homes that the test picks.
 pub record HoldsAt (g : Geometry) (R : Path → Bool) (h : Facts) (n : Nodes) : Type 0 where
@@ -174,7 +174,7 @@ no_marks : (p : Path) (x : ℕ) (t : Standing) (n : Nodes) → StandsAt (begins 
 no_marks p x t n = record { made = λ r. absurd (true≢false (sym r)); sealed = λ r. absurd (true≢false (sym r)) }
 
 -- Parcels at a path show the share of the nodes there.
-pub share_shown : (g : Geometry) (p : Path) (t : Standing) (l : Parcels) (n : Nodes) → IsKindOf p l → ((q : Path) → n (p ++ q) ≡ in_parcels l q) → AgreeOn g (begins p) (shown g p t l) (tree_state g n)
+pub share_shown : (g : Geometry) (p : Path) (t : Standing) (l : Parcels) (n : Nodes) → IsKindOf p l → ((q : Path) → n (p ++ q) ≡ in_parcels l q) → AgreeOn g (begins p) (shown_state g p t l) (tree_state g n)
 share_shown g [] t (parcels.Root r) n kind at =
     all_agree g (begins []) n _ (λ a v. holds_same g _ _ (λ q. n (a ∷ v ∷ q)) (λ q. in_root r (a ∷ v ∷ q)) (λ q. at (a ∷ v ∷ q)) (aggregate_holds g _ (slice_index_or r.aggregates.items a None) v))
 share_shown g (a ∷ []) t (parcels.Aggr r) n kind at =

@@ -5,7 +5,7 @@ use Rattle.std.specs.List.{AllByRecursion}
 use Rattle.std.proofs.lemmas.Bool.{true≢false}
 use Rattle.affinity.specs.declared.geometry.Geometry.{Geometry}
 use Rattle.message.specs.declared.Block.{Block}
-use Rattle.parcel.specs.Dropping.{IsWithoutFile, IsEmptied}
+use Rattle.parcel.specs.Dropping.{DropsFile, Empties}
 use Rattle.parcel.specs.Fits.{FitsStripe, EachFits, IsWholeChild}
 use Rattle.parcel.specs.Shown.{blocks_in}
 use Rattle.stripe.specs.Stripe.{StripePart, content_at}
@@ -45,7 +45,7 @@ fewer : (t : Bool) (o : Option Block) → is_some (if t then None else o) ≡ tr
 fewer true o h = absurd (true≢false (sym h))
 fewer false o h = h
 
-pub fits_without_file : (g : Geometry) (f s : ℕ) (x y : Option StripePart) → IsWithoutFile f x y → IfSome x (FitsStripe g s) → IfSome y (FitsStripe g s)
+pub fits_without_file : (g : Geometry) (f s : ℕ) (x y : Option StripePart) → DropsFile f x y → IfSome x (FitsStripe g s) → IfSome y (FitsStripe g s)
 fits_without_file g f s None None h fits = fits
 fits_without_file g f s None (Some q) h fits = absurd h
 fits_without_file g f s (Some p) None h fits = absurd h
@@ -54,13 +54,13 @@ fits_without_file g f s (Some p) (Some q) h fits = record {
   lies = λ i j there. fits.lies i j (fewer (f == i) (content_at p.entries i j) (sym (ap is_some (h.content i j)) ∙ there));
 }
 
-pub whole_without_file : (f : ℕ) (x y : Option StripePart) → IsWithoutFile f x y → IsWholeChild (λ p. Unit {0}) x → IsWholeChild (λ p. Unit {0}) y
+pub whole_without_file : (f : ℕ) (x y : Option StripePart) → DropsFile f x y → IsWholeChild (λ p. Unit {0}) x → IsWholeChild (λ p. Unit {0}) y
 whole_without_file f None None h w = w
 whole_without_file f None (Some q) h w = absurd h
 whole_without_file f (Some p) None h w = absurd h
 whole_without_file f (Some p) (Some q) h w = w
 
-pub blocks_without_file : (f : ℕ) (x y : Option StripePart) → IsWithoutFile f x y → (i j : ℕ) → blocks_in y i j ≡ (if f == i then None else blocks_in x i j)
+pub blocks_without_file : (f : ℕ) (x y : Option StripePart) → DropsFile f x y → (i j : ℕ) → blocks_in y i j ≡ (if f == i then None else blocks_in x i j)
 blocks_without_file f None None h i j = no_block (f == i)
   where
     no_block : (t : Bool) → blocks_in None i j ≡ (if t then None else blocks_in None i j)
@@ -72,7 +72,7 @@ blocks_without_file f (Some p) (Some q) h i j = h.content i j
 
 -- ---- stripes without any block
 
-pub fits_emptied : (g : Geometry) (s : ℕ) (x y : Option StripePart) → IsEmptied x y → IfSome x (FitsStripe g s) → IfSome y (FitsStripe g s)
+pub fits_emptied : (g : Geometry) (s : ℕ) (x y : Option StripePart) → Empties x y → IfSome x (FitsStripe g s) → IfSome y (FitsStripe g s)
 fits_emptied g s None None h fits = fits
 fits_emptied g s None (Some q) h fits = absurd h
 fits_emptied g s (Some p) None h fits = absurd h
@@ -81,13 +81,13 @@ fits_emptied g s (Some p) (Some q) h fits = record {
   lies = λ i j there. absurd (true≢false (sym there ∙ ap is_some (h.content i j)));
 }
 
-pub whole_emptied : (x y : Option StripePart) → IsEmptied x y → IsWholeChild (λ p. Unit {0}) x → IsWholeChild (λ p. Unit {0}) y
+pub whole_emptied : (x y : Option StripePart) → Empties x y → IsWholeChild (λ p. Unit {0}) x → IsWholeChild (λ p. Unit {0}) y
 whole_emptied None None h w = w
 whole_emptied None (Some q) h w = absurd h
 whole_emptied (Some p) None h w = absurd h
 whole_emptied (Some p) (Some q) h w = w
 
-pub blocks_emptied : (x y : Option StripePart) → IsEmptied x y → (i j : ℕ) → blocks_in y i j ≡ None
+pub blocks_emptied : (x y : Option StripePart) → Empties x y → (i j : ℕ) → blocks_in y i j ≡ None
 blocks_emptied None None h i j = refl
 blocks_emptied None (Some q) h i j = absurd h
 blocks_emptied (Some p) None h i j = absurd h

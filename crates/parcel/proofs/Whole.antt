@@ -7,7 +7,7 @@ use Rattle.affinity.specs.Path.{Path}
 use Rattle.affinity.specs.declared.geometry.Geometry.{Geometry}
 use Rattle.stripe.specs.Stripe.{StripePart}
 use Rattle.parcel.specs.Fits.{EachFits, FitsLogical, FitsVolume, FitsAggregate, FitsRoot, IsWholeChild, IsWholeLogical, IsWholeVolume, IsWholeAggregate, IsWholeRoot}
-use Rattle.parcel.specs.Levels.{IsLeafPath, IsRowPath, IsLogicalPath, IsVolumePath, IsAggregatePath, IsRootPath, is_whole_logical, is_whole_volume, is_whole_aggregate, is_whole_root, IsTaken, IsRefused}
+use Rattle.parcel.specs.Levels.{IsLeafPath, IsRowPath, IsLogicalPath, IsVolumePath, IsAggregatePath, IsRootPath, is_whole_logical, is_whole_volume, is_whole_aggregate, is_whole_root, Takes, Refuses}
 use Rattle.parcel.specs.Nodes.{Node, Nodes, in_child, in_row, in_parcels, in_stripe, in_label, in_logical, in_volume, in_aggregate, in_root}
 use Rattle.parcel.specs.declared.parts.Label.{Label}
 use Rattle.parcel.specs.declared.parts.Logical.{Logical}
@@ -15,7 +15,7 @@ use Rattle.parcel.specs.declared.parts.Vol.{Vol}
 use Rattle.parcel.specs.declared.parts.Aggr.{Aggr}
 use Rattle.parcel.specs.declared.parts.Root.{Root}
 use Rattle.parcel.specs.declared.parts.Parcels.{Parcels}
-use Rattle.parcel.proofs.Rows.{each_at}
+use Rattle.parcel.proofs.ChildRows.{each_at}
 
 -- ---- the test, and the definition
 
@@ -158,12 +158,12 @@ module _ (g : Geometry) where
 -- ---- taking a place itself
 
 pub taken_itself : {X : Type 0} (IsThere : Path → Type 0) (nodes : X → Nodes) (lent : Parcels) (x : X) (old new : Option X) → old ≡ Some x → new ≡ None → IsAllIn IsThere (in_child nodes old)
-    → ((q : Path) → nodes x q ≡ in_parcels lent q) → IsTaken IsThere [] lent (in_child nodes old) (in_child nodes new)
+    → ((q : Path) → nodes x q ≡ in_parcels lent q) → Takes IsThere [] lent (in_child nodes old) (in_child nodes new)
 taken_itself IsThere nodes lent x old new was now all same = record {
   all_in = λ q path related. all q path;
   parcels = λ q. ap (λ o. in_child nodes o q) was ∙ same q;
   rest = λ q. ap (λ o. in_child nodes o q) now;
 }
 
-pub refused_itself : (IsThere : Path → Type 0) (n : Nodes) → HasOneOut IsThere n → IsRefused IsThere [] n n
+pub refused_itself : (IsThere : Path → Type 0) (n : Nodes) → HasOneOut IsThere n → Refuses IsThere [] n n
 refused_itself IsThere n w = record { gap = (w.0, w.1, refl, w.2); same = λ q. refl }

@@ -5,7 +5,7 @@ use Rattle.affinity.specs.declared.geometry.Geometry.{Geometry}
 use Rattle.affinity.specs.Path.{Path, are_related}
 use Rattle.stripe.specs.Stripe.{StripePart}
 use Rattle.parcel.specs.Fits.{IsWholeChild}
-use Rattle.parcel.specs.Nodes.{Nodes, in_parcels, IsTakenOut, IsPutBack, IsSame}
+use Rattle.parcel.specs.Nodes.{Nodes, in_parcels, TakesOut, PutsBack, SameNodes}
 use Rattle.parcel.specs.Tree.{IsOut}
 use Rattle.parcel.specs.declared.parts.Label.{Label}
 use Rattle.parcel.specs.declared.parts.Logical.{Logical}
@@ -42,15 +42,15 @@ IsRootPath g = IsRowPath g.aggregates (IsAggregatePath g)
 -- ---- taking out
 
 -- Nothing was taken: among these paths is one that is related to the path and out.
-pub record IsRefused (IsThere : Path → Type 0) (p : Path) (old new : Nodes) : Type 0 where
+pub record Refuses (IsThere : Path → Type 0) (p : Path) (old new : Nodes) : Type 0 where
   pub gap : (q : Path) × IsThere q × (are_related p q ≡ true) × (old q ≡ None)
-  pub same : IsSame old new
+  pub same : SameNodes old new
 
 -- These parcels were taken out at the path: they are what was there, whole, and the rest stays.
-pub record IsTaken (IsThere : Path → Type 0) (p : Path) (lent : Parcels) (old new : Nodes) : Type 0 where
+pub record Takes (IsThere : Path → Type 0) (p : Path) (lent : Parcels) (old new : Nodes) : Type 0 where
   pub all_in : (q : Path) → IsThere q → are_related p q ≡ true → is_some (old q) ≡ true
   pub parcels : (q : Path) → old (p ++ q) ≡ in_parcels lent q
-  pub rest : IsTakenOut p old new
+  pub rest : TakesOut p old new
 
 -- whether nothing at a place or below it is out
 abbrev pub is_whole_logical : Option Logical → Bool
@@ -81,15 +81,15 @@ volume_in (Some r) a v = volume_of (slice_index_or r.aggregates.items a None) v
 -- ---- putting back
 
 -- The parcels were put back at the path, at which they were out, and the rest stays.
-pub record IsPut (p : Path) (parcels : Parcels) (old new : Nodes) : Type 0 where
+pub record Puts (p : Path) (parcels : Parcels) (old new : Nodes) : Type 0 where
   pub out : IsOut p old
-  pub nodes : IsPutBack p (in_parcels parcels) old new
+  pub nodes : PutsBack p (in_parcels parcels) old new
 
 -- They came back and nothing changed, since the path isn't out or they are not of this kind.
-pub record IsHandedBack (IsKind : Type 0) (p : Path) (parcels returned : Parcels) (old new : Nodes) : Type 0 where
+pub record HandsBack (IsKind : Type 0) (p : Path) (parcels returned : Parcels) (old new : Nodes) : Type 0 where
   pub back : returned ≡ parcels
   pub why : IsOut p old → IsKind → ⊥
-  pub same : IsSame old new
+  pub same : SameNodes old new
 
 -- ---- the start: nothing is made and nothing is out
 

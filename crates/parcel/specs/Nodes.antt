@@ -71,8 +71,8 @@ in_parcels (parcels.Label l) = in_label l
 -- ---- changes
 
 -- All is out at this path and below, and elsewhere as it was.
-abbrev pub IsTakenOut : Path → Nodes → Nodes → Type 0
-IsTakenOut p old new = (q : Path) → new q ≡ (if begins p q then None else old q)
+abbrev pub TakesOut : Path → Nodes → Nodes → Type 0
+TakesOut p old new = (q : Path) → new q ≡ (if begins p q then None else old q)
 
 -- these nodes at a path and below
 abbrev pub put_at : Path → Nodes → Nodes → Nodes
@@ -80,11 +80,11 @@ put_at [] part old q = part q
 put_at (x ∷ p) part old [] = old []
 put_at (x ∷ p) part old (y ∷ q) = if x == y then put_at p part (λ r. old (y ∷ r)) q else old (y ∷ q)
 
-abbrev pub IsPutBack : Path → Nodes → Nodes → Nodes → Type 0
-IsPutBack p part old new = (q : Path) → new q ≡ put_at p part old q
+abbrev pub PutsBack : Path → Nodes → Nodes → Nodes → Type 0
+PutsBack p part old new = (q : Path) → new q ≡ put_at p part old q
 
-abbrev pub IsSame : Nodes → Nodes → Type 0
-IsSame old new = (q : Path) → new q ≡ old q
+abbrev pub SameNodes : Nodes → Nodes → Type 0
+SameNodes old new = (q : Path) → new q ≡ old q
 
 -- ---- the state of nodes
 

@@ -9,7 +9,7 @@ use Rattle.plain.specs.State.{State}
 use Rattle.plain.specs.Serial.{reply_to, next_state}
 use Rattle.plain.specs.Shares.{AgreeOn}
 use Rattle.parcel.specs.Fits.{Suits}
-use Rattle.parcel.specs.Shown.{shown}
+use Rattle.parcel.specs.Shown.{shown_state}
 use Rattle.parcel.specs.declared.parts.Parcels.{Parcels}
 use Rattle.parcel.specs.declared.parts.Standing.{Standing}
 use Rattle.parcel.specs.declared.job.Done.{Done}
@@ -29,7 +29,7 @@ pub record IsStep (g : Geometry) (x : State) (m : Msg) (told : Reply) (y : State
 
 -- The parcels and the standing show what a state has at a path, below it and above it: they have its share and its standing there.
 abbrev pub Shows : Geometry → Path → Standing → Parcels → State → Type 0
-Shows g p t parcels x = AgreeOn g (are_related p) (shown g p t parcels) x
+Shows g p t parcels x = AgreeOn g (are_related p) (shown_state g p t parcels) x
 
 -- The job was run: in the state that its parcels and standing show, the reply is that of the serial step, and the parcels show the state after it.
 pub record IsRun (job : Asked) (done : Done) : Type 0 where
@@ -37,4 +37,4 @@ pub record IsRun (job : Asked) (done : Done) : Type 0 where
   pub message : done.message ≡ job.message
   pub suits : Suits job.geometry job.message done.parcels
   pub step : let p = place job.geometry job.message in
-      IsStep job.geometry (shown job.geometry p job.standing job.parcels) job.message done.reply (shown job.geometry p job.standing done.parcels)
+      IsStep job.geometry (shown_state job.geometry p job.standing job.parcels) job.message done.reply (shown_state job.geometry p job.standing done.parcels)

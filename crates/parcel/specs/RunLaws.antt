@@ -8,7 +8,7 @@ use Rattle.affinity.specs.Path.{Path}
 use Rattle.parcel.specs.Fits.{Fits, IsKindOf}
 use Rattle.parcel.specs.Nodes.{Nodes}
 use Rattle.parcel.specs.Run.{Asked, IsRun, Shows}
-use Rattle.parcel.specs.Tree.{IsLent, IsOut, IsRestored}
+use Rattle.parcel.specs.Tree.{LendsAt, IsOut, RestoresAt}
 use Rattle.parcel.specs.declared.job.Done.{Done}
 use Rattle.parcel.specs.declared.parts.Parcels.{Parcels}
 
@@ -21,8 +21,8 @@ abbrev pub IsLentOf : Asked → State → Type 0
 IsLentOf job x = Shows job.geometry (job_place job) job.standing job.parcels x
 
 -- The job was made of what a tree lent at the message's place.
-abbrev pub IsLentBy : Asked → Nodes → Nodes → Type 0
-IsLentBy job old lent = IsLent job.geometry (job_place job) job.standing job.parcels old lent
+abbrev pub LendsJob : Asked → Nodes → Nodes → Type 0
+LendsJob job old lent = LendsAt job.geometry (job_place job) job.standing job.parcels old lent
 
 -- The reply is that of the serial step from the state, and with the standing the parcels show the state after it.
 pub record IsSerialStepOf (job : Asked) (done : Done) (x : State) : Type 0 where
@@ -30,10 +30,10 @@ pub record IsSerialStepOf (job : Asked) (done : Done) (x : State) : Type 0 where
   pub shows : Shows job.geometry (job_place job) job.standing done.parcels (next_state job.geometry x job.message)
 
 -- The job was made of what a tree lent at the message's place, it was run, and what it left was put back there.
-pub record IsServed (job : Asked) (done : Done) (old lent new : Nodes) : Type 0 where
-  pub taken : IsLentBy job old lent
+pub record LendsRunsRestores (job : Asked) (done : Done) (old lent new : Nodes) : Type 0 where
+  pub taken : LendsJob job old lent
   pub ran : IsRun job done
-  pub put : IsRestored job.geometry (job_place job) done.parcels lent new
+  pub put : RestoresAt job.geometry (job_place job) done.parcels lent new
 
 -- Parcels can be put back at a path: it is out, and they are of its kind and fit there.
 pub record CanBePutBack (g : Geometry) (p : Path) (l : Parcels) (n : Nodes) : Type 0 where

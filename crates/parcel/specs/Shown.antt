@@ -74,10 +74,10 @@ abbrev pub second_of : Path → ℕ
 second_of [] = 0
 second_of (a ∷ p) = first_of p
 
-abbrev pub shown : Geometry → Path → Standing → Parcels → State
-shown g p t (parcels.Stripe s) = only (first_of p) (second_of p) (by_stripe t s)
-shown g p t (parcels.Label l) = only (first_of p) (second_of p) (by_label t l)
-shown g p t (parcels.Logical l) = only (first_of p) (second_of p) (by_logical g t l)
-shown g p t (parcels.Vol w) = only (first_of p) (second_of p) (by_volume g w)
-shown g p t (parcels.Aggr r) = state_by (λ a v. facts_if (first_of p == a) (by_aggregate g r v))
-shown g p t (parcels.Root r) = state_by (by_root g r)
+abbrev pub shown_state : Geometry → Path → Standing → Parcels → State
+shown_state g p t (parcels.Stripe s) = only (first_of p) (second_of p) (by_stripe t s)
+shown_state g p t (parcels.Label l) = only (first_of p) (second_of p) (by_label t l)
+shown_state g p t (parcels.Logical l) = only (first_of p) (second_of p) (by_logical g t l)
+shown_state g p t (parcels.Vol w) = only (first_of p) (second_of p) (by_volume g w)
+shown_state g p t (parcels.Aggr r) = state_by (λ a v. facts_if (first_of p == a) (by_aggregate g r v))
+shown_state g p t (parcels.Root r) = state_by (by_root g r)

@@ -5,28 +5,28 @@ use Rattle.affinity.specs.Interval.{IsPath}
 use Rattle.affinity.specs.Path.{Path, begins, are_related, volume, logical}
 use Rattle.plain.specs.State.{State}
 use Rattle.parcel.specs.Fits.{Fits, FitsRoot, IsKindOf}
-use Rattle.parcel.specs.Nodes.{Nodes, in_child, in_root, in_parcels, marks_made, marks_sealed, files_bits, tree_state, IsTakenOut, IsPutBack}
+use Rattle.parcel.specs.Nodes.{Nodes, in_child, in_root, in_parcels, marks_made, marks_sealed, files_bits, tree_state, TakesOut, PutsBack}
 use Rattle.plain.specs.Shares.{AgreeOn}
 use Rattle.parcel.specs.Run.{Shows}
-use Rattle.parcel.specs.Shown.{shown}
+use Rattle.parcel.specs.Shown.{shown_state}
 use Rattle.parcel.specs.declared.parts.Root.{Root}
 use Rattle.parcel.specs.declared.parts.Parcels.{Parcels}
 use Rattle.parcel.specs.declared.parts.Standing.{Standing}
 
 -- what contracts see of a `Tree`
-pub record Grown : Type 0 where
+pub record TreeView : Type 0 where
   pub geometry : Geometry
   pub root : Option Root
 
 -- what a tree keeps
-abbrev pub IsGrown : Grown → Type 0
-IsGrown t = IfSome t.root (FitsRoot t.geometry)
+abbrev pub IsWellFormed : TreeView → Type 0
+IsWellFormed t = IfSome t.root (FitsRoot t.geometry)
 
-abbrev pub in_tree : Grown → Nodes
+abbrev pub in_tree : TreeView → Nodes
 in_tree t = in_child in_root t.root
 
 -- the state of all that is in
-abbrev pub state_in : Grown → State
+abbrev pub state_in : TreeView → State
 state_in t = tree_state t.geometry (in_tree t)
 
 -- Nothing at this path, above it or below it is out.
@@ -38,15 +38,15 @@ abbrev pub HasGap : Geometry → Path → Nodes → Type 0
 HasGap g p n = (q : Path) × IsPath g q × (are_related p q ≡ true) × (n q ≡ None)
 
 -- the path of the node above
-abbrev pub above : Path → Path
-above [] = []
-above (x ∷ []) = []
-above (x ∷ y ∷ p) = x ∷ above (y ∷ p)
+abbrev pub path_above : Path → Path
+path_above [] = []
+path_above (x ∷ []) = []
+path_above (x ∷ y ∷ p) = x ∷ path_above (y ∷ p)
 
 -- The place is out: it is not there, and the one above it is, or it has none.
 abbrev pub IsOut : Path → Nodes → Type 0
 IsOut [] n = n [] ≡ None
-IsOut (x ∷ p) n = (n (x ∷ p) ≡ None) × (is_some (n (above (x ∷ p))) ≡ true)
+IsOut (x ∷ p) n = (n (x ∷ p) ≡ None) × (is_some (n (path_above (x ∷ p))) ≡ true)
 
 -- what a message at a path sees of the nodes above: a stripe the marks and the files of its volume, Volume Logical and Volume Label the marks
 abbrev pub standing_at : Path → Nodes → Standing
@@ -55,18 +55,18 @@ standing_at (a ∷ v ∷ c ∷ []) n = record { made = marks_made (n (volume a v
 standing_at _ n = record { made = false; sealed = false; files = 0 }
 
 -- These parcels, with this standing, were lent from a path: they are what was there, whole, and the rest stays.
-pub record IsLent (g : Geometry) (p : Path) (t : Standing) (lent : Parcels) (old new : Nodes) : Type 0 where
+pub record LendsAt (g : Geometry) (p : Path) (t : Standing) (lent : Parcels) (old new : Nodes) : Type 0 where
   pub all_in : IsIn g p old
   pub fits : Fits g p lent
   pub parcels : (q : Path) → old (p ++ q) ≡ in_parcels lent q
   pub standing : t ≡ standing_at p old
   pub shows : Shows g p t lent (tree_state g old)
-  pub rest : IsTakenOut p old new
+  pub rest : TakesOut p old new
 
 -- These parcels were put back at a path at which they were out, and the rest stays.
-pub record IsRestored (g : Geometry) (p : Path) (parcels : Parcels) (old new : Nodes) : Type 0 where
+pub record RestoresAt (g : Geometry) (p : Path) (parcels : Parcels) (old new : Nodes) : Type 0 where
   pub out : IsOut p old
   pub kind : IsKindOf p parcels
-  pub nodes : IsPutBack p (in_parcels parcels) old new
+  pub nodes : PutsBack p (in_parcels parcels) old new
   -- what they show is the share there
-  pub share : (t : Standing) → AgreeOn g (begins p) (shown g p t parcels) (tree_state g new)
+  pub share : (t : Standing) → AgreeOn g (begins p) (shown_state g p t parcels) (tree_state g new)

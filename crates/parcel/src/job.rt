@@ -1,12 +1,7 @@
+//! A message with what it runs on, and what comes of it.
 ghost use Rattle.std.specs.Prelude.{◌≡◌};
 ghost use Rattle.parcel.specs.Fits.{Suits};
-ghost use Rattle.parcel.specs.Run.{IsRun, IsStep};
-ghost use Rattle.parcel.specs.Shown.{shown};
-ghost use Rattle.message.specs.Messages.{place};
 
-use crate::running::{
-    run_at_aggregate, run_at_label, run_at_logical, run_at_root, run_at_stripe, run_at_volume,
-};
 use crate::{Parcels, Standing};
 use affinity::Geometry;
 use message::{Msg, Reply};
@@ -15,11 +10,11 @@ use std::marker::Model;
 /// A message with what it runs on.
 #[derive(Drop)]
 pub struct Job {
-    geometry: Geometry,
-    ticket: u64,
-    message: Msg,
-    standing: Standing,
-    parcels: Parcels,
+    pub(crate) geometry: Geometry,
+    pub(crate) ticket: u64,
+    pub(crate) message: Msg,
+    pub(crate) standing: Standing,
+    pub(crate) parcels: Parcels,
 }
 
 impl Model for Job {
@@ -61,10 +56,10 @@ impl Job {
 /// A message that was run, with its reply and the parcels as it left them. `run` alone makes one.
 #[derive(Drop)]
 pub struct Done {
-    ticket: u64,
-    message: Msg,
-    reply: Reply,
-    parcels: Parcels,
+    pub(crate) ticket: u64,
+    pub(crate) message: Msg,
+    pub(crate) reply: Reply,
+    pub(crate) parcels: Parcels,
 }
 
 impl Done {
@@ -94,42 +89,5 @@ impl Done {
         ensures { result ≡ self.parcels }
     {
         self.parcels
-    }
-}
-
-/// Runs a message on its parcels: the reply is that of the serial server in the state that they and
-/// the standing show, and they show the state after it.
-pub fn run(job: Job) -> Done
-    ensures { IsRun job result }
-{
-    let Job {
-        geometry,
-        ticket,
-        message,
-        standing,
-        mut parcels,
-    } = job;
-    let reply = run_on(&mut parcels, &geometry, standing, &message);
-    Done {
-        ticket,
-        message,
-        reply,
-        parcels,
-    }
-}
-
-// Runs a message on the parcels of its place, and gives its reply.
-fn run_on(parcels: &mut Parcels, g: &Geometry, standing: Standing, message: &Msg) -> Reply
-    requires { Suits g.now message.now parcels.old }
-    ensures step { IsStep g.now (shown g.now (place g.now message.now) standing parcels.old) message.now result (shown g.now (place g.now message.now) standing parcels.new) }
-    ensures suits { Suits g.now message.now parcels.new }
-{
-    match parcels {
-        Parcels::Root(root) => run_at_root(root, g, message),
-        Parcels::Aggr(aggregate) => run_at_aggregate(aggregate, g, message),
-        Parcels::Vol(volume) => run_at_volume(volume, g, message),
-        Parcels::Logical(logical) => run_at_logical(logical, g, standing, message),
-        Parcels::Stripe(stripe) => run_at_stripe(stripe, g, standing, message),
-        Parcels::Label(label) => run_at_label(label, g, standing, message),
     }
 }

@@ -13,11 +13,11 @@ ghost use Rattle.plain.specs.Shares.{AgreeOn, share, standing};
 ghost use Rattle.plain.specs.State.{State, IsState};
 ghost use Rattle.parcel.specs.Fits.{Fits, IsKindOf};
 ghost use Rattle.parcel.specs.Holding.{IsApart, IsJobOut, TreeHolds, nowhere, with_place};
-ghost use Rattle.parcel.specs.Nodes.{Nodes, in_parcels, tree_state, IsTakenOut, IsPutBack};
+ghost use Rattle.parcel.specs.Nodes.{Nodes, in_parcels, tree_state, TakesOut, PutsBack};
 ghost use Rattle.parcel.specs.Run.{Asked, IsRun, IsStep, Shows};
-ghost use Rattle.parcel.specs.RunLaws.{CanBePutBack, IsLentBy, IsLentOf, IsSerialStepOf, IsServed, job_place};
-ghost use Rattle.parcel.specs.Shown.{shown};
-ghost use Rattle.parcel.specs.Tree.{HasGap, IsIn, IsLent, IsOut, IsRestored};
+ghost use Rattle.parcel.specs.RunLaws.{CanBePutBack, LendsJob, IsLentOf, IsSerialStepOf, LendsRunsRestores, job_place};
+ghost use Rattle.parcel.specs.Shown.{shown_state};
+ghost use Rattle.parcel.specs.Tree.{HasGap, IsIn, LendsAt, IsOut, RestoresAt};
 ghost use Rattle.parcel.specs.declared.job.Done.{Done};
 ghost use Rattle.parcel.specs.declared.parts.Parcels.{Parcels};
 ghost use Rattle.parcel.specs.declared.parts.Standing.{Standing};
@@ -30,24 +30,24 @@ pub fn run_is_serial()
 
 /// What is taken out or put back at a path leaves the state everywhere outside that path.
 pub fn tree_agrees_elsewhere()
-    ensures taken_leaves { (g : Geometry) (p : Path) (old new : Nodes) → IsTakenOut p old new → AgreeOn g (outside p) (tree_state g new) (tree_state g old) }
-    ensures put_leaves { (g : Geometry) (p : Path) (part old new : Nodes) → IsPutBack p part old new → AgreeOn g (outside p) (tree_state g new) (tree_state g old) }
+    ensures taken_leaves { (g : Geometry) (p : Path) (old new : Nodes) → TakesOut p old new → AgreeOn g (outside p) (tree_state g new) (tree_state g old) }
+    ensures put_leaves { (g : Geometry) (p : Path) (part old new : Nodes) → PutsBack p part old new → AgreeOn g (outside p) (tree_state g new) (tree_state g old) }
 {}
 
 /// Where parcels that fit are put back, nothing at their path or below it is out.
 pub fn restored_parcels_are_in()
-    ensures { (g : Geometry) (p : Path) (l : Parcels) (old new : Nodes) → IsPutBack p (in_parcels l) old new → Fits g p l → (q : Path) → IsPath g (p ++ q) → is_some (new (p ++ q)) ≡ true }
+    ensures { (g : Geometry) (p : Path) (l : Parcels) (old new : Nodes) → PutsBack p (in_parcels l) old new → Fits g p l → (q : Path) → IsPath g (p ++ q) → is_some (new (p ++ q)) ≡ true }
 {}
 
 /// A message that is lent what it needs from a tree, runs on it and gives it back makes a serial
 /// step of the tree's state, whatever is out elsewhere: the reply is that of the step. Where all was
 /// in, all is in again, and where the tree held a state of its geometry, it holds one again.
 pub fn lent_run_and_restored_is_a_step()
-    ensures step { (job : Asked) (done : Done) (old lent new : Nodes) → IsServed job done old lent new
+    ensures step { (job : Asked) (done : Done) (old lent new : Nodes) → LendsRunsRestores job done old lent new
         → IsStep job.geometry (tree_state job.geometry old) job.message done.reply (tree_state job.geometry new) }
-    ensures all_in { (job : Asked) (done : Done) (old lent new : Nodes) → IsServed job done old lent new
+    ensures all_in { (job : Asked) (done : Done) (old lent new : Nodes) → LendsRunsRestores job done old lent new
         → IsIn job.geometry [] old → IsIn job.geometry [] new }
-    ensures state { (job : Asked) (done : Done) (old lent new : Nodes) → IsServed job done old lent new
+    ensures state { (job : Asked) (done : Done) (old lent new : Nodes) → LendsRunsRestores job done old lent new
         → IsMessage job.message → IsState job.geometry (tree_state job.geometry old) → IsState job.geometry (tree_state job.geometry new) }
 {}
 
@@ -55,20 +55,20 @@ pub fn lent_run_and_restored_is_a_step()
 /// there.
 pub fn shown_is_share_and_standing()
     ensures has_share { (g : Geometry) (p : Path) (t : Standing) (l : Parcels) (x : State) → Shows g p t l x
-        → share g p (shown g p t l) ≡ share g p x }
+        → share g p (shown_state g p t l) ≡ share g p x }
     ensures has_standing { (g : Geometry) (p : Path) (t : Standing) (l : Parcels) (x : State) → Shows g p t l x
-        → standing g p (shown g p t l) ≡ standing g p x }
-    ensures shows { (g : Geometry) (p : Path) (t : Standing) (l : Parcels) (x : State) → share g p (shown g p t l) ≡ share g p x
-        → standing g p (shown g p t l) ≡ standing g p x → Shows g p t l x }
+        → standing g p (shown_state g p t l) ≡ standing g p x }
+    ensures shows { (g : Geometry) (p : Path) (t : Standing) (l : Parcels) (x : State) → share g p (shown_state g p t l) ≡ share g p x
+        → standing g p (shown_state g p t l) ≡ standing g p x → Shows g p t l x }
 {}
 
 /// What was lent and run can be put back: its place is out, and what the run left is of the kind of
 /// that place and fits there.
 pub fn lent_and_run_can_be_put_back()
     ensures out { (g : Geometry) (p : Path) (t : Standing) (l : Parcels) (old lent : Nodes) →
-        IsPath g p → IsLent g p t l old lent → IsOut p lent }
+        IsPath g p → LendsAt g p t l old lent → IsOut p lent }
     ensures kind { (g : Geometry) (p : Path) (l : Parcels) → Fits g p l → IsKindOf p l }
-    ensures ran { (job : Asked) (done : Done) (old lent : Nodes) → IsLentBy job old lent →
+    ensures ran { (job : Asked) (done : Done) (old lent : Nodes) → LendsJob job old lent →
         IsRun job done → CanBePutBack job.geometry (job_place job) done.parcels lent }
 {}
 
@@ -88,10 +88,10 @@ pub fn place_apart_is_lent()
         TreeHolds g out n x → IsApart p out → HasGap g p n → ⊥ }
     ensures shows { (g : Geometry) (out : Path → Bool) (p : Path) (t : Standing) (l : Parcels)
         (n lent : Nodes) (x : State) → TreeHolds g out n x → IsApart p out →
-        IsLent g p t l n lent → Shows g p t l x }
+        LendsAt g p t l n lent → Shows g p t l x }
     ensures holds { (g : Geometry) (out : Path → Bool) (p : Path) (t : Standing) (l : Parcels)
         (n lent : Nodes) (x : State) → TreeHolds g out n x → IsApart p out →
-        IsLent g p t l n lent → TreeHolds g (with_place p out) lent x }
+        LendsAt g p t l n lent → TreeHolds g (with_place p out) lent x }
     ensures alike { (g : Geometry) (out set : Path → Bool) (n : Nodes) (x : State) →
         ((q : Path) → out q ≡ set q) → TreeHolds g out n x → TreeHolds g set n x }
 {}
@@ -114,6 +114,6 @@ pub fn job_back_is_a_step()
         done.reply ≡ reply_to job.geometry x job.message }
     ensures holds { (out : Path → Bool) (job : Asked) (done : Done) (n new : Nodes) (x : State) →
         IsJobOut out job n x → IsRun job done → IsMessage job.message →
-        IsRestored job.geometry (job_place job) done.parcels n new →
+        RestoresAt job.geometry (job_place job) done.parcels n new →
         TreeHolds job.geometry out new (next_state job.geometry x job.message) }
 {}

@@ -8,10 +8,8 @@ mod parts;
 mod running;
 mod tree;
 
-pub use job::{Done, Job, run};
+pub use job::{Done, Job};
 pub use parts::{Aggr, Label, Logical, Parcels, Root, Standing, Vol};
+pub use running::run;
 pub use stripe::StripeParcel;
 pub use tree::Tree;
-
-#[cfg(test)]
-mod tests;

@@ -1,12 +1,14 @@
-mod above;
+//! The parts of a server, level by level, and the parcels that they make.
+mod paths;
 mod putting;
+mod standings;
 mod starting;
 mod taking;
 mod whole;
 
 use crate::StripeParcel;
-pub(crate) use above::standing_at;
 pub(crate) use putting::put_at;
+pub(crate) use standings::standing_at;
 pub(crate) use starting::new_root;
 pub(crate) use taking::take_at;
 

@@ -1,4 +1,10 @@
-//! Messages on their parcels: for each kind a small function at the level where it runs.
+//! Runs a message on its parcels: for each kind a small function at the level where it runs.
+
+ghost use Rattle.std.specs.Prelude.{◌≡◌};
+ghost use Rattle.message.specs.Messages.{place};
+ghost use Rattle.parcel.specs.Fits.{Suits};
+ghost use Rattle.parcel.specs.Run.{IsRun, IsStep};
+ghost use Rattle.parcel.specs.Shown.{shown_state};
 
 mod at_aggregate;
 mod at_label;
@@ -9,9 +15,49 @@ mod at_volume;
 mod refusals;
 mod totals;
 
-pub(crate) use at_aggregate::run_at_aggregate;
-pub(crate) use at_label::run_at_label;
-pub(crate) use at_logical::run_at_logical;
-pub(crate) use at_root::run_at_root;
-pub(crate) use at_stripe::run_at_stripe;
-pub(crate) use at_volume::run_at_volume;
+use crate::{Done, Job, Parcels, Standing};
+use affinity::Geometry;
+use at_aggregate::run_at_aggregate;
+use at_label::run_at_label;
+use at_logical::run_at_logical;
+use at_root::run_at_root;
+use at_stripe::run_at_stripe;
+use at_volume::run_at_volume;
+use message::{Msg, Reply};
+
+/// Runs a message on its parcels: the reply is that of the serial server in the state that they and
+/// the standing show, and they show the state after it.
+pub fn run(job: Job) -> Done
+    ensures { IsRun job result }
+{
+    let Job {
+        geometry,
+        ticket,
+        message,
+        standing,
+        mut parcels,
+    } = job;
+    let reply = run_on(&mut parcels, &geometry, standing, &message);
+    Done {
+        ticket,
+        message,
+        reply,
+        parcels,
+    }
+}
+
+// Runs a message on the parcels of its place, and gives its reply.
+fn run_on(parcels: &mut Parcels, g: &Geometry, standing: Standing, message: &Msg) -> Reply
+    requires { Suits g.now message.now parcels.old }
+    ensures step { IsStep g.now (shown_state g.now (place g.now message.now) standing parcels.old) message.now result (shown_state g.now (place g.now message.now) standing parcels.new) }
+    ensures suits { Suits g.now message.now parcels.new }
+{
+    match parcels {
+        Parcels::Root(root) => run_at_root(root, g, message),
+        Parcels::Aggr(aggregate) => run_at_aggregate(aggregate, g, message),
+        Parcels::Vol(volume) => run_at_volume(volume, g, message),
+        Parcels::Logical(logical) => run_at_logical(logical, g, standing, message),
+        Parcels::Stripe(stripe) => run_at_stripe(stripe, g, standing, message),
+        Parcels::Label(label) => run_at_label(label, g, standing, message),
+    }
+}

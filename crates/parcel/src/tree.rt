@@ -1,10 +1,11 @@
+//! The tree of a server: what lies at an affinity is lent out of it and restored.
 ghost use Rattle.std.specs.Prelude.{◌≡◌, [], IfOk, IfNone, IfSome, OnOk, IfErr};
 ghost use Rattle.affinity.specs.Interval.{IsAffinity, IsAffinityOf};
 ghost use Rattle.affinity.specs.Path.{Path};
 ghost use Rattle.plain.specs.State.{empty};
 ghost use Rattle.parcel.specs.Fits.{Fits, IsKindOf};
-ghost use Rattle.parcel.specs.Nodes.{IsSame};
-ghost use Rattle.parcel.specs.Tree.{Grown, in_tree, state_in, IsIn, HasGap, IsOut, IsLent, IsRestored};
+ghost use Rattle.parcel.specs.Nodes.{SameNodes};
+ghost use Rattle.parcel.specs.Tree.{TreeView, in_tree, state_in, IsIn, HasGap, IsOut, LendsAt, RestoresAt};
 
 use crate::parts::{new_root, put_at, standing_at, take_at};
 use crate::{Parcels, Root, Standing};
@@ -20,13 +21,13 @@ pub struct Tree {
 }
 
 impl Model for Tree {
-    ghost use Rattle.parcel.specs.Tree.{Grown, IsGrown};
+    ghost use Rattle.parcel.specs.Tree.{TreeView, IsWellFormed};
 
-    ghost Value = { Grown };
+    ghost Value = { TreeView };
 
     ghost view = { λ t. record { geometry = t.geometry; root = t.root } };
 
-    ghost invariant = { λ t. IsGrown (record { geometry = t.geometry; root = t.root }) };
+    ghost invariant = { λ t. IsWellFormed (record { geometry = t.geometry; root = t.root }) };
 }
 
 impl Tree {
@@ -57,9 +58,9 @@ impl Tree {
         requires affinity { IsAffinity self.old.geometry a }
         ensures geometry { self.new.geometry ≡ self.old.geometry }
         ensures none { IfNone result ((p : Path) → IsAffinityOf self.old.geometry p a →
-            HasGap self.old.geometry p (in_tree self.old) × IsSame (in_tree self.old) (in_tree self.new)) }
+            HasGap self.old.geometry p (in_tree self.old) × SameNodes (in_tree self.old) (in_tree self.new)) }
         ensures some { IfSome result (λ r. (p : Path) → IsAffinityOf self.old.geometry p a →
-            IsLent self.old.geometry p r.0 r.1 (in_tree self.old) (in_tree self.new)) }
+            LendsAt self.old.geometry p r.0 r.1 (in_tree self.old) (in_tree self.new)) }
     {
         let g = self.geometry;
         let place = a.place(&g);
@@ -76,11 +77,11 @@ impl Tree {
         requires fits { (q : Path) → IsAffinityOf self.old.geometry q a → IsKindOf q p → Fits self.old.geometry q p }
         ensures geometry { self.new.geometry ≡ self.old.geometry }
         ensures ok { OnOk result ((q : Path) → IsAffinityOf self.old.geometry q a →
-            IsRestored self.old.geometry q p (in_tree self.old) (in_tree self.new)) }
+            RestoresAt self.old.geometry q p (in_tree self.old) (in_tree self.new)) }
         ensures back { IfErr result (λ back. back ≡ p) }
         ensures err { IfErr result (λ back. (q : Path) → IsAffinityOf self.old.geometry q a →
             IsOut q (in_tree self.old) → IsKindOf q p → ⊥) }
-        ensures same { IfErr result (λ back. IsSame (in_tree self.old) (in_tree self.new)) }
+        ensures same { IfErr result (λ back. SameNodes (in_tree self.old) (in_tree self.new)) }
     {
         let g = self.geometry;
         let place = a.place(&g);

@@ -4,20 +4,21 @@ ghost use Rattle.std.specs.Prelude.{◌≡◌, ℕ, ◌<◌, true, false, slice_
 ghost use Rattle.affinity.specs.declared.geometry.Geometry.{Geometry};
 ghost use Rattle.message.specs.declared.Msg.{Msg};
 ghost use Rattle.message.specs.Messages.{is_in_range, place};
-ghost use Rattle.parcel.specs.Dropping.{IsEmptied};
+ghost use Rattle.parcel.specs.Dropping.{Empties};
+ghost use Rattle.plain.specs.Serial.{tests};
 ghost use Rattle.parcel.specs.Fits.{FitsAggregate, FitsLogical, FitsVolume, IsWholeAggregate, IsWholeChild, IsWholeLogical, IsWholeVolume, Suits};
 ghost use Rattle.parcel.specs.Run.{IsStep};
-ghost use Rattle.parcel.specs.Shown.{blocks_of, by_child, by_volume, has_bit, shown};
+ghost use Rattle.parcel.specs.Shown.{blocks_of, by_child, by_volume, has_bit, shown_state};
 ghost use Rattle.parcel.specs.Steps.{at_aggregate};
 ghost use Rattle.parcel.specs.Totals.{with_made};
 ghost use Rattle.parcel.specs.Volume.{nothing};
 ghost use Rattle.parcel.specs.declared.parts.Parcels.{Parcels};
 ghost use Rattle.parcel.specs.declared.parts.Standing.{Standing};
 
-use super::refusals::change_refusal;
+use super::refusals::{change_refusal, make_refusal};
 use crate::{Aggr, Label, Logical, StripeParcel, Vol};
 use affinity::Geometry;
-use message::{Msg, Refusal, Reply};
+use message::{Msg, Reply};
 
 // Whether the volume at one place is made, and whether it is sealed.
 fn marks(place: &Option<Vol>) -> (bool, bool)
@@ -47,7 +48,7 @@ fn make(place: &mut Option<Vol>)
 
 // Removes all blocks from the stripe at one place, where it is in.
 fn clear_in(place: &mut Option<StripeParcel>)
-    ensures { IsEmptied place.old place.new }
+    ensures { Empties place.old place.new }
 {
     if let Some(stripe) = place {
         stripe.drop_all();
@@ -57,7 +58,7 @@ fn clear_in(place: &mut Option<StripeParcel>)
 // Removes all blocks from all stripes.
 fn clear_stripes(stripes: &mut Vec<Option<StripeParcel>>)
     ensures count { vec_len stripes.new ≡ vec_len stripes.old }
-    ensures each { (s : ℕ) → s < vec_len stripes.old → IsEmptied (slice_index_or stripes.old.items s None) (slice_index_or stripes.new.items s None) }
+    ensures each { (s : ℕ) → s < vec_len stripes.old → Empties (slice_index_or stripes.old.items s None) (slice_index_or stripes.new.items s None) }
 {
     for s in 0..stripes.len() {
         clear_in(&mut stripes[s]);
@@ -93,7 +94,8 @@ fn clear(place: &mut Option<Vol>)
 }
 
 // Makes a volume that isn't there.
-fn make_volume(aggregate: &mut Aggr, g: &Geometry, v: u16) -> Reply
+fn make_volume(aggregate: &mut Aggr, g: &Geometry, message: &Msg, v: u16) -> Reply
+    requires tests { tests message.now ≡ tests (Msg.MakeVol 0 v) }
     requires volume { v < g.now.volumes }
     requires fits { FitsAggregate g.now aggregate.old }
     requires whole { IsWholeAggregate aggregate.old }
@@ -103,15 +105,16 @@ fn make_volume(aggregate: &mut Aggr, g: &Geometry, v: u16) -> Reply
 {
     let place = usize::from(v);
     let (made, _) = marks(&aggregate.volumes[place]);
-    if made {
-        return Reply::Refused(Refusal::Exists);
+    if let Some(why) = make_refusal(message, made) {
+        return Reply::Refused(why);
     }
     make(&mut aggregate.volumes[place]);
     Reply::Done
 }
 
 // Removes a volume with all that it has.
-fn drop_volume(aggregate: &mut Aggr, g: &Geometry, v: u16) -> Reply
+fn drop_volume(aggregate: &mut Aggr, g: &Geometry, message: &Msg, v: u16) -> Reply
+    requires tests { tests message.now ≡ tests (Msg.DropVol 0 v) }
     requires volume { v < g.now.volumes }
     requires fits { FitsAggregate g.now aggregate.old }
     requires whole { IsWholeAggregate aggregate.old }
@@ -121,7 +124,7 @@ fn drop_volume(aggregate: &mut Aggr, g: &Geometry, v: u16) -> Reply
 {
     let place = usize::from(v);
     let (made, sealed) = marks(&aggregate.volumes[place]);
-    if let Some(why) = change_refusal(made, sealed) {
+    if let Some(why) = change_refusal(message, made, sealed) {
         return Reply::Refused(why);
     }
     clear(&mut aggregate.volumes[place]);
@@ -131,12 +134,12 @@ fn drop_volume(aggregate: &mut Aggr, g: &Geometry, v: u16) -> Reply
 /// Runs a message at an aggregate. It sees nothing of what lies above.
 pub(crate) fn run_at_aggregate(aggregate: &mut Aggr, g: &Geometry, message: &Msg) -> Reply
     requires { Suits g.now message.now (Parcels.Aggr aggregate.old) }
-    ensures step { (t : Standing) → IsStep g.now (shown g.now (place g.now message.now) t (Parcels.Aggr aggregate.old)) message.now result (shown g.now (place g.now message.now) t (Parcels.Aggr aggregate.new)) }
+    ensures step { (t : Standing) → IsStep g.now (shown_state g.now (place g.now message.now) t (Parcels.Aggr aggregate.old)) message.now result (shown_state g.now (place g.now message.now) t (Parcels.Aggr aggregate.new)) }
     ensures suits { Suits g.now message.now (Parcels.Aggr aggregate.new) }
 {
     match message {
-        Msg::MakeVol(_, v) => make_volume(aggregate, g, *v),
-        Msg::DropVol(_, v) => drop_volume(aggregate, g, *v),
+        Msg::MakeVol(_, v) => make_volume(aggregate, g, message, *v),
+        Msg::DropVol(_, v) => drop_volume(aggregate, g, message, *v),
         _ => unreachable!(),
     }
 }

@@ -3,9 +3,10 @@
 ghost use Rattle.std.specs.Prelude.{◌≡◌};
 ghost use Rattle.message.specs.declared.Msg.{Msg};
 ghost use Rattle.message.specs.Messages.{place};
+ghost use Rattle.plain.specs.Serial.{tests};
 ghost use Rattle.parcel.specs.Fits.{Suits};
 ghost use Rattle.parcel.specs.Run.{IsStep};
-ghost use Rattle.parcel.specs.Shown.{by_label, shown};
+ghost use Rattle.parcel.specs.Shown.{by_label, shown_state};
 ghost use Rattle.parcel.specs.Steps.{IsStepWithin};
 ghost use Rattle.parcel.specs.declared.parts.Parcels.{Parcels};
 
@@ -15,10 +16,17 @@ use affinity::Geometry;
 use message::{Msg, Reply};
 
 // Sets the label.
-fn set_label(label: &mut Label, g: &Geometry, standing: Standing, bytes: &[u8; 32]) -> Reply
+fn set_label(
+    label: &mut Label,
+    g: &Geometry,
+    standing: Standing,
+    message: &Msg,
+    bytes: &[u8; 32],
+) -> Reply
+    requires { tests message.now ≡ tests (Msg.SetLabel 0 0 bytes.now) }
     ensures { IsStepWithin g.now (λ a v. Msg.SetLabel a v bytes.now) (by_label standing label.old) result (by_label standing label.new) }
 {
-    if let Some(why) = change_refusal(standing.made, standing.sealed) {
+    if let Some(why) = change_refusal(message, standing.made, standing.sealed) {
         return Reply::Refused(why);
     }
     label.bytes = Some(*bytes);
@@ -26,10 +34,11 @@ fn set_label(label: &mut Label, g: &Geometry, standing: Standing, bytes: &[u8; 3
 }
 
 // The label.
-fn get_label(label: &Label, g: &Geometry, standing: Standing) -> Reply
+fn get_label(label: &Label, g: &Geometry, standing: Standing, message: &Msg) -> Reply
+    requires { tests message.now ≡ tests (Msg.Label 0 0) }
     ensures { IsStepWithin g.now Msg.Label (by_label standing label.now) result (by_label standing label.now) }
 {
-    if let Some(why) = volume_refusal(standing.made) {
+    if let Some(why) = volume_refusal(message, standing.made) {
         return Reply::Refused(why);
     }
     Reply::Label(label.bytes.unwrap_or([0; 32]))
@@ -43,12 +52,12 @@ pub(crate) fn run_at_label(
     message: &Msg,
 ) -> Reply
     requires { Suits g.now message.now (Parcels.Label label.old) }
-    ensures step { IsStep g.now (shown g.now (place g.now message.now) standing (Parcels.Label label.old)) message.now result (shown g.now (place g.now message.now) standing (Parcels.Label label.new)) }
+    ensures step { IsStep g.now (shown_state g.now (place g.now message.now) standing (Parcels.Label label.old)) message.now result (shown_state g.now (place g.now message.now) standing (Parcels.Label label.new)) }
     ensures suits { Suits g.now message.now (Parcels.Label label.new) }
 {
     match message {
-        Msg::SetLabel(_, _, bytes) => set_label(label, g, standing, bytes),
-        Msg::Label(..) => get_label(label, g, standing),
+        Msg::SetLabel(_, _, bytes) => set_label(label, g, standing, message, bytes),
+        Msg::Label(..) => get_label(label, g, standing, message),
         _ => unreachable!(),
     }
 }

@@ -3,10 +3,11 @@
 ghost use Rattle.std.specs.Prelude.{◌≡◌, ℕ, ◌<◌, slice_index_or, None, vec_len};
 ghost use Rattle.message.specs.declared.Msg.{Msg};
 ghost use Rattle.message.specs.Messages.{place};
-ghost use Rattle.parcel.specs.Dropping.{IsWithoutFile};
+ghost use Rattle.parcel.specs.Dropping.{DropsFile};
+ghost use Rattle.plain.specs.Serial.{tests};
 ghost use Rattle.parcel.specs.Fits.{FitsLogical, IsWholeLogical, Suits};
 ghost use Rattle.parcel.specs.Run.{IsStep};
-ghost use Rattle.parcel.specs.Shown.{by_logical, shown};
+ghost use Rattle.parcel.specs.Shown.{by_logical, shown_state};
 ghost use Rattle.parcel.specs.Steps.{IsStepWithin};
 ghost use Rattle.parcel.specs.declared.parts.Parcels.{Parcels};
 
@@ -16,14 +17,16 @@ use affinity::Geometry;
 use message::{Msg, Reply};
 
 // Makes a file, without blocks.
-fn create(logical: &mut Logical, g: &Geometry, standing: Standing, f: u16) -> Reply
+fn create(logical: &mut Logical, g: &Geometry, standing: Standing, message: &Msg, f: u16) -> Reply
+    requires tests { tests message.now ≡ tests (Msg.Create 0 0 f) }
     requires file { f < g.now.files }
     requires fits { FitsLogical g.now logical.old }
     ensures step { IsStepWithin g.now (λ a v. Msg.Create a v f) (by_logical g.now standing logical.old) result (by_logical g.now standing logical.new) }
     ensures fits { FitsLogical g.now logical.new }
     ensures stripes { logical.new.stripes ≡ logical.old.stripes }
 {
-    if let Some(why) = create_refusal(standing.made, standing.sealed, logical.files, f) {
+    let Standing { made, sealed, .. } = standing;
+    if let Some(why) = create_refusal(message, made, sealed, logical.files, f) {
         return Reply::Refused(why);
     }
     logical.files |= 1 << f;
@@ -32,7 +35,7 @@ fn create(logical: &mut Logical, g: &Geometry, standing: Standing, f: u16) -> Re
 
 // Removes the blocks of a file from the stripe at one place, where it is in.
 fn drop_in(place: &mut Option<StripeParcel>, f: u16)
-    ensures { IsWithoutFile f place.old place.new }
+    ensures { DropsFile f place.old place.new }
 {
     if let Some(stripe) = place {
         stripe.drop_file(f);
@@ -42,7 +45,7 @@ fn drop_in(place: &mut Option<StripeParcel>, f: u16)
 // Removes the blocks of a file from all stripes.
 fn drop_file(stripes: &mut Vec<Option<StripeParcel>>, f: u16)
     ensures count { vec_len stripes.new ≡ vec_len stripes.old }
-    ensures each { (s : ℕ) → s < vec_len stripes.old → IsWithoutFile f (slice_index_or stripes.old.items s None) (slice_index_or stripes.new.items s None) }
+    ensures each { (s : ℕ) → s < vec_len stripes.old → DropsFile f (slice_index_or stripes.old.items s None) (slice_index_or stripes.new.items s None) }
 {
     for s in 0..stripes.len() {
         drop_in(&mut stripes[s], f);
@@ -50,7 +53,8 @@ fn drop_file(stripes: &mut Vec<Option<StripeParcel>>, f: u16)
 }
 
 // Removes a file and its blocks.
-fn delete(logical: &mut Logical, g: &Geometry, standing: Standing, f: u16) -> Reply
+fn delete(logical: &mut Logical, g: &Geometry, standing: Standing, message: &Msg, f: u16) -> Reply
+    requires tests { tests message.now ≡ tests (Msg.Delete 0 0 f) }
     requires file { f < g.now.files }
     requires fits { FitsLogical g.now logical.old }
     requires whole { IsWholeLogical logical.old }
@@ -58,7 +62,8 @@ fn delete(logical: &mut Logical, g: &Geometry, standing: Standing, f: u16) -> Re
     ensures fits { FitsLogical g.now logical.new }
     ensures whole { IsWholeLogical logical.new }
 {
-    if let Some(why) = file_change_refusal(standing.made, standing.sealed, logical.files, f) {
+    let Standing { made, sealed, .. } = standing;
+    if let Some(why) = file_change_refusal(message, made, sealed, logical.files, f) {
         return Reply::Refused(why);
     }
     logical.files &= !(1 << f);
@@ -67,11 +72,12 @@ fn delete(logical: &mut Logical, g: &Geometry, standing: Standing, f: u16) -> Re
 }
 
 // Which files there are.
-fn list(logical: &Logical, g: &Geometry, standing: Standing) -> Reply
-    requires { FitsLogical g.now logical.now }
+fn list(logical: &Logical, g: &Geometry, standing: Standing, message: &Msg) -> Reply
+    requires fits { FitsLogical g.now logical.now }
+    requires tests { tests message.now ≡ tests (Msg.List 0 0) }
     ensures { IsStepWithin g.now Msg.List (by_logical g.now standing logical.now) result (by_logical g.now standing logical.now) }
 {
-    if let Some(why) = volume_refusal(standing.made) {
+    if let Some(why) = volume_refusal(message, standing.made) {
         return Reply::Refused(why);
     }
     Reply::Files(logical.files)
@@ -85,13 +91,13 @@ pub(crate) fn run_at_logical(
     message: &Msg,
 ) -> Reply
     requires { Suits g.now message.now (Parcels.Logical logical.old) }
-    ensures step { IsStep g.now (shown g.now (place g.now message.now) standing (Parcels.Logical logical.old)) message.now result (shown g.now (place g.now message.now) standing (Parcels.Logical logical.new)) }
+    ensures step { IsStep g.now (shown_state g.now (place g.now message.now) standing (Parcels.Logical logical.old)) message.now result (shown_state g.now (place g.now message.now) standing (Parcels.Logical logical.new)) }
     ensures suits { Suits g.now message.now (Parcels.Logical logical.new) }
 {
     match message {
-        Msg::Create(_, _, f) => create(logical, g, standing, *f),
-        Msg::Delete(_, _, f) => delete(logical, g, standing, *f),
-        Msg::List(..) => list(logical, g, standing),
+        Msg::Create(_, _, f) => create(logical, g, standing, message, *f),
+        Msg::Delete(_, _, f) => delete(logical, g, standing, message, *f),
+        Msg::List(..) => list(logical, g, standing, message),
         _ => unreachable!(),
     }
 }

@@ -4,9 +4,10 @@ ghost use Rattle.std.specs.Prelude.{◌≡◌};
 ghost use Rattle.affinity.specs.declared.geometry.Geometry.{Geometry};
 ghost use Rattle.message.specs.declared.Msg.{Msg};
 ghost use Rattle.message.specs.Messages.{place};
+ghost use Rattle.plain.specs.Serial.{tests};
 ghost use Rattle.parcel.specs.Fits.{FitsVolume, Suits};
 ghost use Rattle.parcel.specs.Run.{IsStep};
-ghost use Rattle.parcel.specs.Shown.{by_volume, shown};
+ghost use Rattle.parcel.specs.Shown.{by_volume, shown_state};
 ghost use Rattle.parcel.specs.Steps.{IsStepWithin};
 ghost use Rattle.parcel.specs.declared.parts.Parcels.{Parcels};
 ghost use Rattle.parcel.specs.declared.parts.Standing.{Standing};
@@ -18,12 +19,13 @@ use affinity::Geometry;
 use message::{Msg, Reply};
 
 // Seals the volume, whether it was sealed or not.
-fn seal(volume: &mut Vol) -> Reply
+fn seal(volume: &mut Vol, message: &Msg) -> Reply
+    requires { tests message.now ≡ tests (Msg.Seal 0 0) }
     ensures step { (g : Geometry) → IsStepWithin g Msg.Seal (by_volume g volume.old) result (by_volume g volume.new) }
     ensures logical { volume.new.logical ≡ volume.old.logical }
     ensures label { volume.new.label ≡ volume.old.label }
 {
-    if let Some(why) = volume_refusal(volume.made) {
+    if let Some(why) = volume_refusal(message, volume.made) {
         return Reply::Refused(why);
     }
     volume.sealed = true;
@@ -31,12 +33,13 @@ fn seal(volume: &mut Vol) -> Reply
 }
 
 // Unseals the volume, whether it was sealed or not.
-fn unseal(volume: &mut Vol) -> Reply
+fn unseal(volume: &mut Vol, message: &Msg) -> Reply
+    requires { tests message.now ≡ tests (Msg.Unseal 0 0) }
     ensures step { (g : Geometry) → IsStepWithin g Msg.Unseal (by_volume g volume.old) result (by_volume g volume.new) }
     ensures logical { volume.new.logical ≡ volume.old.logical }
     ensures label { volume.new.label ≡ volume.old.label }
 {
-    if let Some(why) = volume_refusal(volume.made) {
+    if let Some(why) = volume_refusal(message, volume.made) {
         return Reply::Refused(why);
     }
     volume.sealed = false;
@@ -44,11 +47,12 @@ fn unseal(volume: &mut Vol) -> Reply
 }
 
 // How much the volume holds, and whether it is sealed.
-fn usage(volume: &Vol, g: &Geometry) -> Reply
-    requires { FitsVolume g.now volume.now }
+fn usage(volume: &Vol, g: &Geometry, message: &Msg) -> Reply
+    requires fits { FitsVolume g.now volume.now }
+    requires tests { tests message.now ≡ tests (Msg.Usage 0 0) }
     ensures { IsStepWithin g.now Msg.Usage (by_volume g.now volume.now) result (by_volume g.now volume.now) }
 {
-    if let Some(why) = volume_refusal(volume.made) {
+    if let Some(why) = volume_refusal(message, volume.made) {
         return Reply::Refused(why);
     }
     let totals = volume_totals(volume, g);
@@ -62,13 +66,13 @@ fn usage(volume: &Vol, g: &Geometry) -> Reply
 /// Runs a message at a volume. It sees nothing of what lies above.
 pub(crate) fn run_at_volume(volume: &mut Vol, g: &Geometry, message: &Msg) -> Reply
     requires { Suits g.now message.now (Parcels.Vol volume.old) }
-    ensures step { (t : Standing) → IsStep g.now (shown g.now (place g.now message.now) t (Parcels.Vol volume.old)) message.now result (shown g.now (place g.now message.now) t (Parcels.Vol volume.new)) }
+    ensures step { (t : Standing) → IsStep g.now (shown_state g.now (place g.now message.now) t (Parcels.Vol volume.old)) message.now result (shown_state g.now (place g.now message.now) t (Parcels.Vol volume.new)) }
     ensures suits { Suits g.now message.now (Parcels.Vol volume.new) }
 {
     match message {
-        Msg::Seal(..) => seal(volume),
-        Msg::Unseal(..) => unseal(volume),
-        Msg::Usage(..) => usage(volume, g),
+        Msg::Seal(..) => seal(volume, message),
+        Msg::Unseal(..) => unseal(volume, message),
+        Msg::Usage(..) => usage(volume, g, message),
         _ => unreachable!(),
     }
 }

@@ -1,11 +1,61 @@
 //! Why messages are refused, by what they see of their volume.
 
-ghost use Rattle.std.specs.Prelude.{◌≡◌, ◌<◌, not, None};
-ghost use Rattle.message.specs.declared.Refusal.TheVariants.{Volume, Exists, File};
+ghost use Rattle.std.specs.Prelude.{◌≡◌, ◌<◌, ◌∷◌, [], not, find, None};
+ghost use Rattle.message.specs.declared.Refusal.TheVariants.{Range, Volume, Exists, Sealed, File, Space};
+ghost use Rattle.plain.specs.Serial.{tests};
 ghost use Rattle.parcel.specs.Shown.{has_bit};
 ghost use Rattle.parcel.specs.Steps.{unless, unless_closed};
 
-use message::Refusal;
+use message::{Msg, Refusal};
+use plain::tests_of;
+
+/// What the tests of a message look at, where its numbers are in range.
+#[derive(Clone, Copy)]
+struct Seen {
+    made: bool,
+    sealed: bool,
+    /// Whether what the message makes is there already.
+    exists: bool,
+    /// Whether the file that it speaks of is there.
+    file: bool,
+    /// Whether there is room for the block that it writes.
+    room: bool,
+}
+
+/// Of a volume that isn't made.
+const UNMADE: Seen = Seen {
+    made: false,
+    sealed: false,
+    exists: false,
+    file: false,
+    room: false,
+};
+
+impl Seen {
+    ghost use Rattle.parcel.specs.Tests.{passes};
+
+    // Whether a test is passed.
+    fn passes(&self, test: Refusal) -> bool
+        ensures { result ≡ passes self.now test }
+    {
+        match test {
+            Refusal::Range => true,
+            Refusal::Volume => self.made,
+            Refusal::Exists => !self.exists,
+            Refusal::Sealed => !self.sealed,
+            Refusal::File => self.file,
+            Refusal::Space => self.room,
+        }
+    }
+
+    // The first test that a message fails.
+    fn refusal(&self, message: &Msg) -> Option<Refusal>
+        ensures { result ≡ find (λ test. not (passes self.now test)) (tests message.now) }
+    {
+        let mut tests = tests_of(message).iter().copied();
+        tests.find(|test| !self.passes(*test))
+    }
+}
 
 /// Whether a volume with these files has a file.
 pub(crate) fn has_file(files: u64, f: u16) -> bool
@@ -15,66 +65,119 @@ pub(crate) fn has_file(files: u64, f: u16) -> bool
     (files >> f) & 1 == 1
 }
 
+/// Why a volume can't be made.
+pub(crate) fn make_refusal(message: &Msg, made: bool) -> Option<Refusal>
+    requires { tests message.now ≡ Range ∷ Exists ∷ [] }
+    ensures { result ≡ unless (not made) Exists None }
+{
+    let seen = Seen {
+        exists: made,
+        ..UNMADE
+    };
+    seen.refusal(message)
+}
+
 /// Why a volume can't be asked about, sealed or unsealed.
-pub(crate) fn volume_refusal(made: bool) -> Option<Refusal>
+pub(crate) fn volume_refusal(message: &Msg, made: bool) -> Option<Refusal>
+    requires { tests message.now ≡ Range ∷ Volume ∷ [] }
     ensures { result ≡ unless made Volume None }
 {
-    if made { None } else { Some(Refusal::Volume) }
+    let seen = Seen { made, ..UNMADE };
+    seen.refusal(message)
 }
 
 /// Why what a volume has can't be changed.
-pub(crate) fn change_refusal(made: bool, sealed: bool) -> Option<Refusal>
+pub(crate) fn change_refusal(message: &Msg, made: bool, sealed: bool) -> Option<Refusal>
+    requires { tests message.now ≡ Range ∷ Volume ∷ Sealed ∷ [] }
     ensures { result ≡ unless_closed made sealed None }
 {
-    if !made {
-        return Some(Refusal::Volume);
-    }
-    if sealed {
-        return Some(Refusal::Sealed);
-    }
-    None
+    let seen = Seen {
+        made,
+        sealed,
+        ..UNMADE
+    };
+    seen.refusal(message)
 }
 
 /// Why a file can't be made.
-pub(crate) fn create_refusal(made: bool, sealed: bool, files: u64, f: u16) -> Option<Refusal>
-    requires { f < 64 }
+pub(crate) fn create_refusal(
+    message: &Msg,
+    made: bool,
+    sealed: bool,
+    files: u64,
+    f: u16,
+) -> Option<Refusal>
+    requires file { f < 64 }
+    requires tests { tests message.now ≡ Range ∷ Volume ∷ Sealed ∷ Exists ∷ [] }
     ensures { result ≡ unless_closed made sealed (unless (not (has_bit files f)) Exists None) }
 {
-    let why = change_refusal(made, sealed);
-    if why.is_some() {
-        return why;
-    }
-    if has_file(files, f) {
-        return Some(Refusal::Exists);
-    }
-    None
+    let exists = has_file(files, f);
+    let seen = Seen {
+        made,
+        sealed,
+        exists,
+        ..UNMADE
+    };
+    seen.refusal(message)
 }
 
 /// Why a file can't be changed or removed.
-pub(crate) fn file_change_refusal(made: bool, sealed: bool, files: u64, f: u16) -> Option<Refusal>
-    requires { f < 64 }
+pub(crate) fn file_change_refusal(
+    message: &Msg,
+    made: bool,
+    sealed: bool,
+    files: u64,
+    f: u16,
+) -> Option<Refusal>
+    requires file { f < 64 }
+    requires tests { tests message.now ≡ Range ∷ Volume ∷ Sealed ∷ File ∷ [] }
     ensures { result ≡ unless_closed made sealed (unless (has_bit files f) File None) }
 {
-    let why = change_refusal(made, sealed);
-    if why.is_some() {
-        return why;
-    }
-    if !has_file(files, f) {
-        return Some(Refusal::File);
-    }
-    None
+    let file = has_file(files, f);
+    let seen = Seen {
+        made,
+        sealed,
+        file,
+        ..UNMADE
+    };
+    seen.refusal(message)
+}
+
+/// Why a block can't be written, where there is room for it or not.
+pub(crate) fn write_refusal(
+    message: &Msg,
+    made: bool,
+    sealed: bool,
+    files: u64,
+    f: u16,
+    room: bool,
+) -> Option<Refusal>
+    requires file { f < 64 }
+    requires tests { tests message.now ≡ Range ∷ Volume ∷ Sealed ∷ File ∷ Space ∷ [] }
+    ensures { result ≡ unless_closed made sealed (unless (has_bit files f) File (unless room Space None)) }
+{
+    let file = has_file(files, f);
+    let seen = Seen {
+        made,
+        sealed,
+        file,
+        room,
+        ..UNMADE
+    };
+    seen.refusal(message)
 }
 
 /// Why a file can't be read.
-pub(crate) fn read_refusal(made: bool, files: u64, f: u16) -> Option<Refusal>
-    requires { f < 64 }
+pub(crate) fn read_refusal(message: &Msg, made: bool, files: u64, f: u16) -> Option<Refusal>
+    requires file { f < 64 }
+    requires tests { tests message.now ≡ Range ∷ Volume ∷ File ∷ [] }
     ensures { result ≡ unless made Volume (unless (has_bit files f) File None) }
 {
-    if !made {
-        return Some(Refusal::Volume);
-    }
-    if !has_file(files, f) {
-        return Some(Refusal::File);
-    }
-    None
+    let file = has_file(files, f);
+    let seen = Seen {
+        made,
+        file,
+        ..UNMADE
+    };
+    seen.refusal(message)
 }

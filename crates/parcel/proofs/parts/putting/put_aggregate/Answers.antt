@@ -3,10 +3,10 @@ use Rattle.std.proofs.Common.{◌≡◌, ℕ, ◌<◌, ◌∷◌, sym, ap, subst
 use Rattle.std.specs.Prelude.{Some, None, IfSome, IfErr, OnOk, slice_index_or}
 use Rattle.std.proofs.lemmas.List.{length-set}
 use Rattle.parcel.specs.Fits.{Fits, IsKindOf, FitsVolume, FitsAggregate}
-use Rattle.parcel.specs.Levels.{IsVolumePath, IsHandedBack}
+use Rattle.parcel.specs.Levels.{IsVolumePath, HandsBack}
 use Rattle.parcel.specs.Nodes.{in_child, in_volume, in_aggregate}
 use Rattle.parcel.specs.Nodes.Node.{Inner}
-use Rattle.parcel.proofs.Rows.{rest_of, row_path, row_handed_back, split, each_at, each_set}
+use Rattle.parcel.proofs.ChildRows.{rest_of, row_path, row_handed_back, split, each_at, each_set}
 use Rattle.parcel.proofs.Levels.{no_path, child_read, through, on_ok, map_err, moved_volume}
 use Rattle.parcel.proofs.parts.putting.put_aggregate.Goals as goal
 
@@ -19,7 +19,7 @@ returns-in-empty-clause-kind c =
 
 pub returns-in-empty-clause-err : goal.returns-in-empty-clause-err
 returns-in-empty-clause-err c =
-    subst (λ q. IfErr c.put_aggregate_itself.result (λ back. (a : ℕ) → IsHandedBack (IsKindOf (a ∷ q) c.args.p) q c.args.p back (in_child in_aggregate c.args.place.now) (in_child in_aggregate c.put_aggregate_itself.new.place)))
+    subst (λ q. IfErr c.put_aggregate_itself.result (λ back. (a : ℕ) → HandsBack (IsKindOf (a ∷ q) c.args.p) q c.args.p back (in_child in_aggregate c.args.place.now) (in_child in_aggregate c.put_aggregate_itself.new.place)))
     (sym (no_path c.args.path.now c.in-empty.len_below)) c.put_aggregate_itself.ensures.err
 
 pub put_volume-requires-clause-fits : goal.put_volume-requires-clause-fits
@@ -56,7 +56,7 @@ returns-in-Some-clause-err c =
     let fits : FitsAggregate g c.in-Some.aggregate = subst (λ x. IfSome x (FitsAggregate g)) was c.requires.fits in
     let path : (i < g.volumes) × IsVolumePath g (rest_of p) = row_path g.volumes (IsVolumePath g) p c.in-len1-up.len_at_least c.requires.path in
     let at : c.index_mut.result.now ≡ slice_index_or xs i None = child_read xs i g.volumes c.index_mut.result.now path.0 fits.count c.index_mut.ensures.value in
-    map_err c.put_volume.result (λ back h. λ a. through (λ q old new. IsHandedBack (IsKindOf (a ∷ i ∷ q) c.args.p) q c.args.p back old new) (λ q old new. IsHandedBack (IsKindOf (a ∷ q) c.args.p) q c.args.p back old new)
+    map_err c.put_volume.result (λ back h. λ a. through (λ q old new. HandsBack (IsKindOf (a ∷ i ∷ q) c.args.p) q c.args.p back old new) (λ q old new. HandsBack (IsKindOf (a ∷ q) c.args.p) q c.args.p back old new)
     in_volume Inner xs p c.index_mut.result.now _ _ _ c.in-len1-up.len_at_least (ap (in_child in_aggregate) was) at
     (row_handed_back in_volume Inner xs i c.put_volume.new.place (omega arith) (IsKindOf (a ∷ i ∷ rest_of p) c.args.p) (rest_of p) c.args.p back) (h a i)) c.put_volume.ensures.err
 

@@ -4,7 +4,7 @@ use Rattle.std.specs.Prelude.{Some, None, IfSome, slice_index_or}
 use Rattle.std.proofs.lemmas.List.{length-set}
 use Rattle.parcel.specs.Fits.{Fits, FitsStripe, FitsLogical}
 use Rattle.parcel.specs.Levels.{IsLeafPath}
-use Rattle.parcel.proofs.Rows.{rest_of, row_path, split, each_at, each_set}
+use Rattle.parcel.proofs.ChildRows.{rest_of, row_path, split, each_at, each_set}
 use Rattle.parcel.proofs.Levels.{no_path, child_read, map_some, leaf_path}
 use Rattle.parcel.proofs.parts.taking.take_logical.Goals as goal
 

@@ -1,5 +1,5 @@
 use Rattle.std.proofs.Common.{◌≡◌, ◌∙◌, length, arith}
-use Rattle.parcel.specs.Dropping.{IsEmptied}
+use Rattle.parcel.specs.Dropping.{Empties}
 use Rattle.parcel.specs.Fits.{FitsStripe}
 use Rattle.parcel.proofs.FileBits.{none_below}
 use Rattle.parcel.proofs.StripeRows.{pairs_from_places, still_fit, still_whole, fits_emptied, whole_emptied}
@@ -13,8 +13,8 @@ returns-clause-fits c =
     λ g fits. record {
       files = none_below g.files;
       count = same ∙ fits.count;
-      stripes = still_fit IsEmptied (FitsStripe g) (fits_emptied g) 0 old.items new.items
-          (pairs_from_places IsEmptied old.items new.items same (λ s lt. c.clear_stripes.ensures.each s (omega (arith, lt, old.ok.0)))) fits.stripes;
+      stripes = still_fit Empties (FitsStripe g) (fits_emptied g) 0 old.items new.items
+          (pairs_from_places Empties old.items new.items same (λ s lt. c.clear_stripes.ensures.each s (omega (arith, lt, old.ok.0)))) fits.stripes;
     }
 
 pub returns-clause-whole : goal.returns-clause-whole
@@ -22,5 +22,5 @@ returns-clause-whole c =
     let old = c.args.logical.now.stripes in
     let new = c.clear_stripes.new.stripes in
     let same : length new.items ≡ length old.items = omega (arith, c.clear_stripes.ensures.count, old.ok.0, new.ok.0) in
-    still_whole IsEmptied (λ p. Unit {0}) whole_emptied old.items new.items
-    (pairs_from_places IsEmptied old.items new.items same (λ s lt. c.clear_stripes.ensures.each s (omega (arith, lt, old.ok.0))))
+    still_whole Empties (λ p. Unit {0}) whole_emptied old.items new.items
+    (pairs_from_places Empties old.items new.items same (λ s lt. c.clear_stripes.ensures.each s (omega (arith, lt, old.ok.0))))

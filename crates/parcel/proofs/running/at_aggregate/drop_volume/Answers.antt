@@ -7,7 +7,7 @@ use Rattle.parcel.specs.Shown.{by_aggregate, by_child, by_volume}
 use Rattle.parcel.specs.Steps.{unless_closed, at_aggregate}
 use Rattle.parcel.specs.Volume.{nothing}
 use Rattle.parcel.proofs.OneVolume.{passed}
-use Rattle.parcel.proofs.Rows.{each_set, fits_in_place}
+use Rattle.parcel.proofs.ChildRows.{each_set, fits_in_place}
 use Rattle.parcel.proofs.VolumeRows.{set_changes, changed_if, drop_tests, effect_drop}
 use Rattle.parcel.proofs.running.at_aggregate.drop_volume.Goals as goal
 

@@ -2,7 +2,7 @@ use Rattle.std.proofs.Common.{◌≡◌, ◌<◌, refl, sym, ◌∙◌, length, 
 use Rattle.affinity.specs.Geometry.{group}
 use Rattle.affinity.proofs.Placed.{group_below}
 use Rattle.message.specs.declared.Msg.TheVariants.{Delete}
-use Rattle.parcel.specs.Dropping.{IsWithoutFile}
+use Rattle.parcel.specs.Dropping.{DropsFile}
 use Rattle.parcel.specs.Fits.{FitsStripe}
 use Rattle.parcel.specs.Shown.{by_logical, blocks_of, has_bit}
 use Rattle.parcel.specs.Volume.{only}
@@ -33,8 +33,8 @@ returns-clause-fits c =
     record {
       files = without_bit_below g.files c.args.logical.now.files c.args.f c.requires.fits.files;
       count = same ∙ c.requires.fits.count;
-      stripes = still_fit (IsWithoutFile c.args.f) (FitsStripe g) (fits_without_file g c.args.f) 0 old.items new.items
-          (pairs_from_places (IsWithoutFile c.args.f) old.items new.items same (λ s lt. c.drop_file.ensures.each s (omega (arith, lt, old.ok.0)))) c.requires.fits.stripes;
+      stripes = still_fit (DropsFile c.args.f) (FitsStripe g) (fits_without_file g c.args.f) 0 old.items new.items
+          (pairs_from_places (DropsFile c.args.f) old.items new.items same (λ s lt. c.drop_file.ensures.each s (omega (arith, lt, old.ok.0)))) c.requires.fits.stripes;
     }
 
 pub returns-clause-whole : goal.returns-clause-whole
@@ -42,5 +42,5 @@ returns-clause-whole c =
     let old = c.args.logical.now.stripes in
     let new = c.drop_file.new.stripes in
     let same : length new.items ≡ length old.items = omega (arith, c.drop_file.ensures.count, old.ok.0, new.ok.0) in
-    still_whole (IsWithoutFile c.args.f) (λ p. Unit {0}) (whole_without_file c.args.f) old.items new.items
-    (pairs_from_places (IsWithoutFile c.args.f) old.items new.items same (λ s lt. c.drop_file.ensures.each s (omega (arith, lt, old.ok.0)))) c.requires.whole
+    still_whole (DropsFile c.args.f) (λ p. Unit {0}) (whole_without_file c.args.f) old.items new.items
+    (pairs_from_places (DropsFile c.args.f) old.items new.items same (λ s lt. c.drop_file.ensures.each s (omega (arith, lt, old.ok.0)))) c.requires.whole

@@ -14,4 +14,4 @@ returns c =
     let g = c.args.g.now in
     let h = by_logical g c.args.standing c.args.logical.now in
     λ a v range. passed g (only a v h) (ListFiles a v) _ _ (list_tests g a v h range ∙ sym c.volume_refusal.ensures ∙ c.in_default.is)
-    (ap Files (sym (bits_back g.files c.args.logical.now.files c.requires.files)) ∙ (λ i. Files (sum_below g.files (λ f. if (sym (at_volume a v h) i).files f then 2 ^ f else 0)))) refl
+    (ap Files (sym (bits_back g.files c.args.logical.now.files c.requires.fits.files)) ∙ (λ i. Files (sum_below g.files (λ f. if (sym (at_volume a v h) i).files f then 2 ^ f else 0)))) refl

@@ -4,7 +4,7 @@ use Rattle.std.proofs.lemmas.List.{get_or_read}
 use Rattle.parcel.specs.Fits.{FitsVolume}
 use Rattle.parcel.specs.Shown.{by_aggregate, by_child, by_volume}
 use Rattle.parcel.specs.Totals.{totals_of}
-use Rattle.parcel.proofs.Rows.{fits_in_place}
+use Rattle.parcel.proofs.ChildRows.{fits_in_place}
 use Rattle.parcel.proofs.Summing.{IsFew, few_of_one, few_of_sum}
 use Rattle.parcel.proofs.running.totals.aggregate_totals.Goals as goal
 

@@ -6,7 +6,7 @@ use Rattle.plain.proofs.Counts.{block_count-by_stripe}
 use Rattle.parcel.specs.Fits.{FitsStripe}
 use Rattle.parcel.specs.Shown.{blocks_of}
 use Rattle.parcel.proofs.StripeTotals.{holding, count_at, few_entries, quota_of}
-use Rattle.parcel.proofs.Rows.{fits_in_place}
+use Rattle.parcel.proofs.ChildRows.{fits_in_place}
 use Rattle.parcel.proofs.Summing.{sum_step}
 use Rattle.parcel.proofs.running.totals.block_count.Goals as goal
 

@@ -1,5 +1,5 @@
 //! What a message sees of the nodes above its place.
-ghost use Rattle.std.specs.Prelude.{◌≡◌, ◌≤◌, [], ◌∷◌, take, option_copied};
+ghost use Rattle.std.specs.Prelude.{◌≡◌, [], ◌∷◌, option_copied};
 ghost use Rattle.affinity.specs.Path.{volume, logical};
 ghost use Rattle.affinity.specs.Place.{path};
 ghost use Rattle.parcel.specs.Levels.{volume_in};
@@ -67,19 +67,4 @@ fn volume_at(root: &Option<Root>, a: usize, v: usize) -> Option<&Vol>
         .volumes
         .get(v)?
         .as_ref()
-}
-
-/// The numbers of a place's path, and how many they are.
-pub(crate) fn path_of(place: Place) -> ([usize; 4], usize)
-    ensures depth { result.1 ≤ 4 }
-    ensures numbers { take result.1 result.0 ≡ path place }
-{
-    match place {
-        Place::Serial => ([0; 4], 0),
-        Place::Aggregate(a) => ([usize::from(a), 0, 0, 0], 1),
-        Place::Volume(a, v) => ([usize::from(a), usize::from(v), 0, 0], 2),
-        Place::Logical(a, v) => ([usize::from(a), usize::from(v), 0, 0], 3),
-        Place::Stripe(a, v, s) => ([usize::from(a), usize::from(v), 0, usize::from(s)], 4),
-        Place::Label(a, v) => ([usize::from(a), usize::from(v), 1, 0], 3),
-    }
 }

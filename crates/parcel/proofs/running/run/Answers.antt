@@ -1,5 +1,5 @@
 use Rattle.std.proofs.Common.{refl}
-use Rattle.parcel.proofs.job.run.Goals as goal
+use Rattle.parcel.proofs.running.run.Goals as goal
 
 pub returns : goal.returns
 returns c = rw (← c.job.view_is) (record { ticket = refl; message = refl; suits = c.run_on-reply.ensures.suits; step = c.run_on-reply.ensures.step })

@@ -1,4 +1,4 @@
-use Rattle.parcel.proofs.job.run_on.Goals as goal
+use Rattle.parcel.proofs.running.run_on.Goals as goal
 
 pub returns-in-Root-clause-step : goal.returns-in-Root-clause-step
 returns-in-Root-clause-step c = rw c.in-Root.is (c.run_at_root.ensures.step c.args.standing)

@@ -6,8 +6,8 @@ use Rattle.std.proofs.lemmas.List.{get_or-set_same, get_or-set_other}
 use Rattle.std.proofs.Math.Seq.{take-length}
 use Rattle.affinity.specs.Path.{Path, begins, are_related}
 use Rattle.parcel.specs.Fits.{EachFits}
-use Rattle.parcel.specs.Levels.{IsRowPath, IsRefused, IsTaken, IsPut, IsHandedBack}
-use Rattle.parcel.specs.Nodes.{Node, Nodes, in_child, in_row, in_parcels, put_at, IsTakenOut, IsPutBack, IsSame}
+use Rattle.parcel.specs.Levels.{IsRowPath, Refuses, Takes, Puts, HandsBack}
+use Rattle.parcel.specs.Nodes.{Node, Nodes, in_child, in_row, in_parcels, put_at, TakesOut, PutsBack, SameNodes}
 use Rattle.parcel.specs.Tree.{IsOut}
 use Rattle.parcel.specs.declared.parts.Parcels.{Parcels}
 
@@ -58,7 +58,7 @@ module _ {X : Type 0} (nodes : X → Nodes) (own : Node) (xs : List (Option X)) 
   same_there : (j : ℕ) → i ≡ j → slice_index_or (slice_set xs i y) j None ≡ y
   same_there j e = subst (λ k. slice_index_or (slice_set xs i y) k None ≡ y) e (get_or-set_same xs i y None there)
 
-  taken_cell : (p : Path) (j : ℕ) (q : Path) (b : Bool) → (i == j) ≡ b → IsTakenOut p (in_child nodes (slice_index_or xs i None)) (in_child nodes y)
+  taken_cell : (p : Path) (j : ℕ) (q : Path) (b : Bool) → (i == j) ≡ b → TakesOut p (in_child nodes (slice_index_or xs i None)) (in_child nodes y)
       → in_child nodes (slice_index_or (slice_set xs i y) j None) q ≡ (if b && begins p q then None else in_child nodes (slice_index_or xs j None) q)
   taken_cell p j q true e h =
       let here : i ≡ j = eqb-true i j e in
@@ -67,11 +67,11 @@ module _ {X : Type 0} (nodes : X → Nodes) (own : Node) (xs : List (Option X)) 
   taken_cell p j q false e h =
       ap (λ c. in_child nodes c q) (get_or-set_other xs i j y None (λ (s : j ≡ i). true≢false (sym (eq-eqb i j (sym s)) ∙ e)))
 
-  row_taken : (p : Path) → IsTakenOut p (in_child nodes (slice_index_or xs i None)) (in_child nodes y) → IsTakenOut (i ∷ p) (in_row nodes own xs) (in_row nodes own (slice_set xs i y))
+  row_taken : (p : Path) → TakesOut p (in_child nodes (slice_index_or xs i None)) (in_child nodes y) → TakesOut (i ∷ p) (in_row nodes own xs) (in_row nodes own (slice_set xs i y))
   row_taken p h [] = refl
   row_taken p h (j ∷ q) = taken_cell p j q (i == j) refl h
 
-  put_cell : (p : Path) (part : Nodes) (j : ℕ) (q : Path) (b : Bool) → (i == j) ≡ b → IsPutBack p part (in_child nodes (slice_index_or xs i None)) (in_child nodes y)
+  put_cell : (p : Path) (part : Nodes) (j : ℕ) (q : Path) (b : Bool) → (i == j) ≡ b → PutsBack p part (in_child nodes (slice_index_or xs i None)) (in_child nodes y)
       → in_child nodes (slice_index_or (slice_set xs i y) j None) q ≡ (if b then put_at p part (in_child nodes (slice_index_or xs j None)) q else in_child nodes (slice_index_or xs j None) q)
   put_cell p part j q true e h =
       let here : i ≡ j = eqb-true i j e in
@@ -80,11 +80,11 @@ module _ {X : Type 0} (nodes : X → Nodes) (own : Node) (xs : List (Option X)) 
   put_cell p part j q false e h =
       ap (λ c. in_child nodes c q) (get_or-set_other xs i j y None (λ (s : j ≡ i). true≢false (sym (eq-eqb i j (sym s)) ∙ e)))
 
-  row_put : (p : Path) (part : Nodes) → IsPutBack p part (in_child nodes (slice_index_or xs i None)) (in_child nodes y) → IsPutBack (i ∷ p) part (in_row nodes own xs) (in_row nodes own (slice_set xs i y))
+  row_put : (p : Path) (part : Nodes) → PutsBack p part (in_child nodes (slice_index_or xs i None)) (in_child nodes y) → PutsBack (i ∷ p) part (in_row nodes own xs) (in_row nodes own (slice_set xs i y))
   row_put p part h [] = refl
   row_put p part h (j ∷ q) = put_cell p part j q (i == j) refl h
 
-  same_cell : (j : ℕ) (q : Path) (b : Bool) → (i == j) ≡ b → IsSame (in_child nodes (slice_index_or xs i None)) (in_child nodes y)
+  same_cell : (j : ℕ) (q : Path) (b : Bool) → (i == j) ≡ b → SameNodes (in_child nodes (slice_index_or xs i None)) (in_child nodes y)
       → in_child nodes (slice_index_or (slice_set xs i y) j None) q ≡ in_child nodes (slice_index_or xs j None) q
   same_cell j q true e h =
       let here : i ≡ j = eqb-true i j e in
@@ -93,7 +93,7 @@ module _ {X : Type 0} (nodes : X → Nodes) (own : Node) (xs : List (Option X)) 
   same_cell j q false e h =
       ap (λ c. in_child nodes c q) (get_or-set_other xs i j y None (λ (s : j ≡ i). true≢false (sym (eq-eqb i j (sym s)) ∙ e)))
 
-  row_same : IsSame (in_child nodes (slice_index_or xs i None)) (in_child nodes y) → IsSame (in_row nodes own xs) (in_row nodes own (slice_set xs i y))
+  row_same : SameNodes (in_child nodes (slice_index_or xs i None)) (in_child nodes y) → SameNodes (in_row nodes own xs) (in_row nodes own (slice_set xs i y))
   row_same h [] = refl
   row_same h (j ∷ q) = same_cell j q (i == j) refl h
 
@@ -105,15 +105,15 @@ module _ {X : Type 0} (nodes : X → Nodes) (own : Node) (xs : List (Option X)) 
   row_all_in count p h (j ∷ q) path related =
       subst (λ k. is_some (in_child nodes (slice_index_or xs k None) q) ≡ true) (related_first i j p q related) (h q path.1 (related_rest i j p q related))
 
-  pub row_refused : (IsBelow : Path → Type 0) (count : ℕ) (p : Path) → i < count → IsRefused IsBelow p (in_child nodes (slice_index_or xs i None)) (in_child nodes y)
-      → IsRefused (IsRowPath count IsBelow) (i ∷ p) (in_row nodes own xs) (in_row nodes own (slice_set xs i y))
+  pub row_refused : (IsBelow : Path → Type 0) (count : ℕ) (p : Path) → i < count → Refuses IsBelow p (in_child nodes (slice_index_or xs i None)) (in_child nodes y)
+      → Refuses (IsRowPath count IsBelow) (i ∷ p) (in_row nodes own xs) (in_row nodes own (slice_set xs i y))
   row_refused IsBelow count p below h = record {
     gap = (i ∷ h.gap.0, (below, h.gap.1), related_below i p h.gap.0 h.gap.2, h.gap.3);
     same = row_same h.same;
   }
 
-  pub row_is_taken : (IsBelow : Path → Type 0) (count : ℕ) (p : Path) (lent : Parcels) → IsTaken IsBelow p lent (in_child nodes (slice_index_or xs i None)) (in_child nodes y)
-      → IsTaken (IsRowPath count IsBelow) (i ∷ p) lent (in_row nodes own xs) (in_row nodes own (slice_set xs i y))
+  pub row_is_taken : (IsBelow : Path → Type 0) (count : ℕ) (p : Path) (lent : Parcels) → Takes IsBelow p lent (in_child nodes (slice_index_or xs i None)) (in_child nodes y)
+      → Takes (IsRowPath count IsBelow) (i ∷ p) lent (in_row nodes own xs) (in_row nodes own (slice_set xs i y))
   row_is_taken IsBelow count p lent h = record {
     all_in = row_all_in {IsBelow = IsBelow} count p h.all_in;
     parcels = h.parcels;
@@ -128,16 +128,16 @@ module _ {X : Type 0} (nodes : X → Nodes) (own : Node) (xs : List (Option X)) 
   out_row [] h = h.0
   out_row (j ∷ p) h = h
 
-  pub row_is_put : (p : Path) (parcels : Parcels) → IsPut p parcels (in_child nodes (slice_index_or xs i None)) (in_child nodes y) → IsPut (i ∷ p) parcels (in_row nodes own xs) (in_row nodes own (slice_set xs i y))
+  pub row_is_put : (p : Path) (parcels : Parcels) → Puts p parcels (in_child nodes (slice_index_or xs i None)) (in_child nodes y) → Puts (i ∷ p) parcels (in_row nodes own xs) (in_row nodes own (slice_set xs i y))
   row_is_put p parcels h = record { out = row_out p h.out; nodes = row_put p (in_parcels parcels) h.nodes }
 
-  pub row_handed_back : (IsKind : Type 0) (p : Path) (parcels back : Parcels) → IsHandedBack IsKind p parcels back (in_child nodes (slice_index_or xs i None)) (in_child nodes y)
-      → IsHandedBack IsKind (i ∷ p) parcels back (in_row nodes own xs) (in_row nodes own (slice_set xs i y))
+  pub row_handed_back : (IsKind : Type 0) (p : Path) (parcels back : Parcels) → HandsBack IsKind p parcels back (in_child nodes (slice_index_or xs i None)) (in_child nodes y)
+      → HandsBack IsKind (i ∷ p) parcels back (in_row nodes own xs) (in_row nodes own (slice_set xs i y))
   row_handed_back IsKind p parcels back h = record { back = h.back; why = λ out kind. h.why (out_row p out) kind; same = row_same h.same }
 
 -- ---- where there is no row
 
-pub none_refused : {X : Type 0} (nodes : X → Nodes) (IsThere : Path → Type 0) (p : Path) → IsThere [] → IsRefused IsThere p (in_child nodes None) (in_child nodes None)
+pub none_refused : {X : Type 0} (nodes : X → Nodes) (IsThere : Path → Type 0) (p : Path) → IsThere [] → Refuses IsThere p (in_child nodes None) (in_child nodes None)
 none_refused nodes IsThere [] top = record { gap = ([], top, refl, refl); same = λ q. refl }
 none_refused nodes IsThere (i ∷ p) top = record { gap = ([], top, refl, refl); same = λ q. refl }
 

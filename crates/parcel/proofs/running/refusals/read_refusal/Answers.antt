@@ -1,0 +1,10 @@
+use Rattle.std.proofs.Common.{ap, ◌∙◌}
+use Rattle.std.specs.Prelude.{None}
+use Rattle.message.specs.declared.Refusal.TheVariants.{Volume, File}
+use Rattle.parcel.specs.Steps.{unless}
+use Rattle.parcel.proofs.running.refusals.read_refusal.Goals as goal
+
+pub returns : goal.returns
+returns c =
+    let first = rw c.requires.tests at c.refusal.ensures in
+    first ∙ ap (λ b. unless c.args.made Volume (unless b File None)) c.has_file-file.ensures
