@@ -1,2 +1,3 @@
 pub mod Stripe
 pub mod Index
+pub mod Entries

@@ -1,0 +1,117 @@
+-- Worked examples of the definitions, on a small server: one volume of two files of four blocks, in two stripes that hold two blocks each.
+use Rattle.std.proofs.Common.{◌≡◌, ℕ, ◌+◌, true, false, Bool, List, [], ◌∷◌, ◌++◌, length, take, drop, replicate, Option, Some, None, refl}
+use Rattle.affinity.specs.Geometry.{small}
+use Rattle.message.specs.declared.Block.{Block}
+use Rattle.message.specs.declared.Msg.TheVariants.{MakeVol, Create, Write, Seal, SetLabel, Summary as AskSummary, Read}
+use Rattle.message.specs.declared.Reply.TheVariants.{Summary, Block as Found}
+use Rattle.message.specs.declared.Reply.{Reply}
+use Rattle.plain.specs.Serial.{fold, reply_to}
+use Rattle.plain.specs.State.{State, empty}
+use Rattle.image.specs.Pieces.{piece_of, piece_at, piece_size, piece_count}
+use Rattle.image.specs.Image.{image_of, read, is_good}
+
+-- a block that begins with this byte
+abbrev block_of : ℕ → Block
+block_of b = record { 0 = b ∷ replicate 511 0 }
+
+abbrev label_of : ℕ → List ℕ
+label_of b = b ∷ replicate 31 0
+
+abbrev one_file : State
+one_file = fold small empty (MakeVol 0 0 ∷ Create 0 0 0 ∷ Create 0 0 1 ∷ Seal 0 0 ∷ [])
+
+-- ---- pieces
+
+marks_of_a_sealed_volume : piece_of 2 small one_file 0 ≡ 1 ∷ 1 ∷ 0 ∷ 0 ∷ 0 ∷ 0 ∷ 0 ∷ 0 ∷ 3 ∷ replicate 55 0
+marks_of_a_sealed_volume = refl
+
+abbrev two_blocks : State
+two_blocks = fold small empty (MakeVol 0 0 ∷ Create 0 0 0 ∷ Create 0 0 1 ∷ Write 0 0 1 1 (block_of 97) ∷ Write 0 0 0 0 (block_of 98) ∷ SetLabel 0 0 (label_of 99) ∷ [])
+
+first_stripe : piece_of 2 small two_blocks 1 ≡ 1 ∷ 0 ∷ 0 ∷ 0 ∷ 0 ∷ 0 ∷ 0 ∷ 0 ∷ 98 ∷ replicate 511 0 ++ 1 ∷ 1 ∷ 1 ∷ 0 ∷ 0 ∷ 0 ∷ 0 ∷ 0 ∷ 97 ∷ replicate 511 0
+first_stripe = refl
+
+label_of_version_2 : piece_of 2 small two_blocks 0 ≡ 1 ∷ 0 ∷ 0 ∷ 0 ∷ 0 ∷ 0 ∷ 0 ∷ 0 ∷ 3 ∷ replicate 7 0 ++ 99 ∷ replicate 47 0
+label_of_version_2 = refl
+
+no_label_in_version_1 : piece_of 1 small two_blocks 0 ≡ 1 ∷ 0 ∷ 0 ∷ 0 ∷ 0 ∷ 0 ∷ 0 ∷ 0 ∷ 3 ∷ replicate 55 0
+no_label_in_version_1 = refl
+
+-- ---- images
+
+size_of_an_image : length (image_of 2 small empty) ≡ 2208
+size_of_an_image = refl
+
+abbrev summary_of : Option State → Option Reply
+summary_of None = None
+summary_of (Some x) = Some (reply_to small x AskSummary)
+
+read_again : summary_of (read small (image_of 2 small two_blocks)) ≡ Some (Summary 1 2 2)
+read_again = refl
+
+read_again_from_version_1 : summary_of (read small (image_of 1 small two_blocks)) ≡ Some (Summary 1 2 2)
+read_again_from_version_1 = refl
+
+-- with this byte at a place
+abbrev changed : ℕ → ℕ → List ℕ → List ℕ
+changed at b bytes = take at bytes ++ b ∷ drop (at + 1) bytes
+
+abbrev changed_is_read : ℕ → ℕ → State → Option Reply
+changed_is_read at b x = summary_of (read small (changed at b (image_of 2 small x)))
+
+version_is_unknown : changed_is_read 0 3 two_blocks ≡ None
+version_is_unknown = refl
+
+head_is_no_zeros : changed_is_read 1 1 two_blocks ≡ None
+head_is_no_zeros = refl
+
+made_is_2 : changed_is_read 64 2 two_blocks ≡ None
+made_is_2 = refl
+
+no_volume_is_sealed : changed_is_read 65 1 empty ≡ None
+no_volume_is_sealed = refl
+
+file_of_no_volume : changed_is_read 72 1 empty ≡ None
+file_of_no_volume = refl
+
+file_out_of_range : changed_is_read 72 7 two_blocks ≡ None
+file_out_of_range = refl
+
+block_of_no_file : changed_is_read 72 1 two_blocks ≡ None
+block_of_no_file = refl
+
+block_of_no_volume : changed_is_read 128 1 empty ≡ None
+block_of_no_volume = refl
+
+block_out_of_range : changed_is_read 130 4 two_blocks ≡ None
+block_out_of_range = refl
+
+block_of_another_stripe : changed_is_read 130 1 two_blocks ≡ None
+block_of_another_stripe = refl
+
+block_moved_within_its_stripe : changed_is_read 130 2 two_blocks ≡ Some (Summary 1 2 2)
+block_moved_within_its_stripe = refl
+
+out_of_order : summary_of (read small (changed 129 1 (changed 130 3 (image_of 2 small two_blocks)))) ≡ None
+out_of_order = refl
+
+same_block_twice : summary_of (read small (changed 129 1 (changed 130 1 (image_of 2 small two_blocks)))) ≡ None
+same_block_twice = refl
+
+bytes_between : changed_is_read 132 1 two_blocks ≡ None
+bytes_between = refl
+
+mark_of_an_entry_is_2 : changed_is_read 128 2 two_blocks ≡ None
+mark_of_an_entry_is_2 = refl
+
+bytes_behind_the_entries : changed_is_read 1300 1 two_blocks ≡ None
+bytes_behind_the_entries = refl
+
+label_in_version_1 : summary_of (read small (changed 80 1 (image_of 1 small two_blocks))) ≡ None
+label_in_version_1 = refl
+
+label_in_version_2 : changed_is_read 80 1 two_blocks ≡ Some (Summary 1 2 2)
+label_in_version_2 = refl
+
+bytes_behind_the_label : changed_is_read 112 1 two_blocks ≡ None
+bytes_behind_the_label = refl

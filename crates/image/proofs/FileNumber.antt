@@ -1,0 +1,82 @@
+-- The files of a volume as the bits of a number, and back.
+use Rattle.std.proofs.Common.{◌≡◌, ℕ, zero, suc, ◌+◌, ◌*◌, ◌%◌, ◌^◌, ◌<◌, ◌≤◌, Bool, true, false, refl, sym, ◌∙◌, ap, subst, arith, ⊎_elim}
+use Rattle.std.specs.Prelude.{◌==◌, if◌then◌else◌}
+use Rattle.std.specs.Int.{bit_at}
+use Rattle.std.proofs.lemmas.Bool.{cases_lt, cases_eq, eq-eqb, ne_eqb}
+use Rattle.std.proofs.lemmas.Nat.{mod-pow-add}
+use Rattle.std.proofs.lemmas.Nat.Bits.{bit_at_above, bit_at-lt}
+use Rattle.std.proofs.Math.Nat.{pow-succ', mod-eq_of_lt}
+use Rattle.message.specs.Replies.{has_file}
+use Rattle.plain.specs.State.{sum_below}
+
+sum_bits : (n m : ℕ) → sum_below n (λ f. if has_file m f then 2 ^ f else 0) ≡ m % 2 ^ n
+sum_bits zero m = omega arith
+sum_bits (suc n) m =
+    let before = sum_bits n m in
+    let high : m % 2 ^ (1 + n) ≡ bit_at m n * 2 ^ n + m % 2 ^ n = mod-pow-add m 1 n in
+    let same : 1 + n ≡ suc n = omega arith in
+    ⊎_elim
+    (λ e.
+    let one : (if has_file m n then 2 ^ n else 0) ≡ 2 ^ n = ap (λ b. if b then 2 ^ n else 0) (eq-eqb (bit_at m n) 1 e) in
+    let times : bit_at m n * 2 ^ n ≡ 1 * 2 ^ n = ap (λ b. b * 2 ^ n) e in
+    let goal : sum_below n (λ f. if has_file m f then 2 ^ f else 0) + (if has_file m n then 2 ^ n else 0) ≡ m % 2 ^ (1 + n) = omega (arith, before, high, one, times) in
+    goal ∙ ap (λ k. m % 2 ^ k) same)
+    (λ ne.
+    let none : (if has_file m n then 2 ^ n else 0) ≡ 0 = ap (λ b. if b then 2 ^ n else 0) (ne_eqb (bit_at m n) 1 ne) in
+    let zero' : bit_at m n ≡ 0 = omega (arith, ne, bit_at-lt m n) in
+    let times : bit_at m n * 2 ^ n ≡ 0 * 2 ^ n = ap (λ b. b * 2 ^ n) zero' in
+    let goal : sum_below n (λ f. if has_file m f then 2 ^ f else 0) + (if has_file m n then 2 ^ n else 0) ≡ m % 2 ^ (1 + n) = omega (arith, before, high, none, times) in
+    goal ∙ ap (λ k. m % 2 ^ k) same)
+    (cases_eq (bit_at m n) 1)
+
+-- a number below 2 ^ n is the sum of its bits
+pub bits_back : (n m : ℕ) → m < 2 ^ n → sum_below n (λ f. if has_file m f then 2 ^ f else 0) ≡ m
+bits_back n m below = sum_bits n m ∙ mod-eq_of_lt below
+
+-- the number whose bits below n are those that the test picks
+abbrev pub number_of : ℕ → (ℕ → Bool) → ℕ
+number_of n t = sum_below n (λ f. if t f then 2 ^ f else 0)
+
+pub number_small : (n : ℕ) (t : ℕ → Bool) → number_of n t < 2 ^ n
+number_small zero t = omega arith
+number_small (suc n) t =
+    let one : (b : Bool) → (if b then 2 ^ n else 0) ≤ 2 ^ n = λ b. elim b as (λ b. (if b then 2 ^ n else 0) ≤ 2 ^ n) [ | true ↦ omega arith | false ↦ omega arith ] in
+    omega (arith, number_small n t, one (t n), pow-succ' 2 n)
+
+-- numbers that are equal pick the same
+one_same : (n : ℕ) (s t : ℕ → Bool) (b c : Bool) → number_of n s + (if b then 2 ^ n else 0) ≡ number_of n t + (if c then 2 ^ n else 0) → b ≡ c
+one_same n s t true true same = refl
+one_same n s t false false same = refl
+one_same n s t true false same = absurd (omega (arith, same, number_small n s, number_small n t))
+one_same n s t false true same = absurd (omega (arith, same, number_small n s, number_small n t))
+
+rest_same : (n : ℕ) (s t : ℕ → Bool) (b c : Bool) → number_of n s + (if b then 2 ^ n else 0) ≡ number_of n t + (if c then 2 ^ n else 0) → number_of n s ≡ number_of n t
+rest_same n s t true true same = omega (arith, same)
+rest_same n s t false false same = omega (arith, same)
+rest_same n s t true false same = absurd (omega (arith, same, number_small n s, number_small n t))
+rest_same n s t false true same = absurd (omega (arith, same, number_small n s, number_small n t))
+
+pub picks_same : (n : ℕ) (s t : ℕ → Bool) → number_of n s ≡ number_of n t → (f : ℕ) → f < n → s f ≡ t f
+picks_same zero s t same f below = absurd (omega (arith, below))
+picks_same (suc n) s t same f below =
+    ⊎_elim
+    (λ (less : f < n). picks_same n s t (rest_same n s t (s n) (t n) same) f less)
+    (λ (no_less : n ≤ f).
+    let last : f ≡ n = omega (arith, below, no_less) in
+    ap s last ∙ one_same n s t (s n) (t n) same ∙ sym (ap t last))
+    (cases_lt f n)
+
+-- file f is there in the number exactly where it is picked
+pub bits_there : (n : ℕ) (t : ℕ → Bool) → ((f : ℕ) → t f ≡ true → f < n) → (f : ℕ) → has_file (number_of n t) f ≡ t f
+bits_there n t within f =
+    let m : ℕ = number_of n t in
+    ⊎_elim
+    (λ (less : f < n). picks_same n (has_file m) t (bits_back n m (number_small n t)) f less)
+    (λ (no_less : n ≤ f).
+    let off : has_file m f ≡ false = ap (λ b. b == 1) (bit_at_above m n f (number_small n t) no_less) in
+    off ∙ sym (none_behind (t f) (within f) no_less))
+    (cases_lt f n)
+  where
+    none_behind : (b : Bool) → (b ≡ true → f < n) → n ≤ f → b ≡ false
+    none_behind false within no_less = refl
+    none_behind true within no_less = absurd (omega (arith, within refl, no_less))

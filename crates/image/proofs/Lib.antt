@@ -1,0 +1,4 @@
+pub mod FileNumber
+pub mod Measures
+pub mod Cuts
+mod Examples

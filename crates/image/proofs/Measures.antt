@@ -1,0 +1,101 @@
+-- How long the pieces of a state are, where what it has is of the right size.
+use Rattle.std.proofs.Common.{◌≡◌, ℕ, zero, suc, ◌+◌, ◌*◌, ◌-◌, ◌<◌, ◌≤◌, Bool, true, false, ◌&&◌, List, [], ◌∷◌, ◌++◌, length, replicate, IfSome, is_some, Option, Some, None, unwrap_or, refl, sym, ◌∙◌, ap, subst, arith, length-append}
+use Rattle.std.specs.Prelude.{◌==◌, if◌then◌else◌}
+use Rattle.std.specs.List.{AllByRecursion, flat_map}
+use Rattle.std.proofs.lemmas.List.{length-replicate}
+use Rattle.affinity.specs.Geometry.{group}
+use Rattle.affinity.specs.declared.geometry.Geometry.{Geometry}
+use Rattle.message.specs.Messages.{IsBlock, AreBytes}
+use Rattle.message.specs.declared.Block.{Block}
+use Rattle.stripe.specs.Stripe.{Entry}
+use Rattle.byteorder.specs.Endian.{little_bytes}
+use Rattle.plain.specs.Serial.{no_label, file_bits}
+use Rattle.plain.specs.State.{State, VolumeKey, BlockKey, IsState, sum_below, one_if, group_count}
+use Rattle.stripe.specs.Entries.{entry_bytes, stripe_bytes}
+use Rattle.image.specs.Pieces.{joined_below, entry_if, stripe_entries, stripe_piece, volume_piece, label_bytes, part_piece, part_size, piece_of, piece_size, piece_count, part_of, aggregate_of, volume_of}
+use Rattle.stripe.proofs.EntryBytes.{IsSpellable, length-entries}
+
+-- Blocks and labels are of their size, and no stripe has more than its quota, whatever else holds of the state.
+pub record IsMeasured (g : Geometry) (x : State) : Type 0 where
+  pub content : (k : BlockKey) → IfSome (x.blocks k) IsBlock
+  pub label_content : (k : VolumeKey) → IfSome (x.labels k) (AreBytes 32)
+  pub quota : (a v s : ℕ) → length (stripe_entries g x a v s) ≤ g.quota
+
+-- ---- lists of the numbers below n
+
+pub all-append : {X : Type 0} (P : X → Type 0) (xs ys : List X) → AllByRecursion P xs → AllByRecursion P ys → AllByRecursion P (xs ++ ys)
+all-append P [] ys first second = second
+all-append P (x ∷ xs) ys first second = (first.0, all-append P xs ys first.1 second)
+
+pub all_joined : {X : Type 0} (P : X → Type 0) (n : ℕ) (f : ℕ → List X) → ((i : ℕ) → i < n → AllByRecursion P (f i)) → AllByRecursion P (joined_below n f)
+all_joined P zero f each = tt
+all_joined P (suc n) f each = all-append P (joined_below n f) (f n) (all_joined P n f (λ i below. each i (omega (arith, below)))) (each n (omega arith))
+
+pub length-joined : {X : Type 0} (n : ℕ) (f : ℕ → List X) (size : ℕ → ℕ) → ((i : ℕ) → i < n → length (f i) ≡ size i) → length (joined_below n f) ≡ sum_below n size
+length-joined zero f size each = refl
+length-joined (suc n) f size each = omega (arith, length-append (joined_below n f) (f n), length-joined n f size (λ i below. each i (omega (arith, below))), each n (omega arith))
+
+length-joined-le : {X : Type 0} (n : ℕ) (f : ℕ → List X) (most : ℕ → ℕ) → ((i : ℕ) → length (f i) ≤ most i) → length (joined_below n f) ≤ sum_below n most
+length-joined-le zero f most each = omega arith
+length-joined-le (suc n) f most each = omega (arith, length-append (joined_below n f) (f n), length-joined-le n f most each, each n)
+
+-- ---- the entries of a stripe
+
+one_entry : (p q : Bool) (f b : ℕ) (o : Option Block) → length (entry_if (p && q) f b o) ≤ one_if (q && is_some o)
+one_entry true true f b (Some content) = omega arith
+one_entry true true f b None = omega arith
+one_entry true false f b o = omega arith
+one_entry false q f b o = omega arith
+
+pub entries_most : (g : Geometry) (x : State) (a v s : ℕ) → length (stripe_entries g x a v s) ≤ group_count g x a v s
+entries_most g x a v s =
+    length-joined-le g.files _ _
+    (λ f. length-joined-le g.blocks _ _ (λ b. one_entry (x.files (a, v, f)) (group g f b == s) f b (x.blocks (a, v, f, b))))
+
+good_entry : (g : Geometry) (p : Bool) (f b : ℕ) (o : Option Block) → b < g.blocks → IfSome o IsBlock → AllByRecursion IsSpellable (entry_if p f b o)
+good_entry g true f b (Some content) below is = let most = g.blocks_range.1 in (record { long = is.0; small = omega (arith, below, most) }, tt)
+good_entry g true f b None below is = tt
+good_entry g false f b o below is = tt
+
+pub entries_good : (g : Geometry) (x : State) → IsMeasured g x → (a v s : ℕ) → AllByRecursion IsSpellable (stripe_entries g x a v s)
+entries_good g x is a v s =
+    all_joined IsSpellable g.files _
+    (λ f in_files.
+    all_joined IsSpellable g.blocks _ (λ b below. good_entry g (x.files (a, v, f) && (group g f b == s)) f b (x.blocks (a, v, f, b)) below (is.content (a, v, f, b))))
+
+pub state_is_measured : (g : Geometry) (x : State) → IsState g x → IsMeasured g x
+state_is_measured g x is = record {
+  content = is.content;
+  label_content = is.label_content;
+  quota = λ a v s. let most = entries_most g x a v s in let quota = is.quota a v s in omega (arith, most, quota);
+}
+
+-- ---- the pieces
+
+pub length-stripe_bytes : (quota : ℕ) (es : List Entry) → AllByRecursion IsSpellable es → length es ≤ quota → length (stripe_bytes quota es) ≡ quota * 520
+length-stripe_bytes quota es good most =
+    let long = length-entries es good in
+    omega (arith, long, most, length-append (flat_map entry_bytes es) (replicate (quota * 520 - length (flat_map entry_bytes es)) 0), length-replicate {A = ℕ} (quota * 520 - length (flat_map entry_bytes es)) 0)
+
+length-label : (version : ℕ) (label : Option (List ℕ)) → IfSome label (AreBytes 32) → length (label_bytes version label) ≡ 32
+length-label version label is =
+    let by : (b : Bool) → length (if b then unwrap_or label no_label else no_label) ≡ 32 = λ b. elim b as (λ b. length (if b then unwrap_or label no_label else no_label) ≡ 32) [ | true ↦ of_label label is | false ↦ refl ] in
+    by (version == 2)
+  where
+    of_label : (label : Option (List ℕ)) → IfSome label (AreBytes 32) → length (unwrap_or label no_label) ≡ 32
+    of_label None is = refl
+    of_label (Some bytes) is = is.0
+
+pub length-volume_piece : (version : ℕ) (g : Geometry) (x : State) → IsMeasured g x → (a v : ℕ) → length (volume_piece version g x a v) ≡ 64
+length-volume_piece version g x is a v = by (x.made (a, v))
+  where
+    by : (b : Bool) → length (if b then 1 ∷ one_if (x.sealed (a, v)) ∷ [] ++ replicate 6 0 ++ little_bytes 8 (file_bits g x a v) ++ label_bytes version (x.labels (a, v)) ++ replicate 16 0 else replicate 64 0) ≡ 64
+    by true = omega (arith, length-append (label_bytes version (x.labels (a, v))) (replicate 16 0), length-label version (x.labels (a, v)) (is.label_content (a, v)))
+    by false = refl
+
+pub length-piece : (version : ℕ) (g : Geometry) (x : State) → IsMeasured g x → (n : ℕ) → length (piece_of version g x n) ≡ piece_size g n
+length-piece version g x is n = by (part_of g n)
+  where
+    by : (p : ℕ) → length (part_piece version g x (aggregate_of g n) (volume_of g n) p) ≡ part_size g p
+    by zero = length-volume_piece version g x is (aggregate_of g n) (volume_of g n)
+    by (suc s) = length-stripe_bytes g.quota _ (entries_good g x is (aggregate_of g n) (volume_of g n) s) (is.quota (aggregate_of g n) (volume_of g n) s)

@@ -1,0 +1,111 @@
+-- The pieces of an image: for each volume one of its marks, files and label, and one for each of its stripes.
+use Rattle.std.specs.Prelude.{ℕ, zero, suc, ◌+◌, ◌*◌, ◌/◌, ◌%◌, Bool, true, false, ◌&&◌, ◌==◌, nat_lt, if◌then◌else◌, List, [], ◌∷◌, ◌++◌, take, drop, get_or, replicate, unwrap_or, Option, Some, None}
+use Rattle.affinity.specs.Geometry.{group}
+use Rattle.affinity.specs.declared.geometry.Geometry.{Geometry}
+use Rattle.byteorder.specs.Endian.{little_bytes, little_number}
+use Rattle.message.specs.Replies.{has_file}
+use Rattle.message.specs.declared.Block.{Block}
+use Rattle.stripe.specs.Stripe.{Entry, content_at}
+use Rattle.plain.specs.Serial.{file_bits, no_label}
+use Rattle.plain.specs.State.{State, VolumeKey, sum_below, one_if}
+use Rattle.stripe.specs.Entries.{stripe_bytes, entries_in}
+
+-- ---- which pieces there are
+
+-- a volume's piece, and one for each of its stripes
+abbrev pub pieces_of_volume : Geometry → ℕ
+pieces_of_volume g = suc g.stripes
+
+abbrev pub piece_count : Geometry → ℕ
+piece_count g = g.aggregates * g.volumes * pieces_of_volume g
+
+-- the number of a volume's piece, and of a stripe's
+abbrev pub volume_piece_number : Geometry → ℕ → ℕ → ℕ
+volume_piece_number g a v = (a * g.volumes + v) * pieces_of_volume g
+
+abbrev pub stripe_piece_number : Geometry → ℕ → ℕ → ℕ → ℕ
+stripe_piece_number g a v s = volume_piece_number g a v + suc s
+
+-- What a piece is of, by its number: the aggregate and the volume, and there 0 for the volume's piece and `suc s` for stripe s.
+abbrev pub aggregate_of : Geometry → ℕ → ℕ
+aggregate_of g n = n / pieces_of_volume g / g.volumes
+
+abbrev pub volume_of : Geometry → ℕ → ℕ
+volume_of g n = n / pieces_of_volume g % g.volumes
+
+abbrev pub part_of : Geometry → ℕ → ℕ
+part_of g n = n % pieces_of_volume g
+
+-- how many bytes a volume's piece has, and an image's head too
+abbrev pub volume_piece_size : ℕ
+volume_piece_size = 64
+
+abbrev pub part_size : Geometry → ℕ → ℕ
+part_size g zero = 64
+part_size g (suc s) = g.quota * 520
+
+abbrev pub piece_size : Geometry → ℕ → ℕ
+piece_size g n = part_size g (part_of g n)
+
+-- where a piece begins in an image: behind the head and the pieces before
+abbrev pub piece_at : Geometry → ℕ → ℕ
+piece_at g n = 64 + sum_below n (piece_size g)
+
+-- ---- how a state is spelled
+
+-- the lists of the numbers below n, one behind the other
+abbrev pub joined_below : {X : Type 0} → ℕ → (ℕ → List X) → List X
+joined_below zero f = []
+joined_below (suc n) f = joined_below n f ++ f n
+
+abbrev pub entry_if : Bool → ℕ → ℕ → Option Block → List Entry
+entry_if true f b (Some content) = record { file = f; block = b; content = content } ∷ []
+entry_if _ f b _ = []
+
+-- the blocks of a stripe, by file and then by block; only a file that is there has blocks
+abbrev pub stripe_entries : Geometry → State → ℕ → ℕ → ℕ → List Entry
+stripe_entries g x a v s = joined_below g.files (λ f. joined_below g.blocks (λ b. entry_if (x.files (a, v, f) && (group g f b == s)) f b (x.blocks (a, v, f, b))))
+
+abbrev pub stripe_piece : Geometry → State → ℕ → ℕ → ℕ → List ℕ
+stripe_piece g x a v s = stripe_bytes g.quota (stripe_entries g x a v s)
+
+-- The label stands in images of version 2. In those of version 1 there are zeros.
+abbrev pub label_bytes : ℕ → Option (List ℕ) → List ℕ
+label_bytes version label = if version == 2 then unwrap_or label no_label else no_label
+
+-- A volume that is made: 1, whether it is sealed, six zeros, its files as the bits of a number, its label, 16 zeros. One that isn't: zeros.
+abbrev pub volume_piece : ℕ → Geometry → State → ℕ → ℕ → List ℕ
+volume_piece version g x a v =
+    if x.made (a, v)
+    then 1 ∷ one_if (x.sealed (a, v)) ∷ [] ++ replicate 6 0 ++ little_bytes 8 (file_bits g x a v) ++ label_bytes version (x.labels (a, v)) ++ replicate 16 0
+    else replicate 64 0
+
+abbrev pub part_piece : ℕ → Geometry → State → ℕ → ℕ → ℕ → List ℕ
+part_piece version g x a v zero = volume_piece version g x a v
+part_piece version g x a v (suc s) = stripe_piece g x a v s
+
+-- piece n of a state, in an image of this version
+abbrev pub piece_of : ℕ → Geometry → State → ℕ → List ℕ
+piece_of version g x n = part_piece version g x (aggregate_of g n) (volume_of g n) (part_of g n)
+
+-- ---- what bytes say, whatever else they spell
+
+-- n bytes from a place on
+abbrev pub bytes_at : ℕ → ℕ → List ℕ → List ℕ
+bytes_at at n bytes = take n (drop at bytes)
+
+abbrev pub has_volume : Geometry → VolumeKey → Bool
+has_volume g k = nat_lt k.0 g.aggregates && nat_lt k.1 g.volumes
+
+-- the state that pieces say, where these are the bytes of each
+abbrev pub said_by : ℕ → Geometry → (ℕ → List ℕ) → State
+said_by version g pieces =
+    let of_volume : VolumeKey → List ℕ = λ k. pieces (volume_piece_number g k.0 k.1) in
+    let is_made : VolumeKey → Bool = λ k. has_volume g k && (get_or (of_volume k) 0 0 == 1) in
+    record {
+      made = is_made;
+      sealed = λ k. has_volume g k && (get_or (of_volume k) 1 0 == 1);
+      files = λ k. has_volume g (k.0, k.1) && has_file (little_number 8 (bytes_at 8 8 (of_volume (k.0, k.1)))) k.2;
+      blocks = λ k. if has_volume g (k.0, k.1) then content_at (entries_in g.quota (pieces (stripe_piece_number g k.0 k.1 (group g k.2 k.3)))) k.2 k.3 else None;
+      labels = λ k. if is_made k then Some (if version == 2 then bytes_at 16 32 (of_volume k) else no_label) else None;
+    }
