@@ -1,4 +1,6 @@
 pub mod FileNumber
 pub mod Measures
 pub mod Cuts
+pub mod Joining
+pub mod Reading
 mod Examples

@@ -1,0 +1,244 @@
+-- The image of a state is read as that state.
+use Rattle.std.proofs.Common.{◌≡◌, ◌≢◌, ℕ, zero, suc, ◌+◌, ◌*◌, ◌-◌, ◌/◌, ◌%◌, ◌^◌, ◌<◌, ◌≤◌, Bool, true, false, not, ◌&&◌, List, [], ◌∷◌, ◌++◌, length, take, drop, get_or, replicate, Option, Some, None, is_some, IfSome, unwrap_or, refl, sym, ◌∙◌, ap, subst, arith, ◌⊎◌, inl, inr, ⊎_elim, true≢false, mod-lt}
+use Rattle.std.specs.Prelude.{◌==◌, nat_lt, if◌then◌else◌}
+use Rattle.std.specs.List.{AllByRecursion, flat_map}
+use Rattle.std.specs.Str.{bytes_eq}
+use Rattle.std.proofs.lemmas.Bool.{cases_lt, cases_eq, cases_Bool, eq-eqb, ne_eqb, and_parts, and_from, lt-ltb, ltb-true, false_from_ne_true}
+use Rattle.std.proofs.Math.Nat.{pow-le-pow_right}
+use Rattle.std.proofs.lemmas.List.{take_at}
+use Rattle.std.proofs.lemmas.Slice.Eq.{bytes_eq-Decides}
+use Rattle.affinity.specs.Geometry.{group}
+use Rattle.affinity.specs.declared.geometry.Geometry.{Geometry}
+use Rattle.byteorder.specs.Endian.{little_bytes, little_number}
+use Rattle.message.specs.Messages.{AreBytes}
+use Rattle.message.specs.Replies.{has_file}
+use Rattle.message.specs.declared.Block.{Block}
+use Rattle.plain.specs.Serial.{file_bits, no_label}
+use Rattle.plain.specs.State.{State, VolumeKey, FileKey, BlockKey, IsState, one_if}
+use Rattle.stripe.specs.Entries.{entry_bytes, stripe_bytes, entries_in}
+use Rattle.stripe.specs.Stripe.{Entry, content_at}
+use Rattle.stripe.proofs.EntryBytes.{entries_again}
+use Rattle.image.specs.Pieces.{has_volume, volume_piece_number, stripe_piece_number, volume_piece, stripe_piece, stripe_entries, entry_if, joined_below, label_bytes, bytes_at, said_by}
+use Rattle.image.specs.Image.{image_of, said, read, is_image, piece_in}
+use Rattle.image.proofs.Cuts.{volume_again, stripe_again}
+use Rattle.image.proofs.FileNumber.{number_of, number_small, bits_there}
+use Rattle.image.proofs.Measures.{IsMeasured, entries_good, state_is_measured}
+
+-- ---- the blocks of a stripe
+
+or_else : Option Block → Option Block → Option Block
+or_else None other = other
+or_else (Some content) other = Some content
+
+content-append : (f b : ℕ) (xs ys : List Entry) → content_at (xs ++ ys) f b ≡ or_else (content_at xs f b) (content_at ys f b)
+unfolding or_else
+content-append f b [] ys = refl
+content-append f b (e ∷ xs) ys =
+    elim ((f == e.file) && (b == e.block)) as (λ t. (if t then Some e.content else content_at (xs ++ ys) f b) ≡ or_else (if t then Some e.content else content_at xs f b) (content_at ys f b)) [
+      | true ↦ refl
+      | false ↦ content-append f b xs ys
+    ]
+
+none_or : (o : Option Block) → or_else o None ≡ o
+unfolding or_else
+none_or None = refl
+none_or (Some content) = refl
+
+or_none : (o : Option Block) → or_else None o ≡ o
+unfolding or_else
+or_none o = refl
+
+module _ (f b : ℕ) where
+  none_joined : (n : ℕ) (h : ℕ → List Entry) → ((i : ℕ) → i < n → content_at (h i) f b ≡ None) → content_at (joined_below n h) f b ≡ None
+  none_joined zero h each = refl
+  none_joined (suc n) h each =
+      content-append f b (joined_below n h) (h n) ∙ (λ i. or_else (none_joined n h (λ k few. each k (omega (arith, few))) i) (each n (omega arith) i)) ∙ or_none None
+
+  one_joined : (n k : ℕ) (h : ℕ → List Entry) → ((i : ℕ) → i ≢ k → content_at (h i) f b ≡ None) → k < n → content_at (joined_below n h) f b ≡ content_at (h k) f b
+  one_joined zero k h others below = absurd (omega (arith, below))
+  one_joined (suc n) k h others below =
+      content-append f b (joined_below n h) (h n)
+      ∙ ⊎_elim
+      (λ (less : k < n). (λ i. or_else (one_joined n k h others less i) (others n (λ is. omega (arith, is, less)) i)) ∙ none_or (content_at (h k) f b))
+      (λ (no_less : n ≤ k).
+      let last : k ≡ n = omega (arith, below, no_less) in
+      (λ i. or_else (none_joined n h (λ j few. others j (λ is. omega (arith, is, few, last))) i) (content_at (h n) f b)) ∙ or_none (content_at (h n) f b) ∙ ap (λ (j : ℕ). content_at (h j) f b) (sym last))
+      (cases_lt k n)
+
+  -- an entry of another block
+  elsewhere : (p : Bool) (i j : ℕ) (o : Option Block) → ((f == i) && (b == j)) ≡ false → content_at (entry_if p i j o) f b ≡ None
+  elsewhere true i j (Some content) other = ap (λ (t : Bool). if t then Some content else None) other
+  elsewhere true i j None other = refl
+  elsewhere false i j o other = refl
+
+  here : (p : Bool) (o : Option Block) → content_at (entry_if p f b o) f b ≡ (if p then o else None)
+  here true (Some content) = ap (λ (t : Bool). if t then Some content else None) (and_from (f == f) (b == b) (eq-eqb f f refl) (eq-eqb b b refl))
+  here true None = refl
+  here false o = refl
+
+module _ (g : Geometry) (x : State) (is : IsState g x) where
+  -- a block is there only in a file that is, and within the numbers
+  only_files : (a v f b : ℕ) (o : Option Block) (t : Bool) → x.blocks (a, v, f, b) ≡ o → x.files (a, v, f) ≡ t → (if t && true then o else None) ≡ o
+  only_files a v f b o true has there = refl
+  only_files a v f b None false has there = refl
+  only_files a v f b (Some content) false has there = absurd (true≢false (sym ((is.blocks (a, v, f, b) (ap (λ (o : Option Block). is_some o) has)).1) ∙ there))
+
+  pub entries_hold : (a v f b : ℕ) → content_at (stripe_entries g x a v (group g f b)) f b ≡ x.blocks (a, v, f, b)
+  entries_hold a v f b =
+      let s : ℕ = group g f b in
+      let row : ℕ → ℕ → List Entry = λ i j. entry_if (x.files (a, v, i) && (group g i j == s)) i j (x.blocks (a, v, i, j)) in
+      let none_out : (b < g.blocks → ⊥) ⊎ (f < g.files → ⊥) → None ≡ x.blocks (a, v, f, b) = λ out. absent (x.blocks (a, v, f, b)) refl out in
+      ⊎_elim
+      (λ (file : f < g.files).
+      one_joined f b g.files f (λ i. joined_below g.blocks (row i)) (λ i other. none_joined f b g.blocks (row i) (λ j few. elsewhere f b (x.files (a, v, i) && (group g i j == s)) i j (x.blocks (a, v, i, j)) (ap (λ (t : Bool). t && (b == j)) (ne_eqb f i (λ same. other (sym same)))))) file
+      ∙ ⊎_elim
+      (λ (block : b < g.blocks).
+      one_joined f b g.blocks b (row f) (λ j other. elsewhere f b (x.files (a, v, f) && (group g f j == s)) f j (x.blocks (a, v, f, j)) (and_right' (f == f) (b == j) (ne_eqb b j (λ same. other (sym same))))) block
+      ∙ here f b (x.files (a, v, f) && (group g f b == s)) (x.blocks (a, v, f, b))
+      ∙ ap (λ (t : Bool). if x.files (a, v, f) && t then x.blocks (a, v, f, b) else None) (eq-eqb s s refl)
+      ∙ only_files a v f b (x.blocks (a, v, f, b)) (x.files (a, v, f)) refl refl)
+      (λ (no_block : g.blocks ≤ b).
+      none_joined f b g.blocks (row f) (λ j few. elsewhere f b (x.files (a, v, f) && (group g f j == s)) f j (x.blocks (a, v, f, j)) (and_right' (f == f) (b == j) (ne_eqb b j (λ same. omega (arith, same, few, no_block)))))
+      ∙ none_out (inl (λ small. omega (arith, small, no_block))))
+      (cases_lt b g.blocks))
+      (λ (no_file : g.files ≤ f).
+      none_joined f b g.files (λ i. joined_below g.blocks (row i)) (λ i few. none_joined f b g.blocks (row i) (λ j below. elsewhere f b (x.files (a, v, i) && (group g i j == s)) i j (x.blocks (a, v, i, j)) (ap (λ (t : Bool). t && (b == j)) (ne_eqb f i (λ same. omega (arith, same, few, no_file))))))
+      ∙ none_out (inr (λ small. omega (arith, small, no_file))))
+      (cases_lt f g.files)
+    where
+      and_right' : (p q : Bool) → q ≡ false → (p && q) ≡ false
+      and_right' true q e = e
+      and_right' false q e = refl
+
+      absent : (o : Option Block) → x.blocks (a, v, f, b) ≡ o → (b < g.blocks → ⊥) ⊎ (f < g.files → ⊥) → None ≡ o
+      absent None has out = refl
+      absent (Some content) has out =
+          let there = is.blocks (a, v, f, b) (ap (λ (o : Option Block). is_some o) has) in
+          ⊎_elim (λ no_block. absurd (no_block there.0)) (λ no_file. absurd (no_file (is.files (a, v, f) there.1).0)) out
+
+-- ---- the fields of a volume's piece
+
+eight_bytes : (n : ℕ) → n < 2 ^ 64 → little_number 8 (little_bytes 8 n) ≡ n
+eight_bytes n small = omega (arith, small)
+
+-- a field that is there where its volume is
+and_there : (h t s : Bool) → (h ≡ true → t ≡ s) → (s ≡ true → h ≡ true) → (h && t) ≡ s
+and_there true t s same needs = same refl
+and_there false t s same needs = sym (false_from_ne_true s (λ e. true≢false (sym (needs e))))
+
+if_there : (h : Bool) (o w : Option Block) → (h ≡ true → o ≡ w) → (is_some w ≡ true → h ≡ true) → (if h then o else None) ≡ w
+if_there true o w same needs = same refl
+if_there false o None same needs = refl
+if_there false o (Some content) same needs = absurd (true≢false (sym (needs refl)))
+
+module _ (g : Geometry) (x : State) (a v : ℕ) where
+  made_said : (version : ℕ) → (get_or (volume_piece version g x a v) 0 0 == 1) ≡ x.made (a, v)
+  made_said version = by (x.made (a, v))
+    where
+      by : (t : Bool) → (get_or (if t then 1 ∷ one_if (x.sealed (a, v)) ∷ [] ++ replicate 6 0 ++ little_bytes 8 (file_bits g x a v) ++ label_bytes version (x.labels (a, v)) ++ replicate 16 0 else replicate 64 0) 0 0 == 1) ≡ t
+      by true = refl
+      by false = refl
+
+  sealed_said : (version : ℕ) → (get_or (volume_piece version g x a v) 1 0 == 1) ≡ (x.made (a, v) && x.sealed (a, v))
+  sealed_said version = by (x.made (a, v)) (x.sealed (a, v))
+    where
+      by : (t u : Bool) → (get_or (if t then 1 ∷ one_if u ∷ [] ++ replicate 6 0 ++ little_bytes 8 (file_bits g x a v) ++ label_bytes version (x.labels (a, v)) ++ replicate 16 0 else replicate 64 0) 1 0 == 1) ≡ (t && u)
+      by true true = refl
+      by true false = refl
+      by false u = refl
+
+  number_said : (version : ℕ) → bytes_at 8 8 (volume_piece version g x a v) ≡ little_bytes 8 (if x.made (a, v) then file_bits g x a v else 0)
+  number_said version = by (x.made (a, v))
+    where
+      by : (t : Bool) → bytes_at 8 8 (if t then 1 ∷ one_if (x.sealed (a, v)) ∷ [] ++ replicate 6 0 ++ little_bytes 8 (file_bits g x a v) ++ label_bytes version (x.labels (a, v)) ++ replicate 16 0 else replicate 64 0) ≡ little_bytes 8 (if t then file_bits g x a v else 0)
+      by true = refl
+      by false = refl
+
+  label_there : (label : List ℕ) → length label ≡ 32 → x.made (a, v) ≡ true → x.labels (a, v) ≡ Some label → bytes_at 16 32 (volume_piece 2 g x a v) ≡ label
+  label_there label long made has =
+      ap (λ (t : Bool). bytes_at 16 32 (if t then 1 ∷ one_if (x.sealed (a, v)) ∷ [] ++ replicate 6 0 ++ little_bytes 8 (file_bits g x a v) ++ label_bytes 2 (x.labels (a, v)) ++ replicate 16 0 else replicate 64 0)) made
+      ∙ ap (λ (o : Option (List ℕ)). take 32 (label_bytes 2 o ++ replicate 16 0)) has
+      ∙ take_at label (replicate 16 0) 32 long
+
+module _ (g : Geometry) (x : State) (is : IsState g x) where
+  has : (k : VolumeKey) → x.made k ≡ true → has_volume g k ≡ true
+  has k made = and_from _ _ (lt-ltb k.0 g.aggregates (is.made k made).0) (lt-ltb k.1 g.volumes (is.made k made).1)
+
+  volume_said : (k : VolumeKey) → has_volume g k ≡ true → piece_in g (image_of 2 g x) (volume_piece_number g k.0 k.1) ≡ volume_piece 2 g x k.0 k.1
+  volume_said k there =
+      let parts = and_parts (nat_lt k.0 g.aggregates) (nat_lt k.1 g.volumes) there in
+      volume_again g k.0 k.1 (ltb-true k.0 g.aggregates parts.0) (ltb-true k.1 g.volumes parts.1) 2 x (state_is_measured g x is)
+
+  made_again : (k : VolumeKey) → (said 2 g (image_of 2 g x)).made k ≡ x.made k
+  made_again k =
+      and_there (has_volume g k) _ (x.made k)
+      (λ there. ap (λ (l : List ℕ). get_or l 0 0 == 1) (volume_said k there) ∙ made_said g x k.0 k.1 2)
+      (has k)
+
+  sealed_again : (k : VolumeKey) → (said 2 g (image_of 2 g x)).sealed k ≡ x.sealed k
+  sealed_again k =
+      and_there (has_volume g k) _ (x.sealed k)
+      (λ there. ap (λ (l : List ℕ). get_or l 1 0 == 1) (volume_said k there) ∙ sealed_said g x k.0 k.1 2 ∙ both (x.made k) (x.sealed k) (is.sealed k))
+      (λ e. has k (is.sealed k e))
+    where
+      both : (t u : Bool) → (u ≡ true → t ≡ true) → (t && u) ≡ u
+      both true u needs = refl
+      both false u needs = sym (false_from_ne_true u (λ e. true≢false (sym (needs e))))
+
+  files_again : (k : FileKey) → (said 2 g (image_of 2 g x)).files k ≡ x.files k
+  files_again k =
+      let n : ℕ = if x.made (k.0, k.1) then file_bits g x k.0 k.1 else 0 in
+      and_there (has_volume g (k.0, k.1)) _ (x.files k)
+      (λ there.
+      ap (λ (l : List ℕ). has_file (little_number 8 (bytes_at 8 8 l)) k.2) (volume_said (k.0, k.1) there)
+      ∙ ap (λ (l : List ℕ). has_file (little_number 8 l) k.2) (number_said g x k.0 k.1 2)
+      ∙ bits (x.made (k.0, k.1)) refl)
+      (λ e. has (k.0, k.1) (is.files k e).1)
+    where
+      within : (f : ℕ) → x.files (k.0, k.1, f) ≡ true → f < g.files
+      within f e = (is.files (k.0, k.1, f) e).0
+
+      bits : (t : Bool) → x.made (k.0, k.1) ≡ t → has_file (little_number 8 (little_bytes 8 (if t then file_bits g x k.0 k.1 else 0))) k.2 ≡ x.files k
+      bits true made =
+          let small = number_small g.files (λ f. x.files (k.0, k.1, f)) in
+          let most : 2 ^ g.files ≤ 2 ^ 64 = pow-le-pow_right {n = 2} (omega arith) {i = g.files} {j = 64} g.files_range.1 in
+          ap (λ (m : ℕ). has_file m k.2) (eight_bytes (file_bits g x k.0 k.1) (omega (arith, small, most))) ∙ bits_there g.files (λ f. x.files (k.0, k.1, f)) within k.2
+      bits false made = bits_there 0 (λ f. false) (λ f e. absurd (true≢false (sym e))) k.2 ∙ sym (false_from_ne_true (x.files k) (λ e. true≢false (sym (is.files k e).1 ∙ made)))
+
+  blocks_again : (k : BlockKey) → (said 2 g (image_of 2 g x)).blocks k ≡ x.blocks k
+  blocks_again k =
+      let s : ℕ = group g k.2 k.3 in
+      if_there (has_volume g (k.0, k.1)) _ (x.blocks k)
+      (λ there.
+      let parts = and_parts (nat_lt k.0 g.aggregates) (nat_lt k.1 g.volumes) there in
+      ap (λ (l : List ℕ). content_at (entries_in g.quota l) k.2 k.3) (stripe_again g k.0 k.1 (ltb-true k.0 g.aggregates parts.0) (ltb-true k.1 g.volumes parts.1) 2 x (state_is_measured g x is) s (mod-lt (k.2 + k.3 / g.width) g.stripes_range.0))
+      ∙ ap (λ (es : List Entry). content_at es k.2 k.3) (entries_again (stripe_entries g x k.0 k.1 s) (entries_good g x (state_is_measured g x is) k.0 k.1 s) g.quota (g.quota * 520 - length (flat_map entry_bytes (stripe_entries g x k.0 k.1 s))) ((state_is_measured g x is).quota k.0 k.1 s))
+      ∙ entries_hold g x is k.0 k.1 k.2 k.3)
+      (λ some. has (k.0, k.1) (is.files (k.0, k.1, k.2) (is.blocks k some).1).1)
+
+  labels_again : (k : VolumeKey) → (said 2 g (image_of 2 g x)).labels k ≡ x.labels k
+  labels_again k =
+      ap (λ (t : Bool). if t then Some (bytes_at 16 32 (piece_in g (image_of 2 g x) (volume_piece_number g k.0 k.1))) else None) (made_again k)
+      ∙ by (x.made k) (x.labels k) refl refl
+    where
+      by : (t : Bool) (o : Option (List ℕ)) → x.made k ≡ t → x.labels k ≡ o → (if t then Some (bytes_at 16 32 (piece_in g (image_of 2 g x) (volume_piece_number g k.0 k.1))) else None) ≡ o
+      by true None made has_none = absurd (true≢false (sym (sym (ap (λ (o : Option (List ℕ)). is_some o) has_none) ∙ is.labels k ∙ made)))
+      by true (Some label) made has_one =
+          let long : length label ≡ 32 = (subst (λ (o : Option (List ℕ)). IfSome o (AreBytes 32)) has_one (is.label_content k)).0 in
+          ap (λ (l : List ℕ). Some l) (ap (λ (l : List ℕ). bytes_at 16 32 l) (volume_said k (has k made)) ∙ label_there g x k.0 k.1 label long made has_one)
+      by false None made has_none = refl
+      by false (Some label) made has_one = absurd (true≢false (sym (ap (λ (o : Option (List ℕ)). is_some o) has_one) ∙ is.labels k ∙ made))
+
+  pub said_again : said 2 g (image_of 2 g x) ≡ x
+  said_again = λ i. record {
+    made = λ k. made_again k i;
+    sealed = λ k. sealed_again k i;
+    files = λ k. files_again k i;
+    blocks = λ k. blocks_again k i;
+    labels = λ k. labels_again k i;
+  }
+
+  pub read_again : read g (image_of 2 g x) ≡ Some x
+  read_again =
+      let same = (bytes_eq-Decides (image_of 2 g x) (image_of 2 g (said 2 g (image_of 2 g x)))).1 (ap (image_of 2 g) (sym said_again)) in
+      ap (λ (t : Bool). if t then Some (said 2 g (image_of 2 g x)) else None) same ∙ ap (λ (y : State). Some y) said_again

@@ -1,0 +1,6 @@
+-- The lemma of that name.
+use Rattle.image.proofs.Reading.{read_again}
+use Rattle.image.proofs.laws.a_state_is_read_again.Goals as goal
+
+pub returns : goal.returns
+returns c = read_again
