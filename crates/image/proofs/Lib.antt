@@ -3,4 +3,5 @@ pub mod Measures
 pub mod Cuts
 pub mod Joining
 pub mod Reading
+pub mod Order
 mod Examples

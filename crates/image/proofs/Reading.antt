@@ -19,7 +19,7 @@ use Rattle.stripe.specs.Entries.{entry_bytes, stripe_bytes, entries_in}
 use Rattle.stripe.specs.Stripe.{Entry, content_at}
 use Rattle.stripe.proofs.EntryBytes.{entries_again}
 use Rattle.image.specs.Pieces.{has_volume, volume_piece_number, stripe_piece_number, volume_piece, stripe_piece, stripe_entries, entry_if, joined_below, label_bytes, bytes_at, said_by}
-use Rattle.image.specs.Image.{image_of, said, read, is_image, piece_in}
+use Rattle.image.specs.Image.{image_of, said, read, is_image, is_version, version_in, piece_in}
 use Rattle.image.proofs.Cuts.{volume_again, stripe_again}
 use Rattle.image.proofs.FileNumber.{number_of, number_small, bits_there}
 use Rattle.image.proofs.Measures.{IsMeasured, entries_good, state_is_measured}
@@ -49,12 +49,12 @@ unfolding or_else
 or_none o = refl
 
 module _ (f b : ℕ) where
-  none_joined : (n : ℕ) (h : ℕ → List Entry) → ((i : ℕ) → i < n → content_at (h i) f b ≡ None) → content_at (joined_below n h) f b ≡ None
+  pub none_joined : (n : ℕ) (h : ℕ → List Entry) → ((i : ℕ) → i < n → content_at (h i) f b ≡ None) → content_at (joined_below n h) f b ≡ None
   none_joined zero h each = refl
   none_joined (suc n) h each =
       content-append f b (joined_below n h) (h n) ∙ (λ i. or_else (none_joined n h (λ k few. each k (omega (arith, few))) i) (each n (omega arith) i)) ∙ or_none None
 
-  one_joined : (n k : ℕ) (h : ℕ → List Entry) → ((i : ℕ) → i ≢ k → content_at (h i) f b ≡ None) → k < n → content_at (joined_below n h) f b ≡ content_at (h k) f b
+  pub one_joined : (n k : ℕ) (h : ℕ → List Entry) → ((i : ℕ) → i ≢ k → content_at (h i) f b ≡ None) → k < n → content_at (joined_below n h) f b ≡ content_at (h k) f b
   one_joined zero k h others below = absurd (omega (arith, below))
   one_joined (suc n) k h others below =
       content-append f b (joined_below n h) (h n)
@@ -66,7 +66,7 @@ module _ (f b : ℕ) where
       (cases_lt k n)
 
   -- an entry of another block
-  elsewhere : (p : Bool) (i j : ℕ) (o : Option Block) → ((f == i) && (b == j)) ≡ false → content_at (entry_if p i j o) f b ≡ None
+  pub elsewhere : (p : Bool) (i j : ℕ) (o : Option Block) → ((f == i) && (b == j)) ≡ false → content_at (entry_if p i j o) f b ≡ None
   elsewhere true i j (Some content) other = ap (λ (t : Bool). if t then Some content else None) other
   elsewhere true i j None other = refl
   elsewhere false i j o other = refl
@@ -242,3 +242,20 @@ module _ (g : Geometry) (x : State) (is : IsState g x) where
   read_again =
       let same = (bytes_eq-Decides (image_of 2 g x) (image_of 2 g (said 2 g (image_of 2 g x)))).1 (ap (image_of 2 g) (sym said_again)) in
       ap (λ (t : Bool). if t then Some (said 2 g (image_of 2 g x)) else None) same ∙ ap (λ (y : State). Some y) said_again
+
+-- what is read is spelled
+pub spelling : (g : Geometry) (bytes : List ℕ) (x : State) → read g bytes ≡ Some x → bytes ≡ image_of (version_in bytes) g x
+spelling g bytes x is = by (is_image g bytes) refl is
+  where
+    by : (t : Bool) → is_image g bytes ≡ t → (if t then Some (said (version_in bytes) g bytes) else None) ≡ Some x → bytes ≡ image_of (version_in bytes) g x
+    by false off same = absurd (none_is_not_some same)
+      where
+        none_is_not_some : None ≡ Some x → ⊥
+        none_is_not_some e = cc
+    by true on same =
+        let parts = and_parts (is_version (version_in bytes)) (bytes_eq bytes (image_of (version_in bytes) g (said (version_in bytes) g bytes))) on in
+        let spelled = (bytes_eq-Decides bytes (image_of (version_in bytes) g (said (version_in bytes) g bytes))).0 parts.1 in
+        spelled ∙ ap (image_of (version_in bytes) g) (one_value same)
+      where
+        one_value : Some (said (version_in bytes) g bytes) ≡ Some x → said (version_in bytes) g bytes ≡ x
+        one_value e = cc

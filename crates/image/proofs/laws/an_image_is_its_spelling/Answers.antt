@@ -1,0 +1,6 @@
+-- The lemma of that name.
+use Rattle.image.proofs.Reading.{spelling}
+use Rattle.image.proofs.laws.an_image_is_its_spelling.Goals as goal
+
+pub returns : goal.returns
+returns c = spelling

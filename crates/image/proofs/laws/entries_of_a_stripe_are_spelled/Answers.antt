@@ -1,0 +1,6 @@
+-- The lemma of that name.
+use Rattle.image.proofs.Order.{spelled}
+use Rattle.image.proofs.laws.entries_of_a_stripe_are_spelled.Goals as goal
+
+pub returns : goal.returns
+returns c = spelled
