@@ -38,9 +38,8 @@ piece_again version g x is n below =
 -- ---- the numbers of pieces
 
 module _ (g : Geometry) (a v : ℕ) (in_aggregates : a < g.aggregates) (in_volumes : v < g.volumes) where
-
   pub is_piece : (p : ℕ) → p < pieces_of_volume g → (a * g.volumes + v) * pieces_of_volume g + p < piece_count g
-  is_piece p part = 
+  is_piece p part =
       let volume : a * g.volumes + v < g.volumes * g.aggregates = mul-add-lt a g.volumes v g.aggregates in_aggregates in_volumes in
       let piece : (a * g.volumes + v) * pieces_of_volume g + p < pieces_of_volume g * (g.volumes * g.aggregates) = mul-add-lt (a * g.volumes + v) (pieces_of_volume g) p (g.volumes * g.aggregates) volume part in
       subst (λ (k : ℕ). (a * g.volumes + v) * pieces_of_volume g + p < k) (mul_comm (pieces_of_volume g) (g.volumes * g.aggregates) ∙ ap (λ (k : ℕ). k * pieces_of_volume g) (mul_comm g.volumes g.aggregates)) piece

@@ -40,7 +40,7 @@ number_of n t = sum_below n (λ f. if t f then 2 ^ f else 0)
 pub number_small : (n : ℕ) (t : ℕ → Bool) → number_of n t < 2 ^ n
 number_small zero t = omega arith
 number_small (suc n) t =
-    let one : (b : Bool) → (if b then 2 ^ n else 0) ≤ 2 ^ n = λ b. elim b as (λ b. (if b then 2 ^ n else 0) ≤ 2 ^ n) [ | true ↦ omega arith | false ↦ omega arith ] in
+    let one : (b : Bool) → (if b then 2 ^ n else 0) ≤ 2 ^ n = λ b. elim b as (λ b. (if b then 2 ^ n else 0) ≤ 2 ^ n) [ true ↦ omega arith | false ↦ omega arith ] in
     omega (arith, number_small n t, one (t n), pow-succ' 2 n)
 
 -- numbers that are equal pick the same

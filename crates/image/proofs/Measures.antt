@@ -79,7 +79,7 @@ length-stripe_bytes quota es good most =
 
 length-label : (version : ℕ) (label : Option (List ℕ)) → IfSome label (AreBytes 32) → length (label_bytes version label) ≡ 32
 length-label version label is =
-    let by : (b : Bool) → length (if b then unwrap_or label no_label else no_label) ≡ 32 = λ b. elim b as (λ b. length (if b then unwrap_or label no_label else no_label) ≡ 32) [ | true ↦ of_label label is | false ↦ refl ] in
+    let by : (b : Bool) → length (if b then unwrap_or label no_label else no_label) ≡ 32 = λ b. elim b as (λ b. length (if b then unwrap_or label no_label else no_label) ≡ 32) [ true ↦ of_label label is | false ↦ refl ] in
     by (version == 2)
   where
     of_label : (label : Option (List ℕ)) → IfSome label (AreBytes 32) → length (unwrap_or label no_label) ≡ 32

@@ -1,6 +1,5 @@
 mod EntryLemmas
 mod IndexLemmas
-
 -- ---- for the crates above
 pub mod EntryBytes
 pub mod EntryOrder

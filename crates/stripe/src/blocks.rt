@@ -171,3 +171,5 @@ impl StripeParcel {
         self.index.drain(from..end);
     }
 }
+
+mod bytes;

@@ -1,0 +1,8 @@
+-- The entries so far stand at the front.
+use Rattle.std.proofs.Common.{◌≡◌, ◌*◌, length, take}
+use Rattle.std.specs.List.{flat_map}
+use Rattle.stripe.specs.Entries.{entry_bytes}
+use Rattle.stripe.proofs.blocks.StripeParcel.write_piece.Given as goal
+
+abbrev pub invariant-loop-n : goal.invariant-loop-n
+invariant-loop-n l = (l.at ≡ l.n * 520) × (length l.out ≡ l.self.quota * 520) × (take l.at l.out ≡ flat_map entry_bytes (take l.n l.self.entries))
