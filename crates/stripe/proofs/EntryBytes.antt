@@ -1,11 +1,10 @@
 -- Entries as bytes, and back.
-use Rattle.std.proofs.Common.{◌≡◌, ℕ, zero, suc, ◌+◌, ◌*◌, ◌-◌, ◌<◌, ◌≤◌, List, [], ◌∷◌, ◌++◌, length, take, drop, get_or, replicate, refl, sym, ◌∙◌, ap, subst, arith, length-append}
+use Rattle.std.proofs.Common.{◌≡◌, ℕ, zero, suc, ◌*◌, ◌<◌, ◌≤◌, List, [], ◌∷◌, ◌++◌, length, take, drop, replicate, refl, ◌∙◌, ap, arith, length-append}
 use Rattle.std.specs.List.{AllByRecursion, flat_map}
 use Rattle.std.proofs.lemmas.List.{take_at, drop_at, append_assoc}
 use Rattle.byteorder.specs.Endian.{little_bytes, little_number}
-use Rattle.message.specs.declared.Block.{Block}
 use Rattle.stripe.specs.Stripe.{Entry}
-use Rattle.stripe.specs.Entries.{entry_bytes, stripe_bytes, entry_in, entries_in}
+use Rattle.stripe.specs.Entries.{entry_bytes, entry_in, entries_in}
 
 -- An entry has room for its block's number, and a whole block.
 pub record IsSpellable (e : Entry) : Type 0 where

@@ -3,3 +3,4 @@ mod IndexLemmas
 -- ---- for the crates above
 pub mod EntryBytes
 pub mod EntryOrder
+mod EntryReading

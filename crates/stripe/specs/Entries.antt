@@ -1,8 +1,11 @@
 -- The blocks of a stripe as bytes: a row of entries of 520 bytes each.
-use Rattle.std.specs.Prelude.{ℕ, zero, suc, ◌+◌, ◌*◌, ◌-◌, ◌==◌, List, [], ◌∷◌, ◌++◌, length, take, drop, get_or, replicate, if◌then◌else◌}
-use Rattle.std.specs.List.{flat_map}
+use Rattle.std.specs.Prelude.{◌≡◌, ℕ, Bool, true, ◌&&◌, nat_lt, zero, suc, ◌*◌, ◌-◌, ◌==◌, List, [], ◌∷◌, ◌++◌, length, take, drop, get_or, replicate, if◌then◌else◌}
+use Rattle.std.specs.List.{flat_map, AllByRecursion}
+use Rattle.affinity.specs.Geometry.{group}
+use Rattle.affinity.specs.declared.geometry.Geometry.{Geometry}
 use Rattle.byteorder.specs.Endian.{little_bytes, little_number}
-use Rattle.stripe.specs.Stripe.{Entry}
+use Rattle.message.specs.Replies.{has_file}
+use Rattle.stripe.specs.Stripe.{Entry, IsAscending}
 
 -- how many bytes an entry has
 abbrev pub entry_size : ℕ
@@ -24,3 +27,15 @@ entry_in row = record { file = get_or row 1 0; block = little_number 2 (drop 2 r
 abbrev pub entries_in : ℕ → List ℕ → List Entry
 entries_in zero bytes = []
 entries_in (suc n) bytes = if get_or bytes 0 0 == 1 then entry_in (take 520 bytes) ∷ entries_in n (drop 520 bytes) else []
+
+-- ---- pieces
+
+-- An entry can stand in stripe s of a volume with these files: its file is one of them, its block is in range and lies in that stripe.
+abbrev pub can_stand : Geometry → ℕ → ℕ → ℕ → ℕ → Bool
+can_stand g files s f b = has_file files f && nat_lt b g.blocks && (group g f b == s)
+
+-- The bytes are a piece of that stripe: they spell the entries that they begin with, which ascend and fit.
+pub record IsStripePiece (g : Geometry) (files s : ℕ) (bytes : List ℕ) : Type 0 where
+  pub spelled : bytes ≡ stripe_bytes g.quota (entries_in g.quota bytes)
+  pub ascending : IsAscending (entries_in g.quota bytes)
+  pub fit : AllByRecursion (λ e. can_stand g files s e.file e.block ≡ true) (entries_in g.quota bytes)

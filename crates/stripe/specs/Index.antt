@@ -1,11 +1,13 @@
 -- How a `StripeParcel` keeps its blocks. No public clause cites this module.
-use Rattle.std.specs.Prelude.{◌≡◌, ◌⊎◌, ℕ, ◌+◌, ◌<◌, ◌≤◌, List, [], length, map, take, drop, slice_index_or, slice_set, unwrap_or, Option, None, IsTrue}
+use Rattle.std.specs.Prelude.{◌≡◌, true, ◌⊎◌, ℕ, ◌+◌, ◌<◌, ◌≤◌, List, [], length, map, take, drop, slice_index_or, slice_set, unwrap_or, Option, None, IsTrue}
 use Rattle.std.specs.List.{AllByRecursion}
 use Rattle.message.specs.declared.Block.{Block}
 use Rattle.arena.specs.Lists.{times}
 use Rattle.arena.specs.Row.{Row, capacity_of, holds, IsParted}
 use Rattle.stripe.specs.declared.blocks.IndexEntry.{IndexEntry}
-use Rattle.stripe.specs.Stripe.{Entry, IsAscending}
+use Rattle.affinity.specs.declared.geometry.Geometry.{Geometry}
+use Rattle.stripe.specs.Entries.{entry_bytes, entry_in, can_stand}
+use Rattle.stripe.specs.Stripe.{Entry, ComesBefore, IsAscending}
 
 -- what stands where nothing is: no entry shows it
 abbrev pub no_block : Block
@@ -58,3 +60,9 @@ pub record IsGap (es : List Entry) (f b n : ℕ) : Type 0 where
 -- the entry at an index gets other content
 abbrev pub rewritten : List Entry → ℕ → Block → List Entry
 rewritten es n content = slice_set es n (record (slice_index_or es n no_entry) { content = content })
+
+-- The bytes are an entry that can stand behind these.
+pub record IsNextEntry (g : Geometry) (files s : ℕ) (es : List Entry) (row : List ℕ) : Type 0 where
+  pub spelled : row ≡ entry_bytes (entry_in row)
+  pub fits : can_stand g files s (entry_in row).file (entry_in row).block ≡ true
+  pub behind : AllByRecursion (λ e. ComesBefore e (entry_in row)) es

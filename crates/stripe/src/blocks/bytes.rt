@@ -1,11 +1,13 @@
 //! A stripe as the bytes of its piece in an image: an entry of 520 bytes for each block, and zeros
 //! behind them.
-ghost use Rattle.std.specs.Prelude.{◌≡◌, ◌*◌, ◌<◌, length, slice_index_or};
-ghost use Rattle.std.specs.List.{AllByRecursion};
-ghost use Rattle.stripe.specs.Entries.{entry_bytes, stripe_bytes};
-ghost use Rattle.stripe.specs.Index.{no_entry};
+ghost use Rattle.std.specs.Prelude.{◌≡◌, ◌↔◌, ◌*◌, ◌<◌, ◌==◌, ◌++◌, ◌∷◌, [], IsTrue, IsFalse, get_or, length, take, drop, replicate, slice_index_or};
+ghost use Rattle.std.specs.List.{list_all, AllByRecursion};
+ghost use Rattle.message.specs.Replies.{has_file};
+ghost use Rattle.stripe.specs.Entries.{entry_bytes, entry_in, entries_in, stripe_bytes, can_stand, IsStripePiece};
+ghost use Rattle.stripe.specs.Index.{no_entry, IsBefore, IsNextEntry};
 
 use super::StripeParcel;
+use affinity::{Geometry, group_of};
 use message::Block;
 
 /// How many bytes an entry has.
@@ -13,6 +15,35 @@ pub const ENTRY_SIZE: usize = 520;
 
 /// How many bytes stand before the content of a block in its entry.
 const ENTRY_HEAD: usize = 8;
+
+/// Whether a file is one of those that a number has as its bits.
+fn has_file(files: u64, file: u16) -> bool
+    ensures { result ≡ has_file files file }
+{
+    file < 64 && (files >> file) & 1 == 1
+}
+
+/// Whether a block can stand in stripe `s` of a volume with these files.
+fn can_stand(g: &Geometry, files: u64, s: u16, file: u16, block: u16) -> bool
+    ensures { result ≡ can_stand g.now files s file block }
+{
+    has_file(files, file) && block < g.blocks && group_of(g, file, block) == s
+}
+
+/// Whether the bytes that an entry doesn't use are zeros.
+fn is_blank_between(row: &[u8]) -> bool
+    requires row { length row.now ≡ 520 }
+    ensures { IsTrue result ↔ (take 4 (drop 4 row.now) ≡ replicate 4 0) }
+{
+    row[4] == 0 && row[5] == 0 && row[6] == 0 && row[7] == 0
+}
+
+/// Whether all bytes are zeros.
+fn are_zeros(bytes: &[u8]) -> bool
+    ensures { result ≡ list_all (λ byte. byte == 0) bytes.now }
+{
+    bytes.iter().all(|byte| *byte == 0)
+}
 
 /// Writes the entry of a block.
 fn put_entry(row: &mut [u8], file: u16, block: u16, content: &Block)
@@ -52,5 +83,64 @@ impl StripeParcel {
             Some(content) => put_entry(row, place.file, place.block, content),
             None => unreachable!(),
         }
+    }
+
+    /// Takes in the blocks of a piece of stripe `s` of a volume with these files, none being there
+    /// before: whether the bytes are such a piece. Where they aren't, it is open which blocks are
+    /// there.
+    pub fn read_piece(&mut self, g: &Geometry, files: u64, s: u16, bytes: &[u8]) -> bool
+        requires empty { self.old.entries ≡ [] }
+        requires quota { self.old.quota ≡ g.now.quota }
+        requires size { length bytes.now ≡ g.now.quota * 520 }
+        ensures good { IsTrue result → IsStripePiece g.now files s bytes.now
+            × (self.new ≡ record self.old { entries = entries_in g.now.quota bytes.now }) }
+        ensures bad { IsFalse result → IsStripePiece g.now files s bytes.now → ⊥ }
+        ensures quota { self.new.quota ≡ self.old.quota }
+    {
+        for n in 0..usize::from(g.quota) {
+            let at = n * ENTRY_SIZE;
+            if bytes[at] != 1 {
+                return are_zeros(&bytes[at..]);
+            }
+            if !self.push(g, files, s, &bytes[at..at + ENTRY_SIZE]) {
+                return false;
+            }
+        }
+        true
+    }
+
+    /// Takes in an entry behind all that are there, if it is one and can stand there: whether it
+    /// was.
+    fn push(&mut self, g: &Geometry, files: u64, s: u16, row: &[u8]) -> bool
+        requires row { length row.now ≡ 520 }
+        requires marked { get_or row.now 0 0 ≡ 1 }
+        requires room { length self.old.entries < self.old.quota }
+        ensures pushed { IsTrue result → IsNextEntry g.now files s self.old.entries row.now
+            × (self.new ≡ record self.old { entries = self.old.entries ++ entry_in row.now ∷ [] }) }
+        ensures refused { IsFalse result → (self.new ≡ self.old) × (IsNextEntry g.now files s self.old.entries row.now → ⊥) }
+    {
+        let file = u16::from(row[1]);
+        let block = u16::from_le_bytes([row[2], row[3]]);
+        if !is_blank_between(row) {
+            return false;
+        }
+        if !can_stand(g, files, s, file, block) {
+            return false;
+        }
+        if !self.ends_before(file, block) {
+            return false;
+        }
+        let mut content = Block([0; 512]);
+        content.0.copy_from_slice(&row[ENTRY_HEAD..]);
+        let n = self.len();
+        self.insert(n, file, block, &content);
+        true
+    }
+
+    /// Whether all blocks that are there come before this one.
+    fn ends_before(&self, file: u16, block: u16) -> bool
+        ensures { IsTrue result ↔ (AllByRecursion (λ e. IsBefore e.file e.block file block) self.now.entries) }
+    {
+        self.split(usize::from(file), usize::from(block)) == self.len()
     }
 }

@@ -1,0 +1,68 @@
+-- What was read so far, with what comes next.
+use Rattle.std.proofs.Common.{◌≡◌, ◌*◌, ◌+◌, ◌-◌, ◌<◌, ℕ, suc, List, [], ◌∷◌, ◌++◌, length, take, drop, get_or, true, true≢false, arith, ap, sym, ◌∙◌, subst}
+use Rattle.std.specs.Prelude.{◌==◌}
+use Rattle.std.specs.List.{list_all}
+use Rattle.std.proofs.lemmas.List.{take_all, get_or-drop, length-drop, length-append}
+use Rattle.stripe.specs.Entries.{entry_in}
+use Rattle.stripe.specs.Index.{IsNextEntry}
+use Rattle.stripe.specs.Stripe.{Entry, StripePart}
+use Rattle.stripe.proofs.EntryReading.{HasRead, zeros_behind, are_zeros, next_read, is_next, zeros_by_test, test_of_zeros}
+use Rattle.stripe.proofs.blocks.StripeParcel.read_piece.Goals as goal
+
+-- the first byte of what is left
+first_left : (bytes : List ℕ) (at : ℕ) → get_or (drop at bytes) 0 0 ≡ get_or bytes at 0
+first_left bytes at = get_or-drop at bytes 0 0 ∙ (let same : at + 0 ≡ at = omega arith in ap (λ (k : ℕ). get_or bytes k 0) same)
+
+-- all that is left
+all_left : (bytes : List ℕ) (at : ℕ) → take (length bytes - at) (drop at bytes) ≡ drop at bytes
+all_left bytes at = take_all (length bytes - at) (drop at bytes) (omega (arith, length-drop at bytes))
+
+pub returns-then-bytes-at-ne1-clause-good : goal.returns-then-bytes-at-ne1-clause-good
+returns-then-bytes-at-ne1-clause-good c is =
+    let bytes : List ℕ = c.args.bytes.now in
+    let at : ℕ = c.loop-n.n * 520 in
+    let few : c.loop-n.n < c.args.g.now.quota = subst (λ (k : ℕ). c.loop-n.n < k) c.from-n-end.ensures c.loop-n-test.true in
+    let zeros = zeros_by_test (drop at bytes) (sym (ap (λ (l : List ℕ). list_all (λ byte. byte == 0) l) (all_left bytes at)) ∙ sym c.are_zeros.ensures ∙ is) in
+    let done = zeros_behind c.args.g.now c.args.files c.args.s bytes c.requires.size c.loop-n.n few c.loop-n.self.entries c.loop-n.invariant.2
+    (λ marked. c.if-bytes-at-ne1.true (sym (first_left bytes at) ∙ marked)) zeros in
+    (done.0, λ i. record { quota = c.loop-n.invariant.0 i; entries = done.1 i })
+
+pub returns-then-bytes-at-ne1-clause-bad : goal.returns-then-bytes-at-ne1-clause-bad
+returns-then-bytes-at-ne1-clause-bad c off is =
+    let bytes : List ℕ = c.args.bytes.now in
+    let at : ℕ = c.loop-n.n * 520 in
+    let few : c.loop-n.n < c.args.g.now.quota = subst (λ (k : ℕ). c.loop-n.n < k) c.from-n-end.ensures c.loop-n-test.true in
+    let zeros = are_zeros c.args.g.now c.args.files c.args.s bytes c.requires.size c.loop-n.n few c.loop-n.self.entries c.loop-n.invariant.2
+    (λ marked. c.if-bytes-at-ne1.true (sym (first_left bytes at) ∙ marked)) is in
+    let on : c.are_zeros.result ≡ true = c.are_zeros.ensures ∙ ap (λ (l : List ℕ). list_all (λ byte. byte == 0) l) (all_left bytes at) ∙ test_of_zeros (drop at bytes) zeros in
+    true≢false (sym on ∙ off)
+
+-- an entry as the loop cuts it out
+one_row : (bytes : List ℕ) (at : ℕ) → take (at + 520 - at) (drop at bytes) ≡ take 520 (drop at bytes)
+one_row bytes at = let width : at + 520 - at ≡ 520 = omega arith in ap (λ (k : ℕ). take k (drop at bytes)) width
+
+pub returns-then-not-push-clause-bad : goal.returns-then-not-push-clause-bad
+returns-then-not-push-clause-bad c off is =
+    let bytes : List ℕ = c.args.bytes.now in
+    let at : ℕ = c.loop-n.n * 520 in
+    let few : c.loop-n.n < c.args.g.now.quota = subst (λ (k : ℕ). c.loop-n.n < k) c.from-n-end.ensures c.loop-n-test.true in
+    let next = is_next c.args.g.now c.args.files c.args.s bytes c.requires.size c.loop-n.n few c.loop-n.self.entries c.loop-n.invariant.2 (first_left bytes at ∙ c.if-bytes-at-ne1.false) is in
+    (c.push.ensures.refused c.if-not-push.true).1 (subst (IsNextEntry c.args.g.now c.args.files c.args.s c.loop-n.self.entries) (sym (one_row bytes at)) next)
+
+pub loop-n-preserved : goal.loop-n-preserved
+loop-n-preserved c =
+    let bytes : List ℕ = c.args.bytes.now in
+    let at : ℕ = c.loop-n.n * 520 in
+    let few : c.loop-n.n < c.args.g.now.quota = subst (λ (k : ℕ). c.loop-n.n < k) c.from-n-end.ensures c.loop-n-test.true in
+    let pushed = c.push.ensures.pushed c.if-not-push.false in
+    let e : Entry = entry_in (take 520 (drop at bytes)) in
+    let entries_are : c.push.new.self.entries ≡ c.loop-n.self.entries ++ e ∷ [] =
+    ap (λ (p : StripePart). p.entries) pushed.1 ∙ ap (λ (row : List ℕ). c.loop-n.self.entries ++ entry_in row ∷ []) (one_row bytes at) in
+    let next = subst (IsNextEntry c.args.g.now c.args.files c.args.s c.loop-n.self.entries) (one_row bytes at) pushed.0 in
+    let read = next_read c.args.g.now c.args.files c.args.s bytes c.requires.size c.loop-n.n few c.loop-n.self.entries c.loop-n.invariant.2 (first_left bytes at ∙ c.if-bytes-at-ne1.false) next in
+    let more : suc c.loop-n.n ≡ c.loop-n.n + 1 = omega arith in (
+      ap (λ (p : StripePart). p.quota) pushed.1 ∙ c.loop-n.invariant.0,
+      ap length entries_are ∙ length-append c.loop-n.self.entries (e ∷ []) ∙ ap (λ (k : ℕ). k + 1) c.loop-n.invariant.1,
+      subst (λ (k : ℕ). HasRead c.args.g.now c.args.files c.args.s bytes c.push.new.self.entries k) more
+          (subst (λ (es : List Entry). HasRead c.args.g.now c.args.files c.args.s bytes es (suc c.loop-n.n)) (sym entries_are) read),
+    )
