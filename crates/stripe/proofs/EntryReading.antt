@@ -19,10 +19,6 @@ all_split P [] n few all none = omega (arith, few)
 all_split P (e ∷ es) zero few all none = absurd (none.0 all.0)
 all_split P (e ∷ es) (suc n) few all none = ap suc (all_split P es n (omega (arith, few)) all.1 none)
 
-all_front : (P : Entry → Type 0) (xs ys : List Entry) → AllByRecursion P (xs ++ ys) → AllByRecursion P xs
-all_front P [] ys all = tt
-all_front P (x ∷ xs) ys all = (all.0, all_front P xs ys all.1)
-
 all_back : (P : Entry → Type 0) (xs ys : List Entry) → AllByRecursion P (xs ++ ys) → AllByRecursion P ys
 all_back P [] ys all = all
 all_back P (x ∷ xs) ys all = all_back P xs ys all.1
