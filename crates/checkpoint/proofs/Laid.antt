@@ -1,0 +1,186 @@
+-- What stands on a device that is laid out, and what it stands for once its gate is open.
+use Rattle.std.proofs.Common.{◌≡◌, ◌≢◌, ◌⊎◌, ℕ, zero, suc, ◌+◌, ◌-◌, ◌*◌, ◌<◌, ◌≤◌, Bool, true, false, ◌&&◌, not, cond, eqb, List, [], ◌∷◌, ◌++◌, length, take, drop, get_or, replicate, Option, Some, None, inl, inr, ⊎_elim, refl, sym, ◌∙◌, ap, subst, arith}
+use Rattle.std.specs.Prelude.{nat_le, if◌then◌else◌}
+use Rattle.std.specs.Str.{bytes_eq}
+use Rattle.std.proofs.lemmas.Slice.Eq.{bytes_eq-Decides}
+use Rattle.std.proofs.lemmas.Bool.{cases_eq, le-leb}
+use Rattle.std.proofs.lemmas.List.{length-replicate, get_or-take, get_or-drop, get_or-replicate, drop-replicate, take-replicate}
+use Rattle.affinity.specs.declared.geometry.Geometry.{Geometry}
+use Rattle.checkpoint.specs.Formatting.{Has, IsHeaded, IsLaid, IsShut}
+use Rattle.checkpoint.specs.Header.{header_of, is_header}
+use Rattle.checkpoint.specs.Recovery.{holds, means}
+use Rattle.checkpoint.proofs.Blank.{empty_spelled}
+use Rattle.disk.specs.Device.{SameOutside, overlaid}
+use Rattle.disk.proofs.Outside.{same_before, same_behind}
+use Rattle.disk.proofs.Overlays.{overlaid_outside, length-overlaid, range-overlaid}
+use Rattle.image.specs.Image.{image_of, read}
+use Rattle.image.proofs.Reading.{read_again}
+use Rattle.oplog.specs.Front.{chain, front, gates, open_gates, rows}
+use Rattle.oplog.specs.Layout.{Layout, slice, layout_of, part, part_at, part_size, device_size, half, half_size, header, image, image_size, root}
+use Rattle.oplog.specs.Stands.{named_area, in_force, is_laid_out, run, stands_as}
+use Rattle.oplog.proofs.Slices.{slice_slice}
+use Rattle.plain.specs.State.{State, empty}
+use Rattle.plain.proofs.Kept.{empty_is_state}
+
+-- ---- bytes that stand somewhere
+
+-- a change beside them
+pub has_kept : (a at n : ℕ) (bytes c torn : List ℕ) → (a + length bytes ≤ at) ⊎ (at + n ≤ a) → SameOutside at n c torn → Has c a bytes → Has torn a bytes
+has_kept a at n bytes c torn (inl before) same has = same_before at n c torn same a (length bytes) before ∙ has
+has_kept a at n bytes c torn (inr behind) same has = same_behind at n c torn same a (length bytes) behind ∙ has
+
+-- what was written
+pub has_put : (c : List ℕ) (at : ℕ) (bytes : List ℕ) → at + length bytes ≤ length c → Has (overlaid c at bytes) at bytes
+has_put c at bytes inside = range-overlaid c at bytes inside
+
+-- zeros among them
+zero_there : (c : List ℕ) (at n i : ℕ) → Has c at (replicate n 0) → i < n → get_or c (at + i) 0 ≡ 0
+zero_there c at n i has few =
+    sym (get_or-drop at c i 0) ∙ sym (get_or-take n (drop at c) i 0 few)
+    ∙ ap (λ (k : ℕ). get_or (take k (drop at c)) i 0) (sym (length-replicate {A = ℕ} n 0))
+    ∙ ap (λ (l : List ℕ). get_or l i 0) has ∙ get_or-replicate n i 0 0 few
+
+zeros_there : (c : List ℕ) (at n i k : ℕ) → Has c at (replicate n 0) → i + k ≤ n → slice c (at + i) k ≡ replicate k 0
+zeros_there c at n i k has few =
+    sym (slice_slice c at n i k few)
+    ∙ ap (λ (m : ℕ). slice (slice c at m) i k) (sym (length-replicate {A = ℕ} n 0))
+    ∙ ap (λ (l : List ℕ). slice l i k) has
+    ∙ ap (λ (l : List ℕ). take k l) (drop-replicate i n 0)
+    ∙ take-replicate k (n - i) 0 (omega (arith, few))
+
+-- ---- an empty device
+
+open_none : (n : ℕ) → open_gates (replicate n 0) ≡ 0
+open_none zero = refl
+open_none (suc n) = refl
+
+pub image_some : (g : Geometry) → 64 ≤ image_size g
+unfolding image_size
+image_some g = omega arith
+
+-- the header, of its gate and what stands behind
+pub header_there : (g : Geometry) (c : List ℕ) → get_or c 0 0 ≡ 1 → Has c 1 (drop 1 (header_of g)) → slice c 0 64 ≡ header_of g
+header_there g [] is_open has = absurd (omega (arith, is_open))
+header_there g (x ∷ c) is_open has = λ i. is_open i ∷ has i
+
+module _ (g : Geometry) (c : List ℕ) (laid : IsLaid g c) where
+  abbrev l : Layout
+  l = layout_of g
+
+  names_0 : named_area l c ≡ 0
+  names_0 = ap (λ (bytes : List ℕ). cond (eqb (get_or bytes 0 0) 1) 1 0) (zeros_there c 64 (64 + (64 + g.half)) 0 64 laid.root (omega arith))
+
+  no_chain_0 : chain l 0 c ≡ 0
+  no_chain_0 = get_or-take (half_size g.half) (drop 128 c) 0 0 (omega arith) ∙ get_or-drop 128 c 0 0 ∙ zero_there c 64 (64 + (64 + g.half)) 64 laid.root (omega arith)
+
+  no_chain_1 : chain l 1 c ≡ 0
+  no_chain_1 = get_or-take (half_size g.half) (drop (part_at l 3) c) 0 0 (omega arith) ∙ get_or-drop (part_at l 3) c 0 0 ∙ zero_there c (part_at l 3) (64 + g.half) 0 laid.one (omega arith)
+
+  shut_0 : gates l 0 c ≡ replicate g.half 0
+  shut_0 = slice_slice c 128 (half_size g.half) 64 g.half (omega arith) ∙ zeros_there c 64 (64 + (64 + g.half)) 128 g.half laid.root (omega arith)
+
+  no_front : front l 0 c ≡ []
+  no_front = ap (λ (n : ℕ). rows 520 n (drop (64 + g.half) (part l (half 0) c))) (ap open_gates shut_0 ∙ open_none g.half)
+
+  image_there : part l (image 0) c ≡ image_of 2 g empty
+  image_there =
+      let some = image_some g in
+      let long : length {A = ℕ} (2 ∷ replicate {A = ℕ} (image_size g - 1) 0) ≡ image_size g = omega (arith, some, length-replicate {A = ℕ} (image_size g - 1) 0) in
+      sym (ap (λ (n : ℕ). slice c (part_at l 4) n) long) ∙ laid.image ∙ sym (empty_spelled g)
+
+  in_force_none : in_force l 0 c ≡ []
+  in_force_none = ap (λ (b : ℕ). cond (eqb b 1) (front l 0 c ++ front l 1 c) (front l 0 c)) no_chain_0 ∙ no_front
+
+-- Behind its header, an empty device stands for the empty state once its gate is open.
+pub holds_empty : (g : Geometry) (c : List ℕ) → device_size (layout_of g) ≤ length c → IsHeaded g c → get_or c 0 0 ≡ 1 → holds g c ≡ Some empty
+holds_empty g c long headed is_open =
+    let l : Layout = layout_of g in
+    let laid = headed.laid in
+    let head : is_header g (part l header c) ≡ true = (bytes_eq-Decides (part l header c) (header_of g)).1 (header_there g c is_open headed.header) in
+    let whole : nat_le (device_size l) (length c) ≡ true = le-leb (device_size l) (length c) long in
+    let one_chain : not (eqb (chain l 0 c) 1 && eqb (chain l 1 c) 1) ≡ true = ap (λ (b : ℕ). not (eqb b 1 && eqb (chain l 1 c) 1)) (no_chain_0 g c laid) in
+    let laid_out : is_laid_out (means g) l c ≡ true = (λ i. head i && whole i && one_chain i) in
+    ap (λ (n : ℕ). stands_as (means g) l n c) (names_0 g c laid)
+    ∙ ap (λ (t : Bool). if t then run (means g) (read g (part l (image 0) c)) (in_force l 0 c) else None) laid_out
+    ∙ ap (λ (bytes : List ℕ). run (means g) (read g bytes) (in_force l 0 c)) (image_there g c laid)
+    ∙ ap (λ (x : Option State). run (means g) x (in_force l 0 c)) (read_again g empty (empty_is_state g))
+    ∙ ap (λ (rs : List (List ℕ)). run (means g) (Some empty) rs) (in_force_none g c laid)
+
+-- ---- changes of it
+
+pub laid_kept : (g : Geometry) (at n : ℕ) (c torn : List ℕ) → at + n ≤ 64 → SameOutside at n c torn → IsLaid g c → IsLaid g torn
+laid_kept g at n c torn before same laid = record {
+  root = has_kept 64 at n _ c torn (inr before) same laid.root;
+  one = has_kept (part_at (layout_of g) 3) at n _ c torn (inr (omega (arith, before))) same laid.one;
+  image = has_kept (part_at (layout_of g) 4) at n _ c torn (inr (omega (arith, before))) same laid.image;
+}
+
+pub headed_kept : (g : Geometry) (c torn : List ℕ) → SameOutside 0 1 c torn → IsHeaded g c → IsHeaded g torn
+headed_kept g c torn same headed = record {
+  laid = laid_kept g 0 1 c torn (omega arith) same headed.laid;
+  header = has_kept 1 0 1 (drop 1 (header_of g)) c torn (inr (omega arith)) same headed.header;
+}
+
+-- The header's bytes behind its gate are written.
+pub headed : (g : Geometry) (c : List ℕ) (bytes : List ℕ) → bytes ≡ drop 1 (header_of g) → 64 ≤ length c → IsLaid g c → IsHeaded g (overlaid c 1 bytes)
+headed g c bytes are long laid = record {
+  laid = laid_kept g 1 (length bytes) c (overlaid c 1 bytes) (omega (arith, ap (λ (l : List ℕ). length l) are)) (overlaid_outside c 1 bytes) laid;
+  header = subst (λ (l : List ℕ). Has (overlaid c 1 bytes) 1 l) are (has_put c 1 bytes (omega (arith, long, ap (λ (l : List ℕ). length l) are)));
+}
+
+-- The gate is opened behind a whole header: whatever a crash leaves of it, the device is shut or stands for the empty state.
+pub torn_open : (g : Geometry) (c torn : List ℕ) → device_size (layout_of g) ≤ length c → IsHeaded g c → SameOutside 0 1 c torn → IsShut (length c) torn ⊎ (holds g torn ≡ Some empty)
+torn_open g c torn long headed same =
+    ⊎_elim
+    (λ (is_open : get_or torn 0 0 ≡ 1). inr (holds_empty g torn (omega (arith, long, same.size)) (headed_kept g c torn same headed) is_open))
+    (λ (shut : get_or torn 0 0 ≢ 1). inl (record { size = same.size; gate = shut }))
+    (cases_eq (get_or torn 0 0) 1)
+
+nothing_over : (c : List ℕ) → overlaid c 0 [] ≡ c
+nothing_over [] = refl
+nothing_over (x ∷ c) = refl
+
+-- one byte written over the first of a row of zeros
+version_put : (n : ℕ) (c : List ℕ) (at : ℕ) → at + suc n ≤ length c → Has c at (replicate (suc n) 0) → Has (overlaid c at (2 ∷ [])) at (2 ∷ replicate n 0)
+version_put n [] at inside has = absurd (omega (arith, inside))
+version_put n (x ∷ c) zero inside has =
+    let behind : take (length (replicate {A = ℕ} n 0)) c ≡ replicate n 0 = ap (λ (l : List ℕ). drop 1 l) has in
+    ap (λ (l : List ℕ). 2 ∷ take (length (replicate {A = ℕ} n 0)) l) (nothing_over c) ∙ ap (λ (l : List ℕ). 2 ∷ l) behind
+version_put n (x ∷ c) (suc at) inside has = version_put n c at (omega (arith, inside)) has
+
+version_there : (g : Geometry) (c : List ℕ) (at : ℕ) → at + image_size g ≤ length c → Has c at (replicate (image_size g) 0) → Has (overlaid c at (2 ∷ [])) at (2 ∷ replicate (image_size g - 1) 0)
+version_there g c at inside has =
+    let some = image_some g in
+    let count : image_size g ≡ suc (image_size g - 1) = omega (arith, some) in
+    version_put (image_size g - 1) c at (omega (arith, inside, some)) (subst (λ (n : ℕ). Has c at (replicate n 0)) count has)
+
+-- the ranges of an empty device, written one after the other
+pub laid_out : (g : Geometry) (c : List ℕ) → device_size (layout_of g) ≤ length c
+    → IsLaid g (overlaid (overlaid (overlaid (overlaid c 64 (replicate (64 + (64 + g.half)) 0)) (part_at (layout_of g) 3) (replicate (64 + g.half) 0)) (part_at (layout_of g) 4) (replicate (image_size g) 0)) (part_at (layout_of g) 4) (2 ∷ []))
+laid_out g c long =
+    let zeros_0 : List ℕ = replicate (64 + (64 + g.half)) 0 in
+    let zeros_1 : List ℕ = replicate (64 + g.half) 0 in
+    let zeros_2 : List ℕ = replicate (image_size g) 0 in
+    let long_0 = length-replicate {A = ℕ} (64 + (64 + g.half)) 0 in
+    let long_1 = length-replicate {A = ℕ} (64 + g.half) 0 in
+    let long_2 = length-replicate {A = ℕ} (image_size g) 0 in
+    let at_1 : ℕ = part_at (layout_of g) 3 in
+    let at_2 : ℕ = part_at (layout_of g) 4 in
+    let c1 = overlaid c 64 zeros_0 in
+    let c2 = overlaid c1 at_1 zeros_1 in
+    let c3 = overlaid c2 at_2 zeros_2 in
+    let c4 = overlaid c3 at_2 (2 ∷ []) in
+    let size_1 : length c1 ≡ length c = length-overlaid c 64 zeros_0 in
+    let size_2 : length c2 ≡ length c1 = length-overlaid c1 at_1 zeros_1 in
+    let size_3 : length c3 ≡ length c2 = length-overlaid c2 at_2 zeros_2 in
+    let root_1 : Has c1 64 zeros_0 = has_put c 64 zeros_0 (omega (arith, long, long_0)) in
+    let root_2 : Has c2 64 zeros_0 = has_kept 64 at_1 (length zeros_1) zeros_0 c1 c2 (inl (omega (arith, long_0))) (overlaid_outside c1 at_1 zeros_1) root_1 in
+    let root_3 : Has c3 64 zeros_0 = has_kept 64 at_2 (length zeros_2) zeros_0 c2 c3 (inl (omega (arith, long_0))) (overlaid_outside c2 at_2 zeros_2) root_2 in
+    let one_2 : Has c2 at_1 zeros_1 = has_put c1 at_1 zeros_1 (omega (arith, long, long_1, size_1)) in
+    let one_3 : Has c3 at_1 zeros_1 = has_kept at_1 at_2 (length zeros_2) zeros_1 c2 c3 (inl (omega (arith, long_1))) (overlaid_outside c2 at_2 zeros_2) one_2 in
+    let image_3 : Has c3 at_2 zeros_2 = has_put c2 at_2 zeros_2 (omega (arith, long, long_2, size_1, size_2)) in
+    record {
+      root = has_kept 64 at_2 1 zeros_0 c3 c4 (inl (omega (arith, long_0))) (overlaid_outside c3 at_2 (2 ∷ [])) root_3;
+      one = has_kept at_1 at_2 1 zeros_1 c3 c4 (inl (omega (arith, long_1))) (overlaid_outside c3 at_2 (2 ∷ [])) one_3;
+      image = version_there g c3 at_2 (omega (arith, long, size_1, size_2, size_3)) image_3;
+    }

@@ -1,0 +1,6 @@
+mod Changed
+mod Shut
+mod Blank
+mod Laid
+mod Opened
+mod Examples

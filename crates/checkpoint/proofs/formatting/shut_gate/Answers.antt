@@ -1,0 +1,44 @@
+use Rattle.std.proofs.Common.{◌≡◌, ◌≢◌, ◌⊎◌, ◌+◌, ◌<◌, ℕ, List, [], ◌∷◌, length, get_or, inl, slice_range, Result, Ok, Err, OnOk, refl, sym, ◌∙◌, ap, subst, arith}
+use Rattle.checkpoint.proofs.Shut.{begun, calm_shut, now_calm, now_kept, now_read, shutting, stored_shut}
+use Rattle.disk.proofs.Calls.{after_read, after_sync}
+use Rattle.checkpoint.proofs.formatting.shut_gate.Goals as goal
+
+pub returns-in_err-sync-clause-any_moment : goal.returns-in_err-sync-clause-any_moment
+returns-in_err-sync-clause-any_moment g c = λ k. after_sync _ _ _ _ (begun _) c.sync.result (c.sync.ensures.syncs k)
+
+pub returns-in_err-read_at-clause-any_moment : goal.returns-in_err-read_at-clause-any_moment
+returns-in_err-read_at-clause-any_moment g c = λ k.
+    after_read _ _ _ _ (after_sync _ _ _ _ (begun _) c.sync.result (c.sync.ensures.syncs k)) _ _ c.read_at.result (c.read_at.ensures.reads k)
+
+pub returns-else-gate-eq-OPEN-clause-any_moment : goal.returns-else-gate-eq-OPEN-clause-any_moment
+returns-else-gate-eq-OPEN-clause-any_moment g c = λ k.
+    after_read _ _ _ _ (after_sync _ _ _ _ (begun _) c.sync.result (c.sync.ensures.syncs k)) _ _ c.read_at.result (c.read_at.ensures.reads k)
+
+pub returns-in_err-store-clause-any_moment : goal.returns-in_err-store-clause-any_moment
+returns-in_err-store-clause-any_moment g c = λ k.
+    shutting _ _ _ (g.met.D.Disk.bytes c.args.disk.now)
+    (now_calm _ _ _ _ (c.in_ok-sync.ensures.syncs k).ok (c.in_ok-read_at.ensures.reads k).ok (c.read_at.auto.out))
+    (now_kept _ _ _ _ (c.in_ok-sync.ensures.syncs k).ok (c.in_ok-read_at.ensures.reads k).ok (c.read_at.auto.out))
+    (now_read _ _ _ _ (c.in_ok-sync.ensures.syncs k).ok (c.in_ok-read_at.ensures.reads k).ok (c.read_at.auto.out) ∙ c.if-gate-eq-OPEN.true)
+    (after_read _ _ _ _ (after_sync _ _ _ _ (begun _) c.sync.result (c.sync.ensures.syncs k)) _ _ c.read_at.result (c.read_at.ensures.reads k))
+    (c.store.ensures.any_moment k)
+
+pub returns-in_ok-store-clause-any_moment : goal.returns-in_ok-store-clause-any_moment
+returns-in_ok-store-clause-any_moment g c = λ k.
+    shutting _ _ _ (g.met.D.Disk.bytes c.args.disk.now)
+    (now_calm _ _ _ _ (c.in_ok-sync.ensures.syncs k).ok (c.in_ok-read_at.ensures.reads k).ok (c.read_at.auto.out))
+    (now_kept _ _ _ _ (c.in_ok-sync.ensures.syncs k).ok (c.in_ok-read_at.ensures.reads k).ok (c.read_at.auto.out))
+    (now_read _ _ _ _ (c.in_ok-sync.ensures.syncs k).ok (c.in_ok-read_at.ensures.reads k).ok (c.read_at.auto.out) ∙ c.if-gate-eq-OPEN.true)
+    (after_read _ _ _ _ (after_sync _ _ _ _ (begun _) c.sync.result (c.sync.ensures.syncs k)) _ _ c.read_at.result (c.read_at.ensures.reads k))
+    (c.store.ensures.any_moment k)
+
+pub returns-in_ok-store-clause-shut : goal.returns-in_ok-store-clause-shut
+returns-in_ok-store-clause-shut g c = λ k.
+    stored_shut _ _ _ (omega (arith, c.requires, c.sync.ensures.len, c.read_at.ensures.len)) (c.read_at.ensures.len ∙ c.sync.ensures.len) (c.in_ok-store.ensures.stored k)
+
+pub returns-else-gate-eq-OPEN-clause-shut : goal.returns-else-gate-eq-OPEN-clause-shut
+returns-else-gate-eq-OPEN-clause-shut g c = λ k.
+    calm_shut _ (g.D.Disk.medium c.read_at.new.self)
+    (now_calm (g.D.Disk.medium c.args.disk.now) (g.D.Disk.medium c.sync.new.self) (g.D.Disk.medium c.read_at.new.self) _ (c.in_ok-sync.ensures.syncs k).ok (c.in_ok-read_at.ensures.reads k).ok (c.read_at.auto.out))
+    (c.read_at.ensures.len ∙ c.sync.ensures.len)
+    (λ is_open. c.if-gate-eq-OPEN.false (sym (now_read (g.D.Disk.medium c.args.disk.now) (g.D.Disk.medium c.sync.new.self) (g.D.Disk.medium c.read_at.new.self) _ (c.in_ok-sync.ensures.syncs k).ok (c.in_ok-read_at.ensures.reads k).ok (c.read_at.auto.out)) ∙ is_open))

@@ -1,0 +1,34 @@
+use Rattle.std.proofs.Common.{◌≡◌, ◌+◌, ◌≤◌, ℕ, List, length, take, drop, replicate, refl, sym, ◌∙◌, ap, subst, arith}
+use Rattle.std.proofs.lemmas.List.{length-take}
+use Rattle.std.proofs.lemmas.Grind.{common_steps}
+use Rattle.checkpoint.proofs.Changed.{changed_then, changed_within, nothing_changed, nothing_over, some_zeros, zeros_more}
+use Rattle.disk.specs.Device.{SameOutside, overlaid}
+use Rattle.oplog.specs.Changes.{ChangesOnly}
+use Rattle.checkpoint.proofs.formatting.write_zeros.Goals as goal
+
+pub zeros-init : goal.zeros-init
+zeros-init g c = record {
+  inside = omega arith;
+  len = refl;
+  faults = refl;
+  moments = λ k. nothing_changed (g.D.Disk.medium c.args.disk.now) c.args.at c.args.count;
+  written = λ k. sym (nothing_over (g.D.Disk.medium c.args.disk.now).now c.args.at);
+}
+
+pub returns-in_err-write-clause-any_moment : goal.returns-in_err-write-clause-any_moment
+returns-in_err-write-clause-any_moment g c = λ k.
+    changed_then _ _ _ c.args.at c.args.count (c.zeros.invariant.moments k)
+    (changed_within _ _ c.args.at c.args.count (c.args.at + c.zeros.done) _ (omega arith) (omega (arith, c.min-some.ensures, length-take c.min-some.result c.args.zeros.now)) (c.write.ensures.any_moment k))
+
+pub zeros-preserved : goal.zeros-preserved
+zeros-preserved g c = record {
+  inside = grind (arith, common_steps);
+  len = grind (arith, common_steps);
+  faults = grind (arith, common_steps);
+  moments = λ k.
+      changed_then _ _ _ c.args.at c.args.count (c.zeros.invariant.moments k)
+      (changed_within _ _ c.args.at c.args.count (c.args.at + c.zeros.done) _ (omega arith) (omega (arith, c.min-some.ensures, length-take c.min-some.result c.args.zeros.now)) (c.write.ensures.any_moment k));
+  written = λ k.
+      c.in_ok-write.ensures.written k ∙ (λ i. overlaid (c.zeros.invariant.written k i) (c.args.at + c.zeros.done) (some_zeros c.args.zeros.now c.min-some.result c.requires.zeros (omega (arith, c.min-some.ensures)) i))
+      ∙ zeros_more (g.D.Disk.medium c.args.disk.now).now c.args.at c.zeros.done c.min-some.result;
+}

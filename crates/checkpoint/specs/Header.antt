@@ -1,0 +1,25 @@
+-- The header of a device: that it is formatted, and the numbers of its server.
+use Rattle.std.specs.Prelude.{◌≡◌, ℕ, Bool, List, [], ◌∷◌, ◌++◌, take, replicate}
+use Rattle.std.specs.List.{flat_map}
+use Rattle.std.specs.Str.{bytes_eq}
+use Rattle.affinity.specs.Geometry.{numbers_of}
+use Rattle.affinity.specs.declared.geometry.Geometry.{Geometry}
+use Rattle.byteorder.specs.Endian.{little_bytes}
+
+-- the gate byte of a formatted device, and `WAFFSRV`
+abbrev pub marks_of_format : List ℕ
+marks_of_format = 1 ∷ 87 ∷ 65 ∷ 70 ∷ 70 ∷ 83 ∷ 82 ∷ 86 ∷ []
+
+-- the eight numbers, two bytes each, the lower one first
+abbrev pub number_bytes : Geometry → List ℕ
+number_bytes g = flat_map (little_bytes 2) (numbers_of g)
+
+abbrev pub header_of : Geometry → List ℕ
+header_of g = marks_of_format ++ number_bytes g ++ replicate 40 0
+
+abbrev pub is_header : Geometry → List ℕ → Bool
+is_header g bytes = bytes_eq bytes (header_of g)
+
+-- Bytes that begin with the header of this geometry.
+abbrev pub HasHeader : Geometry → List ℕ → Type 0
+HasHeader g c = take 64 c ≡ header_of g

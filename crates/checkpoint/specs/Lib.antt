@@ -1,0 +1,4 @@
+pub mod Header
+pub mod Recovery
+pub mod Refusals
+pub mod Formatting

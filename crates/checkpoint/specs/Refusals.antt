@@ -1,0 +1,78 @@
+-- Which devices are refused, and why.
+use Rattle.std.specs.Prelude.{◌≡◌, ◌≢◌, ◌⊎◌, ◌<◌, ◌≤◌, ℕ, zero, suc, Bool, true, false, not, ◌&&◌, ◌==◌, nat_lt, if◌then◌else◌, List, [], ◌∷◌, length, take, Option, Some, None, is_some}
+use Rattle.affinity.specs.declared.geometry.Geometry.{Geometry}
+use Rattle.checkpoint.specs.declared.fault.OpenFault.{OpenFault}
+use Rattle.checkpoint.specs.declared.fault.OpenFault.TheVariants.{Device, TooShort, NotFormatted, BadGeometry, OutOfMemory, BadVersion, BadPiece, BadChain, BadRecord}
+use Rattle.checkpoint.specs.Header.{HasHeader, marks_of_format}
+use Rattle.checkpoint.specs.Recovery.{apply, means}
+use Rattle.image.specs.Image.{has_head, is_good, read}
+use Rattle.image.specs.Pieces.{piece_count}
+use Rattle.oplog.specs.Front.{chain, front}
+use Rattle.oplog.specs.Layout.{layout_of, part, device_size, image, other}
+use Rattle.oplog.specs.Stands.{named_area, run}
+use Rattle.plain.specs.State.{State}
+
+-- the least of n numbers from i on that fails
+abbrev pub first_bad : (ℕ → Bool) → ℕ → ℕ → Option ℕ
+first_bad is_good i zero = None
+first_bad is_good i (suc n) = if is_good i then first_bad is_good (suc i) n else Some i
+
+-- the least piece of an image that isn't the one of what the image says
+abbrev pub first_bad_piece : Geometry → List ℕ → Option ℕ
+first_bad_piece g bytes = first_bad (is_good g bytes) 0 (piece_count g)
+
+-- Of records that are run on a state: the number of the first that can't stand where it does, counted from i.
+abbrev pub first_bad_record : Geometry → ℕ → Option State → List (List ℕ) → Option ℕ
+first_bad_record g i None rs = None
+first_bad_record g i (Some x) [] = None
+first_bad_record g i (Some x) (r ∷ rs) = if is_some (apply g x r) then first_bad_record g (suc i) (apply g x r) rs else Some i
+
+-- ---- one test after another
+
+abbrev pub fault_if : Bool → OpenFault → Option OpenFault → Option OpenFault
+fault_if test fault later = if test then Some fault else later
+
+abbrev pub fault_of : (ℕ → OpenFault) → Option ℕ → Option OpenFault → Option OpenFault
+fault_of fault None later = later
+fault_of fault (Some n) later = Some (fault n)
+
+-- Why a device with the header of this geometry is refused, in the order in which it is looked for. None: it isn't.
+abbrev pub refused : Geometry → List ℕ → Option OpenFault
+refused g c =
+    let l = layout_of g in
+    let n = named_area l c in
+    let bytes = part l (image n) c in
+    let chained = if chain l n c == 1 then front l (other n) c else [] in
+    fault_if (nat_lt (length c) (device_size l)) TooShort
+    (fault_if (not (has_head bytes)) BadVersion
+    (fault_of BadPiece (first_bad_piece g bytes)
+    (fault_if ((chain l 0 c == 1) && (chain l 1 c == 1)) BadChain
+    (fault_of (BadRecord n) (first_bad_record g 0 (read g bytes) (front l n c))
+    (fault_of (BadRecord (other n)) (first_bad_record g 0 (run (means g) (read g bytes) (front l n c)) chained) None)))))
+
+-- The device is long enough for a header, and doesn't begin with the marks of a formatted one.
+abbrev pub IsUnformatted : List ℕ → Type 0
+IsUnformatted c = (128 ≤ length c) × (take 8 c ≢ marks_of_format)
+
+-- It begins with these marks, and no geometry has its header.
+abbrev pub HasNoGeometry : List ℕ → Type 0
+HasNoGeometry c = (128 ≤ length c) × (take 8 c ≡ marks_of_format) × ((g : Geometry) → HasHeader g c → ⊥)
+
+-- It has the header of a geometry, and is refused with this fault.
+pub record IsRefusedWith (c : List ℕ) (fault : OpenFault) : Type 0 where
+  pub geometry : Geometry
+  pub long : 128 ≤ length c
+  pub header : HasHeader geometry c
+  pub is : refused geometry c ≡ Some fault
+
+-- This fault is the answer to these bytes. Of a device that fails and of want of memory they tell nothing.
+abbrev pub IsRefused : List ℕ → OpenFault → Type 0
+IsRefused c Device = Unit {0}
+IsRefused c OutOfMemory = Unit {0}
+IsRefused c NotFormatted = IsUnformatted c
+IsRefused c BadGeometry = HasNoGeometry c
+IsRefused c TooShort = (length c < 128) ⊎ IsRefusedWith c TooShort
+IsRefused c BadVersion = IsRefusedWith c BadVersion
+IsRefused c BadChain = IsRefusedWith c BadChain
+IsRefused c (BadPiece n) = IsRefusedWith c (BadPiece n)
+IsRefused c (BadRecord h i) = IsRefusedWith c (BadRecord h i)

@@ -1,0 +1,58 @@
+//! Why a device can't be made or opened.
+use disk::Disk;
+use thiserror::Error;
+
+/// Why a device can't be made.
+#[derive(Clone, Copy, Debug, PartialEq, Eq, Error)]
+pub enum FormatFault {
+    /// The device failed during the call.
+    #[error("device fault")]
+    Device,
+    /// The device is shorter than `device_len` of the geometry. Nothing was read or written.
+    #[error("device too short")]
+    TooShort,
+    /// There was no memory. Nothing was read or written.
+    #[error("out of memory")]
+    OutOfMemory,
+}
+
+/// The device that can't be made, and why.
+#[derive(Drop)]
+pub struct FormatError<D: Disk> {
+    /// The device, as far as it was written.
+    pub disk: D,
+    /// What was wrong.
+    pub fault: FormatFault,
+}
+
+/// Why a device can't be opened.
+#[derive(Clone, Copy, Debug, PartialEq, Eq, Error)]
+pub enum OpenFault {
+    /// The device failed during the call.
+    #[error("device fault")]
+    Device,
+    /// The device is shorter than its header and root zone, or than the parts that its header tells of.
+    #[error("device too short")]
+    TooShort,
+    /// The device doesn't begin with the marks of a formatted one.
+    #[error("not formatted")]
+    NotFormatted,
+    /// The header has a number out of its range, or more than its numbers.
+    #[error("bad geometry")]
+    BadGeometry,
+    /// There was no memory.
+    #[error("out of memory")]
+    OutOfMemory,
+    /// The named image doesn't begin with a version and zeros.
+    #[error("bad version")]
+    BadVersion,
+    /// This piece of the named image is not that of a state.
+    #[error("bad piece {0}")]
+    BadPiece(usize),
+    /// The chain bytes of both halves are 1.
+    #[error("bad chain")]
+    BadChain,
+    /// This record, told by its half and its number there, is in force and can't stand there.
+    #[error("bad record {0} {1}")]
+    BadRecord(usize, usize),
+}

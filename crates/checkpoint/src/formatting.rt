@@ -1,0 +1,195 @@
+//! How a device is made.
+//!
+//! The gate of its header is shut first and opened last, each with a sync of its own before and behind it. So a crash
+//! leaves the old device, or one whose gate is shut, or the whole new one.
+ghost use Rattle.std.specs.Prelude.{◌≡◌, ◌⊎◌, ◌↔◌, ◌+◌, ◌-◌, ◌<◌, ◌≤◌, Some, length, replicate, OnOk, IfOk, IfErr, MatchResult, IsErrOf};
+ghost use Rattle.affinity.specs.declared.geometry.Geometry.{Geometry};
+ghost use Rattle.checkpoint.specs.Formatting.{FormatLeaves, IsLaid, IsShut, IsShutNow};
+ghost use Rattle.checkpoint.specs.Header.{header_of};
+ghost use Rattle.checkpoint.specs.Recovery.{holds};
+ghost use Rattle.disk.specs.Device.{CountsFault, IsSynced, Leaves, SameOutside, overlaid};
+ghost use Rattle.disk.specs.Moments.{LeavesOnly};
+ghost use Rattle.oplog.specs.Changes.{ChangesOnly};
+ghost use Rattle.oplog.specs.Layout.{device_size, layout_of};
+ghost use Rattle.plain.specs.State.{empty};
+
+use crate::{FormatError, FormatFault};
+use affinity::Geometry;
+use byteorder::{ByteOrder, LittleEndian};
+use disk::{Disk, DiskFault};
+use oplog::layout::{CHAIN_AREA, HEADER_SIZE, ROOT_ZONE_AT, ROOT_ZONE_SIZE, device_len, half_at, image_at, image_size};
+use oplog::store::{store, write};
+use std::alloc::{AllocError, Global};
+
+/// The gate byte of a formatted device.
+const OPEN: u8 = 1;
+
+/// With what a formatted device begins.
+const MARKS_OF_FORMAT: [u8; 8] = [OPEN, b'W', b'A', b'F', b'F', b'S', b'R', b'V'];
+
+/// The version of an image that is written, with which it begins.
+const VERSION: u8 = 2;
+
+/// How many zeros are written at a time, at most.
+const ZEROS_AT_A_TIME: usize = 65536;
+
+/// The header of a device of this geometry.
+fn header_of(g: &Geometry) -> [u8; HEADER_SIZE]
+    ensures { result ≡ header_of g.now }
+{
+    let mut header = [0u8; HEADER_SIZE];
+    header[..8].copy_from_slice(&MARKS_OF_FORMAT);
+    LittleEndian::write_u16_into(&g.numbers(), &mut header[8..24]);
+    header
+}
+
+/// A row of zeros. `AllocError` where there is no memory.
+fn zeros(alloc: Global, count: usize) -> Result<Vec<u8>, AllocError>
+    requires { 0 < count }
+    ensures zeros { IfOk result (λ z. z.items ≡ replicate (length z.items) 0) }
+    ensures some { IfOk result (λ z. 0 < length z.items) }
+{
+    vec![in alloc; 0u8; count]
+}
+
+/// Writes so many zeros from the byte `at` on, as many at a time as there are in `zeros`.
+fn write_zeros<D: Disk>(disk: &mut D, zeros: &[u8], at: u64, count: usize) -> Result<(), DiskFault>
+    requires zeros { zeros.now ≡ replicate (length zeros.now) 0 }
+    requires some { 0 < length zeros.now }
+    requires inside { at + count ≤ length (D.medium disk.old).now }
+    ensures any_moment { D.keeps →
+        ChangesOnly (D.medium disk.old) (D.medium disk.new) (SameOutside at count) }
+    ensures written { OnOk result (D.keeps →
+        (D.medium disk.new).now ≡ overlaid (D.medium disk.old).now at (replicate count 0)) }
+    ensures inside { IsErrOf result DiskFault.OutOfRange → ⊥ }
+    ensures counts { CountsFault result (D.medium disk.old).faults (D.medium disk.new).faults }
+    ensures len { length (D.medium disk.new).now ≡ length (D.medium disk.old).now }
+{
+    let mut done = 0;
+    'zeros: while done < count {
+        let some = zeros.len().min(count - done);
+        write(disk, at + done as u64, &zeros[..some])?;
+        done += some;
+    }
+    Ok(())
+}
+
+/// Shuts the gate of the header where it is open. Any other first byte stays, since a torn write of
+/// it might open the gate of a device that was shut.
+fn shut_gate<D: Disk>(disk: &mut D) -> Result<(), DiskFault>
+    requires { 0 < length (D.medium disk.old).now }
+    ensures any_moment { D.keeps → LeavesOnly (D.medium disk.old) (D.medium disk.new)
+        (λ c. Leaves (D.medium disk.old) c ⊎ IsShut (length (D.medium disk.old).now) c) }
+    ensures shut { OnOk result (D.keeps →
+        IsShutNow (length (D.medium disk.old).now) (D.medium disk.new)) }
+    ensures inside { IsErrOf result DiskFault.OutOfRange → ⊥ }
+    ensures counts { CountsFault result (D.medium disk.old).faults (D.medium disk.new).faults }
+    ensures len { length (D.medium disk.new).now ≡ length (D.medium disk.old).now }
+{
+    disk.sync()?;
+    let mut gate = [0u8];
+    disk.read_at(0, &mut gate)?;
+    if gate[0] == OPEN {
+        store(disk, 0, &[0])?;
+    }
+    Ok(())
+}
+
+/// Writes all of an empty device but its header, and syncs.
+fn lay_out<D: Disk>(disk: &mut D, zeros: &[u8], g: &Geometry) -> Result<(), DiskFault>
+    requires zeros { zeros.now ≡ replicate (length zeros.now) 0 }
+    requires some { 0 < length zeros.now }
+    requires whole { device_size (layout_of g.now) ≤ length (D.medium disk.old).now }
+    ensures any_moment { D.keeps → ChangesOnly (D.medium disk.old) (D.medium disk.new)
+        (SameOutside 64 (device_size (layout_of g.now) - 64)) }
+    ensures laid { OnOk result (D.keeps → IsLaid g.now (D.medium disk.new).now) }
+    ensures synced { OnOk result (D.keeps → IsSynced (D.medium disk.new)) }
+    ensures inside { IsErrOf result DiskFault.OutOfRange → ⊥ }
+    ensures counts { CountsFault result (D.medium disk.old).faults (D.medium disk.new).faults }
+    ensures len { length (D.medium disk.new).now ≡ length (D.medium disk.old).now }
+{
+    let front = CHAIN_AREA + usize::from(g.half);
+    write_zeros(disk, zeros, ROOT_ZONE_AT, ROOT_ZONE_SIZE + front)?;
+    write_zeros(disk, zeros, half_at(g, 1), front)?;
+    write_zeros(disk, zeros, image_at(g, 0), image_size(g))?;
+    store(disk, image_at(g, 0), &[VERSION])?;
+    Ok(())
+}
+
+/// Writes the header of a device that has all else, its gate last.
+fn open_gate<D: Disk>(disk: &mut D, g: &Geometry) -> Result<(), DiskFault>
+    requires whole { device_size (layout_of g.now) ≤ length (D.medium disk.old).now }
+    requires shut { D.keeps → IsShutNow (length (D.medium disk.old).now) (D.medium disk.old) }
+    requires laid { D.keeps → IsLaid g.now (D.medium disk.old).now }
+    ensures any_moment { D.keeps → LeavesOnly (D.medium disk.old) (D.medium disk.new)
+        (λ c. IsShut (length (D.medium disk.old).now) c ⊎ (holds g.now c ≡ Some empty)) }
+    ensures stands { OnOk result (D.keeps → holds g.now (D.medium disk.new).now ≡ Some empty) }
+    ensures synced { OnOk result (D.keeps → IsSynced (D.medium disk.new)) }
+    ensures inside { IsErrOf result DiskFault.OutOfRange → ⊥ }
+    ensures counts { CountsFault result (D.medium disk.old).faults (D.medium disk.new).faults }
+    ensures len { length (D.medium disk.new).now ≡ length (D.medium disk.old).now }
+{
+    let header = header_of(g);
+    store(disk, 1, &header[1..])?;
+    store(disk, 0, &[OPEN])?;
+    Ok(())
+}
+
+/// Makes a device that is long enough.
+fn format_on<D: Disk>(disk: &mut D, zeros: &[u8], g: &Geometry) -> Result<(), DiskFault>
+    requires zeros { zeros.now ≡ replicate (length zeros.now) 0 }
+    requires some { 0 < length zeros.now }
+    requires whole { device_size (layout_of g.now) ≤ length (D.medium disk.old).now }
+    ensures any_moment { D.keeps → LeavesOnly (D.medium disk.old) (D.medium disk.new)
+        (FormatLeaves g.now (D.medium disk.old)) }
+    ensures stands { OnOk result (D.keeps → holds g.now (D.medium disk.new).now ≡ Some empty) }
+    ensures synced { OnOk result (D.keeps → IsSynced (D.medium disk.new)) }
+    ensures inside { IsErrOf result DiskFault.OutOfRange → ⊥ }
+    ensures counts { CountsFault result (D.medium disk.old).faults (D.medium disk.new).faults }
+{
+    shut_gate(disk)?;
+    lay_out(disk, zeros, g)?;
+    open_gate(disk, g)
+}
+
+/// Makes a device of this geometry that stands for the empty state, and hands it back with nothing
+/// loose. A crash at any moment of the call leaves what a crash before it could leave, or a device
+/// that isn't formatted, or that one.
+///
+/// `TooShort` exactly where the device is shorter than `device_len`, and `OutOfMemory` where there is
+/// no memory: then no call of the device was made. `Device` exactly where the device failed.
+pub fn format<D: Disk>(alloc: Global, d: D, g: Geometry) -> Result<D, FormatError<D>>
+    ensures stands { IfOk result (λ r. D.keeps → holds g (D.medium r).now ≡ Some empty) }
+    ensures synced { IfOk result (λ r. D.keeps → IsSynced (D.medium r)) }
+    ensures any_moment { D.keeps → MatchResult result
+        (λ r. LeavesOnly (D.medium d) (D.medium r) (FormatLeaves g (D.medium d)))
+        (λ e. LeavesOnly (D.medium d) (D.medium e.disk) (FormatLeaves g (D.medium d))) }
+    ensures long { IfOk result (λ r. device_size (layout_of g) ≤ length (D.medium d).now) }
+    ensures short { IfErr result (λ e. e.fault ≡ FormatFault.TooShort
+        ↔ length (D.medium d).now < device_size (layout_of g)) }
+    ensures untouched { IfErr result (λ e. (e.fault ≡ FormatFault.Device → ⊥) → e.disk ≡ d) }
+    ensures device { IfErr result (λ e. e.fault ≡ FormatFault.Device
+        ↔ (D.medium e.disk).faults ≡ (D.medium d).faults + 1) }
+    ensures fine { IfOk result (λ r. (D.medium r).faults ≡ (D.medium d).faults) }
+{
+    let mut disk = d;
+    if disk.len() < device_len(&g) {
+        return Err(FormatError {
+            disk,
+            fault: FormatFault::TooShort,
+        });
+    }
+    let Ok(zeros) = zeros(alloc, ZEROS_AT_A_TIME) else {
+        return Err(FormatError {
+            disk,
+            fault: FormatFault::OutOfMemory,
+        });
+    };
+    match format_on(&mut disk, &zeros, &g) {
+        Ok(()) => Ok(disk),
+        Err(_) => Err(FormatError {
+            disk,
+            fault: FormatFault::Device,
+        }),
+    }
+}

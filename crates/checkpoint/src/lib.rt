@@ -1,0 +1,13 @@
+//! What a device stands for, and how one is made.
+//!
+//! A device holds the state of its named image with the records in force run on it; `specs/Recovery.antt` says so of
+//! its bytes, and `specs/Refusals.antt` says which devices are refused and why. `format` makes a device that stands
+//! for the empty state, and a crash at any moment of it leaves the old device, one that isn't formatted, or that one.
+#![tactic(auto)]
+
+mod fault;
+mod formatting;
+
+pub use fault::{FormatError, FormatFault, OpenFault};
+pub use formatting::format;
+pub use oplog::layout::device_len;
