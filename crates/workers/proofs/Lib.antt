@@ -1,0 +1,4 @@
+pub mod Rows
+pub mod Keeps
+pub mod Turning
+pub mod Lending

@@ -1,0 +1,8 @@
+use Rattle.std.proofs.Common.{◌≡◌}
+use Rattle.workers.specs.Desk.{lent_of, spare_from}
+use Rattle.workers.proofs.seats.turn_to.Given as goal
+
+abbrev pub invariant-loop-k : goal.invariant-loop-k
+invariant-loop-k l =
+    (l.seat.table_id ≡ l.initial.seat.table_id)
+    × (l.seat.me ≡ (l.initial.seat.me.0, spare_from l.k (lent_of l.initial.seat.me.0)))

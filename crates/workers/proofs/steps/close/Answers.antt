@@ -1,0 +1,7 @@
+use Rattle.std.proofs.Common.{rules, arith}
+use Rattle.workers.proofs.Keeps.{rings}
+use Rattle.workers.proofs.steps.close.Goals as goal
+
+pub store-requires : goal.store-requires
+store-requires c = let w = c.requires.bench.1.0 in
+    (search rules, omega arith, rings _ _ c.args.seat.now.me 0 (λ _. 1) (omega arith))

@@ -1,0 +1,14 @@
+use Rattle.std.proofs.Common.{rules, arith, refl, eqb-true}
+use Rattle.std.proofs.lemmas.Bool.{eqb-false}
+use Rattle.workers.proofs.Keeps.{collects}
+use Rattle.workers.proofs.steps.collect.Goals as goal
+
+pub compare_exchange-requires : goal.compare_exchange-requires
+compare_exchange-requires c = let t = c.requires.desk in let w = c.requires.bench.1.0 in
+    (search rules, omega arith, collects _ _ _ c.args.seat.now.me t.0 t.1 t.2 c.requires.place)
+
+pub returns-clause-won : goal.returns-clause-won
+returns-clause-won c = λ yes. (c.compare_exchange.ensures.2 c.args.k refl).0 (eqb-true _ _ yes)
+
+pub returns-clause-lost : goal.returns-clause-lost
+returns-clause-lost c = λ no. (c.compare_exchange.ensures.2 c.args.k refl).1 (eqb-false _ _ no)

@@ -1,0 +1,7 @@
+use Rattle.std.proofs.Common.{rules, arith}
+use Rattle.workers.proofs.Keeps.{readies}
+use Rattle.workers.proofs.steps.ready.Goals as goal
+
+pub store-requires : goal.store-requires
+store-requires c = let t = c.requires.resting in let w = c.requires.bench.1.0 in
+    (search rules, omega arith, readies _ _ _ c.args.seat.now.me t.0 t.1 t.2 c.requires.place t.3)

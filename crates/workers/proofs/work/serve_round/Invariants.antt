@@ -1,0 +1,6 @@
+use Rattle.std.proofs.Common.{◌≡◌}
+use Rattle.workers.specs.Desk.{idle}
+use Rattle.workers.proofs.work.serve_round.Given as goal
+
+abbrev pub invariant-loop-k : goal.invariant-loop-k
+invariant-loop-k g l = (l.seat.table_id ≡ l.initial.seat.table_id) × (l.seat.me ≡ idle)

@@ -1,0 +1,42 @@
+-- The seats as clauses see them.
+use Rattle.std.specs.Prelude.{◌≡◌, ℕ, ◌+◌, ◌≤◌, suc, Bool, List, [], ◌∷◌, ◌++◌, length, map, take, drop, is_some, Option, None, Some}
+use Rattle.atomic_table.specs.Table.{Me}
+use Rattle.atomic_table.specs.Seated.{TableId}
+use Rattle.parcel.specs.Run.{Asked}
+use Rattle.workers.specs.declared.words.Load.{Load}
+use Rattle.workers.specs.declared.seats.View.{View}
+use Rattle.workers.specs.declared.seats.View.TheVariants.{Dispatcher, Idle, Claimed}
+
+-- the dispatcher's seat: which bench it belongs to, and the job that is lent at each place
+pub record Desk : Type 0 where
+  pub bench : TableId
+  pub lent : List (Option Asked)
+
+-- a table that serves as a bench: three words and one for each of its places, of which there are at most 64
+abbrev pub IsBench : TableId → Type 0
+IsBench z = (z.words ≡ z.slots + 3) × (z.slots ≤ 64)
+
+abbrev pub lent_of : View → List (Option Asked)
+lent_of (Dispatcher resting lent) = lent
+lent_of _ = []
+
+-- a worker with no job
+abbrev pub idle : Me (Option Load) View
+idle = (Idle, [])
+
+-- the slots of the places where nothing is lent, in order, of a row whose first place is i
+abbrev pub spare : ℕ → List (Option Asked) → List (ℕ × Option Load)
+spare i [] = []
+spare i (None ∷ lent) = (i, None) ∷ spare (suc i) lent
+spare i (Some job ∷ lent) = spare (suc i) lent
+
+-- the same from place i on, and then those before it
+abbrev pub spare_from : ℕ → List (Option Asked) → List (ℕ × Option Load)
+spare_from i lent = spare i (drop i lent) ++ spare 0 (take i lent)
+
+-- A dispatcher's seat at rest: it has the slot of each place where nothing is lent, and the flags say which these are.
+pub record IsDesk (z : TableId) (me : Me (Option Load) View) (flags : List Bool) : Type 0 where
+  pub bench : IsBench z
+  pub seat : me ≡ (Dispatcher 0 (lent_of me.0), spare 0 (lent_of me.0))
+  pub flagged : flags ≡ map is_some (lent_of me.0)
+  pub places : length flags ≡ z.slots

@@ -1,0 +1,189 @@
+//! The bench: its table, and what the dispatcher does there.
+ghost use Rattle.std.specs.Prelude.{◌≡◌, ℕ, ◌+◌, ◌<◌, ◌≤◌, [], ◌∷◌, map, replicate, is_some, slice_set, Option, None, Some, IfOk, IfSome, IfNone, All, MatchOption, vec_len, Ok, Err};
+ghost use Rattle.parcel.specs.Run.{Asked, IsRun};
+ghost use Rattle.workers.specs.Rule.{lent_at};
+ghost use Rattle.workers.specs.Desk.{IsBench, IsDesk, lent_of, spare};
+ghost use Rattle.workers.specs.declared.seats.View.TheVariants.{Dispatcher};
+
+use crate::seats::{DispatchSeat, Seat, View, WorkSeat, turn_to};
+use crate::steps::{self, Handoff, Words};
+use crate::words::{FIRST_PLACE, Load, MOST_PLACES, OFFERS};
+use atomic_table::Table;
+use parcel::{Done, Job};
+use std::alloc::{AllocError, Global};
+use std::marker::Model;
+
+/// The table at which one dispatcher and its workers meet. A clause sees which table it is, as whose
+/// `slots` the places are counted.
+#[derive(Drop)]
+pub struct Bench {
+    pub(crate) table: Table<Option<Load>, View, usize, Handoff, Global>,
+    workers: usize,
+}
+
+impl Model for Bench {
+    ghost use Rattle.atomic_table.specs.Seated.{TableId};
+    ghost use Rattle.workers.specs.Desk.{IsBench};
+
+    ghost Value = { TableId };
+
+    ghost view = { λ b. b.table.shared.table_id };
+
+    ghost invariant = { λ b. IsBench b.table.shared.table_id };
+}
+
+impl Bench {
+    /// A bench with so many places, the dispatcher's seat and a seat for each worker. Nothing is lent.
+    /// It takes all memory that the bench will need.
+    pub fn open(
+        alloc: Global,
+        places: usize,
+        workers: usize,
+    ) -> Result<(Bench, DispatchSeat, Vec<WorkSeat>), AllocError>
+        requires { places ≤ MOST_PLACES }
+        ensures places { IfOk result (λ r. r.0.slots ≡ places) }
+        ensures dispatcher { IfOk result (λ r. (r.1.bench ≡ r.0) × (r.1.lent ≡ replicate places None)) }
+        ensures workers { IfOk result (λ r. (vec_len r.2 ≡ workers) × All (λ w. w ≡ r.0) r.2.items) }
+    {
+        let words = vec![in alloc; 0; places + FIRST_PLACE]?;
+        let lent = vec![in alloc; false; places]?;
+        let (table, mut seat) = lay(alloc, &words, places)?;
+        ready_all(&table.shared, &mut seat, places);
+        let seats = seat_workers(alloc, &table.shared, &mut seat, workers)?;
+        let bench = Bench { table, workers };
+        let desk = DispatchSeat {
+            seat,
+            lent,
+            heard: 0,
+        };
+        Ok((bench, desk, seats))
+    }
+
+    /// Lends a job to the workers at place k and wakes one. Hands it back where something is lent there.
+    pub fn offer(&self, seat: &mut DispatchSeat, k: usize, job: Job) -> Result<(), Job>
+        requires { (seat.old.bench ≡ self.now) × (k < self.now.slots) }
+        ensures bench { seat.new.bench ≡ seat.old.bench }
+        ensures answer { MatchOption (lent_at seat.old.lent k) ((result ≡ Ok tt) × (seat.new.lent ≡ slice_set seat.old.lent k (Some job))) (λ _. (result ≡ Err job) × (seat.new ≡ seat.old)) }
+    {
+        if seat.lent[k] {
+            return Err(job);
+        }
+        lend(&self.table.shared, &mut seat.seat, &mut seat.lent, k, job);
+        self.table.shared.wake_one(OFFERS);
+        Ok(())
+    }
+
+    /// The result of the job that was last offered at place k through this seat, if it was delivered.
+    /// One try, which waits for nobody.
+    pub fn collect(&self, seat: &mut DispatchSeat, k: usize) -> Option<Done>
+        requires { (seat.old.bench ≡ self.now) × (k < self.now.slots) }
+        ensures bench { seat.new.bench ≡ seat.old.bench }
+        ensures some { IfSome result (λ done. (job : Asked) × (lent_at seat.old.lent k ≡ Some job) × IsRun job done × (seat.new.lent ≡ slice_set seat.old.lent k None)) }
+        ensures none { IfNone result (seat.new ≡ seat.old) }
+    {
+        if !seat.lent[k] {
+            return None;
+        }
+        take_back(&self.table.shared, &mut seat.seat, &mut seat.lent, k)
+    }
+
+    /// Tells the workers to end, each once it has delivered what it has claimed.
+    pub fn stop(&self, seat: &mut DispatchSeat)
+        requires { seat.old.bench ≡ self.now }
+        ensures { seat.new ≡ seat.old }
+    {
+        let words = &self.table.shared;
+        steps::close(words, &mut seat.seat);
+        steps::ring(words, &mut seat.seat, OFFERS);
+        for _ in 0..self.workers {
+            words.wake_one(OFFERS);
+        }
+    }
+}
+
+// A table with a word and a slot for each place, all empty, and the first seat.
+fn lay(
+    alloc: Global,
+    words: &[u64],
+    places: usize,
+) -> Result<(Table<Option<Load>, View, usize, Handoff, Global>, Seat), AllocError>
+    requires places { places ≤ MOST_PLACES }
+    requires words { words.now ≡ replicate (places + 3) 0 }
+    ensures table { IfOk result (λ r. IsBench r.0.shared.table_id × (r.0.shared.table_id.slots ≡ places)) }
+    ensures seat { IfOk result (λ r. (r.1.table_id ≡ r.0.shared.table_id) × (r.1.me ≡ (Dispatcher places (replicate places None), []))) }
+{
+    Table::vacant(alloc, words, places, &places)
+}
+
+// Splits off a seat for each worker.
+fn seat_workers(
+    alloc: Global,
+    words: &Words,
+    seat: &mut Seat,
+    workers: usize,
+) -> Result<Vec<WorkSeat>, AllocError>
+    requires { (seat.old.table_id ≡ words.now.table_id) × IsBench words.now.table_id }
+    ensures desk { (seat.new.table_id ≡ seat.old.table_id) × (seat.new.me ≡ seat.old.me) }
+    ensures workers { IfOk result (λ seats. (vec_len seats ≡ workers) × All (λ w. w ≡ words.now.table_id) seats.items) }
+{
+    let mut seats = Vec::with_capacity(alloc, workers)?;
+    for _number in 0..workers {
+        let worker = steps::split(words, seat);
+        seats.push(WorkSeat { seat: worker })?;
+    }
+    Ok(seats)
+}
+
+// Takes the slots of all places, from the last one down, so that they lie in order.
+fn ready_all(words: &Words, seat: &mut Seat, places: usize)
+    requires bench { (seat.old.table_id ≡ words.now.table_id) × IsBench words.now.table_id }
+    requires places { places ≡ words.now.table_id.slots }
+    requires seat { seat.old.me ≡ (Dispatcher places (replicate places None), []) }
+    ensures bench { seat.new.table_id ≡ seat.old.table_id }
+    ensures seat { seat.new.me ≡ (Dispatcher 0 (replicate places None), spare 0 (replicate places None)) }
+{
+    let mut k = places;
+    while 0 < k {
+        k -= 1;
+        steps::ready(words, seat, k);
+    }
+}
+
+// Offers a job at a place where nothing is lent, and rings the bell.
+fn lend(words: &Words, seat: &mut Seat, lent: &mut [bool], k: usize, job: Job)
+    requires bench { (seat.old.table_id ≡ words.now.table_id) × (k < words.now.table_id.slots) }
+    requires desk { IsDesk words.now.table_id seat.old.me lent.old }
+    requires empty { lent_at (lent_of seat.old.me.0) k ≡ None }
+    ensures bench { seat.new.table_id ≡ seat.old.table_id }
+    ensures desk { IsDesk words.now.table_id seat.new.me lent.new }
+    ensures lent { lent_of seat.new.me.0 ≡ slice_set (lent_of seat.old.me.0) k (Some job) }
+{
+    turn_to(seat, lent, 0, k);
+    drop(words.exchange(seat, k, Some(Load::Offered(job))));
+    steps::offer(words, seat, k);
+    lent[k] = true;
+    turn_to(seat, lent, k + 1, lent.len());
+    steps::ring(words, seat, OFFERS);
+}
+
+// Takes the result from a place where something is lent, if it was delivered.
+fn take_back(words: &Words, seat: &mut Seat, lent: &mut [bool], k: usize) -> Option<Done>
+    requires bench { (seat.old.table_id ≡ words.now.table_id) × (k < words.now.table_id.slots) }
+    requires desk { IsDesk words.now.table_id seat.old.me lent.old }
+    ensures bench { seat.new.table_id ≡ seat.old.table_id }
+    ensures desk { IsDesk words.now.table_id seat.new.me lent.new }
+    ensures some { IfSome result (λ done. (job : Asked) × (lent_at (lent_of seat.old.me.0) k ≡ Some job) × IsRun job done × (lent_of seat.new.me.0 ≡ slice_set (lent_of seat.old.me.0) k None)) }
+    ensures none { IfNone result (lent_of seat.new.me.0 ≡ lent_of seat.old.me.0) }
+{
+    turn_to(seat, lent, 0, k);
+    if !steps::collect(words, seat, k) {
+        turn_to(seat, lent, k, lent.len());
+        return None;
+    }
+    let Some(Load::Answered(done)) = words.exchange(seat, k, None) else {
+        unreachable!()
+    };
+    lent[k] = false;
+    turn_to(seat, lent, k, lent.len());
+    Some(done)
+}

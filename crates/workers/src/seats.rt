@@ -1,0 +1,90 @@
+//! The seats of the bench: who may do what.
+ghost use Rattle.std.specs.Prelude.{◌≡◌, ℕ, ◌+◌, ◌<◌, ◌≤◌, [], length, map, is_some};
+ghost use Rattle.workers.specs.Rule.{lent_at};
+ghost use Rattle.workers.specs.Desk.{lent_of, spare_from};
+
+use crate::words::Load;
+use parcel::Job;
+use std::collections::LinkedList;
+use std::marker::Model;
+
+/// What a seat knows. No value of it is made.
+pub enum View {
+    /// How many places are yet to be readied, and the job that is lent at each place.
+    Dispatcher(u64, LinkedList<Option<Job>>),
+    /// A worker with no job.
+    Idle,
+    /// A worker with the job of a place.
+    Claimed(u64, Job),
+}
+
+/// A seat at the table, whoever has it.
+pub type Seat = atomic_table::Seat<Option<Load>, View>;
+
+/// The seat of the thread that offers jobs and collects their results. A clause sees which bench it
+/// belongs to and the job that is lent at each place.
+#[derive(Drop)]
+pub struct DispatchSeat {
+    pub(crate) seat: Seat,
+    // Whether something is lent at each place.
+    pub(crate) lent: Vec<bool>,
+    // The low half of the delivery bell when the last wait returned.
+    pub(crate) heard: u32,
+}
+
+impl Model for DispatchSeat {
+    ghost use Rattle.std.specs.Prelude.{List};
+    ghost use Rattle.workers.specs.Desk.{Desk, IsDesk, lent_of};
+
+    ghost Value = { Desk };
+
+    ghost view = { λ d. record { bench = d.seat.table_id; lent = lent_of d.seat.me.0 } };
+
+    ghost invariant = { λ d. IsDesk d.seat.table_id d.seat.me d.lent.items };
+}
+
+/// The seat of a worker that has no job. A clause sees which bench it belongs to.
+#[derive(Drop)]
+pub struct WorkSeat {
+    pub(crate) seat: Seat,
+}
+
+impl Model for WorkSeat {
+    ghost use Rattle.atomic_table.specs.Seated.{TableId};
+    ghost use Rattle.std.specs.Prelude.{◌≡◌};
+    ghost use Rattle.workers.specs.Desk.{idle};
+
+    ghost Value = { TableId };
+
+    ghost view = { λ w. w.seat.table_id };
+
+    ghost invariant = { λ w. w.seat.me ≡ idle };
+}
+
+// Brings the slots of a desk round, from those of the places from `from` on to those from `to` on.
+// A seat reaches the slot at the head of its row alone.
+pub fn turn_to(seat: &mut Seat, lent: &[bool], from: usize, to: usize)
+    requires places { (from ≤ to) × (to ≤ length lent.now) }
+    requires flags { lent.now ≡ map is_some (lent_of seat.old.me.0) }
+    requires slots { seat.old.me.1 ≡ spare_from from (lent_of seat.old.me.0) }
+    ensures bench { seat.new.table_id ≡ seat.old.table_id }
+    ensures slots { seat.new.me ≡ (seat.old.me.0, spare_from to (lent_of seat.old.me.0)) }
+{
+    for k in from..to {
+        turn_past(seat, lent[k], k);
+    }
+}
+
+// Brings the slot of place k behind the others, if the seat has it.
+fn turn_past(seat: &mut Seat, is_lent: bool, k: usize)
+    requires place { k < length (lent_of seat.old.me.0) }
+    requires flag { is_lent ≡ is_some (lent_at (lent_of seat.old.me.0) k) }
+    requires slots { seat.old.me.1 ≡ spare_from k (lent_of seat.old.me.0) }
+    ensures bench { seat.new.table_id ≡ seat.old.table_id }
+    ensures slots { seat.new.me ≡ (seat.old.me.0, spare_from (k + 1) (lent_of seat.old.me.0)) }
+{
+    if is_lent {
+        return;
+    }
+    seat.turn();
+}

@@ -1,0 +1,154 @@
+//! The eight kinds of atomic step on the table, each one try. Nothing else changes a word.
+ghost use Rattle.std.specs.Prelude.{◌≡◌, ℕ, ◌+◌, ◌<◌, ◌≤◌, List, [], ◌∷◌, replicate, slice_set, Option, None, Some, IsTrue, IsFalse};
+ghost use Rattle.atomic_table.specs.Table.{rest};
+ghost use Rattle.parcel.specs.Run.{Asked, IsRun};
+ghost use Rattle.parcel.specs.declared.job.Done.{Done as TheDone};
+ghost use Rattle.workers.specs.Rule.{Row, Kept, lent_at};
+ghost use Rattle.workers.specs.Desk.{IsBench, lent_of, idle};
+ghost use Rattle.workers.specs.Steps.{job_on, Readies, Offers, Claims, Delivers, Collects, OfPlace};
+ghost use Rattle.workers.specs.declared.words.Load.TheVariants.{Offered, Answered};
+ghost use Rattle.workers.specs.declared.seats.View.TheVariants.{Dispatcher, Idle, Claimed};
+
+use crate::seats::{Seat, View};
+use crate::words::{ANSWERED, CLAIMED, EMPTY, FIRST_PLACE, Load, OFFERED, STOP};
+use atomic_table::{Play, Shared, Split, TableRule};
+
+/// The shared part of the table.
+pub type Words = Shared<Option<Load>, View, usize, Handoff>;
+
+/// The rule of the table. It is told the number of places when it is made.
+pub struct Handoff;
+
+impl TableRule<Option<Load>, View, usize> for Handoff {
+    ghost holds = { λ _. Kept };
+
+    ghost first = { λ places. Dispatcher places (replicate places None) };
+}
+
+// What each kind of step tells its seat, and how a worker's view comes out of the dispatcher's.
+struct Joining;
+
+struct Readying;
+
+struct Offering;
+
+struct Claiming;
+
+struct Delivering;
+
+struct Collecting;
+
+struct Aside;
+
+impl Split<View> for Joining {
+    ghost left = { λ v. v };
+
+    ghost right = { λ _. Idle };
+}
+
+impl Play<Option<Load>, View> for Readying {
+    ghost then = { OfPlace (λ k m _. Readies k m) };
+}
+
+impl Play<Option<Load>, View> for Offering {
+    ghost then = { OfPlace (λ k m _. Offers k m) };
+}
+
+impl Play<Option<Load>, View> for Claiming {
+    ghost then = { OfPlace Claims };
+}
+
+impl Play<Option<Load>, View> for Delivering {
+    ghost then = { OfPlace (λ _ m _. Delivers m) };
+}
+
+impl Play<Option<Load>, View> for Collecting {
+    ghost then = { OfPlace Collects };
+}
+
+impl Play<Option<Load>, View> for Aside {
+    ghost then = { λ _ m _ w. w ≡ m };
+}
+
+/// Splits a worker's seat off the dispatcher's.
+pub fn split(words: &Words, seat: &mut Seat) -> Seat
+    requires { (seat.old.table_id ≡ words.now.table_id) × IsBench words.now.table_id }
+    ensures dispatcher { (seat.new.table_id ≡ seat.old.table_id) × (seat.new.me ≡ seat.old.me) }
+    ensures worker { (result.table_id ≡ seat.old.table_id) × (result.me ≡ idle) }
+{
+    words.split_seat::<Joining>(seat)
+}
+
+/// Takes the slot of a place that was yet to be readied: the last of these.
+pub fn ready(words: &Words, seat: &mut Seat, k: usize)
+    requires bench { (seat.old.table_id ≡ words.now.table_id) × IsBench words.now.table_id }
+    requires place { k < words.now.table_id.slots }
+    requires resting { (lent : Row) × (held : _) × (seat.old.me ≡ (Dispatcher (k + 1) lent, held)) × (lent_at lent k ≡ None) }
+    ensures bench { seat.new.table_id ≡ seat.old.table_id }
+    ensures ready { Readies k seat.old.me seat.new.me }
+{
+    words.store::<Readying>(seat, k + FIRST_PLACE, EMPTY);
+}
+
+/// Offers the job in the slot that the dispatcher's seat took last, which goes home.
+pub fn offer(words: &Words, seat: &mut Seat, k: usize)
+    requires bench { (seat.old.table_id ≡ words.now.table_id) × IsBench words.now.table_id }
+    requires place { k < words.now.table_id.slots }
+    requires job { (lent : Row) × (job : Asked) × (held : _) × (seat.old.me ≡ (Dispatcher 0 lent, (k, Some (Offered job)) ∷ held)) × (lent_at lent k ≡ None) }
+    ensures bench { seat.new.table_id ≡ seat.old.table_id }
+    ensures lent { Offers k seat.old.me seat.new.me }
+{
+    words.store::<Offering>(seat, k + FIRST_PLACE, OFFERED);
+}
+
+/// Takes the job of a place if it still has one that nobody claimed. One try.
+pub fn claim(words: &Words, seat: &mut Seat, k: usize) -> bool
+    requires bench { (seat.old.table_id ≡ words.now.table_id) × IsBench words.now.table_id }
+    requires place { k < words.now.table_id.slots }
+    requires idle { seat.old.me ≡ idle }
+    ensures bench { seat.new.table_id ≡ seat.old.table_id }
+    ensures won { IsTrue result → (job : Asked) × (seat.new.me ≡ (Claimed k job, (k, Some (Offered job)) ∷ [])) }
+    ensures lost { IsFalse result → seat.new.me ≡ seat.old.me }
+{
+    words.compare_exchange::<Claiming>(seat, k + FIRST_PLACE, OFFERED, CLAIMED) == OFFERED
+}
+
+/// Delivers the result in the slot of the place that the seat has claimed.
+pub fn deliver(words: &Words, seat: &mut Seat, k: usize)
+    requires bench { (seat.old.table_id ≡ words.now.table_id) × IsBench words.now.table_id }
+    requires place { k < words.now.table_id.slots }
+    requires result { (job : Asked) × (done : TheDone) × (seat.old.me ≡ (Claimed k job, (k, Some (Answered done)) ∷ [])) × IsRun job done }
+    ensures bench { seat.new.table_id ≡ seat.old.table_id }
+    ensures idle { seat.new.me ≡ idle }
+{
+    words.store::<Delivering>(seat, k + FIRST_PLACE, ANSWERED);
+}
+
+/// Takes the result of a place if it was delivered. One try.
+pub fn collect(words: &Words, seat: &mut Seat, k: usize) -> bool
+    requires bench { (seat.old.table_id ≡ words.now.table_id) × IsBench words.now.table_id }
+    requires place { k < words.now.table_id.slots }
+    requires desk { (lent : Row) × (held : _) × (seat.old.me ≡ (Dispatcher 0 lent, held)) }
+    ensures bench { seat.new.table_id ≡ seat.old.table_id }
+    ensures won { IsTrue result → (job : Asked) × (done : TheDone) × (lent_at (lent_of seat.old.me.0) k ≡ Some job) × IsRun job done × (seat.new.me ≡ (Dispatcher 0 (slice_set (lent_of seat.old.me.0) k None), (k, Some (Answered done)) ∷ seat.old.me.1)) }
+    ensures lost { IsFalse result → seat.new.me ≡ seat.old.me }
+{
+    words.compare_exchange::<Collecting>(seat, k + FIRST_PLACE, ANSWERED, EMPTY) == ANSWERED
+}
+
+/// Rings a bell, one more.
+pub fn ring(words: &Words, seat: &mut Seat, bell: usize)
+    requires bench { (seat.old.table_id ≡ words.now.table_id) × IsBench words.now.table_id }
+    requires bell { bell < 3 }
+    ensures { (seat.new.table_id ≡ seat.old.table_id) × (seat.new.me ≡ seat.old.me) }
+{
+    words.fetch_add::<Aside>(seat, bell, 1);
+}
+
+/// Says by the stop word that the bench is stopped.
+pub fn close(words: &Words, seat: &mut Seat)
+    requires bench { (seat.old.table_id ≡ words.now.table_id) × IsBench words.now.table_id }
+    ensures { (seat.new.table_id ≡ seat.old.table_id) × (seat.new.me ≡ seat.old.me) }
+{
+    words.store::<Aside>(seat, STOP, 1);
+}

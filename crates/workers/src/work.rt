@@ -1,0 +1,135 @@
+//! What a worker does, and how either side waits for the other.
+ghost use Rattle.std.specs.Prelude.{◌≡◌, ℕ, ◌<◌, [], ◌∷◌, Some, All};
+ghost use Rattle.parcel.specs.Run.{Asked};
+ghost use Rattle.workers.specs.Desk.{IsBench, idle};
+ghost use Rattle.workers.specs.declared.words.Load.TheVariants.{Offered};
+ghost use Rattle.workers.specs.declared.seats.View.TheVariants.{Claimed};
+
+use crate::bench::Bench;
+use crate::pace::Gate;
+use crate::seats::{DispatchSeat, Seat, WorkSeat};
+use crate::steps::{self, Words};
+use crate::words::{DELIVERIES, FIRST_PLACE, Load, OFFERED, OFFERS, STOP, low};
+use parcel::run;
+use std::sync::Wait;
+use std::thread::{Scope, Threads};
+
+impl Bench {
+    /// Claims jobs, runs them and delivers their results until it sees that the bench is stopped.
+    pub fn work<G: Gate, R: Wait>(&self, rt: &R, seat: WorkSeat, gate: &G) -> WorkSeat
+        requires { seat ≡ self.now }
+        ensures { result ≡ seat }
+    {
+        let words = &self.table.shared;
+        let places = self.table.slot_count();
+        let WorkSeat { seat: mut pass } = seat;
+        for _ in rt.forever() {
+            let bell = words.peek(OFFERS);
+            if words.peek(STOP) != 0 {
+                break;
+            }
+            if !serve_round(words, &mut pass, places, gate) {
+                words.park(rt, OFFERS, low(bell));
+            }
+        }
+        WorkSeat { seat: pass }
+    }
+
+    /// Starts a thread of the scope for each seat, which works until the bench is stopped. False where
+    /// one could not be started: stop the bench then, and those that were started end.
+    pub fn start<'s, E, R: Threads + Wait + Sync, G: Gate + Sync>(
+        &'s self,
+        rt: &'s R,
+        scope: &Scope<'s, E>,
+        mut seats: Vec<WorkSeat>,
+        gate: &'s G,
+    ) -> bool
+        requires { All (λ w. w ≡ self.now) seats.items }
+    {
+        while let Some(seat) = seats.pop() {
+            let started = scope.spawn(
+                move || -> WorkSeat
+                    requires { seat ≡ self.now }
+                { self.work(rt, seat, gate) },
+            );
+            if started.is_err() {
+                return false;
+            }
+        }
+        true
+    }
+
+    /// Sleeps until something was delivered since the last wait returned, or since the start.
+    pub fn wait<R: Wait>(&self, rt: &R, seat: &mut DispatchSeat)
+        requires { seat.old.bench ≡ self.now }
+        ensures { seat.new ≡ seat.old }
+    {
+        seat.heard = hear(&self.table.shared, rt, seat.heard);
+    }
+}
+
+// Sleeps while the delivery bell has this number, and gives the number that it has then.
+fn hear<R: Wait>(words: &Words, rt: &R, heard: u32) -> u32
+    requires { IsBench words.now.table_id }
+{
+    let mut bell = low(words.peek(DELIVERIES));
+    for _ in rt.forever() {
+        if bell != heard {
+            break;
+        }
+        words.park(rt, DELIVERIES, heard);
+        bell = low(words.peek(DELIVERIES));
+    }
+    bell
+}
+
+// Tries each place once, and does the jobs that it could claim. Says whether there was one.
+fn serve_round<G: Gate>(words: &Words, seat: &mut Seat, places: usize, gate: &G) -> bool
+    requires bench { (seat.old.table_id ≡ words.now.table_id) × IsBench words.now.table_id }
+    requires places { places ≡ words.now.table_id.slots }
+    requires idle { seat.old.me ≡ idle }
+    ensures { (seat.new.table_id ≡ seat.old.table_id) × (seat.new.me ≡ idle) }
+{
+    let mut served = false;
+    for k in 0..places {
+        if serve_place(words, seat, k, gate) {
+            served = true;
+        }
+    }
+    served
+}
+
+// Does the job of a place if it can be claimed. Says whether it was.
+fn serve_place<G: Gate>(words: &Words, seat: &mut Seat, k: usize, gate: &G) -> bool
+    requires bench { (seat.old.table_id ≡ words.now.table_id) × IsBench words.now.table_id }
+    requires place { k < words.now.table_id.slots }
+    requires idle { seat.old.me ≡ idle }
+    ensures { (seat.new.table_id ≡ seat.old.table_id) × (seat.new.me ≡ idle) }
+{
+    if words.peek(k + FIRST_PLACE) != OFFERED {
+        return false;
+    }
+    if !steps::claim(words, seat, k) {
+        return false;
+    }
+    answer(words, seat, k, gate);
+    true
+}
+
+// Runs the job of the place that the seat has claimed, and delivers its result.
+fn answer<G: Gate>(words: &Words, seat: &mut Seat, k: usize, gate: &G)
+    requires bench { (seat.old.table_id ≡ words.now.table_id) × IsBench words.now.table_id }
+    requires place { k < words.now.table_id.slots }
+    requires claimed { (job : Asked) × (seat.old.me ≡ (Claimed k job, (k, Some (Offered job)) ∷ [])) }
+    ensures { (seat.new.table_id ≡ seat.old.table_id) × (seat.new.me ≡ idle) }
+{
+    let Some(Load::Offered(job)) = words.exchange(seat, k, None) else {
+        unreachable!()
+    };
+    gate.before(job.ticket());
+    let done = run(job);
+    drop(words.exchange(seat, k, Some(Load::Answered(done))));
+    steps::deliver(words, seat, k);
+    steps::ring(words, seat, DELIVERIES);
+    words.wake_one(DELIVERIES);
+}
