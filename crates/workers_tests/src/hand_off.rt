@@ -1,0 +1,398 @@
+//! Jobs handed to real threads, and their results.
+ghost use Rattle.std.specs.Prelude.{◌≡◌, ◌<◌, ◌≤◌, All};
+
+use affinity::{Geometry, place_of};
+use message::{Block, Msg, Reply};
+use parcel::{Job, Tree, run};
+use std::alloc::Global;
+use std::process::Abort;
+use std::sync::Wait;
+use std::sync::atomic::{AtomicBool, Ordering};
+use std::test::Fail;
+use std::thread;
+use std::thread::Threads;
+use workers::{Bench, DispatchSeat, Gate, OpenGate};
+
+/// One volume of two files of four blocks, in two stripes that hold two blocks each.
+const SMALL: [u16; 8] = [1, 1, 2, 1, 2, 4, 2, 4];
+
+/// How often a test tries before it gives up.
+const MOST_TRIES: u32 = 1_000_000;
+
+/// How many kinds of message there are.
+const KINDS: u64 = 14;
+
+/// How far apart the tickets of one place are: more than there are places, and prime to the kinds.
+const STRIDE: u64 = 65;
+
+fn expect(rt: &impl Abort, fine: bool) {
+    assert!(rt; fine);
+}
+
+// A message of each kind.
+fn message(kind: u64) -> Msg {
+    match kind {
+        0 => Msg::MakeVol(0, 0),
+        1 => Msg::DropVol(0, 0),
+        2 => Msg::Create(0, 0, 0),
+        3 => Msg::Delete(0, 0, 0),
+        4 => Msg::Seal(0, 0),
+        5 => Msg::Unseal(0, 0),
+        6 => Msg::Write(0, 0, 0, 0, Block([7; 512])),
+        7 => Msg::Punch(0, 0, 0, 0),
+        8 => Msg::Read(0, 0, 0, 0),
+        9 => Msg::List(0, 0),
+        10 => Msg::Usage(0, 0),
+        11 => Msg::Summary,
+        12 => Msg::SetLabel(0, 0, [7; 32]),
+        _ => Msg::Label(0, 0),
+    }
+}
+
+// The job of a ticket, on a new tree.
+fn job(alloc: Global, ticket: u64) -> Result<Option<Job>, Fail> {
+    let mut tree = Tree::new(alloc, Geometry::new(SMALL)?)?;
+    let g = tree.geometry();
+    let message = message(ticket % KINDS);
+    let Some(a) = place_of(&g, message.kind(), message.numbers()) else {
+        return Ok(None);
+    };
+    let Some((standing, parcels)) = tree.lend(a) else {
+        return Ok(None);
+    };
+    Ok(Some(Job::new(g, ticket, message, standing, parcels)))
+}
+
+// The reply to the message of a ticket where it runs alone.
+fn reply_alone(alloc: Global, ticket: u64) -> Result<Option<Reply>, Fail> {
+    let Some(job) = job(alloc, ticket)? else {
+        return Ok(None);
+    };
+    Ok(Some(*run(job).reply()))
+}
+
+// Offers the job of a ticket; says whether the place took it.
+fn offer(
+    bench: &Bench,
+    desk: &mut DispatchSeat,
+    alloc: Global,
+    k: usize,
+    ticket: u64,
+) -> Result<bool, Fail>
+    requires { (desk.old.bench ≡ bench.now) × (k < bench.now.slots) }
+    ensures { desk.new.bench ≡ desk.old.bench }
+{
+    let Some(job) = job(alloc, ticket)? else {
+        return Ok(false);
+    };
+    Ok(bench.offer(desk, k, job).is_ok())
+}
+
+// The ticket and the reply of the result at a place, once it is there.
+fn collect(bench: &Bench, desk: &mut DispatchSeat, k: usize) -> Option<(u64, Reply)>
+    requires { (desk.old.bench ≡ bench.now) × (k < bench.now.slots) }
+    ensures { desk.new.bench ≡ desk.old.bench }
+{
+    for _ in 0..MOST_TRIES {
+        if let Some(done) = bench.collect(desk, k) {
+            return Some((done.ticket(), *done.reply()));
+        }
+        thread::yield_now();
+    }
+    None
+}
+
+// One job at place 0 of two places.
+fn one_job(bench: &Bench, desk: &mut DispatchSeat, alloc: Global) -> Result<bool, Fail>
+    requires { (desk.old.bench ≡ bench.now) × (1 < bench.now.slots) }
+    ensures { desk.new.bench ≡ desk.old.bench }
+{
+    let first = offer(bench, desk, alloc, 0, 11)?;
+    let second = offer(bench, desk, alloc, 0, 12)?;
+    let nothing = bench.collect(desk, 1).is_none();
+    let told = collect(bench, desk, 0);
+    let alone = reply_alone(alloc, 11)?;
+    let same = match (told, alone) {
+        (Some((ticket, reply)), Some(alone)) => ticket == 11 && reply == alone,
+        _ => false,
+    };
+    Ok(first && !second && nothing && same)
+}
+
+#[test]
+fn one_worker_answers_one_job(rt: HostRuntime) -> Result<(), Fail> {
+    let alloc = rt.alloc();
+    let (bench, desk, seats) = Bench::open(alloc, 2, 1)?;
+    let gate = OpenGate;
+    let (runtime, bench, gate) = (&rt, &bench, &gate);
+    let fine = thread::scope(
+        thread::scope_env(),
+        runtime,
+        move |scope| -> Result<bool, Fail>
+            requires desk { (desk.bench ≡ bench.now) × (bench.now.slots ≡ 2) }
+            requires seats { All (λ w. w ≡ bench.now) seats.items }
+        {
+            let mut desk = desk;
+            let started = bench.start(runtime, scope, seats, gate);
+            let fine = one_job(bench, &mut desk, alloc);
+            bench.stop(&mut desk);
+            Ok(fine? && started)
+        },
+    )?;
+    expect(&rt, fine);
+    Ok(())
+}
+
+// Each of many jobs at place 0 is there when the wait for it returns.
+fn jobs_waited_for<R: Wait>(
+    bench: &Bench,
+    desk: &mut DispatchSeat,
+    alloc: Global,
+    rt: &R,
+) -> Result<bool, Fail>
+    requires { (desk.old.bench ≡ bench.now) × (0 < bench.now.slots) }
+    ensures { desk.new.bench ≡ desk.old.bench }
+{
+    let mut fine = true;
+    for ticket in 0..1_000 {
+        if !offer(bench, desk, alloc, 0, ticket)? {
+            return Ok(false);
+        }
+        bench.wait(rt, desk);
+        fine = fine
+            && bench
+                .collect(desk, 0)
+                .is_some_and(|done| done.ticket() == ticket);
+    }
+    Ok(fine)
+}
+
+#[test]
+fn a_wait_ends_with_the_delivery(rt: HostRuntime) -> Result<(), Fail> {
+    let alloc = rt.alloc();
+    let (bench, desk, seats) = Bench::open(alloc, 1, 1)?;
+    let gate = OpenGate;
+    let (runtime, bench, gate) = (&rt, &bench, &gate);
+    let fine = thread::scope(
+        thread::scope_env(),
+        runtime,
+        move |scope| -> Result<bool, Fail>
+            requires desk { (desk.bench ≡ bench.now) × (bench.now.slots ≡ 1) }
+            requires seats { All (λ w. w ≡ bench.now) seats.items }
+        {
+            let mut desk = desk;
+            let started = bench.start(runtime, scope, seats, gate);
+            let fine = if started {
+                jobs_waited_for(bench, &mut desk, alloc, runtime)
+            } else {
+                Ok(false)
+            };
+            bench.stop(&mut desk);
+            fine
+        },
+    )?;
+    expect(&rt, fine);
+    Ok(())
+}
+
+// Holds the job of ticket 0 until ticket 1 was answered.
+#[derive(Drop)]
+struct Holding {
+    answered: AtomicBool,
+    gave_up: AtomicBool,
+}
+
+impl Gate for Holding {
+    fn before(&self, ticket: u64) {
+        if ticket != 0 {
+            return;
+        }
+        for _ in 0..MOST_TRIES {
+            if self.answered.load(Ordering::SeqCst) {
+                return;
+            }
+            thread::yield_now();
+        }
+        self.gave_up.store(true, Ordering::SeqCst);
+    }
+
+    fn answered(&self, ticket: u64) {
+        if ticket == 1 {
+            self.answered.store(true, Ordering::SeqCst);
+        }
+    }
+}
+
+// The job of ticket 1 is answered while that of ticket 0 is held.
+fn two_jobs(
+    bench: &Bench,
+    desk: &mut DispatchSeat,
+    alloc: Global,
+    gate: &Holding,
+) -> Result<bool, Fail>
+    requires { (desk.old.bench ≡ bench.now) × (1 < bench.now.slots) }
+    ensures { desk.new.bench ≡ desk.old.bench }
+{
+    let offered = offer(bench, desk, alloc, 0, 0)? && offer(bench, desk, alloc, 1, 1)?;
+    let second = collect(bench, desk, 1).is_some();
+    gate.answered(1);
+    let first = collect(bench, desk, 0).is_some();
+    Ok(offered && second && first && !gate.gave_up.load(Ordering::SeqCst))
+}
+
+#[test]
+fn two_jobs_run_at_once(rt: HostRuntime) -> Result<(), Fail> {
+    let alloc = rt.alloc();
+    let (bench, desk, seats) = Bench::open(alloc, 2, 2)?;
+    let gate = Holding {
+        answered: AtomicBool::new(false),
+        gave_up: AtomicBool::new(false),
+    };
+    let (runtime, bench, gate) = (&rt, &bench, &gate);
+    let fine = thread::scope(
+        thread::scope_env(),
+        runtime,
+        move |scope| -> Result<bool, Fail>
+            requires desk { (desk.bench ≡ bench.now) × (bench.now.slots ≡ 2) }
+            requires seats { All (λ w. w ≡ bench.now) seats.items }
+        {
+            let mut desk = desk;
+            let started = bench.start(runtime, scope, seats, gate);
+            let fine = two_jobs(bench, &mut desk, alloc, gate);
+            bench.stop(&mut desk);
+            Ok(fine? && started)
+        },
+    )?;
+    expect(&rt, fine);
+    Ok(())
+}
+
+// The reply to each kind of message where it runs alone.
+fn replies_alone(alloc: Global) -> Result<Vec<Option<Reply>>, Fail> {
+    let mut replies = Vec::new(alloc);
+    for kind in 0..KINDS {
+        replies.push(reply_alone(alloc, kind)?)?;
+    }
+    Ok(replies)
+}
+
+// Whether the result at a place is that of this ticket, with the reply that its message gets alone.
+fn tells(
+    bench: &Bench,
+    desk: &mut DispatchSeat,
+    k: usize,
+    ticket: u64,
+    alone: &[Option<Reply>],
+) -> bool
+    requires { (desk.old.bench ≡ bench.now) × (k < bench.now.slots) }
+    ensures { desk.new.bench ≡ desk.old.bench }
+{
+    match collect(bench, desk, k) {
+        Some((back, reply)) => {
+            back == ticket && alone.get((ticket % KINDS) as usize) == Some(&Some(reply))
+        }
+        None => false,
+    }
+}
+
+// Offers a job at each place, where the one before has to be answered first. Says whether all was so.
+fn offer_round(
+    bench: &Bench,
+    desk: &mut DispatchSeat,
+    alloc: Global,
+    places: usize,
+    round: u64,
+    alone: &[Option<Reply>],
+) -> Result<bool, Fail>
+    requires { (desk.old.bench ≡ bench.now) × (places ≡ bench.now.slots) }
+    ensures { desk.new.bench ≡ desk.old.bench }
+{
+    for k in 0..places {
+        let before = round.wrapping_mul(STRIDE).wrapping_add(k as u64);
+        if round > 0 && !tells(bench, desk, k, before, alone) {
+            return Ok(false);
+        }
+        if !offer(bench, desk, alloc, k, before.wrapping_add(STRIDE))? {
+            return Ok(false);
+        }
+    }
+    Ok(true)
+}
+
+// Collects the last job of each place, behind which nothing is left. Says whether all was so.
+fn collect_round(
+    bench: &Bench,
+    desk: &mut DispatchSeat,
+    places: usize,
+    round: u64,
+    alone: &[Option<Reply>],
+) -> bool
+    requires { (desk.old.bench ≡ bench.now) × (places ≡ bench.now.slots) }
+    ensures { desk.new.bench ≡ desk.old.bench }
+{
+    for k in 0..places {
+        let last = round.wrapping_mul(STRIDE).wrapping_add(k as u64);
+        if !tells(bench, desk, k, last, alone) || bench.collect(desk, k).is_some() {
+            return false;
+        }
+    }
+    true
+}
+
+// Hands so many jobs over at each place, with a ticket of its own each. Says whether each came back
+// once, with the reply that its message gets alone.
+fn all_jobs(
+    bench: &Bench,
+    desk: &mut DispatchSeat,
+    alloc: Global,
+    places: usize,
+    rounds: u64,
+) -> Result<bool, Fail>
+    requires { (desk.old.bench ≡ bench.now) × (places ≡ bench.now.slots) }
+    ensures { desk.new.bench ≡ desk.old.bench }
+{
+    let alone = replies_alone(alloc)?;
+    for round in 0..rounds {
+        if !offer_round(bench, desk, alloc, places, round, &alone)? {
+            return Ok(false);
+        }
+    }
+    Ok(collect_round(bench, desk, places, rounds, &alone))
+}
+
+// Whether all jobs come back at a bench with so many places and as many workers.
+fn hands_off_all<R: Threads + Wait + Sync>(
+    rt: &R,
+    alloc: Global,
+    places: usize,
+    rounds: u64,
+) -> Result<bool, Fail>
+    requires { places ≤ 64 }
+{
+    let (bench, desk, seats) = Bench::open(alloc, places, places)?;
+    let gate = OpenGate;
+    let (bench, gate) = (&bench, &gate);
+    thread::scope(
+        thread::scope_env(),
+        rt,
+        move |scope| -> Result<bool, Fail>
+            requires desk { (desk.bench ≡ bench.now) × (bench.now.slots ≡ places) }
+            requires seats { All (λ w. w ≡ bench.now) seats.items }
+        {
+            let mut desk = desk;
+            let started = bench.start(rt, scope, seats, gate);
+            let fine = all_jobs(bench, &mut desk, alloc, places, rounds);
+            bench.stop(&mut desk);
+            Ok(fine? && started)
+        },
+    )
+}
+
+#[test]
+fn each_of_100000_jobs_comes_back_once(rt: HostRuntime) -> Result<(), Fail> {
+    for (places, rounds) in [(1, 25_000), (2, 12_500), (8, 3_125), (64, 391)] {
+        let fine = hands_off_all(&rt, rt.alloc(), places, rounds)?;
+        expect(&rt, fine);
+    }
+    Ok(())
+}
