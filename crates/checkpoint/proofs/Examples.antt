@@ -10,7 +10,7 @@ use Rattle.checkpoint.specs.Refusals.{refused}
 use Rattle.message.specs.declared.Reply.{Reply}
 use Rattle.message.specs.declared.Reply.TheVariants.{Summary}
 use Rattle.message.specs.declared.Msg.TheVariants.{Summary as AskSummary}
-use Rattle.message.specs.Records.{data_of, fields_say, kind_numbered}
+use Rattle.message.specs.Records.{data_of, message_in_fields, kind_numbered}
 use Rattle.oplog.specs.Layout.{layout_of, device_size, image_size}
 use Rattle.plain.specs.Serial.{reply_to}
 use Rattle.plain.specs.State.{State}
@@ -39,19 +39,19 @@ abbrev summary_with : List ℕ → Option Reply
 summary_with bytes = summary_of (holds small bytes)
 
 stands_for_nothing : summary_with formatted ≡ Some (Summary 0 0 0)
-unfolding image_size fields_say kind_numbered data_of
+unfolding image_size message_in_fields kind_numbered data_of
 stands_for_nothing = refl
 
 other_root_bytes_name_area_0 : summary_with (changed 64 7 formatted) ≡ Some (Summary 0 0 0)
-unfolding image_size fields_say kind_numbered data_of
+unfolding image_size message_in_fields kind_numbered data_of
 other_root_bytes_name_area_0 = refl
 
 a_record_is_run : summary_with (changed 192 1 (changed 196 1 formatted)) ≡ Some (Summary 1 0 0)
-unfolding image_size fields_say kind_numbered data_of
+unfolding image_size message_in_fields kind_numbered data_of
 a_record_is_run = refl
 
 version_1 : summary_with (changed 4424 1 (changed 4488 1 formatted)) ≡ Some (Summary 1 0 0)
-unfolding image_size fields_say kind_numbered data_of
+unfolding image_size message_in_fields kind_numbered data_of
 version_1 = refl
 
 -- ---- damage
@@ -60,65 +60,65 @@ abbrev fault_with : List ℕ → Option OpenFault
 fault_with bytes = refused small bytes
 
 sound : fault_with formatted ≡ None
-unfolding image_size fields_say kind_numbered data_of
+unfolding image_size message_in_fields kind_numbered data_of
 sound = refl
 
 shorter : fault_with (take 8839 formatted) ≡ Some TooShort
-unfolding image_size fields_say kind_numbered data_of
+unfolding image_size message_in_fields kind_numbered data_of
 shorter = refl
 
 version_unknown : fault_with (changed 4424 9 formatted) ≡ Some BadVersion
-unfolding image_size fields_say kind_numbered data_of
+unfolding image_size message_in_fields kind_numbered data_of
 version_unknown = refl
 
 head_not_zeros : fault_with (changed 4425 1 formatted) ≡ Some BadVersion
-unfolding image_size fields_say kind_numbered data_of
+unfolding image_size message_in_fields kind_numbered data_of
 head_not_zeros = refl
 
 other_image_named : fault_with (changed 64 1 formatted) ≡ Some BadVersion
-unfolding image_size fields_say kind_numbered data_of
+unfolding image_size message_in_fields kind_numbered data_of
 other_image_named = refl
 
 volume_of_mark_2 : fault_with (changed 4488 2 formatted) ≡ Some (BadPiece 0)
-unfolding image_size fields_say kind_numbered data_of
+unfolding image_size message_in_fields kind_numbered data_of
 volume_of_mark_2 = refl
 
 entry_of_no_volume : fault_with (changed 4552 1 formatted) ≡ Some (BadPiece 1)
-unfolding image_size fields_say kind_numbered data_of
+unfolding image_size message_in_fields kind_numbered data_of
 entry_of_no_volume = refl
 
 entry_of_mark_2 : fault_with (changed 5592 2 formatted) ≡ Some (BadPiece 2)
-unfolding image_size fields_say kind_numbered data_of
+unfolding image_size message_in_fields kind_numbered data_of
 entry_of_mark_2 = refl
 
 label_in_version_1 : fault_with (changed 4424 1 (changed 4488 1 (changed 4504 1 formatted))) ≡ Some (BadPiece 0)
-unfolding image_size fields_say kind_numbered data_of
+unfolding image_size message_in_fields kind_numbered data_of
 label_in_version_1 = refl
 
 label_in_version_2 : fault_with (changed 4488 1 (changed 4504 1 formatted)) ≡ None
-unfolding image_size fields_say kind_numbered data_of
+unfolding image_size message_in_fields kind_numbered data_of
 label_in_version_2 = refl
 
 both_chained : fault_with (changed 128 1 (changed 2276 1 formatted)) ≡ Some BadChain
-unfolding image_size fields_say kind_numbered data_of
+unfolding image_size message_in_fields kind_numbered data_of
 both_chained = refl
 
 record_of_zeros : fault_with (changed 192 1 formatted) ≡ Some (BadRecord 0 0)
-unfolding image_size fields_say kind_numbered data_of
+unfolding image_size message_in_fields kind_numbered data_of
 record_of_zeros = refl
 
 record_of_a_reader : fault_with (changed 192 1 (changed 196 9 formatted)) ≡ Some (BadRecord 0 0)
-unfolding image_size fields_say kind_numbered data_of
+unfolding image_size message_in_fields kind_numbered data_of
 record_of_a_reader = refl
 
 record_that_is_refused : fault_with (changed 192 1 (changed 196 2 formatted)) ≡ Some (BadRecord 0 0)
-unfolding image_size fields_say kind_numbered data_of
+unfolding image_size message_in_fields kind_numbered data_of
 record_that_is_refused = refl
 
 second_record_is_refused : fault_with (changed 192 1 (changed 193 1 (changed 196 1 (changed 716 1 formatted)))) ≡ Some (BadRecord 0 1)
-unfolding image_size fields_say kind_numbered data_of
+unfolding image_size message_in_fields kind_numbered data_of
 second_record_is_refused = refl
 
 record_of_the_chained_half : fault_with (changed 128 1 (changed 2340 1 formatted)) ≡ Some (BadRecord 1 0)
-unfolding image_size fields_say kind_numbered data_of
+unfolding image_size message_in_fields kind_numbered data_of
 record_of_the_chained_half = refl

@@ -6,7 +6,7 @@ use Rattle.checkpoint.specs.Header.{is_header}
 use Rattle.image.specs.Image.{read}
 use Rattle.message.specs.declared.Msg.{Msg}
 use Rattle.message.specs.Messages.{is_in_range}
-use Rattle.message.specs.Records.{fields_say, record_of}
+use Rattle.message.specs.Records.{message_in_fields, record_of}
 use Rattle.oplog.specs.Layout.{layout_of}
 use Rattle.oplog.specs.Stands.{Meaning, stands}
 use Rattle.plain.specs.Serial.{is_loggable, next_state, reply_to}
@@ -22,7 +22,7 @@ apply_said g x bytes (Some m) = if is_record_there g x bytes m then Some (next_s
 
 -- what becomes of a state by the record with these bytes; none where they are no record that can stand there
 abbrev pub apply : Geometry → State → List ℕ → Option State
-apply g x bytes = apply_said g x bytes (fields_say bytes)
+apply g x bytes = apply_said g x bytes (message_in_fields bytes)
 
 -- what images, records and headers mean
 abbrev pub means : Geometry → Meaning State
