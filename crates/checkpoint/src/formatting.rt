@@ -17,7 +17,10 @@ use crate::{FormatError, FormatFault};
 use affinity::Geometry;
 use byteorder::{ByteOrder, LittleEndian};
 use disk::{Disk, DiskFault};
-use oplog::layout::{CHAIN_AREA, HEADER_SIZE, ROOT_ZONE_AT, ROOT_ZONE_SIZE, device_len, half_at, image_at, image_size};
+use oplog::layout::{
+    CHAIN_AREA, HEADER_SIZE, ROOT_ZONE_AT, ROOT_ZONE_SIZE, device_len, half_at, image_at,
+    image_size,
+};
 use oplog::store::{store, write};
 use std::alloc::{AllocError, Global};
 
