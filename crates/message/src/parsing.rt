@@ -113,7 +113,13 @@ fn write_message(line: &[u8]) -> Option<Msg>
     let (volume, behind) = number_before_space(behind)?;
     let (file, behind) = number_before_space(behind)?;
     let (block, behind) = number_before_space(behind)?;
-    Some(Msg::Write(aggregate, volume, file, block, Block(bytes_in_word(behind)?)))
+    Some(Msg::Write(
+        aggregate,
+        volume,
+        file,
+        block,
+        Block(bytes_in_word(behind)?),
+    ))
 }
 
 /// The message of what stands behind `setlabel`.
