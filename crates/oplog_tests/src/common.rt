@@ -166,7 +166,9 @@ pub(crate) fn torn(alloc: Global, kind: usize) -> Result<Torn, AllocError>
     })
 }
 
-pub(crate) fn holds(rt: &impl Abort, fact: bool) {
+pub(crate) fn holds(rt: &impl Abort, fact: bool)
+    ensures { IsTrue fact }
+{
     assert!(rt; fact);
 }
 
