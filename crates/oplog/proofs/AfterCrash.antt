@@ -1,7 +1,7 @@
 -- What a device stands for after a crash, from the clauses of a log's calls.
 use Rattle.std.proofs.Common.{◌≡◌, ◌≢◌, ◌<◌, ℕ, Bool, true, false, cond, eqb, List, [], take, get_or, Option, refl, ◌∙◌, sym, ap, subst, arith}
 use Rattle.std.proofs.lemmas.Bool.{ne_eqb}
-use Rattle.disk.specs.Device.{Medium, Leaves, IsSynced}
+use Rattle.disk.specs.Device.{Medium, IsSynced}
 use Rattle.disk.proofs.Leaves.{calm_left}
 use Rattle.disk.proofs.Moments.{weaker}
 use Rattle.oplog.specs.Layout.{Layout, part, root, half, image, other}

@@ -1,11 +1,11 @@
 -- Which bytes are no record of the log.
-use Rattle.std.proofs.Common.{◌≡◌, ℕ, ◌+◌, ◌*◌, ◌<◌, ◌≤◌, List, length, take, drop, get_or, ⊎_elim, sym, ◌∙◌, ap, subst, arith}
+use Rattle.std.proofs.Common.{ℕ, ◌+◌, ◌*◌, ◌<◌, ◌≤◌, List, length, drop, get_or, ⊎_elim, sym, ◌∙◌, ap, subst, arith}
 use Rattle.std.proofs.lemmas.Bool.{cases_lt}
 use Rattle.std.proofs.lemmas.List.{length-take-le, length-drop, get_or_past}
 use Rattle.disk.specs.Device.{AreBytes}
 use Rattle.disk.proofs.Bytes.{bytes-range, byte-get_or}
 use Rattle.message.proofs.RecordLemmas.{said_whole}
-use Rattle.oplog.specs.Layout.{Layout, slice, part, part_at, part_size, half}
+use Rattle.oplog.specs.Layout.{part_at, part_size, half}
 use Rattle.oplog.specs.Logged.{RecordsAreBytes, NoRecordSaysNone}
 use Rattle.oplog.proofs.Slices.{slice_slice, half_sized, half_inside}
 

@@ -1,8 +1,8 @@
 -- What a write of a range leaves, done or failed.
-use Rattle.std.proofs.Common.{◌≡◌, ℕ, ◌+◌, ◌≤◌, List, length, Result, Ok, Err, refl, sym, subst}
+use Rattle.std.proofs.Common.{ℕ, ◌+◌, ◌≤◌, List, length, Result, Ok, Err, refl, sym, subst}
 use Rattle.disk.specs.declared.fault.DiskFault.{DiskFault}
 use Rattle.disk.specs.declared.fault.DiskFault.TheVariants.{OutOfRange, Device}
-use Rattle.disk.specs.Device.{AreBytes, Medium, SameOutside, Writes, marked}
+use Rattle.disk.specs.Device.{AreBytes, Medium, SameOutside, Writes}
 use Rattle.disk.specs.Moments.{LeavesOnly}
 use Rattle.disk.proofs.Calls.{after_write}
 use Rattle.disk.proofs.Moments.{started}

@@ -1,5 +1,5 @@
 -- What the calls of a log ask of its device and do to it, in the words of contracts.
-use Rattle.std.specs.Prelude.{◌≡◌, ◌≤◌, ℕ, ◌+◌, List, length, Result}
+use Rattle.std.specs.Prelude.{◌≡◌, ◌≤◌, ℕ, List, length, Result}
 use Rattle.disk.specs.Device.{Medium}
 use Rattle.disk.specs.Moments.{LeavesOnly}
 use Rattle.message.specs.declared.Msg.{Msg}

@@ -1,4 +1,4 @@
-use Rattle.std.proofs.Common.{◌*◌, ℕ, List, length, take, get_or, replicate, sym, ◌∙◌, ap, arith}
+use Rattle.std.proofs.Common.{◌*◌, ℕ, List, length, take, get_or, replicate, ◌∙◌, ap, arith}
 use Rattle.std.proofs.lemmas.List.{length-map, length-replicate}
 use Rattle.message.specs.Records.{record_of}
 use Rattle.message.proofs.RecordLemmas.{in_range_has_room}
