@@ -1,0 +1,169 @@
+//! Devices that are made: their bytes, and what a crash leaves.
+ghost use Rattle.std.specs.Prelude.{◌<◌, IfOk};
+ghost use Rattle.disk.specs.Torn.{HasBytes};
+
+use affinity::Geometry;
+use checkpoint::{FormatFault, format};
+use disk::{MemDisk, Torn};
+use std::alloc::{AllocError, Global};
+use std::process::Abort;
+use std::test::Fail;
+
+/// One volume of two files of four blocks, in two stripes that hold two blocks each, and four records in a half.
+const SMALL: [u16; 8] = [1, 1, 2, 1, 2, 4, 2, 4];
+
+/// The length of its device.
+const LEN: usize = 8840;
+
+/// The header of its device, but for the zeros behind.
+const HEADER: [u8; 24] = [
+    1, 0x57, 0x41, 0x46, 0x46, 0x53, 0x52, 0x56, 1, 0, 1, 0, 2, 0, 1, 0, 2, 0, 4, 0, 2, 0, 4, 0,
+];
+
+/// More calls of the device than the making of one takes.
+const CALLS: u64 = 15;
+
+fn holds(rt: &impl Abort, fact: bool) {
+    assert!(rt; fact);
+}
+
+fn torn(alloc: Global, kind: usize) -> Result<Torn, AllocError>
+    ensures { IfOk result HasBytes }
+{
+    Ok(match kind {
+        0 => Torn::Old,
+        1 => Torn::New,
+        2 => Torn::Fill(0),
+        3 => Torn::Fill(1),
+        4 => Torn::Fill(77),
+        5 => Torn::Mixed(vec![in alloc; 1, 77, 1]?),
+        _ => Torn::Mixed(vec![in alloc; 0, 1]?),
+    })
+}
+
+/// Sets a byte, if there is one.
+fn put(bytes: &mut [u8], at: usize, byte: u8) {
+    if let Some(there) = bytes.get_mut(at) {
+        *there = byte;
+    }
+}
+
+/// Sets the first bytes.
+fn begin(bytes: &mut [u8], row: &[u8]) {
+    for (at, byte) in row.iter().enumerate() {
+        put(bytes, at, *byte);
+    }
+}
+
+/// Sets the bytes from one offset up to another to zero.
+fn clear(bytes: &mut [u8], from: usize, to: usize) {
+    for at in from..to {
+        put(bytes, at, 0);
+    }
+}
+
+/// The bytes of the small device: zeros, one with a volume in its log, or that one with its gate shut.
+fn old_bytes(alloc: Global, len: usize, which: usize) -> Result<Vec<u8>, AllocError> {
+    let mut bytes = vec![in alloc; 0u8; len]?;
+    if which > 0 {
+        begin(&mut bytes, &HEADER);
+        put(&mut bytes, 192, 1);
+        put(&mut bytes, 196, 1);
+        put(&mut bytes, 4424, 2);
+        put(&mut bytes, 6632, 9);
+    }
+    if which > 1 {
+        put(&mut bytes, 0, 0);
+    }
+    Ok(bytes)
+}
+
+/// The same once an empty device is made of it: what lies in the records and in image 1 stays.
+fn new_bytes(alloc: Global, len: usize, which: usize) -> Result<Vec<u8>, AllocError> {
+    let mut bytes = old_bytes(alloc, len, which)?;
+    begin(&mut bytes, &HEADER);
+    clear(&mut bytes, 64, 196);
+    clear(&mut bytes, 2276, 2344);
+    clear(&mut bytes, 4424, 6632);
+    put(&mut bytes, 4424, 2);
+    Ok(bytes)
+}
+
+#[test]
+fn an_empty_device_is_made(rt: HostRuntime) -> Result<(), Fail> {
+    let g = Geometry::new(SMALL)?;
+    for which in 0..3 {
+        let disk = MemDisk::of_bytes(rt.alloc(), old_bytes(rt.alloc(), LEN, which)?)?;
+        let want = new_bytes(rt.alloc(), LEN, which)?;
+        match format(rt.alloc(), disk, g) {
+            Ok(disk) => holds(&rt, disk.bytes() == want.as_slice()),
+            Err(_) => holds(&rt, false),
+        }
+    }
+    Ok(())
+}
+
+#[test]
+fn a_short_device_stays(rt: HostRuntime) -> Result<(), Fail> {
+    let g = Geometry::new(SMALL)?;
+    let disk = MemDisk::new(rt.alloc(), 8839)?;
+    match format(rt.alloc(), disk, g) {
+        Ok(_) => holds(&rt, false),
+        Err(e) => {
+            holds(&rt, e.fault == FormatFault::TooShort);
+            holds(&rt, e.disk.calls() == 0);
+        }
+    }
+    Ok(())
+}
+
+/// What is left on the device where the n-th call fails, and all later ones too if it stops there, and behind a crash
+/// of this kind; and whether it was made.
+fn left(
+    alloc: Global,
+    which: usize,
+    stops: bool,
+    n: u64,
+    kind: usize,
+) -> Result<(MemDisk, bool), Fail>
+    requires { 0 < n }
+{
+    let g = Geometry::new(SMALL)?;
+    let mut disk = MemDisk::of_bytes(alloc, old_bytes(alloc, LEN, which)?)?;
+    if stops {
+        disk.stop_at(n);
+    } else {
+        disk.fail_at(n);
+    }
+    let torn = torn(alloc, kind)?;
+    Ok(match format(alloc, disk, g) {
+        Ok(disk) => (disk.crash(torn), true),
+        Err(e) => (e.disk.crash(torn), false),
+    })
+}
+
+/// The device is the old one, or isn't formatted, or is the new one; and the new one if it was made.
+fn is_one_of(rt: &impl Abort, bytes: &[u8], old: &[u8], new: &[u8], made: bool) {
+    let shut = match bytes.first() {
+        Some(gate) => *gate != 1,
+        None => false,
+    };
+    holds(rt, bytes == new || !made && (bytes == old || shut));
+}
+
+#[test]
+fn each_call_may_fail(rt: HostRuntime) -> Result<(), Fail> {
+    for which in 0..3 {
+        let old = old_bytes(rt.alloc(), LEN, which)?;
+        let new = new_bytes(rt.alloc(), LEN, which)?;
+        for n in 1..CALLS {
+            for kind in 0..7 {
+                let (disk, made) = left(rt.alloc(), which, true, n, kind)?;
+                is_one_of(&rt, disk.bytes(), &old, &new, made);
+                let (disk, made) = left(rt.alloc(), which, false, n, kind)?;
+                is_one_of(&rt, disk.bytes(), &old, &new, made);
+            }
+        }
+    }
+    Ok(())
+}

@@ -1,0 +1,5 @@
+//! Tests of checkpoint by its public surface.
+#![tactic(auto)]
+
+#[cfg(test)]
+mod formatting;
