@@ -1,5 +1,5 @@
 -- Each step of a session that began in any state keeps what it has answered, and what it has written when it ends.
-use Rattle.std.proofs.Common.{◌≡◌, ◌≢◌, ℕ, ◌⊎◌, Bool, true, false, List, [], ◌∷◌, ◌++◌, length, take, Option, Some, None, refl, sym, ap, ◌∙◌, subst, append_assoc, append-nil, ⊎_elim}
+use Rattle.std.proofs.Common.{◌≡◌, ◌≢◌, ℕ, Bool, false, List, [], ◌∷◌, ◌++◌, length, take, Option, Some, None, refl, sym, ap, ◌∙◌, subst, append_assoc, append-nil, ⊎_elim}
 use Rattle.std.specs.Prelude.{IfSome}
 use Rattle.std.specs.Io.KnownBytes.{Appends, append_known}
 use Rattle.std.proofs.KnownBytes.{Appends-nil, Appends-trans}
@@ -70,8 +70,7 @@ writes_beginning : (g : Geometry) (start : State) (input left : Option (List ℕ
     → Writes input old new (IsBeginning g start)
 writes_beginning g start None left ended x old new h = tt
 writes_beginning g start (Some input) left ended x old new h =
-    let t = h.taken.2 in
-    (
+    let t = h.taken.2 in (
       joined (output_lines g start h.answered),
       h.output,
       (length h.answered, sym (ap joined (ap (λ z. take (length h.answered) (output_lines g start z)) t.to_come ∙ take-output_lines g start h.answered (lines h.taken.0)))),

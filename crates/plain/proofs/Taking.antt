@@ -38,7 +38,7 @@ takes_line (Some input) (Some bs) now_left ended now_ended taken line t going fo
       behind_first_line t.0,
       found.left_is ∙ ap (λ z. Some (behind_first_line z)) same,
       subst (λ (l : List ℕ). AreTaken input (behind_first_line t.0) now_ended (taken ++ l ∷ [])) (sym (found.line_is ∙ ap first_line same))
-      (first_taken input t.0 ended now_ended taken t.2 going (λ e. found.more (same ∙ e)) (subst (λ (z : List ℕ). Contains z 10 ⊎ (now_ended ≡ true)) same closes)),
+          (first_taken input t.0 ended now_ended taken t.2 going (λ e. found.more (same ∙ e)) (subst (λ (z : List ℕ). Contains z 10 ⊎ (now_ended ≡ true)) same closes)),
     )
 
 -- what a line that is too long takes: a line that is no message
