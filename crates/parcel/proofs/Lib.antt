@@ -1,3 +1,8 @@
+-- ---- for the crates above: what was run fits where it was lent (Serving), and a tree beside the serial
+-- state while parcels are out (Holding)
+pub mod Serving
+pub mod Holding
+-- ---- this crate's own
 pub mod ChildRows
 pub mod Whole
 pub mod Levels
@@ -6,8 +11,6 @@ pub mod Lending
 pub mod Leaving
 pub mod SerialRuns
 pub mod Starting
-pub mod Serving
-pub mod Holding
 mod Examples
 pub mod OneVolume
 pub mod GroupCounts
