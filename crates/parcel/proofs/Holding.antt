@@ -1,6 +1,6 @@
 -- What was lent and run can be put back, and a tree keeps to the serial state while parcels are out at several places.
-use Rattle.std.proofs.Common.{◌≡◌, ℕ, zero, suc, Bool, true, false, [], ◌∷◌, ◌++◌, refl, sym, ap, subst, ◌∙◌, ⊎_elim}
-use Rattle.std.specs.Prelude.{◌&&◌, ◌||◌, ◌==◌, not, Option, None, Some, is_some}
+use Rattle.std.proofs.Common.{◌≡◌, ℕ, zero, suc, Bool, true, false, [], ◌∷◌, refl, sym, ap, subst, ◌∙◌, ⊎_elim}
+use Rattle.std.specs.Prelude.{◌||◌, ◌==◌, not, Option, None, Some, is_some}
 use Rattle.std.proofs.lemmas.Bool.{and_parts, and_from, cond-false, cond-true, eq-eqb, false_from_ne_true, not_from_false, not-true, or_cases, or_left, or_parts, or_right, true≢false}
 use Rattle.affinity.specs.declared.geometry.Geometry.{Geometry}
 use Rattle.affinity.specs.Interval.{IsPath}
@@ -16,12 +16,11 @@ use Rattle.plain.specs.Laws.{outside}
 use Rattle.plain.proofs.Agree.{agree-refl, agree-sym, agree-trans, agree_either, agree_everywhere, agree_within}
 use Rattle.plain.proofs.Frame.{changes_only}
 use Rattle.plain.proofs.Kept.{step_kept}
-use Rattle.parcel.specs.Fits.{Fits, IsKindOf}
+use Rattle.parcel.specs.Fits.{Fits}
 use Rattle.parcel.specs.Holding.{TreeHolds, IsApart, IsJobOut, nowhere, with_place}
-use Rattle.parcel.specs.Nodes.{Node, Nodes, in_parcels, tree_state, TakesOut}
+use Rattle.parcel.specs.Nodes.{Node, Nodes, in_parcels, tree_state}
 use Rattle.parcel.specs.Run.{Asked, IsRun, Shows}
 use Rattle.parcel.specs.RunLaws.{CanBePutBack, LendsJob, job_place}
-use Rattle.parcel.specs.Shown.{shown_state}
 use Rattle.parcel.specs.Tree.{IsIn, HasGap, IsOut, LendsAt, RestoresAt, path_above}
 use Rattle.parcel.specs.declared.job.Done.{Done}
 use Rattle.parcel.specs.declared.parts.Parcels.{Parcels}
