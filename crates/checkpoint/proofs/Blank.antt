@@ -1,10 +1,10 @@
 -- The image of the empty state is a version byte and zeros.
-use Rattle.std.proofs.Common.{◌≡◌, ℕ, zero, suc, ◌+◌, ◌-◌, ◌*◌, Bool, false, List, [], ◌∷◌, ◌++◌, length, replicate, refl, sym, ◌∙◌, ap, arith}
+use Rattle.std.proofs.Common.{◌≡◌, ℕ, zero, suc, ◌+◌, ◌-◌, ◌*◌, List, [], ◌∷◌, ◌++◌, length, replicate, refl, ◌∙◌, ap, arith}
 use Rattle.std.proofs.lemmas.List.{replicate-append-replicate}
 use Rattle.std.specs.List.{flat_map}
 use Rattle.affinity.specs.declared.geometry.Geometry.{Geometry}
 use Rattle.image.specs.Image.{image_of}
-use Rattle.image.specs.Pieces.{joined_below, part_of, part_piece, part_size, piece_at, piece_count, piece_of, piece_size, aggregate_of, volume_of, stripe_entries}
+use Rattle.image.specs.Pieces.{joined_below, part_of, part_piece, part_size, piece_count, piece_of, piece_size, aggregate_of, volume_of, stripe_entries}
 use Rattle.image.proofs.Joining.{length-pieces}
 use Rattle.oplog.specs.Layout.{image_size}
 use Rattle.plain.specs.State.{empty, sum_below}

@@ -1,11 +1,10 @@
 -- Stretches of calls that write ranges of a device.
-use Rattle.std.proofs.Common.{◌≡◌, ℕ, zero, suc, ◌+◌, ◌≤◌, List, [], ◌∷◌, ◌++◌, length, take, replicate, refl, sym, ◌∙◌, ap, arith}
+use Rattle.std.proofs.Common.{◌≡◌, ℕ, zero, suc, ◌+◌, ◌≤◌, List, [], ◌∷◌, ◌++◌, length, take, replicate, refl, ◌∙◌, ap, arith}
 use Rattle.std.proofs.lemmas.List.{length-replicate, replicate-append-replicate, take-replicate}
 use Rattle.disk.specs.Device.{Medium, SameOutside, overlaid}
-use Rattle.disk.specs.Moments.{LeavesOnly}
 use Rattle.disk.proofs.Moments.{leaves_now, started, then, weaker}
 use Rattle.disk.proofs.Outside.{same_all, same_both, wider}
-use Rattle.oplog.specs.Changes.{After, ChangesOnly}
+use Rattle.oplog.specs.Changes.{ChangesOnly}
 
 -- What changes in a range changes in a wider one.
 pub changed_within : (w0 w1 : Medium) (a k at n : ℕ) → a ≤ at → at + n ≤ a + k → ChangesOnly w0 w1 (SameOutside at n) → ChangesOnly w0 w1 (SameOutside a k)

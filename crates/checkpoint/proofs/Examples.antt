@@ -1,6 +1,6 @@
 -- Worked examples of the definitions, on a small server: one volume of two files of four blocks, in two stripes that
 -- hold two blocks each, and four records in a half. Its device has 8,840 bytes.
-use Rattle.std.proofs.Common.{◌≡◌, ℕ, ◌+◌, List, [], ◌∷◌, ◌++◌, length, take, drop, replicate, Option, Some, None, refl}
+use Rattle.std.proofs.Common.{◌≡◌, ℕ, ◌+◌, List, ◌∷◌, ◌++◌, take, drop, replicate, Option, Some, None, refl}
 use Rattle.affinity.specs.Geometry.{small, standard}
 use Rattle.checkpoint.specs.declared.fault.OpenFault.{OpenFault}
 use Rattle.checkpoint.specs.declared.fault.OpenFault.TheVariants.{TooShort, BadVersion, BadPiece, BadChain, BadRecord}

@@ -1,7 +1,6 @@
 -- What stands on a device that is laid out, and what it stands for once its gate is open.
-use Rattle.std.proofs.Common.{◌≡◌, ◌≢◌, ◌⊎◌, ℕ, zero, suc, ◌+◌, ◌-◌, ◌*◌, ◌<◌, ◌≤◌, Bool, true, false, ◌&&◌, not, cond, eqb, List, [], ◌∷◌, ◌++◌, length, take, drop, get_or, replicate, Option, Some, None, inl, inr, ⊎_elim, refl, sym, ◌∙◌, ap, subst, arith}
+use Rattle.std.proofs.Common.{◌≡◌, ◌≢◌, ◌⊎◌, ℕ, zero, suc, ◌+◌, ◌-◌, ◌<◌, ◌≤◌, Bool, true, ◌&&◌, not, cond, eqb, List, [], ◌∷◌, ◌++◌, length, take, drop, get_or, replicate, Option, Some, None, inl, inr, ⊎_elim, refl, sym, ◌∙◌, ap, subst, arith}
 use Rattle.std.specs.Prelude.{nat_le, if◌then◌else◌}
-use Rattle.std.specs.Str.{bytes_eq}
 use Rattle.std.proofs.lemmas.Slice.Eq.{bytes_eq-Decides}
 use Rattle.std.proofs.lemmas.Bool.{cases_eq, le-leb}
 use Rattle.std.proofs.lemmas.List.{length-replicate, get_or-take, get_or-drop, get_or-replicate, drop-replicate, take-replicate}
@@ -16,7 +15,7 @@ use Rattle.disk.proofs.Overlays.{overlaid_outside, length-overlaid, range-overla
 use Rattle.image.specs.Image.{image_of, read}
 use Rattle.image.proofs.Reading.{read_again}
 use Rattle.oplog.specs.Front.{chain, front, gates, open_gates, rows}
-use Rattle.oplog.specs.Layout.{Layout, slice, layout_of, part, part_at, part_size, device_size, half, half_size, header, image, image_size, root}
+use Rattle.oplog.specs.Layout.{Layout, slice, layout_of, part, part_at, device_size, half, half_size, header, image, image_size}
 use Rattle.oplog.specs.Stands.{named_area, in_force, is_laid_out, run, stands_as}
 use Rattle.oplog.proofs.Slices.{slice_slice}
 use Rattle.plain.specs.State.{State, empty}

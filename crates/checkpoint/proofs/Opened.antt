@@ -1,12 +1,12 @@
 -- The header of a device is written: its numbers, and then its gate.
-use Rattle.std.proofs.Common.{◌≡◌, ◌⊎◌, ℕ, ◌+◌, ◌≤◌, List, [], ◌∷◌, length, drop, get_or, Some, inl, inr, ⊎_elim, sym, ◌∙◌, ap, subst, arith}
+use Rattle.std.proofs.Common.{◌≡◌, ◌⊎◌, ℕ, ◌≤◌, List, [], ◌∷◌, length, drop, get_or, Some, inl, inr, ⊎_elim, sym, ◌∙◌, ap, subst, arith}
 use Rattle.affinity.specs.declared.geometry.Geometry.{Geometry}
 use Rattle.checkpoint.specs.Formatting.{FormatLeaves, IsHeaded, IsLaid, IsShut, IsShutNow}
 use Rattle.checkpoint.specs.Header.{header_of}
 use Rattle.checkpoint.specs.Recovery.{holds}
 use Rattle.checkpoint.proofs.Laid.{headed, headed_kept, holds_empty, torn_open}
 use Rattle.checkpoint.proofs.Shut.{shut_unformatted, still_shut}
-use Rattle.disk.specs.Device.{Medium, Leaves, SameOutside, overlaid}
+use Rattle.disk.specs.Device.{Medium, Leaves, SameOutside}
 use Rattle.disk.specs.Moments.{LeavesOnly}
 use Rattle.disk.proofs.Leaves.{calm_left}
 use Rattle.disk.proofs.Moments.{then, weaker}

@@ -3,11 +3,10 @@ use Rattle.std.proofs.Common.{◌≡◌, ◌≢◌, ◌⊎◌, ℕ, ◌+◌, ◌
 use Rattle.std.proofs.lemmas.Bool.{cases_eq}
 use Rattle.std.proofs.lemmas.List.{get_or-take}
 use Rattle.checkpoint.specs.Formatting.{IsShut, IsShutNow}
-use Rattle.checkpoint.specs.Header.{marks_of_format}
 use Rattle.checkpoint.specs.Refusals.{IsUnformatted}
 use Rattle.disk.specs.Device.{AreBytes, Medium, Leaves, IsSynced, SameOutside, synced}
 use Rattle.disk.specs.Moments.{LeavesOnly}
-use Rattle.disk.proofs.Leaves.{calm_left, itself, length-left}
+use Rattle.disk.proofs.Leaves.{calm_left, itself}
 use Rattle.disk.proofs.Moments.{started, then, weaker}
 use Rattle.disk.proofs.Outside.{same_item}
 use Rattle.disk.proofs.Overlays.{item-overlaid, length-overlaid}

@@ -1,11 +1,11 @@
 -- An image is cut again into the pieces that it was joined of.
-use Rattle.std.proofs.Common.{◌≡◌, ℕ, zero, suc, ◌+◌, ◌*◌, ◌/◌, ◌%◌, ◌<◌, ◌≤◌, List, [], ◌∷◌, ◌++◌, length, take, drop, refl, sym, ◌∙◌, ap, subst, arith, ⊎_elim, mul_comm}
+use Rattle.std.proofs.Common.{◌≡◌, ℕ, zero, suc, ◌+◌, ◌*◌, ◌/◌, ◌%◌, ◌<◌, ◌≤◌, List, [], ◌++◌, length, take, drop, refl, sym, ◌∙◌, ap, subst, arith, ⊎_elim, mul_comm}
 use Rattle.std.proofs.lemmas.Bool.{cases_lt}
 use Rattle.std.proofs.lemmas.List.{take_at, drop_at, drop-drop, append_assoc, append-nil}
 use Rattle.std.proofs.lemmas.Nat.{div-mul-add, mod-mul-add, mul-add-lt}
 use Rattle.affinity.specs.declared.geometry.Geometry.{Geometry}
 use Rattle.plain.specs.State.{State, sum_below}
-use Rattle.image.specs.Pieces.{pieces_of_volume, piece_count, volume_piece_number, stripe_piece_number, aggregate_of, volume_of, part_of, piece_size, piece_at, piece_of, part_piece, volume_piece, stripe_piece, joined_below, bytes_at}
+use Rattle.image.specs.Pieces.{pieces_of_volume, piece_count, volume_piece_number, stripe_piece_number, aggregate_of, volume_of, part_of, piece_size, piece_of, part_piece, volume_piece, stripe_piece, joined_below}
 use Rattle.image.specs.Image.{head_of, image_of, piece_in}
 use Rattle.image.proofs.Measures.{IsMeasured, length-piece, length-joined}
 

@@ -1,14 +1,14 @@
 -- Worked examples of the definitions, on a small server: one volume of two files of four blocks, in two stripes that hold two blocks each.
-use Rattle.std.proofs.Common.{◌≡◌, ℕ, ◌+◌, true, false, Bool, List, [], ◌∷◌, ◌++◌, length, take, drop, replicate, Option, Some, None, refl}
+use Rattle.std.proofs.Common.{◌≡◌, ℕ, ◌+◌, List, [], ◌∷◌, ◌++◌, length, take, drop, replicate, Option, Some, None, refl}
 use Rattle.affinity.specs.Geometry.{small}
 use Rattle.message.specs.declared.Block.{Block}
-use Rattle.message.specs.declared.Msg.TheVariants.{MakeVol, Create, Write, Seal, SetLabel, Summary as AskSummary, Read}
-use Rattle.message.specs.declared.Reply.TheVariants.{Summary, Block as Found}
+use Rattle.message.specs.declared.Msg.TheVariants.{MakeVol, Create, Write, Seal, SetLabel, Summary as AskSummary}
+use Rattle.message.specs.declared.Reply.TheVariants.{Summary}
 use Rattle.message.specs.declared.Reply.{Reply}
 use Rattle.plain.specs.Serial.{fold, reply_to}
 use Rattle.plain.specs.State.{State, empty}
-use Rattle.image.specs.Pieces.{piece_of, piece_at, piece_size, piece_count}
-use Rattle.image.specs.Image.{image_of, read, is_good}
+use Rattle.image.specs.Pieces.{piece_of}
+use Rattle.image.specs.Image.{image_of, read}
 
 -- a block that begins with this byte
 abbrev block_of : ℕ → Block

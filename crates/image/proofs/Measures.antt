@@ -1,5 +1,5 @@
 -- How long the pieces of a state are, where what it has is of the right size.
-use Rattle.std.proofs.Common.{◌≡◌, ℕ, zero, suc, ◌+◌, ◌*◌, ◌-◌, ◌<◌, ◌≤◌, Bool, true, false, ◌&&◌, List, [], ◌∷◌, ◌++◌, length, replicate, IfSome, is_some, Option, Some, None, unwrap_or, refl, sym, ◌∙◌, ap, subst, arith, length-append}
+use Rattle.std.proofs.Common.{◌≡◌, ℕ, zero, suc, ◌*◌, ◌-◌, ◌<◌, ◌≤◌, Bool, true, false, ◌&&◌, List, [], ◌∷◌, ◌++◌, length, replicate, IfSome, is_some, Option, Some, None, unwrap_or, refl, arith, length-append}
 use Rattle.std.specs.Prelude.{◌==◌, if◌then◌else◌}
 use Rattle.std.specs.List.{AllByRecursion, flat_map}
 use Rattle.std.proofs.lemmas.List.{length-replicate}
@@ -12,7 +12,7 @@ use Rattle.byteorder.specs.Endian.{little_bytes}
 use Rattle.plain.specs.Serial.{no_label, file_bits}
 use Rattle.plain.specs.State.{State, VolumeKey, BlockKey, IsState, sum_below, one_if, group_count}
 use Rattle.stripe.specs.Entries.{entry_bytes, stripe_bytes}
-use Rattle.image.specs.Pieces.{joined_below, entry_if, stripe_entries, stripe_piece, volume_piece, label_bytes, part_piece, part_size, piece_of, piece_size, piece_count, part_of, aggregate_of, volume_of}
+use Rattle.image.specs.Pieces.{joined_below, entry_if, stripe_entries, volume_piece, label_bytes, part_piece, part_size, piece_of, piece_size, part_of, aggregate_of, volume_of}
 use Rattle.stripe.proofs.EntryBytes.{IsSpellable, length-entries}
 
 -- Blocks and labels are of their size, and no stripe has more than its quota, whatever else holds of the state.

@@ -1,9 +1,9 @@
 -- The image of a state is read as that state.
-use Rattle.std.proofs.Common.{◌≡◌, ◌≢◌, ℕ, zero, suc, ◌+◌, ◌*◌, ◌-◌, ◌/◌, ◌%◌, ◌^◌, ◌<◌, ◌≤◌, Bool, true, false, not, ◌&&◌, List, [], ◌∷◌, ◌++◌, length, take, drop, get_or, replicate, Option, Some, None, is_some, IfSome, unwrap_or, refl, sym, ◌∙◌, ap, subst, arith, ◌⊎◌, inl, inr, ⊎_elim, true≢false, mod-lt}
+use Rattle.std.proofs.Common.{◌≡◌, ◌≢◌, ℕ, zero, suc, ◌+◌, ◌*◌, ◌-◌, ◌/◌, ◌^◌, ◌<◌, ◌≤◌, Bool, true, false, ◌&&◌, List, [], ◌∷◌, ◌++◌, length, take, get_or, replicate, Option, Some, None, is_some, IfSome, refl, sym, ◌∙◌, ap, subst, arith, ◌⊎◌, inl, inr, ⊎_elim, true≢false, mod-lt}
 use Rattle.std.specs.Prelude.{◌==◌, nat_lt, if◌then◌else◌}
-use Rattle.std.specs.List.{AllByRecursion, flat_map}
+use Rattle.std.specs.List.{flat_map}
 use Rattle.std.specs.Str.{bytes_eq}
-use Rattle.std.proofs.lemmas.Bool.{cases_lt, cases_eq, cases_Bool, eq-eqb, ne_eqb, and_parts, and_from, lt-ltb, ltb-true, false_from_ne_true}
+use Rattle.std.proofs.lemmas.Bool.{cases_lt, eq-eqb, ne_eqb, and_parts, and_from, lt-ltb, ltb-true, false_from_ne_true}
 use Rattle.std.proofs.Math.Nat.{pow-le-pow_right}
 use Rattle.std.proofs.lemmas.List.{take_at}
 use Rattle.std.proofs.lemmas.Slice.Eq.{bytes_eq-Decides}
@@ -13,16 +13,16 @@ use Rattle.byteorder.specs.Endian.{little_bytes, little_number}
 use Rattle.message.specs.Messages.{AreBytes}
 use Rattle.message.specs.Replies.{has_file}
 use Rattle.message.specs.declared.Block.{Block}
-use Rattle.plain.specs.Serial.{file_bits, no_label}
+use Rattle.plain.specs.Serial.{file_bits}
 use Rattle.plain.specs.State.{State, VolumeKey, FileKey, BlockKey, IsState, one_if}
-use Rattle.stripe.specs.Entries.{entry_bytes, stripe_bytes, entries_in}
+use Rattle.stripe.specs.Entries.{entry_bytes, entries_in}
 use Rattle.stripe.specs.Stripe.{Entry, content_at}
 use Rattle.stripe.proofs.EntryBytes.{entries_again}
-use Rattle.image.specs.Pieces.{has_volume, volume_piece_number, stripe_piece_number, volume_piece, stripe_piece, stripe_entries, entry_if, joined_below, label_bytes, bytes_at, said_by}
+use Rattle.image.specs.Pieces.{has_volume, volume_piece_number, volume_piece, stripe_entries, entry_if, joined_below, label_bytes, bytes_at}
 use Rattle.image.specs.Image.{image_of, said, read, is_image, is_version, version_in, piece_in}
 use Rattle.image.proofs.Cuts.{volume_again, stripe_again}
-use Rattle.image.proofs.FileNumber.{number_of, number_small, bits_there}
-use Rattle.image.proofs.Measures.{IsMeasured, entries_good, state_is_measured}
+use Rattle.image.proofs.FileNumber.{number_small, bits_there}
+use Rattle.image.proofs.Measures.{entries_good, state_is_measured}
 
 -- ---- the blocks of a stripe
 

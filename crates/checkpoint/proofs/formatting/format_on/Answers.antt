@@ -1,4 +1,4 @@
-use Rattle.std.proofs.Common.{◌≡◌, ◌⊎◌, Some, ◌∙◌, sym, subst, arith, ℕ, length}
+use Rattle.std.proofs.Common.{◌≡◌, ◌⊎◌, Some, ◌∙◌, subst, arith, ℕ}
 use Rattle.checkpoint.specs.Formatting.{IsShut}
 use Rattle.checkpoint.specs.Recovery.{holds}
 use Rattle.disk.specs.Moments.{LeavesOnly}

@@ -1,4 +1,4 @@
-use Rattle.std.proofs.Common.{◌≡◌, ◌+◌, ◌-◌, ◌*◌, ◌≤◌, ℕ, List, [], ◌∷◌, length, replicate, refl, sym, ◌∙◌, ap, subst, arith}
+use Rattle.std.proofs.Common.{◌+◌, ℕ, List, [], ◌∷◌, replicate, sym, ◌∙◌, ap, subst, arith}
 use Rattle.checkpoint.specs.Formatting.{IsLaid}
 use Rattle.checkpoint.proofs.Changed.{changed_then, changed_within}
 use Rattle.checkpoint.proofs.Laid.{image_some, laid_out}

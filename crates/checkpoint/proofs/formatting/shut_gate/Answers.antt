@@ -1,4 +1,4 @@
-use Rattle.std.proofs.Common.{◌≡◌, ◌≢◌, ◌⊎◌, ◌+◌, ◌<◌, ℕ, List, [], ◌∷◌, length, get_or, inl, slice_range, Result, Ok, Err, OnOk, refl, sym, ◌∙◌, ap, subst, arith}
+use Rattle.std.proofs.Common.{sym, ◌∙◌, arith}
 use Rattle.checkpoint.proofs.Shut.{begun, calm_shut, now_calm, now_kept, now_read, shutting, stored_shut}
 use Rattle.disk.proofs.Calls.{after_read, after_sync}
 use Rattle.checkpoint.proofs.formatting.shut_gate.Goals as goal

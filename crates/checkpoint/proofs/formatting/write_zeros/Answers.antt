@@ -1,9 +1,8 @@
-use Rattle.std.proofs.Common.{◌≡◌, ◌+◌, ◌≤◌, ℕ, List, length, take, drop, replicate, refl, sym, ◌∙◌, ap, subst, arith}
+use Rattle.std.proofs.Common.{◌+◌, refl, sym, ◌∙◌, arith}
 use Rattle.std.proofs.lemmas.List.{length-take}
 use Rattle.std.proofs.lemmas.Grind.{common_steps}
 use Rattle.checkpoint.proofs.Changed.{changed_then, changed_within, nothing_changed, nothing_over, some_zeros, zeros_more}
-use Rattle.disk.specs.Device.{SameOutside, overlaid}
-use Rattle.oplog.specs.Changes.{ChangesOnly}
+use Rattle.disk.specs.Device.{overlaid}
 use Rattle.checkpoint.proofs.formatting.write_zeros.Goals as goal
 
 pub zeros-init : goal.zeros-init
