@@ -102,26 +102,22 @@ fn collect(bench: &Bench, desk: &mut DispatchSeat, k: usize) -> Option<(u64, Rep
     None
 }
 
-// One job at place 0 of two places.
-fn one_job(bench: &Bench, desk: &mut DispatchSeat, alloc: Global) -> Result<bool, Fail>
+// One job offered at place 0 of two, which nobody runs yet: none more is taken there, and no result
+// is anywhere.
+fn offers_one(bench: &Bench, desk: &mut DispatchSeat, alloc: Global) -> Result<bool, Fail>
     requires { (desk.old.bench ≡ bench.now) × (1 < bench.now.slots) }
     ensures { desk.new.bench ≡ desk.old.bench }
 {
     let first = offer(bench, desk, alloc, 0, 11)?;
     let second = offer(bench, desk, alloc, 0, 12)?;
-    let nothing = bench.collect(desk, 1).is_none();
-    let told = collect(bench, desk, 0);
-    let alone = reply_alone(alloc, 11)?;
-    let same = match (told, alone) {
-        (Some((ticket, reply)), Some(alone)) => ticket == 11 && reply == alone,
-        _ => false,
-    };
-    Ok(first && !second && nothing && same)
+    let nothing = bench.collect(desk, 0).is_none() && bench.collect(desk, 1).is_none();
+    Ok(first && !second && nothing)
 }
 
 #[test]
 fn one_worker_answers_one_job(rt: HostRuntime) -> Result<(), Fail> {
     let alloc = rt.alloc();
+    let alone = replies_alone(alloc)?;
     let (bench, desk, seats) = Bench::open(alloc, 2, 1)?;
     let gate = OpenGate;
     let (runtime, bench, gate) = (&rt, &bench, &gate);
@@ -133,10 +129,11 @@ fn one_worker_answers_one_job(rt: HostRuntime) -> Result<(), Fail> {
             requires seats { All (λ w. w ≡ bench.now) seats.items }
         {
             let mut desk = desk;
+            let offered = offers_one(bench, &mut desk, alloc);
             let started = bench.start(runtime, scope, seats, gate);
-            let fine = one_job(bench, &mut desk, alloc);
+            let collected = tells(bench, &mut desk, 0, 11, &alone);
             bench.stop(&mut desk);
-            Ok(fine? && started)
+            Ok(offered? && started && collected)
         },
     )?;
     expect(&rt, fine);
