@@ -1,23 +1,21 @@
 -- Each kind of step keeps the rule.
-use Rattle.std.proofs.Common.{◌≡◌, ◌≢◌, ℕ, zero, suc, ◌+◌, ◌-◌, ◌%◌, ◌^◌, ◌<◌, ◌≤◌, ◌⊎◌, List, [], ◌∷◌, ◌++◌, map, length, get_or, set, replicate, Option, None, Some, eqb, sym, refl, ap, ◌∙◌, subst, inl, inr, ⊎_elim, arith, length-set, get_or-set_other, get_or-set_same}
-use Rattle.std.proofs.lemmas.List.{set-get_or, length-replicate, length-map, get_or-replicate}
-use mathlib.Core.Logic.{dite}
+use Rattle.std.proofs.Common.{◌≡◌, ◌≢◌, ℕ, zero, suc, ◌+◌, ◌<◌, ◌≤◌, List, [], ◌∷◌, ◌++◌, map, length, get_or, set, replicate, Option, None, Some, eqb, sym, refl, ap, ◌∙◌, subst, ⊎_elim, arith, length-set, get_or-set_other, get_or-set_same}
+use Rattle.std.proofs.lemmas.List.{set-get_or, length-replicate, get_or-replicate}
 use mathlib.Core.Option.{none, some, some-injective, some-ne-none}
-use native.Mathlib.Decide.{ℕ_discrete}
 use lib.ListN.{get_elem?}
 use prog.Atomic.{either}
-use Rattle.atomic_table.specs.Table.{State, Step, step, Act, keeps, takes, gives, Valid, carried_after, stepped, opening, Allows, Splits, Me}
+use Rattle.atomic_table.specs.Table.{Step, step, Act, keeps, takes, gives, Valid, carried_after, stepped, opening, Allows, Splits}
 use Rattle.atomic_table.proofs.Lists.{at_set, at_longer, at_snoc, set_else, set_again, exchanged}
 use Rattle.parcel.specs.Run.{Asked, IsRun}
 use Rattle.parcel.specs.declared.job.Done.{Done}
 use Rattle.workers.specs.Rule.{Board, Home, Row, lent_at, word_of, Stands, is_empty, is_offered, is_claimed, is_answered, Kept}
 use Rattle.workers.specs.Steps.{Sat, Readies, Offers, Claims, Delivers, Collects, OfPlace}
-use Rattle.workers.specs.Desk.{lent_of, idle}
+use Rattle.workers.specs.Desk.{idle}
 use Rattle.workers.specs.declared.words.Load.{Load}
 use Rattle.workers.specs.declared.words.Load.TheVariants.{Offered, Answered}
 use Rattle.workers.specs.declared.seats.View.{View}
 use Rattle.workers.specs.declared.seats.View.TheVariants.{Dispatcher, Idle, Claimed}
-use Rattle.workers.proofs.Rows.{set_at, there, is_there, at_replicate}
+use Rattle.workers.proofs.Rows.{set_at, there}
 
 -- The kinds of view are told apart.
 desk_is_no_claim : (r k : ℕ) (l : Row) (job : Asked) → Dispatcher r l ≡ Claimed k job → ⊥

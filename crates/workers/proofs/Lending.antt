@@ -1,9 +1,9 @@
 -- The dispatcher's seat from one moment of an offer or a collection to the next.
-use Rattle.std.proofs.Common.{◌≡◌, ℕ, zero, suc, false, replicate, ◌+◌, ◌<◌, Bool, List, [], ◌∷◌, ◌++◌, map, length, set, Option, None, Some, is_some, refl, sym, ap, ◌∙◌, arith}
-use Rattle.std.proofs.lemmas.List.{length-set, map-set, get_or-set_same}
+use Rattle.std.proofs.Common.{◌≡◌, ℕ, zero, suc, false, replicate, ◌+◌, ◌<◌, Bool, List, [], ◌∷◌, map, length, set, Option, None, Some, is_some, refl, sym, ap, ◌∙◌, arith}
+use Rattle.std.proofs.lemmas.List.{map-set}
 use Rattle.atomic_table.specs.Table.{rest}
 use Rattle.atomic_table.specs.Seated.{TableId}
-use Rattle.parcel.specs.Run.{Asked, IsRun}
+use Rattle.parcel.specs.Run.{Asked}
 use Rattle.parcel.specs.declared.job.Done.{Done}
 use Rattle.workers.specs.Rule.{Row, lent_at}
 use Rattle.workers.specs.Steps.{Sat, Offers, job_on}

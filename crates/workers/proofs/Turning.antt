@@ -1,6 +1,6 @@
 -- The row of slots that the dispatcher's seat holds, as it is brought round.
-use Rattle.std.proofs.Common.{◌≡◌, ℕ, zero, suc, ◌+◌, ◌-◌, ◌<◌, ◌≤◌, Bool, true, false, List, [], ◌∷◌, ◌++◌, map, length, get_or, set, take, drop, replicate, Option, None, Some, is_some, refl, sym, ap, ◌∙◌, subst, append_assoc, arith, drop-cons}
-use Rattle.std.proofs.lemmas.List.{take-set, drop-set-lt, drop-set, get_or-set_same, length-set, map-set}
+use Rattle.std.proofs.Common.{◌≡◌, ℕ, zero, suc, ◌+◌, ◌<◌, Bool, true, false, List, [], ◌∷◌, ◌++◌, map, length, get_or, set, take, drop, replicate, Option, None, Some, is_some, refl, sym, ap, ◌∙◌, append_assoc, arith, drop-cons}
+use Rattle.std.proofs.lemmas.List.{take-set, drop-set-lt, get_or-set_same, length-set}
 use Rattle.atomic_table.specs.Table.{turned}
 use Rattle.parcel.specs.Run.{Asked}
 use Rattle.workers.specs.Rule.{Row, lent_at}

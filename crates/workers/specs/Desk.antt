@@ -5,7 +5,7 @@ use Rattle.atomic_table.specs.Seated.{TableId}
 use Rattle.parcel.specs.Run.{Asked}
 use Rattle.workers.specs.declared.words.Load.{Load}
 use Rattle.workers.specs.declared.seats.View.{View}
-use Rattle.workers.specs.declared.seats.View.TheVariants.{Dispatcher, Idle, Claimed}
+use Rattle.workers.specs.declared.seats.View.TheVariants.{Dispatcher, Idle}
 
 -- the dispatcher's seat: which bench it belongs to, and the job that is lent at each place
 pub record Desk : Type 0 where

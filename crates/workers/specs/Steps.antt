@@ -1,11 +1,10 @@
 -- What each kind of step tells the seat that makes it: of the seat before, the number found and the seat after.
-use Rattle.std.specs.Prelude.{◌≡◌, ◌≢◌, ℕ, ◌+◌, ◌<◌, ◌≤◌, List, [], ◌∷◌, slice_set, Option, None, Some}
+use Rattle.std.specs.Prelude.{◌≡◌, ◌≢◌, ℕ, List, ◌∷◌, slice_set, Option, None, Some}
 use Rattle.atomic_table.specs.Table.{Me, Step, rest}
-use Rattle.atomic_table.specs.Seated.{TableId}
 use Rattle.parcel.specs.Run.{Asked, IsRun}
 use Rattle.parcel.specs.declared.job.Done.{Done}
-use Rattle.workers.specs.Rule.{Row, lent_at, word_of}
-use Rattle.workers.specs.Desk.{lent_of, idle}
+use Rattle.workers.specs.Rule.{lent_at, word_of}
+use Rattle.workers.specs.Desk.{lent_of}
 use Rattle.workers.specs.declared.words.Load.{Load}
 use Rattle.workers.specs.declared.words.Load.TheVariants.{Offered, Answered}
 use Rattle.workers.specs.declared.seats.View.{View}
