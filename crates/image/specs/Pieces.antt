@@ -7,7 +7,7 @@ use Rattle.message.specs.Replies.{has_file}
 use Rattle.message.specs.declared.Block.{Block}
 use Rattle.stripe.specs.Stripe.{Entry, content_at}
 use Rattle.plain.specs.Serial.{file_bits, no_label}
-use Rattle.plain.specs.State.{State, VolumeKey, sum_below, one_if}
+use Rattle.plain.specs.State.{State, VolumeKey, is_volume, is_file_of, is_block_of, sum_below, one_if}
 use Rattle.stripe.specs.Entries.{stripe_bytes, entries_in}
 
 -- ---- which pieces there are
@@ -97,15 +97,61 @@ bytes_at at n bytes = take n (drop at bytes)
 abbrev pub has_volume : Geometry → VolumeKey → Bool
 has_volume g k = nat_lt k.0 g.aggregates && nat_lt k.1 g.volumes
 
+-- what the bytes of a volume's piece say: whether it is made, whether it is sealed, which files it has, and its label
+abbrev pub is_made_in : List ℕ → Bool
+is_made_in bytes = get_or bytes 0 0 == 1
+
+abbrev pub is_sealed_in : List ℕ → Bool
+is_sealed_in bytes = get_or bytes 1 0 == 1
+
+abbrev pub has_file_in : List ℕ → ℕ → Bool
+has_file_in bytes f = has_file (little_number 8 (bytes_at 8 8 bytes)) f
+
+abbrev pub label_in : ℕ → List ℕ → Option (List ℕ)
+label_in version bytes = if is_made_in bytes then Some (if version == 2 then bytes_at 16 32 bytes else no_label) else None
+
+-- what the bytes of a stripe's piece say of a block
+abbrev pub block_in : Geometry → List ℕ → ℕ → ℕ → Option Block
+block_in g bytes f b = content_at (entries_in g.quota bytes) f b
+
 -- the state that pieces say, where these are the bytes of each
 abbrev pub said_by : ℕ → Geometry → (ℕ → List ℕ) → State
 said_by version g pieces =
     let of_volume : VolumeKey → List ℕ = λ k. pieces (volume_piece_number g k.0 k.1) in
-    let is_made : VolumeKey → Bool = λ k. has_volume g k && (get_or (of_volume k) 0 0 == 1) in
     record {
-      made = is_made;
-      sealed = λ k. has_volume g k && (get_or (of_volume k) 1 0 == 1);
-      files = λ k. has_volume g (k.0, k.1) && has_file (little_number 8 (bytes_at 8 8 (of_volume (k.0, k.1)))) k.2;
-      blocks = λ k. if has_volume g (k.0, k.1) then content_at (entries_in g.quota (pieces (stripe_piece_number g k.0 k.1 (group g k.2 k.3)))) k.2 k.3 else None;
-      labels = λ k. if is_made k then Some (if version == 2 then bytes_at 16 32 (of_volume k) else no_label) else None;
+      made = λ k. has_volume g k && is_made_in (of_volume k);
+      sealed = λ k. has_volume g k && is_sealed_in (of_volume k);
+      files = λ k. has_volume g (k.0, k.1) && has_file_in (of_volume (k.0, k.1)) k.2;
+      blocks = λ k. if has_volume g (k.0, k.1) then block_in g (pieces (stripe_piece_number g k.0 k.1 (group g k.2 k.3))) k.2 k.3 else None;
+      labels = λ k. if has_volume g k then label_in version (of_volume k) else None;
     }
+
+-- ---- a state with what the bytes of one piece say, in the place of what it had there
+
+abbrev pub with_volume_piece : ℕ → State → ℕ → ℕ → List ℕ → State
+with_volume_piece version x a v bytes =
+    record {
+      made = λ k. if is_volume a v k then is_made_in bytes else x.made k;
+      sealed = λ k. if is_volume a v k then is_sealed_in bytes else x.sealed k;
+      files = λ k. if is_file_of a v k then has_file_in bytes k.2 else x.files k;
+      blocks = x.blocks;
+      labels = λ k. if is_volume a v k then label_in version bytes else x.labels k;
+    }
+
+abbrev pub with_stripe_piece : Geometry → State → ℕ → ℕ → ℕ → List ℕ → State
+with_stripe_piece g x a v s bytes =
+    record {
+      made = x.made;
+      sealed = x.sealed;
+      files = x.files;
+      blocks = λ k. if is_block_of a v k && (group g k.2 k.3 == s) then block_in g bytes k.2 k.3 else x.blocks k;
+      labels = x.labels;
+    }
+
+abbrev pub with_part : ℕ → Geometry → State → ℕ → ℕ → ℕ → List ℕ → State
+with_part version g x a v zero bytes = with_volume_piece version x a v bytes
+with_part version g x a v (suc s) bytes = with_stripe_piece g x a v s bytes
+
+-- the state with these bytes taken in as its piece n
+abbrev pub with_piece : ℕ → Geometry → State → ℕ → List ℕ → State
+with_piece version g x n bytes = with_part version g x (aggregate_of g n) (volume_of g n) (part_of g n) bytes

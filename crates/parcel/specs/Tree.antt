@@ -3,7 +3,7 @@ use Rattle.std.specs.Prelude.{◌≡◌, zero, true, false, [], ◌∷◌, ◌++
 use Rattle.affinity.specs.declared.geometry.Geometry.{Geometry}
 use Rattle.affinity.specs.Interval.{IsPath}
 use Rattle.affinity.specs.Path.{Path, begins, are_related, volume, logical}
-use Rattle.plain.specs.State.{State}
+use Rattle.plain.specs.State.{State, IsState}
 use Rattle.parcel.specs.Fits.{Fits, FitsRoot, IsKindOf}
 use Rattle.parcel.specs.Nodes.{Nodes, in_child, in_root, in_parcels, marks_made, marks_sealed, files_bits, tree_state, TakesOut, PutsBack}
 use Rattle.plain.specs.Shares.{AgreeOn}
@@ -32,6 +32,11 @@ state_in t = tree_state t.geometry (in_tree t)
 -- Nothing at this path, above it or below it is out.
 abbrev pub IsIn : Geometry → Path → Nodes → Type 0
 IsIn g p n = (q : Path) → IsPath g q → are_related p q ≡ true → is_some (n q) ≡ true
+
+-- Nothing of the tree is out, and it holds a state of its geometry.
+pub record IsWholeTree (t : TreeView) : Type 0 where
+  pub all_in : IsIn t.geometry [] (in_tree t)
+  pub state : IsState t.geometry (state_in t)
 
 -- Something at this path, above it or below it is out.
 abbrev pub HasGap : Geometry → Path → Nodes → Type 0
