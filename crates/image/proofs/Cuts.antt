@@ -5,7 +5,7 @@ use Rattle.std.proofs.lemmas.List.{take_at, drop_at, drop-drop, append_assoc, ap
 use Rattle.std.proofs.lemmas.Nat.{div-mul-add, mod-mul-add, mul-add-lt}
 use Rattle.affinity.specs.declared.geometry.Geometry.{Geometry}
 use Rattle.plain.specs.State.{State, sum_below}
-use Rattle.image.specs.Pieces.{pieces_of_volume, piece_count, volume_piece_number, stripe_piece_number, aggregate_of, volume_of, part_of, piece_size, piece_of, part_piece, volume_piece, stripe_piece, joined_below}
+use Rattle.image.specs.Pieces.{pieces_of_volume, piece_count, volume_piece_number, stripe_piece_number, aggregate_of, volume_of, part_of, part_size, piece_size, piece_of, part_piece, volume_piece, stripe_piece, joined_below}
 use Rattle.image.specs.Image.{head_of, image_of, piece_in}
 use Rattle.image.proofs.Measures.{IsMeasured, length-piece, length-joined}
 
@@ -43,6 +43,9 @@ module _ (g : Geometry) (a v : ℕ) (in_aggregates : a < g.aggregates) (in_volum
       let volume : a * g.volumes + v < g.volumes * g.aggregates = mul-add-lt a g.volumes v g.aggregates in_aggregates in_volumes in
       let piece : (a * g.volumes + v) * pieces_of_volume g + p < pieces_of_volume g * (g.volumes * g.aggregates) = mul-add-lt (a * g.volumes + v) (pieces_of_volume g) p (g.volumes * g.aggregates) volume part in
       subst (λ (k : ℕ). (a * g.volumes + v) * pieces_of_volume g + p < k) (mul_comm (pieces_of_volume g) (g.volumes * g.aggregates) ∙ ap (λ (k : ℕ). k * pieces_of_volume g) (mul_comm g.volumes g.aggregates)) piece
+
+  pub size_there : (p : ℕ) → p < pieces_of_volume g → piece_size g ((a * g.volumes + v) * pieces_of_volume g + p) ≡ part_size g p
+  size_there p part = ap (part_size g) (mod-mul-add (a * g.volumes + v) (pieces_of_volume g) p part)
 
   pub piece_there : (version : ℕ) (x : State) (p : ℕ) → p < pieces_of_volume g → piece_of version g x ((a * g.volumes + v) * pieces_of_volume g + p) ≡ part_piece version g x a v p
   piece_there version x p part =

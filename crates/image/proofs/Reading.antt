@@ -18,7 +18,7 @@ use Rattle.plain.specs.State.{State, VolumeKey, FileKey, BlockKey, IsState, one_
 use Rattle.stripe.specs.Entries.{entry_bytes, entries_in}
 use Rattle.stripe.specs.Stripe.{Entry, content_at}
 use Rattle.stripe.proofs.EntryBytes.{entries_again}
-use Rattle.image.specs.Pieces.{has_volume, volume_piece_number, volume_piece, stripe_entries, entry_if, joined_below, label_bytes, bytes_at}
+use Rattle.image.specs.Pieces.{has_volume, volume_piece_number, volume_piece, stripe_entries, entry_if, joined_below, label_bytes, label_in, bytes_at}
 use Rattle.image.specs.Image.{image_of, said, read, is_image, is_version, version_in, piece_in}
 use Rattle.image.proofs.Cuts.{volume_again, stripe_again}
 use Rattle.image.proofs.FileNumber.{number_small, bits_there}
@@ -118,7 +118,7 @@ module _ (g : Geometry) (x : State) (is : IsState g x) where
 
 -- ---- the fields of a volume's piece
 
-eight_bytes : (n : ℕ) → n < 2 ^ 64 → little_number 8 (little_bytes 8 n) ≡ n
+pub eight_bytes : (n : ℕ) → n < 2 ^ 64 → little_number 8 (little_bytes 8 n) ≡ n
 eight_bytes n small = omega (arith, small)
 
 -- a field that is there where its volume is
@@ -126,20 +126,20 @@ and_there : (h t s : Bool) → (h ≡ true → t ≡ s) → (s ≡ true → h �
 and_there true t s same needs = same refl
 and_there false t s same needs = sym (false_from_ne_true s (λ e. true≢false (sym (needs e))))
 
-if_there : (h : Bool) (o w : Option Block) → (h ≡ true → o ≡ w) → (is_some w ≡ true → h ≡ true) → (if h then o else None) ≡ w
+if_there : {X : Type 0} (h : Bool) (o w : Option X) → (h ≡ true → o ≡ w) → (is_some w ≡ true → h ≡ true) → (if h then o else None) ≡ w
 if_there true o w same needs = same refl
 if_there false o None same needs = refl
 if_there false o (Some content) same needs = absurd (true≢false (sym (needs refl)))
 
 module _ (g : Geometry) (x : State) (a v : ℕ) where
-  made_said : (version : ℕ) → (get_or (volume_piece version g x a v) 0 0 == 1) ≡ x.made (a, v)
+  pub made_said : (version : ℕ) → (get_or (volume_piece version g x a v) 0 0 == 1) ≡ x.made (a, v)
   made_said version = by (x.made (a, v))
     where
       by : (t : Bool) → (get_or (if t then 1 ∷ one_if (x.sealed (a, v)) ∷ [] ++ replicate 6 0 ++ little_bytes 8 (file_bits g x a v) ++ label_bytes version (x.labels (a, v)) ++ replicate 16 0 else replicate 64 0) 0 0 == 1) ≡ t
       by true = refl
       by false = refl
 
-  sealed_said : (version : ℕ) → (get_or (volume_piece version g x a v) 1 0 == 1) ≡ (x.made (a, v) && x.sealed (a, v))
+  pub sealed_said : (version : ℕ) → (get_or (volume_piece version g x a v) 1 0 == 1) ≡ (x.made (a, v) && x.sealed (a, v))
   sealed_said version = by (x.made (a, v)) (x.sealed (a, v))
     where
       by : (t u : Bool) → (get_or (if t then 1 ∷ one_if u ∷ [] ++ replicate 6 0 ++ little_bytes 8 (file_bits g x a v) ++ label_bytes version (x.labels (a, v)) ++ replicate 16 0 else replicate 64 0) 1 0 == 1) ≡ (t && u)
@@ -147,7 +147,7 @@ module _ (g : Geometry) (x : State) (a v : ℕ) where
       by true false = refl
       by false u = refl
 
-  number_said : (version : ℕ) → bytes_at 8 8 (volume_piece version g x a v) ≡ little_bytes 8 (if x.made (a, v) then file_bits g x a v else 0)
+  pub number_said : (version : ℕ) → bytes_at 8 8 (volume_piece version g x a v) ≡ little_bytes 8 (if x.made (a, v) then file_bits g x a v else 0)
   number_said version = by (x.made (a, v))
     where
       by : (t : Bool) → bytes_at 8 8 (if t then 1 ∷ one_if (x.sealed (a, v)) ∷ [] ++ replicate 6 0 ++ little_bytes 8 (file_bits g x a v) ++ label_bytes version (x.labels (a, v)) ++ replicate 16 0 else replicate 64 0) ≡ little_bytes 8 (if t then file_bits g x a v else 0)
@@ -218,14 +218,18 @@ module _ (g : Geometry) (x : State) (is : IsState g x) where
 
   labels_again : (k : VolumeKey) → (said 2 g (image_of 2 g x)).labels k ≡ x.labels k
   labels_again k =
-      ap (λ (t : Bool). if t then Some (bytes_at 16 32 (piece_in g (image_of 2 g x) (volume_piece_number g k.0 k.1))) else None) (made_again k)
-      ∙ by (x.made k) (x.labels k) refl refl
+      if_there (has_volume g k) _ (x.labels k)
+      (λ there.
+      ap (label_in 2) (volume_said k there)
+      ∙ ap (λ (t : Bool). if t then Some (bytes_at 16 32 (volume_piece 2 g x k.0 k.1)) else None) (made_said g x k.0 k.1 2)
+      ∙ by (x.made k) (x.labels k) refl refl)
+      (λ some. has k (sym (is.labels k) ∙ some))
     where
-      by : (t : Bool) (o : Option (List ℕ)) → x.made k ≡ t → x.labels k ≡ o → (if t then Some (bytes_at 16 32 (piece_in g (image_of 2 g x) (volume_piece_number g k.0 k.1))) else None) ≡ o
+      by : (t : Bool) (o : Option (List ℕ)) → x.made k ≡ t → x.labels k ≡ o → (if t then Some (bytes_at 16 32 (volume_piece 2 g x k.0 k.1)) else None) ≡ o
       by true None made has_none = absurd (true≢false (sym (sym (ap (λ (o : Option (List ℕ)). is_some o) has_none) ∙ is.labels k ∙ made)))
       by true (Some label) made has_one =
           let long : length label ≡ 32 = (subst (λ (o : Option (List ℕ)). IfSome o (AreBytes 32)) has_one (is.label_content k)).0 in
-          ap (λ (l : List ℕ). Some l) (ap (λ (l : List ℕ). bytes_at 16 32 l) (volume_said k (has k made)) ∙ label_there g x k.0 k.1 label long made has_one)
+          ap (λ (l : List ℕ). Some l) (label_there g x k.0 k.1 label long made has_one)
       by false None made has_none = refl
       by false (Some label) made has_one = absurd (true≢false (sym (ap (λ (o : Option (List ℕ)). is_some o) has_one) ∙ is.labels k ∙ made))
 
