@@ -4,4 +4,5 @@ pub mod Cuts
 pub mod Joining
 pub mod Reading
 pub mod Order
+pub mod Counted
 mod Examples
