@@ -5,4 +5,5 @@ pub mod Joining
 pub mod Reading
 pub mod Order
 pub mod Counted
+pub mod Said
 mod Examples

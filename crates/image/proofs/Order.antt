@@ -32,7 +32,7 @@ module _ (Q : Entry → Type 0) (number : Entry → ℕ) (h : ℕ → List Entry
   rows_ascend zero = tt
   rows_ascend (suc n) = ascending-append (joined_below n h) (h n) (rows_ascend n) (ascend n) (all_before n (joined_below n h) (all_small n))
 
-one_of : (P : Entry → Type 0) (p : Bool) (f b : ℕ) (o : Option Block) → ((content : Block) → P (record { file = f; block = b; content = content })) → AllByRecursion P (entry_if p f b o)
+pub one_of : (P : Entry → Type 0) (p : Bool) (f b : ℕ) (o : Option Block) → ((content : Block) → P (record { file = f; block = b; content = content })) → AllByRecursion P (entry_if p f b o)
 one_of P true f b (Some content) is = (is content, tt)
 one_of P true f b None is = tt
 one_of P false f b o is = tt
