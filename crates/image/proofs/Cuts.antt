@@ -1,12 +1,13 @@
 -- An image is cut again into the pieces that it was joined of.
-use Rattle.std.proofs.Common.{◌≡◌, ℕ, zero, suc, ◌+◌, ◌*◌, ◌/◌, ◌%◌, ◌<◌, ◌≤◌, List, [], ◌++◌, length, take, drop, refl, sym, ◌∙◌, ap, subst, arith, ⊎_elim, mul_comm}
+use Rattle.std.proofs.Common.{◌≡◌, ℕ, zero, suc, ◌+◌, ◌*◌, ◌<◌, ◌≤◌, List, [], ◌++◌, length, take, drop, refl, sym, ◌∙◌, ap, subst, arith, ⊎_elim, mul_comm}
 use Rattle.std.proofs.lemmas.Bool.{cases_lt}
 use Rattle.std.proofs.lemmas.List.{take_at, drop_at, drop-drop, append_assoc, append-nil}
-use Rattle.std.proofs.lemmas.Nat.{div-mul-add, mod-mul-add, mul-add-lt}
+use Rattle.std.proofs.lemmas.Nat.{mul-add-lt}
 use Rattle.affinity.specs.declared.geometry.Geometry.{Geometry}
 use Rattle.plain.specs.State.{State, sum_below}
-use Rattle.image.specs.Pieces.{pieces_of_volume, piece_count, volume_piece_number, stripe_piece_number, aggregate_of, volume_of, part_of, part_size, piece_size, piece_of, part_piece, volume_piece, stripe_piece, joined_below}
+use Rattle.image.specs.Pieces.{pieces_of_volume, piece_count, volume_piece_number, stripe_piece_number, piece_size, piece_of, part_piece, volume_piece, stripe_piece, joined_below}
 use Rattle.image.specs.Image.{head_of, image_of, piece_in}
+use Rattle.image.proofs.Numbers.{part_there, aggregate_there, volume_there}
 use Rattle.image.proofs.Measures.{IsMeasured, length-piece, length-joined}
 
 -- ---- lists that were joined
@@ -44,17 +45,8 @@ module _ (g : Geometry) (a v : ℕ) (in_aggregates : a < g.aggregates) (in_volum
       let piece : (a * g.volumes + v) * pieces_of_volume g + p < pieces_of_volume g * (g.volumes * g.aggregates) = mul-add-lt (a * g.volumes + v) (pieces_of_volume g) p (g.volumes * g.aggregates) volume part in
       subst (λ (k : ℕ). (a * g.volumes + v) * pieces_of_volume g + p < k) (mul_comm (pieces_of_volume g) (g.volumes * g.aggregates) ∙ ap (λ (k : ℕ). k * pieces_of_volume g) (mul_comm g.volumes g.aggregates)) piece
 
-  pub size_there : (p : ℕ) → p < pieces_of_volume g → piece_size g ((a * g.volumes + v) * pieces_of_volume g + p) ≡ part_size g p
-  size_there p part = ap (part_size g) (mod-mul-add (a * g.volumes + v) (pieces_of_volume g) p part)
-
   pub piece_there : (version : ℕ) (x : State) (p : ℕ) → p < pieces_of_volume g → piece_of version g x ((a * g.volumes + v) * pieces_of_volume g + p) ≡ part_piece version g x a v p
-  piece_there version x p part =
-      let n : ℕ = (a * g.volumes + v) * pieces_of_volume g + p in
-      let quotient : n / pieces_of_volume g ≡ a * g.volumes + v = div-mul-add (a * g.volumes + v) (pieces_of_volume g) p part in
-      let aggregate : aggregate_of g n ≡ a = ap (λ (k : ℕ). k / g.volumes) quotient ∙ div-mul-add a g.volumes v in_volumes in
-      let volume : volume_of g n ≡ v = ap (λ (k : ℕ). k % g.volumes) quotient ∙ mod-mul-add a g.volumes v in_volumes in
-      let there : part_of g n ≡ p = mod-mul-add (a * g.volumes + v) (pieces_of_volume g) p part in
-      (λ i. part_piece version g x (aggregate i) (volume i) (there i))
+  piece_there version x p part = λ i. part_piece version g x (aggregate_there g a v p part in_volumes i) (volume_there g a v p part in_volumes i) (part_there g a v p part i)
 
   pub volume_again : (version : ℕ) (x : State) → IsMeasured g x → piece_in g (image_of version g x) (volume_piece_number g a v) ≡ volume_piece version g x a v
   volume_again version x is =

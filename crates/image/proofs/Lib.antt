@@ -1,9 +1,11 @@
 pub mod FileNumber
 pub mod Measures
+pub mod Numbers
 pub mod Cuts
 pub mod Joining
 pub mod Reading
 pub mod Order
 pub mod Counted
 pub mod Said
+pub mod Taken
 mod Examples

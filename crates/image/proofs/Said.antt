@@ -19,14 +19,15 @@ use Rattle.stripe.specs.Stripe.{Entry, content_at}
 use Rattle.stripe.proofs.EntryBytes.{entries_again}
 use Rattle.image.specs.Pieces.{piece_count, pieces_of_volume, piece_size, piece_of, said_by, has_volume, volume_piece_number, stripe_piece_number, volume_piece, stripe_piece, part_piece, part_size, stripe_entries, entry_if, is_made_in, is_sealed_in, has_file_in, label_in, block_in, bytes_at}
 use Rattle.image.proofs.Counted.{entries_are_blocks, entries_few, content_is, content_of, few_of_stripe}
-use Rattle.image.proofs.Cuts.{is_piece, size_there, piece_there}
+use Rattle.image.proofs.Cuts.{is_piece, piece_there}
+use Rattle.image.proofs.Numbers.{size_there}
 use Rattle.image.proofs.FileNumber.{number_of, number_small}
 use Rattle.image.proofs.Measures.{IsMeasured, all-take, all-drop, all-zeros, all_joined, entries_good, entries_most}
 use Rattle.image.proofs.Order.{one_of}
 use Rattle.image.proofs.Reading.{made_said, sealed_said, number_said, eight_bytes}
 
-pub volume_there : (g : Geometry) (k : VolumeKey) → has_volume g k ≡ true → (k.0 < g.aggregates) × (k.1 < g.volumes)
-volume_there g k there =
+pub is_volume_there : (g : Geometry) (k : VolumeKey) → has_volume g k ≡ true → (k.0 < g.aggregates) × (k.1 < g.volumes)
+is_volume_there g k there =
     let parts = and_parts (nat_lt k.0 g.aggregates) (nat_lt k.1 g.volumes) there in
     (ltb-true k.0 g.aggregates parts.0, ltb-true k.1 g.volumes parts.1)
 
@@ -50,8 +51,8 @@ label_is version bytes are = by (is_made_in bytes) (version == 2)
 module _ (version : ℕ) (g : Geometry) (pieces : ℕ → List ℕ) (sized : (n : ℕ) → n < piece_count g → AreBytes (piece_size g n) (pieces n)) where
   bytes_of_part : (k : VolumeKey) → has_volume g k ≡ true → (p : ℕ) → p < pieces_of_volume g → AreBytes (part_size g p) (pieces (volume_piece_number g k.0 k.1 + p))
   bytes_of_part k there p part =
-      let within = volume_there g k there in
-      subst (λ (size : ℕ). AreBytes size (pieces (volume_piece_number g k.0 k.1 + p))) (size_there g k.0 k.1 within.0 within.1 p part)
+      let within = is_volume_there g k there in
+      subst (λ (size : ℕ). AreBytes size (pieces (volume_piece_number g k.0 k.1 + p))) (size_there g k.0 k.1 p part)
       (sized (volume_piece_number g k.0 k.1 + p) (is_piece g k.0 k.1 within.0 within.1 p part))
 
   bytes_of_volume : (k : VolumeKey) → has_volume g k ≡ true → AreBytes 64 (pieces (volume_piece_number g k.0 k.1))
@@ -114,7 +115,7 @@ module _ (version : ℕ) (g : Geometry) (pieces : ℕ → List ℕ) (sized : (n 
     (good : (n : ℕ) → n < piece_count g → pieces n ≡ piece_of version g (said_by version g pieces) n) where
   part_spelled : (k : VolumeKey) → has_volume g k ≡ true → (p : ℕ) → p < pieces_of_volume g → pieces (volume_piece_number g k.0 k.1 + p) ≡ part_piece version g (said_by version g pieces) k.0 k.1 p
   part_spelled k there p part =
-      let within = volume_there g k there in
+      let within = is_volume_there g k there in
       good (volume_piece_number g k.0 k.1 + p) (is_piece g k.0 k.1 within.0 within.1 p part) ∙ piece_there g k.0 k.1 within.0 within.1 version (said_by version g pieces) p part
 
   volume_spelled : (k : VolumeKey) → has_volume g k ≡ true → pieces (volume_piece_number g k.0 k.1) ≡ volume_piece version g (said_by version g pieces) k.0 k.1
@@ -126,7 +127,7 @@ module _ (version : ℕ) (g : Geometry) (pieces : ℕ → List ℕ) (sized : (n 
   stripe_spelled k there s below = part_spelled k there (suc s) (omega (arith, below))
 
   made_in_range : (k : VolumeKey) → (said_by version g pieces).made k ≡ true → (k.0 < g.aggregates) × (k.1 < g.volumes)
-  made_in_range k made = volume_there g k (and_parts (has_volume g k) (is_made_in (pieces (volume_piece_number g k.0 k.1))) made).0
+  made_in_range k made = is_volume_there g k (and_parts (has_volume g k) (is_made_in (pieces (volume_piece_number g k.0 k.1))) made).0
 
   sealed_is_made : (k : VolumeKey) → (said_by version g pieces).sealed k ≡ true → (said_by version g pieces).made k ≡ true
   sealed_is_made k sealed =

@@ -1,9 +1,9 @@
 -- An image: a head with the version, then the pieces of a state. A state is written in one way, and bytes are an image exactly where they are the image of what they say.
-use Rattle.std.specs.Prelude.{ℕ, Bool, ◌&&◌, ◌||◌, ◌==◌, if◌then◌else◌, List, ◌∷◌, ◌++◌, get_or, replicate, Option, Some, None}
+use Rattle.std.specs.Prelude.{◌≡◌, ℕ, zero, suc, ◌<◌, Bool, true, ◌&&◌, ◌||◌, ◌==◌, if◌then◌else◌, List, ◌∷◌, ◌++◌, get_or, replicate, Option, Some, None}
 use Rattle.std.specs.Str.{bytes_eq}
 use Rattle.affinity.specs.declared.geometry.Geometry.{Geometry}
-use Rattle.plain.specs.State.{State}
-use Rattle.image.specs.Pieces.{piece_count, piece_at, piece_size, piece_of, joined_below, bytes_at, said_by}
+use Rattle.plain.specs.State.{State, empty}
+use Rattle.image.specs.Pieces.{piece_count, piece_at, piece_size, piece_of, joined_below, bytes_at, said_by, with_piece}
 
 -- ---- writing
 
@@ -45,3 +45,14 @@ is_good g bytes n = let version = version_in bytes in bytes_eq (piece_in g bytes
 -- The head is a version and zeros.
 abbrev pub has_head : List ℕ → Bool
 has_head bytes = let version = version_in bytes in is_version version && bytes_eq (bytes_at 0 64 bytes) (head_of version)
+
+-- ---- piece by piece
+
+-- the state that the first n pieces say, taken in one after the other
+abbrev pub said_before : ℕ → Geometry → List ℕ → ℕ → State
+said_before version g bytes zero = empty
+said_before version g bytes (suc n) = with_piece version g (said_before version g bytes n) n (piece_in g bytes n)
+
+-- The first n pieces are good.
+abbrev pub AreGood : Geometry → List ℕ → ℕ → Type 0
+AreGood g bytes n = (i : ℕ) → i < n → is_good g bytes i ≡ true
