@@ -8,4 +8,5 @@ pub mod Order
 pub mod Counted
 pub mod Said
 pub mod Taken
+pub mod Agreeing
 mod Examples
