@@ -1,5 +1,5 @@
 -- Worked examples of the definitions, on a small server: one volume of two files of four blocks, in two stripes that hold two blocks each.
-use Rattle.std.proofs.Common.{◌≡◌, ℕ, ◌+◌, List, [], ◌∷◌, ◌++◌, length, take, drop, replicate, Option, Some, None, refl}
+use Rattle.std.proofs.Common.{◌≡◌, ℕ, ◌+◌, List, [], ◌∷◌, ◌++◌, length, take, drop, replicate, Bool, true, false, Option, Some, None, refl}
 use Rattle.affinity.specs.Geometry.{small}
 use Rattle.message.specs.declared.Block.{Block}
 use Rattle.message.specs.declared.Msg.TheVariants.{MakeVol, Create, Write, Seal, SetLabel, Summary as AskSummary}
@@ -8,7 +8,7 @@ use Rattle.message.specs.declared.Reply.{Reply}
 use Rattle.plain.specs.Serial.{fold, reply_to}
 use Rattle.plain.specs.State.{State, empty}
 use Rattle.image.specs.Pieces.{piece_of}
-use Rattle.image.specs.Image.{image_of, read}
+use Rattle.image.specs.Image.{image_of, read, said_before, is_good}
 
 -- a block that begins with this byte
 abbrev block_of : ℕ → Block
@@ -115,3 +115,32 @@ label_in_version_2 = refl
 
 bytes_behind_the_label : changed_is_read 112 1 two_blocks ≡ None
 bytes_behind_the_label = refl
+
+-- ---- piece by piece
+
+-- what the first n pieces say
+abbrev said_of : ℕ → List ℕ → Reply
+said_of n bytes = reply_to small (said_before 2 small bytes n) AskSummary
+
+nothing_said : said_of 0 (image_of 2 small two_blocks) ≡ Summary 0 0 0
+nothing_said = refl
+
+volume_said : said_of 1 (image_of 2 small two_blocks) ≡ Summary 1 2 0
+volume_said = refl
+
+stripe_said : said_of 2 (image_of 2 small two_blocks) ≡ Summary 1 2 2
+stripe_said = refl
+
+-- A block out of range is in its stripe's piece, and the volume's is good.
+bad_stripe : is_good small (changed 130 4 (image_of 2 small two_blocks)) 1 ≡ false
+bad_stripe = refl
+
+good_volume : is_good small (changed 130 4 (image_of 2 small two_blocks)) 0 ≡ true
+good_volume = refl
+
+-- Where a file is gone, its blocks are bad.
+good_volume_without_a_file : is_good small (changed 72 1 (image_of 2 small two_blocks)) 0 ≡ true
+good_volume_without_a_file = refl
+
+bad_stripe_without_a_file : is_good small (changed 72 1 (image_of 2 small two_blocks)) 1 ≡ false
+bad_stripe_without_a_file = refl

@@ -9,4 +9,5 @@ pub mod Counted
 pub mod Said
 pub mod Taken
 pub mod Agreeing
+pub mod Walk
 mod Examples

@@ -54,11 +54,11 @@ no_block_in_zeros g pieces n a v s f b behind =
 
 -- ---- a field that is told where its volume is there
 
-and_same : (h p q : Bool) → (h ≡ true → p ≡ q) → (h && p) ≡ (h && q)
+pub and_same : (h p q : Bool) → (h ≡ true → p ≡ q) → (h && p) ≡ (h && q)
 and_same true p q same = same refl
 and_same false p q same = refl
 
-if_same : {X : Type 0} (h : Bool) (p q : Option X) → (h ≡ true → p ≡ q) → (if h then p else None) ≡ (if h then q else None)
+pub if_same : {X : Type 0} (h : Bool) (p q : Option X) → (h ≡ true → p ≡ q) → (if h then p else None) ≡ (if h then q else None)
 if_same true p q same = same refl
 if_same false p q same = refl
 

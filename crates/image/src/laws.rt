@@ -1,11 +1,12 @@
 //! An image says what it spells, and a state is spelled in one way: laws of the definitions alone.
 //! No function here does anything; its contract is the law.
 
-ghost use Rattle.std.specs.Prelude.{◌≡◌, ◌+◌, ◌*◌, ◌<◌, ℕ, List, Some, None, length, if◌then◌else◌, ◌==◌};
+ghost use Rattle.std.specs.Prelude.{◌≡◌, ◌+◌, ◌*◌, ◌<◌, ◌≤◌, ◌↔◌, ℕ, suc, true, List, Some, None, is_some, length, if◌then◌else◌, ◌==◌};
 ghost use Rattle.affinity.specs.Geometry.{group};
 ghost use Rattle.affinity.specs.declared.geometry.Geometry.{Geometry};
-ghost use Rattle.image.specs.Image.{image_of, read, version_in, piece_in};
-ghost use Rattle.image.specs.Pieces.{piece_at, piece_count, piece_of, piece_size, stripe_entries};
+ghost use Rattle.image.specs.Image.{AreGood, has_head, image_of, is_good, read, said_before, version_in, piece_in};
+ghost use Rattle.image.specs.Pieces.{aggregate_of, part_of, piece_at, piece_count, piece_of, piece_size, stripe_entries, volume_of};
+ghost use Rattle.message.specs.Messages.{AreBytes};
 ghost use Rattle.plain.specs.State.{State, IsState};
 ghost use Rattle.stripe.specs.Stripe.{Entry, IsAscending, content_at};
 
@@ -17,6 +18,27 @@ pub fn a_state_is_read_again()
 /// Bytes that are read as a state are its image, in the version that their first byte tells.
 pub fn an_image_is_its_spelling()
     ensures { (g : Geometry) (bytes : List ℕ) (x : State) → read g bytes ≡ Some x → bytes ≡ image_of (version_in bytes) g x }
+{}
+
+/// Bytes of an image's length that are read as a state are read as one that keeps all its limits.
+pub fn what_is_read_is_a_state()
+    ensures { (g : Geometry) (bytes : List ℕ) (x : State) → AreBytes (piece_at g (piece_count g)) bytes → read g bytes ≡ Some x → IsState g x }
+{}
+
+/// The pieces of an image can be taken in one after the other, and what was taken in so far shows whether the
+/// last one is good. What good pieces say so far is a state, with no block of a volume before the volume's piece.
+/// An image is read exactly where its head and all its pieces are good, as what these say one after the other.
+pub fn an_image_is_read_piece_by_piece()
+    ensures state { (g : Geometry) (bytes : List ℕ) → AreBytes (piece_at g (piece_count g)) bytes → (n : ℕ) → n ≤ piece_count g → AreGood g bytes n
+        → IsState g (said_before (version_in bytes) g bytes n) }
+    ensures no_blocks { (version : ℕ) (g : Geometry) (bytes : List ℕ) (n : ℕ) → n < piece_count g → part_of g n ≡ 0
+        → (f b : ℕ) → (said_before version g bytes n).blocks (aggregate_of g n, volume_of g n, f, b) ≡ None }
+    ensures good { (g : Geometry) (bytes : List ℕ) (n : ℕ) → n < piece_count g
+        → (is_good g bytes n ≡ true) ↔ (piece_in g bytes n ≡ piece_of (version_in bytes) g (said_before (version_in bytes) g bytes (suc n)) n) }
+    ensures read { (g : Geometry) (bytes : List ℕ) → AreBytes (piece_at g (piece_count g)) bytes → has_head bytes ≡ true → AreGood g bytes (piece_count g)
+        → read g bytes ≡ Some (said_before (version_in bytes) g bytes (piece_count g)) }
+    ensures only { (g : Geometry) (bytes : List ℕ) → AreBytes (piece_at g (piece_count g)) bytes → is_some (read g bytes) ≡ true
+        → (has_head bytes ≡ true) × AreGood g bytes (piece_count g) }
 {}
 
 /// Each piece of an image has its size and stands at its place, and the last one ends the image.

@@ -1,0 +1,6 @@
+-- The lemma of that name.
+use Rattle.image.proofs.Walk.{read_is_a_state}
+use Rattle.image.proofs.laws.what_is_read_is_a_state.Goals as goal
+
+pub returns : goal.returns
+returns c g bytes x are is = read_is_a_state g bytes are x is
