@@ -1,13 +1,15 @@
 -- Worked examples of the definitions, on a small server: one volume of two files of four blocks, in two stripes that hold two blocks each.
 use Rattle.std.proofs.Common.{◌≡◌, ℕ, ◌+◌, List, [], ◌∷◌, ◌++◌, length, take, drop, replicate, Bool, true, false, Option, Some, None, refl}
-use Rattle.affinity.specs.Geometry.{small}
+use Rattle.affinity.specs.Geometry.{small, standard}
 use Rattle.message.specs.declared.Block.{Block}
-use Rattle.message.specs.declared.Msg.TheVariants.{MakeVol, Create, Write, Seal, SetLabel, Summary as AskSummary}
+use Rattle.message.specs.declared.Msg.{Msg}
+use Rattle.message.specs.declared.Msg.TheVariants.{MakeVol, DropVol, Create, Delete, Seal, Unseal, Write, Punch, Read, List as ListFiles, Usage as AskUsage, Summary as AskSummary, SetLabel, Label as AskLabel}
 use Rattle.message.specs.declared.Reply.TheVariants.{Summary}
 use Rattle.message.specs.declared.Reply.{Reply}
 use Rattle.plain.specs.Serial.{fold, reply_to}
 use Rattle.plain.specs.State.{State, empty}
 use Rattle.image.specs.Pieces.{piece_of}
+use Rattle.image.specs.Touched.{touches}
 use Rattle.image.specs.Image.{image_of, read, said_before, is_good}
 
 -- a block that begins with this byte
@@ -144,3 +146,45 @@ good_volume_without_a_file = refl
 
 bad_stripe_without_a_file : is_good small (changed 72 1 (image_of 2 small two_blocks)) 1 ≡ false
 bad_stripe_without_a_file = refl
+
+-- ---- which pieces a message touches
+
+-- of the volume's piece, that of its first stripe and that of its second
+abbrev touched_in_small : Msg → List Bool
+touched_in_small m = touches small m 0 ∷ touches small m 1 ∷ touches small m 2 ∷ []
+
+make_touches : touched_in_small (MakeVol 0 0) ≡ true ∷ false ∷ false ∷ []
+make_touches = refl
+
+drop_touches : touched_in_small (DropVol 0 0) ≡ true ∷ true ∷ true ∷ []
+drop_touches = refl
+
+create_touches : touched_in_small (Create 0 0 1) ≡ true ∷ false ∷ false ∷ []
+create_touches = refl
+
+delete_touches : touched_in_small (Delete 0 0 1) ≡ true ∷ true ∷ true ∷ []
+delete_touches = refl
+
+seal_touches : touched_in_small (Seal 0 0) ≡ true ∷ false ∷ false ∷ []
+seal_touches = refl
+
+unseal_touches : touched_in_small (Unseal 0 0) ≡ true ∷ false ∷ false ∷ []
+unseal_touches = refl
+
+write_touches : touched_in_small (Write 0 0 1 1 (block_of 97)) ≡ false ∷ true ∷ false ∷ []
+write_touches = refl
+
+punch_touches : touched_in_small (Punch 0 0 1 2) ≡ false ∷ false ∷ true ∷ []
+punch_touches = refl
+
+label_touches : touched_in_small (SetLabel 0 0 (label_of 99)) ≡ true ∷ false ∷ false ∷ []
+label_touches = refl
+
+questions_touch_nothing : touched_in_small (Read 0 0 1 1) ++ touched_in_small (ListFiles 0 0) ++ touched_in_small (AskUsage 0 0) ++ touched_in_small AskSummary ++ touched_in_small (AskLabel 0 0)
+    ≡ replicate 15 false
+questions_touch_nothing = refl
+
+-- The second of four volumes has five pieces, behind the five of the first one.
+drop_touches_its_volume : touches standard (DropVol 0 1) 4 ∷ touches standard (DropVol 0 1) 5 ∷ touches standard (DropVol 0 1) 9 ∷ touches standard (DropVol 0 1) 10 ∷ []
+    ≡ false ∷ true ∷ true ∷ false ∷ []
+drop_touches_its_volume = refl

@@ -10,4 +10,5 @@ pub mod Said
 pub mod Taken
 pub mod Agreeing
 pub mod Walk
+pub mod Untouched
 mod Examples

@@ -1,12 +1,15 @@
 //! An image says what it spells, and a state is spelled in one way: laws of the definitions alone.
 //! No function here does anything; its contract is the law.
 
-ghost use Rattle.std.specs.Prelude.{◌≡◌, ◌+◌, ◌*◌, ◌<◌, ◌≤◌, ◌↔◌, ℕ, suc, true, List, Some, None, is_some, length, if◌then◌else◌, ◌==◌};
+ghost use Rattle.std.specs.Prelude.{◌≡◌, ◌+◌, ◌*◌, ◌<◌, ◌≤◌, ◌↔◌, ℕ, suc, true, false, List, Some, None, is_some, length, if◌then◌else◌, ◌==◌};
 ghost use Rattle.affinity.specs.Geometry.{group};
 ghost use Rattle.affinity.specs.declared.geometry.Geometry.{Geometry};
 ghost use Rattle.image.specs.Image.{AreGood, has_head, image_of, is_good, read, said_before, version_in, piece_in};
 ghost use Rattle.image.specs.Pieces.{aggregate_of, part_of, piece_at, piece_count, piece_of, piece_size, stripe_entries, volume_of};
 ghost use Rattle.message.specs.Messages.{AreBytes};
+ghost use Rattle.image.specs.Touched.{touches};
+ghost use Rattle.message.specs.declared.Msg.{Msg};
+ghost use Rattle.plain.specs.Serial.{next_state};
 ghost use Rattle.plain.specs.State.{State, IsState};
 ghost use Rattle.stripe.specs.Stripe.{Entry, IsAscending, content_at};
 
@@ -52,4 +55,10 @@ pub fn an_image_is_cut_into_its_pieces()
 pub fn entries_of_a_stripe_are_spelled()
     ensures { (g : Geometry) (x : State) → IsState g x → (a v s : ℕ) (es : List Entry) → IsAscending es
         → ((f b : ℕ) → content_at es f b ≡ (if group g f b == s then x.blocks (a, v, f, b) else None)) → es ≡ stripe_entries g x a v s }
+{}
+
+/// A piece that a message doesn't touch is the same before it and behind it.
+pub fn an_untouched_piece_stays()
+    ensures { (version : ℕ) (g : Geometry) (x : State) (m : Msg) (n : ℕ) → IsState g x → touches g m n ≡ false
+        → piece_of version g (next_state g x m) n ≡ piece_of version g x n }
 {}

@@ -1,0 +1,189 @@
+-- A message changes no piece but those that it touches.
+use Rattle.std.proofs.Common.{◌≡◌, ◌≢◌, ℕ, zero, suc, ◌^◌, Bool, true, false, ◌&&◌, ◌||◌, not, List, [], ◌∷◌, ◌++◌, replicate, Option, Some, None, is_some, refl, sym, ◌∙◌, ap, true≢false}
+use Rattle.std.specs.Prelude.{◌==◌, if◌then◌else◌}
+use Rattle.std.proofs.lemmas.Bool.{and_parts, eqb-true, eq-eqb}
+use Rattle.affinity.specs.Geometry.{group}
+use Rattle.affinity.specs.declared.geometry.Geometry.{Geometry}
+use Rattle.byteorder.specs.Endian.{little_bytes}
+use Rattle.message.specs.declared.Block.{Block}
+use Rattle.message.specs.declared.Msg.{Msg}
+use Rattle.message.specs.declared.Msg.TheVariants.{MakeVol, DropVol, Create, Delete, Seal, Unseal, Write, Punch, Read, List as ListFiles, Usage as AskUsage, Summary as AskSummary, SetLabel, Label as AskLabel}
+use Rattle.message.specs.declared.Refusal.{Refusal}
+use Rattle.plain.specs.Serial.{key, effect, outcome, accepted_reply, refusal, next_state, no_label}
+use Rattle.plain.specs.State.{State, IsState, sum_below, one_if, is_volume, is_file, is_block, is_block_of_file}
+use Rattle.stripe.specs.Entries.{stripe_bytes}
+use Rattle.image.specs.Pieces.{aggregate_of, volume_of, part_of, piece_of, part_piece, volume_piece, label_bytes, stripe_piece, entry_if}
+use Rattle.image.specs.Touched.{touches, touches_part}
+use Rattle.image.proofs.Agreeing.{entries_same, no_entry_of_none}
+
+-- ---- another volume
+
+-- States agree on all of a volume.
+record AgreeAt (x y : State) (a v : ℕ) : Type 0 where
+  made : x.made (a, v) ≡ y.made (a, v)
+  sealed : x.sealed (a, v) ≡ y.sealed (a, v)
+  files : (f : ℕ) → x.files (a, v, f) ≡ y.files (a, v, f)
+  blocks : (f b : ℕ) → x.blocks (a, v, f, b) ≡ y.blocks (a, v, f, b)
+  labels : x.labels (a, v) ≡ y.labels (a, v)
+
+agreeing : (version : ℕ) (g : Geometry) (x y : State) (a v : ℕ) → AgreeAt x y a v → (p : ℕ) → part_piece version g x a v p ≡ part_piece version g y a v p
+agreeing version g x y a v same zero = λ i.
+    if same.made i
+    then 1 ∷ one_if (same.sealed i) ∷ [] ++ replicate 6 0 ++ little_bytes 8 (sum_below g.files (λ f. if same.files f i then 2 ^ f else 0)) ++ label_bytes version (same.labels i) ++ replicate 16 0
+    else replicate 64 0
+agreeing version g x y a v same (suc s) = ap (stripe_bytes g.quota) (entries_same g x y a v s (λ f b on. (λ i. entry_if (same.files f i) f b (same.blocks f b i))))
+
+other_three : (p q r : Bool) → (p && q) ≡ false → (p && q && r) ≡ false
+other_three true true r off = absurd (true≢false off)
+other_three true false r off = refl
+other_three false q r off = refl
+
+other_four : (p q r s : Bool) → (p && q) ≡ false → (p && q && r && s) ≡ false
+other_four true true r s off = absurd (true≢false off)
+other_four true false r s off = refl
+other_four false q r s off = refl
+
+module _ (x : State) (i j : ℕ) where
+  agrees_elsewhere : (m : Msg) → is_volume (key m).0 (key m).1 (i, j) ≡ false → AgreeAt (effect x m) x i j
+  agrees_elsewhere (MakeVol a v) off = record {
+    made = ap (λ (t : Bool). t || x.made (i, j)) off;
+    sealed = refl;
+    files = λ f. refl;
+    blocks = λ f b. refl;
+    labels = ap (λ (t : Bool). if t then Some no_label else x.labels (i, j)) off;
+  }
+  agrees_elsewhere (DropVol a v) off = record {
+    made = ap (λ (t : Bool). not t && x.made (i, j)) off;
+    sealed = ap (λ (t : Bool). not t && x.sealed (i, j)) off;
+    files = λ f. ap (λ (t : Bool). not t && x.files (i, j, f)) off;
+    blocks = λ f b. ap (λ (t : Bool). if t then None else x.blocks (i, j, f, b)) off;
+    labels = ap (λ (t : Bool). if t then None else x.labels (i, j)) off;
+  }
+  agrees_elsewhere (Create a v f) off = record {
+    made = refl;
+    sealed = refl;
+    files = λ k. ap (λ (t : Bool). t || x.files (i, j, k)) (other_three (a == i) (v == j) (f == k) off);
+    blocks = λ k b. refl;
+    labels = refl;
+  }
+  agrees_elsewhere (Delete a v f) off = record {
+    made = refl;
+    sealed = refl;
+    files = λ k. ap (λ (t : Bool). not t && x.files (i, j, k)) (other_three (a == i) (v == j) (f == k) off);
+    blocks = λ k b. ap (λ (t : Bool). if t then None else x.blocks (i, j, k, b)) (other_three (a == i) (v == j) (f == k) off);
+    labels = refl;
+  }
+  agrees_elsewhere (Seal a v) off = record {
+    made = refl;
+    sealed = ap (λ (t : Bool). t || x.sealed (i, j)) off;
+    files = λ f. refl;
+    blocks = λ f b. refl;
+    labels = refl;
+  }
+  agrees_elsewhere (Unseal a v) off = record {
+    made = refl;
+    sealed = ap (λ (t : Bool). not t && x.sealed (i, j)) off;
+    files = λ f. refl;
+    blocks = λ f b. refl;
+    labels = refl;
+  }
+  agrees_elsewhere (Write a v f b content) off = record {
+    made = refl;
+    sealed = refl;
+    files = λ k. refl;
+    blocks = λ k l. ap (λ (t : Bool). if t then Some content else x.blocks (i, j, k, l)) (other_four (a == i) (v == j) (f == k) (b == l) off);
+    labels = refl;
+  }
+  agrees_elsewhere (Punch a v f b) off = record {
+    made = refl;
+    sealed = refl;
+    files = λ k. refl;
+    blocks = λ k l. ap (λ (t : Bool). if t then None else x.blocks (i, j, k, l)) (other_four (a == i) (v == j) (f == k) (b == l) off);
+    labels = refl;
+  }
+  agrees_elsewhere (SetLabel a v bytes) off = record {
+    made = refl;
+    sealed = refl;
+    files = λ f. refl;
+    blocks = λ f b. refl;
+    labels = ap (λ (t : Bool). if t then Some bytes else x.labels (i, j)) off;
+  }
+  agrees_elsewhere (Read a v f b) off = record { made = refl; sealed = refl; files = λ k. refl; blocks = λ k l. refl; labels = refl }
+  agrees_elsewhere (ListFiles a v) off = record { made = refl; sealed = refl; files = λ k. refl; blocks = λ k l. refl; labels = refl }
+  agrees_elsewhere (AskUsage a v) off = record { made = refl; sealed = refl; files = λ k. refl; blocks = λ k l. refl; labels = refl }
+  agrees_elsewhere AskSummary off = record { made = refl; sealed = refl; files = λ k. refl; blocks = λ k l. refl; labels = refl }
+  agrees_elsewhere (AskLabel a v) off = record { made = refl; sealed = refl; files = λ k. refl; blocks = λ k l. refl; labels = refl }
+
+-- ---- another part
+
+module _ (g : Geometry) (x : State) (is : IsState g x) (a v s : ℕ) where
+  -- A file that is made has no blocks.
+  created : (i j k : ℕ) → stripe_piece g (effect x (Create i j k)) a v s ≡ stripe_piece g x a v s
+  created i j k = ap (stripe_bytes g.quota) (entries_same g (effect x (Create i j k)) x a v s (λ f b on. by f b (x.files (a, v, f)) (x.blocks (a, v, f, b)) refl refl))
+    where
+      by : (f b : ℕ) (t : Bool) (o : Option Block) → x.files (a, v, f) ≡ t → x.blocks (a, v, f, b) ≡ o → entry_if (is_file i j k (a, v, f) || t) f b o ≡ entry_if t f b o
+      by f b true o there has = ap (λ (t : Bool). entry_if t f b o) (or_true (is_file i j k (a, v, f)))
+        where
+          or_true : (p : Bool) → (p || true) ≡ true
+          or_true true = refl
+          or_true false = refl
+      by f b false None out has = no_entry_of_none (is_file i j k (a, v, f) || false) f b
+      by f b false (Some content) out has = absurd (true≢false (sym (is.blocks (a, v, f, b) (ap (λ (o : Option Block). is_some o) has)).1 ∙ out))
+
+-- one block of another stripe
+block_elsewhere : (g : Geometry) (s i j k l a v f b : ℕ) → s ≢ group g k l → group g f b ≡ s → is_block i j k l (a, v, f, b) ≡ false
+block_elsewhere g s i j k l a v f b other on = by (i == a) (j == v) (k == f) (l == b) (λ file block. other (sym on ∙ sym (λ n. group g (eqb-true k f file n) (eqb-true l b block n))))
+  where
+    by : (p q r t : Bool) → (r ≡ true → t ≡ true → ⊥) → (p && q && r && t) ≡ false
+    by true true true true none = absurd (none refl refl)
+    by true true true false none = refl
+    by true true false t none = refl
+    by true false r t none = refl
+    by false q r t none = refl
+
+module _ (version : ℕ) (g : Geometry) (x : State) (is : IsState g x) (i j : ℕ) where
+  part_untouched : (m : Msg) (p : ℕ) → touches_part g m p ≡ false → part_piece version g (effect x m) i j p ≡ part_piece version g x i j p
+  part_untouched (MakeVol a v) zero off = absurd (true≢false off)
+  part_untouched (MakeVol a v) (suc s) off = refl
+  part_untouched (DropVol a v) p off = absurd (true≢false off)
+  part_untouched (Create a v f) zero off = absurd (true≢false off)
+  part_untouched (Create a v f) (suc s) off = created g x is i j s a v f
+  part_untouched (Delete a v f) p off = absurd (true≢false off)
+  part_untouched (Seal a v) zero off = absurd (true≢false off)
+  part_untouched (Seal a v) (suc s) off = refl
+  part_untouched (Unseal a v) zero off = absurd (true≢false off)
+  part_untouched (Unseal a v) (suc s) off = refl
+  part_untouched (Write a v f b content) zero off = refl
+  part_untouched (Write a v f b content) (suc s) off =
+      let other : s ≢ group g f b = λ same. true≢false (sym (eq-eqb (suc s) (suc (group g f b)) (ap suc same)) ∙ off) in
+      ap (stripe_bytes g.quota)
+      (entries_same g (effect x (Write a v f b content)) x i j s
+      (λ k l on. ap (λ (t : Bool). entry_if (x.files (i, j, k)) k l (if t then Some content else x.blocks (i, j, k, l))) (block_elsewhere g s a v f b i j k l other on)))
+  part_untouched (Punch a v f b) zero off = refl
+  part_untouched (Punch a v f b) (suc s) off =
+      let other : s ≢ group g f b = λ same. true≢false (sym (eq-eqb (suc s) (suc (group g f b)) (ap suc same)) ∙ off) in
+      ap (stripe_bytes g.quota)
+      (entries_same g (effect x (Punch a v f b)) x i j s
+      (λ k l on. ap (λ (t : Bool). entry_if (x.files (i, j, k)) k l (if t then None else x.blocks (i, j, k, l))) (block_elsewhere g s a v f b i j k l other on)))
+  part_untouched (SetLabel a v bytes) zero off = absurd (true≢false off)
+  part_untouched (SetLabel a v bytes) (suc s) off = refl
+  part_untouched (Read a v f b) p off = refl
+  part_untouched (ListFiles a v) p off = refl
+  part_untouched (AskUsage a v) p off = refl
+  part_untouched AskSummary p off = refl
+  part_untouched (AskLabel a v) p off = refl
+
+module _ (version : ℕ) (g : Geometry) (x : State) (is : IsState g x) (m : Msg) (n : ℕ) (off : touches g m n ≡ false) where
+  effect_leaves : piece_of version g (effect x m) n ≡ piece_of version g x n
+  effect_leaves = by (is_volume (key m).0 (key m).1 (aggregate_of g n, volume_of g n)) refl off
+    where
+      by : (t : Bool) → is_volume (key m).0 (key m).1 (aggregate_of g n, volume_of g n) ≡ t → (t && touches_part g m (part_of g n)) ≡ false → piece_of version g (effect x m) n ≡ piece_of version g x n
+      by true on none = part_untouched version g x is (aggregate_of g n) (volume_of g n) m (part_of g n) none
+      by false out none = agreeing version g (effect x m) x (aggregate_of g n) (volume_of g n) (agrees_elsewhere x (aggregate_of g n) (volume_of g n) m out) (part_of g n)
+
+  pub piece_stays : piece_of version g (next_state g x m) n ≡ piece_of version g x n
+  piece_stays = by (refusal g x m)
+    where
+      by : (o : Option Refusal) → piece_of version g (outcome o (accepted_reply g x m) (effect x m) x).1 n ≡ piece_of version g x n
+      by None = effect_leaves
+      by (Some why) = refl

@@ -1,0 +1,42 @@
+//! Which pieces of an image a message may change.
+ghost use Rattle.std.specs.Prelude.{◌≡◌};
+ghost use Rattle.image.specs.Touched.{touches, touches_part};
+
+use affinity::{Geometry, group_of};
+use message::Msg;
+
+/// Whether a message may change piece `n` of an image: some of its volume's pieces, and none where it only asks.
+/// All other pieces stay as they are, whatever the message is told.
+pub fn touched(g: &Geometry, m: &Msg, n: usize) -> bool
+    ensures { result ≡ touches g.now m.now n }
+{
+    let pieces_of_volume = usize::from(g.stripes) + 1;
+    let volumes = usize::from(g.volumes);
+    let place = n / pieces_of_volume;
+    let [aggregate, volume, _, _] = m.numbers();
+    if usize::from(aggregate) != place / volumes {
+        return false;
+    }
+    if usize::from(volume) != place % volumes {
+        return false;
+    }
+    touches_part(g, m, n % pieces_of_volume)
+}
+
+// Whether a message may change this part of its own volume: 0 is the volume's piece, and `s + 1` that of stripe `s`.
+fn touches_part(g: &Geometry, m: &Msg, part: usize) -> bool
+    ensures { result ≡ touches_part g.now m.now part }
+{
+    match *m {
+        Msg::MakeVol(..)
+        | Msg::Create(..)
+        | Msg::Seal(..)
+        | Msg::Unseal(..)
+        | Msg::SetLabel(..) => part == 0,
+        Msg::DropVol(..) | Msg::Delete(..) => true,
+        Msg::Write(_, _, file, block, _) | Msg::Punch(_, _, file, block) => {
+            part == usize::from(group_of(g, file, block)) + 1
+        }
+        Msg::Read(..) | Msg::List(..) | Msg::Usage(..) | Msg::Summary | Msg::Label(..) => false,
+    }
+}
