@@ -25,23 +25,25 @@ pub fn an_image_is_its_spelling()
 
 /// Bytes of an image's length that are read as a state are read as one that keeps all its limits.
 pub fn what_is_read_is_a_state()
-    ensures { (g : Geometry) (bytes : List ℕ) (x : State) → AreBytes (piece_at g (piece_count g)) bytes → read g bytes ≡ Some x → IsState g x }
+    ensures { (g : Geometry) (bytes : List ℕ) (x : State) → AreBytes (piece_at g (piece_count g)) bytes
+        → read g bytes ≡ Some x → IsState g x }
 {}
 
 /// The pieces of an image can be taken in one after the other, and what was taken in so far shows whether the
 /// last one is good. What good pieces say so far is a state, with no block of a volume before the volume's piece.
 /// An image is read exactly where its head and all its pieces are good, as what these say one after the other.
 pub fn an_image_is_read_piece_by_piece()
-    ensures state { (g : Geometry) (bytes : List ℕ) → AreBytes (piece_at g (piece_count g)) bytes → (n : ℕ) → n ≤ piece_count g → AreGood g bytes n
-        → IsState g (said_before (version_in bytes) g bytes n) }
+    ensures state { (g : Geometry) (bytes : List ℕ) → AreBytes (piece_at g (piece_count g)) bytes
+        → (n : ℕ) → n ≤ piece_count g → AreGood g bytes n → IsState g (said_before (version_in bytes) g bytes n) }
     ensures no_blocks { (version : ℕ) (g : Geometry) (bytes : List ℕ) (n : ℕ) → n < piece_count g → part_of g n ≡ 0
         → (f b : ℕ) → (said_before version g bytes n).blocks (aggregate_of g n, volume_of g n, f, b) ≡ None }
-    ensures good { (g : Geometry) (bytes : List ℕ) (n : ℕ) → n < piece_count g
-        → (is_good g bytes n ≡ true) ↔ (piece_in g bytes n ≡ piece_of (version_in bytes) g (said_before (version_in bytes) g bytes (suc n)) n) }
-    ensures read { (g : Geometry) (bytes : List ℕ) → AreBytes (piece_at g (piece_count g)) bytes → has_head bytes ≡ true → AreGood g bytes (piece_count g)
+    ensures good { (g : Geometry) (bytes : List ℕ) (n : ℕ) → n < piece_count g → (is_good g bytes n ≡ true)
+        ↔ (piece_in g bytes n ≡ piece_of (version_in bytes) g (said_before (version_in bytes) g bytes (suc n)) n) }
+    ensures read { (g : Geometry) (bytes : List ℕ) → AreBytes (piece_at g (piece_count g)) bytes
+        → has_head bytes ≡ true → AreGood g bytes (piece_count g)
         → read g bytes ≡ Some (said_before (version_in bytes) g bytes (piece_count g)) }
-    ensures only { (g : Geometry) (bytes : List ℕ) → AreBytes (piece_at g (piece_count g)) bytes → is_some (read g bytes) ≡ true
-        → (has_head bytes ≡ true) × AreGood g bytes (piece_count g) }
+    ensures only { (g : Geometry) (bytes : List ℕ) → AreBytes (piece_at g (piece_count g)) bytes
+        → is_some (read g bytes) ≡ true → (has_head bytes ≡ true) × AreGood g bytes (piece_count g) }
 {}
 
 /// Each piece of an image has its size and stands at its place, and the last one ends the image.
