@@ -1,16 +1,14 @@
 -- What a piece of a state is made of: states that agree there have the same piece.
-use Rattle.std.proofs.Common.{◌≡◌, ℕ, zero, suc, ◌+◌, ◌*◌, ◌-◌, ◌≤◌, Bool, true, false, ◌&&◌, List, [], ◌++◌, replicate, Option, Some, None, refl, sym, ◌∙◌, ap, arith, true≢false}
+use Rattle.std.proofs.Common.{◌≡◌, ℕ, zero, suc, ◌+◌, ◌*◌, ◌-◌, ◌≤◌, Bool, true, false, ◌&&◌, List, [], ◌++◌, replicate, Option, None, refl, sym, ◌∙◌, ap, arith}
 use Rattle.std.specs.Prelude.{◌==◌, if◌then◌else◌}
 use Rattle.std.proofs.lemmas.Bool.{eqb-true}
 use Rattle.affinity.specs.Geometry.{group}
 use Rattle.affinity.specs.declared.geometry.Geometry.{Geometry}
-use Rattle.byteorder.specs.Endian.{little_bytes}
 use Rattle.message.specs.declared.Block.{Block}
-use Rattle.plain.specs.Serial.{file_bits}
-use Rattle.plain.specs.State.{State, empty, one_if}
+use Rattle.plain.specs.State.{State, empty}
 use Rattle.stripe.specs.Entries.{stripe_bytes}
 use Rattle.stripe.specs.Stripe.{Entry}
-use Rattle.image.specs.Pieces.{piece_size, part_size, piece_of, part_piece, aggregate_of, volume_of, part_of, volume_piece_number, stripe_piece_number, has_volume, volume_piece, label_bytes, stripe_piece, stripe_entries, entry_if, joined_below, has_file_in, is_made_in, block_in, said_by}
+use Rattle.image.specs.Pieces.{piece_size, part_size, piece_of, part_piece, aggregate_of, volume_of, part_of, volume_piece_number, stripe_piece_number, has_volume, volume_piece, stripe_piece, stripe_entries, entry_if, joined_below, has_file_in, is_made_in, block_in, said_by}
 use Rattle.image.proofs.Numbers.{number_there}
 use Rattle.image.proofs.Taken.{first_of, zeros_of_volume, no_block_in_zeros}
 
@@ -51,7 +49,7 @@ module _ (version : ℕ) (g : Geometry) (ps qs : ℕ → List ℕ) where
       (entries_same g (said_by version g ps) (said_by version g qs) a v s
       (λ f b on.
       let there : ps (stripe_piece_number g a v (group g f b)) ≡ qs (stripe_piece_number g a v (group g f b)) =
-          ap (λ (j : ℕ). ps (stripe_piece_number g a v j)) on ∙ here ∙ sym (ap (λ (j : ℕ). qs (stripe_piece_number g a v j)) on) in
+      ap (λ (j : ℕ). ps (stripe_piece_number g a v j)) on ∙ here ∙ sym (ap (λ (j : ℕ). qs (stripe_piece_number g a v j)) on) in
       (λ i. entry_if (has_volume g (a, v) && has_file_in (first i) f) f b (if has_volume g (a, v) then block_in g (there i) f b else None))))
 
   -- a piece depends on what is said by itself and by its volume's piece
@@ -95,10 +93,10 @@ module _ (version : ℕ) (g : Geometry) (pieces : ℕ → List ℕ) (n i : ℕ) 
           let number = number_there g i in
           let x : State = said_by version g (first_of g pieces n) in
           let none : (f b : ℕ) → group g f b ≡ s → x.blocks (a, v, f, b) ≡ None =
-              λ f b on. if_none (has_volume g (a, v)) _ (no_block_in_zeros g pieces n a v (group g f b) f b (omega (arith, number, part, on, behind))) in
+          λ f b on. if_none (has_volume g (a, v)) _ (no_block_in_zeros g pieces n a v (group g f b) f b (omega (arith, number, part, on, behind))) in
           let nothing : stripe_entries g x a v s ≡ [] =
-              entries_same g x empty a v s (λ f b on. ap (entry_if (x.files (a, v, f)) f b) (none f b on) ∙ no_entry_of_none (x.files (a, v, f)) f b)
-              ∙ nothing_joined g.files (λ f. joined_below g.blocks (λ b. [])) (λ f. nothing_joined g.blocks (λ b. []) (λ b. refl)) in
+          entries_same g x empty a v s (λ f b on. ap (entry_if (x.files (a, v, f)) f b) (none f b on) ∙ no_entry_of_none (x.files (a, v, f)) f b)
+          ∙ nothing_joined g.files (λ f. joined_below g.blocks (λ b. [])) (λ f. nothing_joined g.blocks (λ b. []) (λ b. refl)) in
           let size : g.quota * 520 - 0 ≡ g.quota * 520 = omega arith in
           ap (stripe_bytes g.quota) nothing ∙ ap (λ (k : ℕ). replicate k 0) size
         where

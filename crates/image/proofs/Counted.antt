@@ -1,5 +1,5 @@
 -- What entries hold is of as many blocks as there are entries, at most, and of each all that holds of them.
-use Rattle.std.proofs.Common.{◌≡◌, ℕ, zero, suc, ◌+◌, ◌*◌, ◌<◌, ◌≤◌, Bool, true, false, ◌&&◌, List, [], ◌∷◌, length, take, drop, get_or, Option, Some, None, IfSome, is_some, refl, sym, ◌∙◌, ap, arith, ⊎_elim, true≢false, length-take, length-drop}
+use Rattle.std.proofs.Common.{◌≡◌, ℕ, zero, suc, ◌+◌, ◌*◌, ◌<◌, ◌≤◌, Bool, true, false, ◌&&◌, List, [], ◌∷◌, length, take, drop, get_or, Option, Some, IfSome, is_some, refl, sym, ◌∙◌, ap, arith, ⊎_elim, true≢false, length-take, length-drop}
 use Rattle.std.specs.Prelude.{◌==◌, if◌then◌else◌}
 use Rattle.std.specs.List.{AllByRecursion}
 use Rattle.std.proofs.lemmas.Bool.{cases_lt, cases_eq, ne_eqb, eqb-true, and_parts}
@@ -103,11 +103,11 @@ few_held n m (e ∷ es) =
     let rest = few_held n m es in
     let once = block_once n m e.file e.block in
     let more : sum_below n (λ f. count_below m (λ b. is_some (content_at (e ∷ es) f b)))
-        ≤ sum_below n (λ f. sum_below m (λ b. one_if ((f == e.file) && (b == e.block))) + count_below m (λ b. is_some (content_at es f b))) =
-        sum_below-le n _ _ (λ f below. let each : count_below m (λ b. is_some (content_at (e ∷ es) f b)) ≤ sum_below m (λ b. one_if ((f == e.file) && (b == e.block)) + one_if (is_some (content_at es f b))) =
-            sum_below-le m _ _ (λ b few. one_more ((f == e.file) && (b == e.block)) e.content (content_at es f b)) in
-        let apart = sum_below-add m (λ b. one_if ((f == e.file) && (b == e.block))) (λ b. one_if (is_some (content_at es f b))) in
-        omega (arith, each, apart)) in
+    ≤ sum_below n (λ f. sum_below m (λ b. one_if ((f == e.file) && (b == e.block))) + count_below m (λ b. is_some (content_at es f b))) =
+    sum_below-le n _ _ (λ f below. let each : count_below m (λ b. is_some (content_at (e ∷ es) f b)) ≤ sum_below m (λ b. one_if ((f == e.file) && (b == e.block)) + one_if (is_some (content_at es f b))) =
+    sum_below-le m _ _ (λ b few. one_more ((f == e.file) && (b == e.block)) e.content (content_at es f b)) in
+    let apart = sum_below-add m (λ b. one_if ((f == e.file) && (b == e.block))) (λ b. one_if (is_some (content_at es f b))) in
+    omega (arith, each, apart)) in
     let apart = sum_below-add n (λ f. sum_below m (λ b. one_if ((f == e.file) && (b == e.block)))) (λ f. count_below m (λ b. is_some (content_at es f b))) in
     omega (arith, rest, once, more, apart)
 
@@ -117,7 +117,7 @@ pub few_of_stripe : (g : Geometry) (s : ℕ) (held : ℕ → ℕ → Option Bloc
 few_of_stripe g s held es same =
     let few = few_held g.files g.blocks es in
     let less : sum_below g.files (λ f. count_below g.blocks (λ b. (group g f b == s) && is_some (held f b))) ≤ sum_below g.files (λ f. count_below g.blocks (λ b. is_some (content_at es f b))) =
-        sum_below-le g.files _ _ (λ f below. sum_below-le g.blocks _ _ (λ b small. each f b)) in
+    sum_below-le g.files _ _ (λ f below. sum_below-le g.blocks _ _ (λ b small. each f b)) in
     omega (arith, few, less)
   where
     each : (f b : ℕ) → one_if ((group g f b == s) && is_some (held f b)) ≤ one_if (is_some (content_at es f b))

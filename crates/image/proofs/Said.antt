@@ -1,8 +1,8 @@
 -- What pieces say is a state of the right sizes, whatever they say; and it is a state where each of them is that of what they say.
-use Rattle.std.proofs.Common.{◌≡◌, ℕ, zero, suc, ◌+◌, ◌*◌, ◌-◌, ◌/◌, ◌^◌, ◌<◌, ◌≤◌, Bool, true, false, ◌&&◌, List, [], length, take, drop, Option, Some, None, is_some, IfSome, refl, sym, ◌∙◌, ap, subst, arith, inl, inr, ⊎_elim, true≢false, mod-lt, length-take, length-drop}
+use Rattle.std.proofs.Common.{◌≡◌, ℕ, suc, ◌+◌, ◌*◌, ◌-◌, ◌^◌, ◌<◌, ◌≤◌, Bool, true, false, ◌&&◌, List, [], length, drop, Option, Some, None, is_some, IfSome, refl, sym, ◌∙◌, ap, subst, arith, ⊎_elim, true≢false, length-take, length-drop}
 use Rattle.std.specs.Prelude.{◌==◌, nat_lt, if◌then◌else◌}
 use Rattle.std.specs.List.{AllByRecursion, flat_map}
-use Rattle.std.proofs.lemmas.Bool.{cases_lt, and_parts, and_from, lt-ltb, ltb-true, false_from_ne_true}
+use Rattle.std.proofs.lemmas.Bool.{cases_lt, and_parts, ltb-true}
 use Rattle.std.proofs.Math.Nat.{pow-le-pow_right}
 use Rattle.std.proofs.lemmas.Nat.Bits.{bit_at_above}
 use Rattle.affinity.specs.Geometry.{group}
@@ -24,7 +24,7 @@ use Rattle.image.proofs.Numbers.{size_there}
 use Rattle.image.proofs.FileNumber.{number_of, number_small}
 use Rattle.image.proofs.Measures.{IsMeasured, all-take, all-drop, all-zeros, all_joined, entries_good, entries_most}
 use Rattle.image.proofs.Order.{one_of}
-use Rattle.image.proofs.Reading.{made_said, sealed_said, number_said, eight_bytes}
+use Rattle.image.proofs.Reading.{sealed_said, number_said, eight_bytes}
 
 pub is_volume_there : (g : Geometry) (k : VolumeKey) → has_volume g k ≡ true → (k.0 < g.aggregates) × (k.1 < g.volumes)
 is_volume_there g k there =
@@ -141,7 +141,7 @@ module _ (version : ℕ) (g : Geometry) (pieces : ℕ → List ℕ) (sized : (n 
       let x : State = said_by version g pieces in
       let parts = and_parts (has_volume g (k.0, k.1)) (has_file_in (pieces (volume_piece_number g k.0 k.1)) k.2) there in
       let number : bytes_at 8 8 (pieces (volume_piece_number g k.0 k.1)) ≡ little_bytes 8 (if x.made (k.0, k.1) then file_bits g x k.0 k.1 else 0) =
-          ap (λ (l : List ℕ). bytes_at 8 8 l) (volume_spelled (k.0, k.1) parts.0) ∙ number_said g x k.0 k.1 version in
+      ap (λ (l : List ℕ). bytes_at 8 8 l) (volume_spelled (k.0, k.1) parts.0) ∙ number_said g x k.0 k.1 version in
       by (x.made (k.0, k.1)) refl (sym (ap (λ (l : List ℕ). has_file (little_number 8 l) k.2) number) ∙ parts.1)
     where
       by : (t : Bool) → (said_by version g pieces).made (k.0, k.1) ≡ t → has_file (little_number 8 (little_bytes 8 (if t then file_bits g (said_by version g pieces) k.0 k.1 else 0))) k.2 ≡ true
@@ -175,10 +175,10 @@ module _ (version : ℕ) (g : Geometry) (pieces : ℕ → List ℕ) (sized : (n 
           let s : ℕ = group g k.2 k.3 in
           let measured = is_measured version g pieces sized in
           let entries : entries_in g.quota (pieces (stripe_piece_number g k.0 k.1 s)) ≡ stripe_entries g x k.0 k.1 s =
-              ap (λ (l : List ℕ). entries_in g.quota l) (stripe_spelled (k.0, k.1) there s (group_below g k.2 k.3))
-              ∙ entries_again (stripe_entries g x k.0 k.1 s) (entries_good g x measured k.0 k.1 s) g.quota (g.quota * 520 - length (flat_map entry_bytes (stripe_entries g x k.0 k.1 s))) (measured.quota k.0 k.1 s) in
+          ap (λ (l : List ℕ). entries_in g.quota l) (stripe_spelled (k.0, k.1) there s (group_below g k.2 k.3))
+          ∙ entries_again (stripe_entries g x k.0 k.1 s) (entries_good g x measured k.0 k.1 s) g.quota (g.quota * 520 - length (flat_map entry_bytes (stripe_entries g x k.0 k.1 s))) (measured.quota k.0 k.1 s) in
           let held : x.blocks k ≡ content_at (stripe_entries g x k.0 k.1 s) k.2 k.3 =
-              blocks_told version g pieces sized k.0 k.1 s k.2 k.3 true there refl ∙ ap (λ (es : List Entry). content_at es k.2 k.3) entries in
+          blocks_told version g pieces sized k.0 k.1 s k.2 k.3 true there refl ∙ ap (λ (es : List Entry). content_at es k.2 k.3) entries in
           content_of (λ f b. (b < g.blocks) × (x.files (k.0, k.1, f) ≡ true)) k.2 k.3 (stripe_entries g x k.0 k.1 s) (entry_within k.0 k.1 s)
           (sym (ap (λ (o : Option Block). is_some o) held) ∙ some)
       by false out = absurd (true≢false (sym some ∙ ap (λ (o : Option Block). is_some o) (blocks_told version g pieces sized k.0 k.1 (group g k.2 k.3) k.2 k.3 false out refl)))

@@ -1,12 +1,11 @@
 -- Pieces that are taken in one after the other say what they say together.
-use Rattle.std.proofs.Common.{◌≡◌, ◌≢◌, ℕ, zero, suc, ◌+◌, ◌*◌, ◌<◌, ◌≤◌, Bool, true, false, ◌&&◌, List, [], ◌++◌, length, take, drop, replicate, Option, Some, None, refl, sym, ◌∙◌, ap, arith, ⊎_elim, true≢false}
+use Rattle.std.proofs.Common.{◌≡◌, ◌≢◌, ℕ, zero, suc, ◌+◌, ◌<◌, ◌≤◌, Bool, true, false, ◌&&◌, List, [], replicate, Option, None, refl, sym, ◌∙◌, ap, arith, ⊎_elim, true≢false}
 use Rattle.std.specs.Prelude.{◌==◌, nat_lt, if◌then◌else◌}
-use Rattle.std.proofs.lemmas.Bool.{cases_lt, cases_eq, and_parts, and_from, lt-ltb, ltb-true, eqb-true, eq-eqb, ne_eqb, false_from_ne_true}
+use Rattle.std.proofs.lemmas.Bool.{cases_lt, and_parts, and_from, lt-ltb, ltb-true, eqb-true, eq-eqb, false_from_ne_true}
 use Rattle.affinity.specs.Geometry.{group}
 use Rattle.affinity.specs.declared.geometry.Geometry.{Geometry}
 use Rattle.affinity.proofs.Placed.{group_below}
-use Rattle.message.specs.declared.Block.{Block}
-use Rattle.plain.specs.State.{State, VolumeKey, FileKey, BlockKey, empty, is_volume, is_block_of}
+use Rattle.plain.specs.State.{State, VolumeKey, BlockKey, empty, is_volume, is_block_of}
 use Rattle.stripe.specs.Entries.{entries_in}
 use Rattle.stripe.specs.Stripe.{content_at}
 use Rattle.image.specs.Pieces.{pieces_of_volume, piece_count, piece_size, aggregate_of, volume_of, part_of, volume_piece_number, stripe_piece_number, has_volume, is_made_in, is_sealed_in, has_file_in, label_in, block_in, said_by, with_piece, with_part}

@@ -1,7 +1,7 @@
 -- A message changes no piece but those that it touches.
-use Rattle.std.proofs.Common.{◌≡◌, ◌≢◌, ℕ, zero, suc, ◌^◌, Bool, true, false, ◌&&◌, ◌||◌, not, List, [], ◌∷◌, ◌++◌, replicate, Option, Some, None, is_some, refl, sym, ◌∙◌, ap, true≢false}
+use Rattle.std.proofs.Common.{◌≡◌, ◌≢◌, ℕ, zero, suc, ◌^◌, Bool, true, false, ◌&&◌, ◌||◌, not, [], ◌∷◌, ◌++◌, replicate, Option, Some, None, is_some, refl, sym, ◌∙◌, ap, true≢false}
 use Rattle.std.specs.Prelude.{◌==◌, if◌then◌else◌}
-use Rattle.std.proofs.lemmas.Bool.{and_parts, eqb-true, eq-eqb}
+use Rattle.std.proofs.lemmas.Bool.{eqb-true, eq-eqb}
 use Rattle.affinity.specs.Geometry.{group}
 use Rattle.affinity.specs.declared.geometry.Geometry.{Geometry}
 use Rattle.byteorder.specs.Endian.{little_bytes}
@@ -10,9 +10,9 @@ use Rattle.message.specs.declared.Msg.{Msg}
 use Rattle.message.specs.declared.Msg.TheVariants.{MakeVol, DropVol, Create, Delete, Seal, Unseal, Write, Punch, Read, List as ListFiles, Usage as AskUsage, Summary as AskSummary, SetLabel, Label as AskLabel}
 use Rattle.message.specs.declared.Refusal.{Refusal}
 use Rattle.plain.specs.Serial.{key, effect, outcome, accepted_reply, refusal, next_state, no_label}
-use Rattle.plain.specs.State.{State, IsState, sum_below, one_if, is_volume, is_file, is_block, is_block_of_file}
+use Rattle.plain.specs.State.{State, IsState, sum_below, one_if, is_volume, is_file, is_block}
 use Rattle.stripe.specs.Entries.{stripe_bytes}
-use Rattle.image.specs.Pieces.{aggregate_of, volume_of, part_of, piece_of, part_piece, volume_piece, label_bytes, stripe_piece, entry_if}
+use Rattle.image.specs.Pieces.{aggregate_of, volume_of, part_of, piece_of, part_piece, label_bytes, stripe_piece, entry_if}
 use Rattle.image.specs.Touched.{touches, touches_part}
 use Rattle.image.proofs.Agreeing.{entries_same, no_entry_of_none}
 

@@ -1,7 +1,6 @@
 -- An image is read piece by piece, and what is read is a state.
-use Rattle.std.proofs.Common.{◌≡◌, ℕ, zero, suc, ◌+◌, ◌<◌, ◌≤◌, Bool, true, false, ◌&&◌, ◌↔◌, List, ◌++◌, length, take, drop, replicate, Option, Some, None, is_some, refl, sym, ◌∙◌, ap, subst, arith, ⊎_elim, true≢false, length-take, length-drop}
+use Rattle.std.proofs.Common.{◌≡◌, ℕ, zero, suc, ◌+◌, ◌<◌, ◌≤◌, Bool, true, false, ◌↔◌, List, drop, Option, Some, None, is_some, refl, sym, ◌∙◌, ap, subst, arith, ⊎_elim, true≢false, length-take, length-drop}
 use Rattle.std.specs.Prelude.{if◌then◌else◌}
-use Rattle.std.specs.List.{AllByRecursion}
 use Rattle.std.specs.Str.{bytes_eq}
 use Rattle.std.proofs.lemmas.Bool.{cases_lt, and_parts, and_from}
 use Rattle.std.proofs.lemmas.List.{length-replicate}
@@ -12,14 +11,13 @@ use Rattle.affinity.proofs.Placed.{group_below}
 use Rattle.message.specs.Messages.{AreBytes}
 use Rattle.message.specs.declared.Block.{Block}
 use Rattle.plain.specs.State.{State, VolumeKey, IsState, sum_below}
-use Rattle.image.specs.Pieces.{pieces_of_volume, piece_count, piece_at, piece_size, piece_of, aggregate_of, volume_of, part_of, volume_piece_number, stripe_piece_number, has_volume, is_made_in, is_sealed_in, has_file_in, label_in, block_in, bytes_at, said_by}
+use Rattle.image.specs.Pieces.{pieces_of_volume, piece_count, piece_at, piece_size, piece_of, aggregate_of, volume_of, part_of, volume_piece_number, has_volume, is_made_in, is_sealed_in, has_file_in, label_in, block_in, bytes_at, said_by}
 use Rattle.image.specs.Image.{head_of, image_of, read, is_image, is_version, has_head, version_in, piece_in, said, said_before, is_good, AreGood}
 use Rattle.image.proofs.Agreeing.{piece_same, zero_piece}
 use Rattle.image.proofs.Cuts.{is_piece, piece_again}
 use Rattle.image.proofs.Joining.{by_pieces}
 use Rattle.image.proofs.Measures.{all-take, all-drop, all-zeros}
 use Rattle.image.proofs.Numbers.{number_there}
-use Rattle.image.proofs.Reading.{spelling}
 use Rattle.image.proofs.Said.{is_volume_there, is_measured, is_state}
 use Rattle.image.proofs.Taken.{first_of, first_there, first_behind, no_block_in_zeros, and_same, if_same, taken}
 
@@ -36,8 +34,7 @@ sum_more f n (suc m) few =
 module _ (g : Geometry) (bytes : List ℕ) (are : AreBytes (piece_at g (piece_count g)) bytes) where
   pub piece_bytes : (n : ℕ) → n < piece_count g → AreBytes (piece_size g n) (piece_in g bytes n)
   piece_bytes n below =
-      let more : piece_at g n + piece_size g n ≤ piece_at g (piece_count g) = let most = sum_more (piece_size g) (suc n) (piece_count g) (omega (arith, below)) in omega (arith, most) in
-      (
+      let more : piece_at g n + piece_size g n ≤ piece_at g (piece_count g) = let most = sum_more (piece_size g) (suc n) (piece_count g) (omega (arith, below)) in omega (arith, most) in (
         omega (arith, are.0, more, length-take (piece_size g n) (drop (piece_at g n) bytes), length-drop (piece_at g n) bytes),
         all-take (λ b. b < 256) (piece_size g n) (drop (piece_at g n) bytes) (all-drop (λ b. b < 256) (piece_at g n) bytes are.1),
       )
@@ -100,7 +97,7 @@ module _ (g : Geometry) (bytes : List ℕ) where
   good_is_seen n below =
       let version : ℕ = version_in bytes in
       let same : piece_of version g (said version g bytes) n ≡ piece_of version g (said_before version g bytes (suc n)) n =
-          so_far version g bytes (suc n) n (omega arith) ∙ ap (λ (x : State). piece_of version g x n) (sym (taken version g bytes (suc n) below)) in
+      so_far version g bytes (suc n) n (omega arith) ∙ ap (λ (x : State). piece_of version g x n) (sym (taken version g bytes (suc n) below)) in
       let decides = bytes_eq-Decides (piece_in g bytes n) (piece_of version g (said version g bytes) n) in
       ((λ on. decides.0 on ∙ same), (λ e. decides.1 (e ∙ sym same)))
 
@@ -137,12 +134,11 @@ module _ (g : Geometry) (bytes : List ℕ) where
           let version : ℕ = version_in bytes in
           let parts = and_parts (is_version version) (bytes_eq bytes (image_of version g (said version g bytes))) on in
           let spelled : bytes ≡ image_of version g (said version g bytes) = (bytes_eq-Decides bytes (image_of version g (said version g bytes))).0 parts.1 in
-          let begins : bytes_at 0 64 bytes ≡ head_of version = ap (λ (l : List ℕ). bytes_at 0 64 l) spelled in
-          (
+          let begins : bytes_at 0 64 bytes ≡ head_of version = ap (λ (l : List ℕ). bytes_at 0 64 l) spelled in (
             and_from _ _ parts.0 ((bytes_eq-Decides (bytes_at 0 64 bytes) (head_of version)).1 begins),
             λ n below.
-            (bytes_eq-Decides (piece_in g bytes n) (piece_of version g (said version g bytes) n)).1
-            (ap (λ (l : List ℕ). piece_in g l n) spelled ∙ piece_again version g (said version g bytes) (is_measured version g (piece_in g bytes) (piece_bytes g bytes are)) n below),
+                (bytes_eq-Decides (piece_in g bytes n) (piece_of version g (said version g bytes) n)).1
+                (ap (λ (l : List ℕ). piece_in g l n) spelled ∙ piece_again version g (said version g bytes) (is_measured version g (piece_in g bytes) (piece_bytes g bytes are)) n below),
           )
 
   pub read_is_a_state : AreBytes (piece_at g (piece_count g)) bytes → (x : State) → read g bytes ≡ Some x → IsState g x

@@ -28,11 +28,8 @@ fn touches_part(g: &Geometry, m: &Msg, part: usize) -> bool
     ensures { result ≡ touches_part g.now m.now part }
 {
     match *m {
-        Msg::MakeVol(..)
-        | Msg::Create(..)
-        | Msg::Seal(..)
-        | Msg::Unseal(..)
-        | Msg::SetLabel(..) => part == 0,
+        Msg::MakeVol(..) | Msg::Create(..) | Msg::Seal(..) | Msg::Unseal(..) | Msg::SetLabel(..) =>
+            part == 0,
         Msg::DropVol(..) | Msg::Delete(..) => true,
         Msg::Write(_, _, file, block, _) | Msg::Punch(_, _, file, block) => {
             part == usize::from(group_of(g, file, block)) + 1
