@@ -26,23 +26,28 @@ and_true false = refl
 
 -- the entries of a stripe, by what there is of each block that lies in it
 pub entries_same : (g : Geometry) (x y : State) (a v s : ℕ)
-    → ((f b : ℕ) → group g f b ≡ s → entry_if (x.files (a, v, f)) f b (x.blocks (a, v, f, b)) ≡ entry_if (y.files (a, v, f)) f b (y.blocks (a, v, f, b)))
+    → ((f b : ℕ) → group g f b ≡ s → entry_if (x.files (a, v, f)) f b (x.blocks (a, v, f, b))
+    ≡ entry_if (y.files (a, v, f)) f b (y.blocks (a, v, f, b)))
     → stripe_entries g x a v s ≡ stripe_entries g y a v s
 entries_same g x y a v s same = λ i. joined_below g.files (λ f. joined_below g.blocks (λ b. each f b (group g f b == s) refl i))
   where
-    each : (f b : ℕ) (t : Bool) → (group g f b == s) ≡ t → entry_if (x.files (a, v, f) && t) f b (x.blocks (a, v, f, b)) ≡ entry_if (y.files (a, v, f) && t) f b (y.blocks (a, v, f, b))
+    each : (f b : ℕ) (t : Bool) → (group g f b == s) ≡ t
+        → entry_if (x.files (a, v, f) && t) f b (x.blocks (a, v, f, b)) ≡ entry_if (y.files (a, v, f) && t) f b (y.blocks (a, v, f, b))
     each f b true on =
         ap (λ (t : Bool). entry_if t f b (x.blocks (a, v, f, b))) (and_true (x.files (a, v, f))) ∙ same f b (eqb-true (group g f b) s on)
         ∙ sym (ap (λ (t : Bool). entry_if t f b (y.blocks (a, v, f, b))) (and_true (y.files (a, v, f))))
-    each f b false off = no_entry_if (x.files (a, v, f)) f b (x.blocks (a, v, f, b)) ∙ sym (no_entry_if (y.files (a, v, f)) f b (y.blocks (a, v, f, b)))
+    each f b false off = no_entry_if (x.files (a, v, f)) f b (x.blocks (a, v, f, b))
+        ∙ sym (no_entry_if (y.files (a, v, f)) f b (y.blocks (a, v, f, b)))
 
 -- ---- what pieces say
 
 module _ (version : ℕ) (g : Geometry) (ps qs : ℕ → List ℕ) where
-  volume_same : (a v : ℕ) → ps (volume_piece_number g a v) ≡ qs (volume_piece_number g a v) → volume_piece version g (said_by version g ps) a v ≡ volume_piece version g (said_by version g qs) a v
+  volume_same : (a v : ℕ) → ps (volume_piece_number g a v) ≡ qs (volume_piece_number g a v)
+      → volume_piece version g (said_by version g ps) a v ≡ volume_piece version g (said_by version g qs) a v
   volume_same a v same = ap (λ (l : List ℕ). volume_piece version g (said_by version g (λ j. l)) a v) same
 
-  stripe_same : (a v s : ℕ) → ps (volume_piece_number g a v) ≡ qs (volume_piece_number g a v) → ps (stripe_piece_number g a v s) ≡ qs (stripe_piece_number g a v s)
+  stripe_same : (a v s : ℕ) → ps (volume_piece_number g a v) ≡ qs (volume_piece_number g a v)
+      → ps (stripe_piece_number g a v s) ≡ qs (stripe_piece_number g a v s)
       → stripe_piece g (said_by version g ps) a v s ≡ stripe_piece g (said_by version g qs) a v s
   stripe_same a v s first here =
       ap (stripe_bytes g.quota)
@@ -50,17 +55,21 @@ module _ (version : ℕ) (g : Geometry) (ps qs : ℕ → List ℕ) where
       (λ f b on.
       let there : ps (stripe_piece_number g a v (group g f b)) ≡ qs (stripe_piece_number g a v (group g f b)) =
       ap (λ (j : ℕ). ps (stripe_piece_number g a v j)) on ∙ here ∙ sym (ap (λ (j : ℕ). qs (stripe_piece_number g a v j)) on) in
-      (λ i. entry_if (has_volume g (a, v) && has_file_in (first i) f) f b (if has_volume g (a, v) then block_in g (there i) f b else None))))
+      (λ i. entry_if (has_volume g (a, v) && has_file_in (first i) f) f b
+      (if has_volume g (a, v) then block_in g (there i) f b else None))))
 
   -- a piece depends on what is said by itself and by its volume's piece
-  pub piece_same : (n : ℕ) → ps (volume_piece_number g (aggregate_of g n) (volume_of g n)) ≡ qs (volume_piece_number g (aggregate_of g n) (volume_of g n)) → ps n ≡ qs n
+  pub piece_same : (n : ℕ) → ps (volume_piece_number g (aggregate_of g n) (volume_of g n))
+      ≡ qs (volume_piece_number g (aggregate_of g n) (volume_of g n)) → ps n ≡ qs n
       → piece_of version g (said_by version g ps) n ≡ piece_of version g (said_by version g qs) n
   piece_same n first here = by (part_of g n) refl
     where
-      by : (p : ℕ) → part_of g n ≡ p → part_piece version g (said_by version g ps) (aggregate_of g n) (volume_of g n) p ≡ part_piece version g (said_by version g qs) (aggregate_of g n) (volume_of g n) p
+      by : (p : ℕ) → part_of g n ≡ p → part_piece version g (said_by version g ps) (aggregate_of g n) (volume_of g n) p
+          ≡ part_piece version g (said_by version g qs) (aggregate_of g n) (volume_of g n) p
       by zero part = volume_same (aggregate_of g n) (volume_of g n) first
       by (suc s) part =
-          let number : stripe_piece_number g (aggregate_of g n) (volume_of g n) s ≡ n = sym (ap (λ (p : ℕ). volume_piece_number g (aggregate_of g n) (volume_of g n) + p) part) ∙ number_there g n in
+          let number : stripe_piece_number g (aggregate_of g n) (volume_of g n) s ≡ n =
+          sym (ap (λ (p : ℕ). volume_piece_number g (aggregate_of g n) (volume_of g n) + p) part) ∙ number_there g n in
           stripe_same (aggregate_of g n) (volume_of g n) s first (ap ps number ∙ here ∙ sym (ap qs number))
 
 -- ---- pieces of which nothing is said
@@ -76,13 +85,15 @@ module _ (version : ℕ) (g : Geometry) (pieces : ℕ → List ℕ) (n i : ℕ) 
   pub zero_piece : piece_of version g (said_by version g (first_of g pieces n)) i ≡ replicate (piece_size g i) 0
   zero_piece = by (part_of g i) refl
     where
-      by : (p : ℕ) → part_of g i ≡ p → part_piece version g (said_by version g (first_of g pieces n)) (aggregate_of g i) (volume_of g i) p ≡ replicate (part_size g p) 0
+      by : (p : ℕ) → part_of g i ≡ p → part_piece version g (said_by version g (first_of g pieces n)) (aggregate_of g i)
+          (volume_of g i) p ≡ replicate (part_size g p) 0
       by zero part =
           let a : ℕ = aggregate_of g i in
           let v : ℕ = volume_of g i in
           let number = number_there g i in
           let zeros = zeros_of_volume g pieces n a v (omega (arith, number, part, behind)) in
-          unmade version g (said_by version g (first_of g pieces n)) a v (not_there (has_volume g (a, v)) (is_made_in (first_of g pieces n (volume_piece_number g a v))) (ap is_made_in zeros))
+          unmade version g (said_by version g (first_of g pieces n)) a v
+          (not_there (has_volume g (a, v)) (is_made_in (first_of g pieces n (volume_piece_number g a v))) (ap is_made_in zeros))
         where
           not_there : (h p : Bool) → p ≡ false → (h && p) ≡ false
           not_there true p off = off
@@ -93,9 +104,11 @@ module _ (version : ℕ) (g : Geometry) (pieces : ℕ → List ℕ) (n i : ℕ) 
           let number = number_there g i in
           let x : State = said_by version g (first_of g pieces n) in
           let none : (f b : ℕ) → group g f b ≡ s → x.blocks (a, v, f, b) ≡ None =
-          λ f b on. if_none (has_volume g (a, v)) _ (no_block_in_zeros g pieces n a v (group g f b) f b (omega (arith, number, part, on, behind))) in
+          λ f b on. if_none (has_volume g (a, v)) _
+          (no_block_in_zeros g pieces n a v (group g f b) f b (omega (arith, number, part, on, behind))) in
           let nothing : stripe_entries g x a v s ≡ [] =
-          entries_same g x empty a v s (λ f b on. ap (entry_if (x.files (a, v, f)) f b) (none f b on) ∙ no_entry_of_none (x.files (a, v, f)) f b)
+          entries_same g x empty a v s (λ f b on. ap (entry_if (x.files (a, v, f)) f b) (none f b on)
+          ∙ no_entry_of_none (x.files (a, v, f)) f b)
           ∙ nothing_joined g.files (λ f. joined_below g.blocks (λ b. [])) (λ f. nothing_joined g.blocks (λ b. []) (λ b. refl)) in
           let size : g.quota * 520 - 0 ≡ g.quota * 520 = omega arith in
           ap (stripe_bytes g.quota) nothing ∙ ap (λ (k : ℕ). replicate k 0) size

@@ -15,12 +15,18 @@ use Rattle.image.proofs.Measures.{all-take, all-drop}
 
 -- ---- what bytes say are blocks, and not too many
 
-pub entries_are_blocks : (n : ℕ) (bytes : List ℕ) → length bytes ≡ n * 520 → AllByRecursion (λ b. b < 256) bytes → AllByRecursion (λ (e : Entry). IsBlock e.content) (entries_in n bytes)
+pub entries_are_blocks : (n : ℕ) (bytes : List ℕ) → length bytes ≡ n * 520 → AllByRecursion (λ b. b < 256) bytes
+    → AllByRecursion (λ (e : Entry). IsBlock e.content) (entries_in n bytes)
 entries_are_blocks zero bytes long small = tt
 entries_are_blocks (suc n) bytes long small =
-    elim (get_or bytes 0 0 == 1) as (λ t. AllByRecursion (λ (e : Entry). IsBlock e.content) (if t then entry_in (take 520 bytes) ∷ entries_in n (drop 520 bytes) else [])) [
+    elim (get_or bytes 0 0 == 1) as (λ t. AllByRecursion (λ (e : Entry). IsBlock e.content)
+    (if t then entry_in (take 520 bytes) ∷ entries_in n (drop 520 bytes) else [])) [
       | true ↦ (
-        (omega (arith, long, length-drop 8 (take 520 bytes), length-take 520 bytes), all-drop (λ b. b < 256) 8 (take 520 bytes) (all-take (λ b. b < 256) 520 bytes small)),
+        (
+          omega (arith, long, length-drop 8 (take 520 bytes), length-take 520 bytes),
+          all-drop (λ b. b < 256) 8 (take 520 bytes)
+              (all-take (λ b. b < 256) 520 bytes small),
+        ),
         entries_are_blocks n (drop 520 bytes) (omega (arith, long, length-drop 520 bytes)) (all-drop (λ b. b < 256) 520 bytes small),
       )
       | false ↦ tt
@@ -37,7 +43,8 @@ entries_few (suc n) bytes =
 
 -- ---- what holds of all entries holds of what they hold
 
-pub content_is : (P : Block → Type 0) (f b : ℕ) (es : List Entry) → AllByRecursion (λ (e : Entry). P e.content) es → IfSome (content_at es f b) P
+pub content_is : (P : Block → Type 0) (f b : ℕ) (es : List Entry) → AllByRecursion (λ (e : Entry). P e.content) es
+    → IfSome (content_at es f b) P
 content_is P f b [] all = tt
 content_is P f b (e ∷ es) all =
     elim ((f == e.file) && (b == e.block)) as (λ t. IfSome (if t then Some e.content else content_at es f b) P) [
@@ -45,7 +52,8 @@ content_is P f b (e ∷ es) all =
       | false ↦ content_is P f b es all.1
     ]
 
-pub content_of : (Q : ℕ → ℕ → Type 0) (f b : ℕ) (es : List Entry) → AllByRecursion (λ (e : Entry). Q e.file e.block) es → is_some (content_at es f b) ≡ true → Q f b
+pub content_of : (Q : ℕ → ℕ → Type 0) (f b : ℕ) (es : List Entry) → AllByRecursion (λ (e : Entry). Q e.file e.block) es
+    → is_some (content_at es f b) ≡ true → Q f b
 content_of Q f b [] all some = absurd (true≢false (sym some))
 content_of Q f b (e ∷ es) all some = by ((f == e.file) && (b == e.block)) refl (content_of Q f b es all.1)
   where
@@ -81,11 +89,13 @@ picked_once n j p =
 -- one block
 block_once : (n m i j : ℕ) → sum_below n (λ f. sum_below m (λ b. one_if ((f == i) && (b == j)))) ≤ 1
 block_once n m i j =
-    let rows : sum_below n (λ f. sum_below m (λ b. one_if ((f == i) && (b == j)))) ≤ sum_below n (λ f. one_if (f == i)) = sum_below-le n _ _ (λ f below. picked_once m j (f == i)) in
+    let rows : sum_below n (λ f. sum_below m (λ b. one_if ((f == i) && (b == j)))) ≤ sum_below n (λ f. one_if (f == i)) =
+    sum_below-le n _ _ (λ f below. picked_once m j (f == i)) in
     let row : sum_below n (λ f. one_if (f == i)) ≤ 1 = picked_once n i true in
     omega (arith, rows, row)
 
-one_more : (t : Bool) (content : Block) (o : Option Block) → one_if (is_some (if t then Some content else o)) ≤ one_if t + one_if (is_some o)
+one_more : (t : Bool) (content : Block) (o : Option Block)
+    → one_if (is_some (if t then Some content else o)) ≤ one_if t + one_if (is_some o)
 one_more true content o = omega arith
 one_more false content o = omega arith
 
@@ -104,27 +114,39 @@ few_held n m (e ∷ es) =
     let once = block_once n m e.file e.block in
     let more : sum_below n (λ f. count_below m (λ b. is_some (content_at (e ∷ es) f b)))
     ≤ sum_below n (λ f. sum_below m (λ b. one_if ((f == e.file) && (b == e.block))) + count_below m (λ b. is_some (content_at es f b))) =
-    sum_below-le n _ _ (λ f below. let each : count_below m (λ b. is_some (content_at (e ∷ es) f b)) ≤ sum_below m (λ b. one_if ((f == e.file) && (b == e.block)) + one_if (is_some (content_at es f b))) =
+    sum_below-le n _ _
+    (λ f below.
+    let each : count_below m (λ b. is_some (content_at (e ∷ es) f b))
+    ≤ sum_below m (λ b. one_if ((f == e.file) && (b == e.block)) + one_if (is_some (content_at es f b))) =
     sum_below-le m _ _ (λ b few. one_more ((f == e.file) && (b == e.block)) e.content (content_at es f b)) in
     let apart = sum_below-add m (λ b. one_if ((f == e.file) && (b == e.block))) (λ b. one_if (is_some (content_at es f b))) in
     omega (arith, each, apart)) in
-    let apart = sum_below-add n (λ f. sum_below m (λ b. one_if ((f == e.file) && (b == e.block)))) (λ f. count_below m (λ b. is_some (content_at es f b))) in
+    let apart = sum_below-add n (λ f. sum_below m (λ b. one_if ((f == e.file) && (b == e.block))))
+    (λ f. count_below m (λ b. is_some (content_at es f b))) in
     omega (arith, rest, once, more, apart)
 
 -- what entries hold of one stripe
-pub few_of_stripe : (g : Geometry) (s : ℕ) (held : ℕ → ℕ → Option Block) (es : List Entry) → ((f b : ℕ) → group g f b ≡ s → held f b ≡ content_at es f b)
+pub few_of_stripe : (g : Geometry) (s : ℕ) (held : ℕ → ℕ → Option Block) (es : List Entry)
+    → ((f b : ℕ) → group g f b ≡ s → held f b ≡ content_at es f b)
     → sum_below g.files (λ f. count_below g.blocks (λ b. (group g f b == s) && is_some (held f b))) ≤ length es
 few_of_stripe g s held es same =
     let few = few_held g.files g.blocks es in
-    let less : sum_below g.files (λ f. count_below g.blocks (λ b. (group g f b == s) && is_some (held f b))) ≤ sum_below g.files (λ f. count_below g.blocks (λ b. is_some (content_at es f b))) =
+    let less : sum_below g.files (λ f. count_below g.blocks (λ b. (group g f b == s) && is_some (held f b)))
+    ≤ sum_below g.files (λ f. count_below g.blocks (λ b. is_some (content_at es f b))) =
     sum_below-le g.files _ _ (λ f below. sum_below-le g.blocks _ _ (λ b small. each f b)) in
     omega (arith, few, less)
   where
     each : (f b : ℕ) → one_if ((group g f b == s) && is_some (held f b)) ≤ one_if (is_some (content_at es f b))
     each f b =
         ⊎_elim
-        (λ (on : group g f b ≡ s). let most = part (group g f b == s) (is_some (held f b)) in let now : one_if (is_some (held f b)) ≡ one_if (is_some (content_at es f b)) = ap (λ (o : Option Block). one_if (is_some o)) (same f b on) in omega (arith, most, now))
-        (λ off. let none : one_if ((group g f b == s) && is_some (held f b)) ≡ 0 = ap (λ (t : Bool). one_if (t && is_some (held f b))) (ne_eqb (group g f b) s off) in omega (arith, none))
+        (λ (on : group g f b ≡ s).
+        let most = part (group g f b == s) (is_some (held f b)) in
+        let now : one_if (is_some (held f b)) ≡ one_if (is_some (content_at es f b)) = ap (λ (o : Option Block). one_if (is_some o)) (same f b on) in
+        omega (arith, most, now))
+        (λ off.
+        let none : one_if ((group g f b == s) && is_some (held f b)) ≡ 0 =
+        ap (λ (t : Bool). one_if (t && is_some (held f b))) (ne_eqb (group g f b) s off) in
+        omega (arith, none))
         (cases_eq (group g f b) s)
       where
         part : (p q : Bool) → one_if (p && q) ≤ one_if q

@@ -180,11 +180,13 @@ punch_touches = refl
 label_touches : touched_in_small (SetLabel 0 0 (label_of 99)) ≡ true ∷ false ∷ false ∷ []
 label_touches = refl
 
-questions_touch_nothing : touched_in_small (Read 0 0 1 1) ++ touched_in_small (ListFiles 0 0) ++ touched_in_small (AskUsage 0 0) ++ touched_in_small AskSummary ++ touched_in_small (AskLabel 0 0)
-    ≡ replicate 15 false
+questions_touch_nothing : touched_in_small (Read 0 0 1 1) ++ touched_in_small (ListFiles 0 0) ++ touched_in_small (AskUsage 0 0)
+    ++ touched_in_small AskSummary ++ touched_in_small (AskLabel 0 0) ≡ replicate 15 false
 questions_touch_nothing = refl
 
--- The second of four volumes has five pieces, behind the five of the first one.
-drop_touches_its_volume : touches standard (DropVol 0 1) 4 ∷ touches standard (DropVol 0 1) 5 ∷ touches standard (DropVol 0 1) 9 ∷ touches standard (DropVol 0 1) 10 ∷ []
-    ≡ false ∷ true ∷ true ∷ false ∷ []
+-- pieces 4, 5, 9 and 10 of the standard server: the second of its four volumes has five pieces, behind the five of the first one
+abbrev touched_in_standard : Msg → List Bool
+touched_in_standard m = touches standard m 4 ∷ touches standard m 5 ∷ touches standard m 9 ∷ touches standard m 10 ∷ []
+
+drop_touches_its_volume : touched_in_standard (DropVol 0 1) ≡ false ∷ true ∷ true ∷ false ∷ []
 drop_touches_its_volume = refl

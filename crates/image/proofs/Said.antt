@@ -48,8 +48,10 @@ label_is version bytes are = by (is_made_in bytes) (version == 2)
 
 -- ---- the sizes
 
-module _ (version : ℕ) (g : Geometry) (pieces : ℕ → List ℕ) (sized : (n : ℕ) → n < piece_count g → AreBytes (piece_size g n) (pieces n)) where
-  bytes_of_part : (k : VolumeKey) → has_volume g k ≡ true → (p : ℕ) → p < pieces_of_volume g → AreBytes (part_size g p) (pieces (volume_piece_number g k.0 k.1 + p))
+module _ (version : ℕ) (g : Geometry) (pieces : ℕ → List ℕ)
+    (sized : (n : ℕ) → n < piece_count g → AreBytes (piece_size g n) (pieces n)) where
+  bytes_of_part : (k : VolumeKey) → has_volume g k ≡ true → (p : ℕ) → p < pieces_of_volume g
+      → AreBytes (part_size g p) (pieces (volume_piece_number g k.0 k.1 + p))
   bytes_of_part k there p part =
       let within = is_volume_there g k there in
       subst (λ (size : ℕ). AreBytes size (pieces (volume_piece_number g k.0 k.1 + p))) (size_there g k.0 k.1 p part)
@@ -60,15 +62,18 @@ module _ (version : ℕ) (g : Geometry) (pieces : ℕ → List ℕ) (sized : (n 
       let first : volume_piece_number g k.0 k.1 + 0 ≡ volume_piece_number g k.0 k.1 = omega arith in
       subst (λ (n : ℕ). AreBytes 64 (pieces n)) first (bytes_of_part k there 0 (omega arith))
 
-  bytes_of_stripe : (k : VolumeKey) → has_volume g k ≡ true → (s : ℕ) → s < g.stripes → AreBytes (g.quota * 520) (pieces (stripe_piece_number g k.0 k.1 s))
+  bytes_of_stripe : (k : VolumeKey) → has_volume g k ≡ true → (s : ℕ) → s < g.stripes
+      → AreBytes (g.quota * 520) (pieces (stripe_piece_number g k.0 k.1 s))
   bytes_of_stripe k there s below = bytes_of_part k there (suc s) (omega (arith, below))
 
   blocks_told : (a v s f b : ℕ) (t : Bool) → has_volume g (a, v) ≡ t → group g f b ≡ s
-      → (said_by version g pieces).blocks (a, v, f, b) ≡ content_at (if t then entries_in g.quota (pieces (stripe_piece_number g a v s)) else []) f b
+      → (said_by version g pieces).blocks (a, v, f, b)
+      ≡ content_at (if t then entries_in g.quota (pieces (stripe_piece_number g a v s)) else []) f b
   blocks_told a v s f b true there on =
       ap (λ (t : Bool). if t then block_in g (pieces (stripe_piece_number g a v (group g f b))) f b else None) there
       ∙ ap (λ (j : ℕ). block_in g (pieces (stripe_piece_number g a v j)) f b) on
-  blocks_told a v s f b false out on = ap (λ (t : Bool). if t then block_in g (pieces (stripe_piece_number g a v (group g f b))) f b else None) out
+  blocks_told a v s f b false out on = ap (λ (t : Bool).
+      if t then block_in g (pieces (stripe_piece_number g a v (group g f b))) f b else None) out
 
   few_blocks : (a v s : ℕ) → group_count g (said_by version g pieces) a v s ≤ g.quota
   few_blocks a v s = by (has_volume g (a, v)) refl
@@ -76,8 +81,10 @@ module _ (version : ℕ) (g : Geometry) (pieces : ℕ → List ℕ) (sized : (n 
       by : (t : Bool) → has_volume g (a, v) ≡ t → group_count g (said_by version g pieces) a v s ≤ g.quota
       by t is =
           let es : List Entry = if t then entries_in g.quota (pieces (stripe_piece_number g a v s)) else [] in
-          let held = few_of_stripe g s (λ f b. (said_by version g pieces).blocks (a, v, f, b)) es (λ f b on. blocks_told a v s f b t is on) in
-          let few : length es ≤ g.quota = elim t as (λ t. length (if t then entries_in g.quota (pieces (stripe_piece_number g a v s)) else []) ≤ g.quota) [
+          let held = few_of_stripe g s (λ f b. (said_by version g pieces).blocks (a, v, f, b)) es
+          (λ f b on. blocks_told a v s f b t is on) in
+          let few : length es ≤ g.quota = elim t as
+          (λ t. length (if t then entries_in g.quota (pieces (stripe_piece_number g a v s)) else []) ≤ g.quota) [
             | true ↦ entries_few g.quota (pieces (stripe_piece_number g a v s))
             | false ↦ omega arith
           ] in
@@ -89,10 +96,12 @@ module _ (version : ℕ) (g : Geometry) (pieces : ℕ → List ℕ) (sized : (n 
       if_is IsBlock (has_volume g (k.0, k.1)) _
       (λ there.
       let are = bytes_of_stripe (k.0, k.1) there s (group_below g k.2 k.3) in
-      content_is IsBlock k.2 k.3 (entries_in g.quota (pieces (stripe_piece_number g k.0 k.1 s))) (entries_are_blocks g.quota (pieces (stripe_piece_number g k.0 k.1 s)) are.0 are.1))
+      content_is IsBlock k.2 k.3 (entries_in g.quota (pieces (stripe_piece_number g k.0 k.1 s)))
+      (entries_are_blocks g.quota (pieces (stripe_piece_number g k.0 k.1 s)) are.0 are.1))
 
   label_told : (k : VolumeKey) → IfSome ((said_by version g pieces).labels k) (AreBytes 32)
-  label_told k = if_is (AreBytes 32) (has_volume g k) _ (λ there. label_is version (pieces (volume_piece_number g k.0 k.1)) (bytes_of_volume k there))
+  label_told k = if_is (AreBytes 32) (has_volume g k) _
+      (λ there. label_is version (pieces (volume_piece_number g k.0 k.1)) (bytes_of_volume k there))
 
   pub is_measured : IsMeasured g (said_by version g pieces)
   is_measured = record {
@@ -113,17 +122,21 @@ bit_within n t f on =
 
 module _ (version : ℕ) (g : Geometry) (pieces : ℕ → List ℕ) (sized : (n : ℕ) → n < piece_count g → AreBytes (piece_size g n) (pieces n))
     (good : (n : ℕ) → n < piece_count g → pieces n ≡ piece_of version g (said_by version g pieces) n) where
-  part_spelled : (k : VolumeKey) → has_volume g k ≡ true → (p : ℕ) → p < pieces_of_volume g → pieces (volume_piece_number g k.0 k.1 + p) ≡ part_piece version g (said_by version g pieces) k.0 k.1 p
+  part_spelled : (k : VolumeKey) → has_volume g k ≡ true → (p : ℕ) → p < pieces_of_volume g
+      → pieces (volume_piece_number g k.0 k.1 + p) ≡ part_piece version g (said_by version g pieces) k.0 k.1 p
   part_spelled k there p part =
       let within = is_volume_there g k there in
-      good (volume_piece_number g k.0 k.1 + p) (is_piece g k.0 k.1 within.0 within.1 p part) ∙ piece_there g k.0 k.1 within.0 within.1 version (said_by version g pieces) p part
+      good (volume_piece_number g k.0 k.1 + p) (is_piece g k.0 k.1 within.0 within.1 p part)
+      ∙ piece_there g k.0 k.1 within.0 within.1 version (said_by version g pieces) p part
 
-  volume_spelled : (k : VolumeKey) → has_volume g k ≡ true → pieces (volume_piece_number g k.0 k.1) ≡ volume_piece version g (said_by version g pieces) k.0 k.1
+  volume_spelled : (k : VolumeKey) → has_volume g k ≡ true
+      → pieces (volume_piece_number g k.0 k.1) ≡ volume_piece version g (said_by version g pieces) k.0 k.1
   volume_spelled k there =
       let first : volume_piece_number g k.0 k.1 ≡ volume_piece_number g k.0 k.1 + 0 = omega arith in
       ap pieces first ∙ part_spelled k there 0 (omega arith)
 
-  stripe_spelled : (k : VolumeKey) → has_volume g k ≡ true → (s : ℕ) → s < g.stripes → pieces (stripe_piece_number g k.0 k.1 s) ≡ stripe_piece g (said_by version g pieces) k.0 k.1 s
+  stripe_spelled : (k : VolumeKey) → has_volume g k ≡ true → (s : ℕ) → s < g.stripes
+      → pieces (stripe_piece_number g k.0 k.1 s) ≡ stripe_piece g (said_by version g pieces) k.0 k.1 s
   stripe_spelled k there s below = part_spelled k there (suc s) (omega (arith, below))
 
   made_in_range : (k : VolumeKey) → (said_by version g pieces).made k ≡ true → (k.0 < g.aggregates) × (k.1 < g.volumes)
@@ -133,40 +146,53 @@ module _ (version : ℕ) (g : Geometry) (pieces : ℕ → List ℕ) (sized : (n 
   sealed_is_made k sealed =
       let x : State = said_by version g pieces in
       let parts = and_parts (has_volume g k) (is_sealed_in (pieces (volume_piece_number g k.0 k.1))) sealed in
-      let spelled : (x.made k && x.sealed k) ≡ true = sym (ap is_sealed_in (volume_spelled k parts.0) ∙ sealed_said g x k.0 k.1 version) ∙ parts.1 in
+      let spelled : (x.made k && x.sealed k) ≡ true =
+      sym (ap is_sealed_in (volume_spelled k parts.0) ∙ sealed_said g x k.0 k.1 version) ∙ parts.1 in
       (and_parts (x.made k) (x.sealed k) spelled).0
 
-  files_in_range : (k : FileKey) → (said_by version g pieces).files k ≡ true → (k.2 < g.files) × ((said_by version g pieces).made (k.0, k.1) ≡ true)
+  files_in_range : (k : FileKey) → (said_by version g pieces).files k ≡ true
+      → (k.2 < g.files) × ((said_by version g pieces).made (k.0, k.1) ≡ true)
   files_in_range k there =
       let x : State = said_by version g pieces in
       let parts = and_parts (has_volume g (k.0, k.1)) (has_file_in (pieces (volume_piece_number g k.0 k.1)) k.2) there in
-      let number : bytes_at 8 8 (pieces (volume_piece_number g k.0 k.1)) ≡ little_bytes 8 (if x.made (k.0, k.1) then file_bits g x k.0 k.1 else 0) =
+      let number : bytes_at 8 8 (pieces (volume_piece_number g k.0 k.1))
+      ≡ little_bytes 8 (if x.made (k.0, k.1) then file_bits g x k.0 k.1 else 0) =
       ap (λ (l : List ℕ). bytes_at 8 8 l) (volume_spelled (k.0, k.1) parts.0) ∙ number_said g x k.0 k.1 version in
       by (x.made (k.0, k.1)) refl (sym (ap (λ (l : List ℕ). has_file (little_number 8 l) k.2) number) ∙ parts.1)
     where
-      by : (t : Bool) → (said_by version g pieces).made (k.0, k.1) ≡ t → has_file (little_number 8 (little_bytes 8 (if t then file_bits g (said_by version g pieces) k.0 k.1 else 0))) k.2 ≡ true
+      by : (t : Bool) → (said_by version g pieces).made (k.0, k.1) ≡ t
+          → has_file (little_number 8 (little_bytes 8 (if t then file_bits g (said_by version g pieces) k.0 k.1 else 0))) k.2 ≡ true
           → (k.2 < g.files) × ((said_by version g pieces).made (k.0, k.1) ≡ true)
       by true made on =
           let picks : ℕ → Bool = λ f. (said_by version g pieces).files (k.0, k.1, f) in
           let small = number_small g.files picks in
-          let most : 2 ^ g.files ≤ 2 ^ 64 = pow-le-pow_right {n = 2} (omega arith) {i = g.files} {j = 64} g.files_range.1 in
-          (bit_within g.files picks k.2 (sym (ap (λ (m : ℕ). has_file m k.2) (eight_bytes (number_of g.files picks) (omega (arith, small, most)))) ∙ on), made)
+          let most : 2 ^ g.files ≤ 2 ^ 64 = pow-le-pow_right {n = 2} (omega arith) {i = g.files} {j = 64} g.files_range.1 in (
+            bit_within g.files picks k.2 (sym (ap (λ (m : ℕ). has_file m k.2)
+                (eight_bytes (number_of g.files picks) (omega (arith, small, most)))) ∙ on),
+            made,
+          )
       by false made on = absurd (omega (arith, bit_within 0 (λ f. false) k.2 on))
 
   -- every entry of a stripe has its file and stands within the numbers
-  entry_within : (a v s : ℕ) → AllByRecursion (λ (e : Entry). (e.block < g.blocks) × ((said_by version g pieces).files (a, v, e.file) ≡ true)) (stripe_entries g (said_by version g pieces) a v s)
+  entry_within : (a v s : ℕ) → AllByRecursion
+      (λ (e : Entry). (e.block < g.blocks) × ((said_by version g pieces).files (a, v, e.file) ≡ true))
+      (stripe_entries g (said_by version g pieces) a v s)
   entry_within a v s =
       let x : State = said_by version g pieces in
       all_joined (λ (e : Entry). (e.block < g.blocks) × (x.files (a, v, e.file) ≡ true)) g.files _
-      (λ f in_files. all_joined (λ (e : Entry). (e.block < g.blocks) × (x.files (a, v, e.file) ≡ true)) g.blocks _ (λ b below. by f b below (x.files (a, v, f)) refl))
+      (λ f in_files. all_joined (λ (e : Entry). (e.block < g.blocks) × (x.files (a, v, e.file) ≡ true)) g.blocks _
+      (λ b below. by f b below (x.files (a, v, f)) refl))
     where
       by : (f b : ℕ) → b < g.blocks → (t : Bool) → (said_by version g pieces).files (a, v, f) ≡ t
-          → AllByRecursion (λ (e : Entry). (e.block < g.blocks) × ((said_by version g pieces).files (a, v, e.file) ≡ true)) (entry_if (t && (group g f b == s)) f b ((said_by version g pieces).blocks (a, v, f, b)))
+          → AllByRecursion (λ (e : Entry). (e.block < g.blocks) × ((said_by version g pieces).files (a, v, e.file) ≡ true))
+          (entry_if (t && (group g f b == s)) f b ((said_by version g pieces).blocks (a, v, f, b)))
       by f b below true there =
-          one_of (λ (e : Entry). (e.block < g.blocks) × ((said_by version g pieces).files (a, v, e.file) ≡ true)) (group g f b == s) f b ((said_by version g pieces).blocks (a, v, f, b)) (λ content. (below, there))
+          one_of (λ (e : Entry). (e.block < g.blocks) × ((said_by version g pieces).files (a, v, e.file) ≡ true)) (group g f b == s) f b
+          ((said_by version g pieces).blocks (a, v, f, b)) (λ content. (below, there))
       by f b below false out = tt
 
-  blocks_in_range : (k : BlockKey) → is_some ((said_by version g pieces).blocks k) ≡ true → (k.3 < g.blocks) × ((said_by version g pieces).files (k.0, k.1, k.2) ≡ true)
+  blocks_in_range : (k : BlockKey) → is_some ((said_by version g pieces).blocks k) ≡ true
+      → (k.3 < g.blocks) × ((said_by version g pieces).files (k.0, k.1, k.2) ≡ true)
   blocks_in_range k some = by (has_volume g (k.0, k.1)) refl
     where
       by : (t : Bool) → has_volume g (k.0, k.1) ≡ t → (k.3 < g.blocks) × ((said_by version g pieces).files (k.0, k.1, k.2) ≡ true)
@@ -176,17 +202,22 @@ module _ (version : ℕ) (g : Geometry) (pieces : ℕ → List ℕ) (sized : (n 
           let measured = is_measured version g pieces sized in
           let entries : entries_in g.quota (pieces (stripe_piece_number g k.0 k.1 s)) ≡ stripe_entries g x k.0 k.1 s =
           ap (λ (l : List ℕ). entries_in g.quota l) (stripe_spelled (k.0, k.1) there s (group_below g k.2 k.3))
-          ∙ entries_again (stripe_entries g x k.0 k.1 s) (entries_good g x measured k.0 k.1 s) g.quota (g.quota * 520 - length (flat_map entry_bytes (stripe_entries g x k.0 k.1 s))) (measured.quota k.0 k.1 s) in
+          ∙ entries_again (stripe_entries g x k.0 k.1 s) (entries_good g x measured k.0 k.1 s) g.quota
+          (g.quota * 520 - length (flat_map entry_bytes (stripe_entries g x k.0 k.1 s))) (measured.quota k.0 k.1 s) in
           let held : x.blocks k ≡ content_at (stripe_entries g x k.0 k.1 s) k.2 k.3 =
           blocks_told version g pieces sized k.0 k.1 s k.2 k.3 true there refl ∙ ap (λ (es : List Entry). content_at es k.2 k.3) entries in
-          content_of (λ f b. (b < g.blocks) × (x.files (k.0, k.1, f) ≡ true)) k.2 k.3 (stripe_entries g x k.0 k.1 s) (entry_within k.0 k.1 s)
+          content_of (λ f b. (b < g.blocks) × (x.files (k.0, k.1, f) ≡ true)) k.2 k.3 (stripe_entries g x k.0 k.1 s)
+          (entry_within k.0 k.1 s)
           (sym (ap (λ (o : Option Block). is_some o) held) ∙ some)
-      by false out = absurd (true≢false (sym some ∙ ap (λ (o : Option Block). is_some o) (blocks_told version g pieces sized k.0 k.1 (group g k.2 k.3) k.2 k.3 false out refl)))
+      by false out = absurd (true≢false (sym some
+          ∙ ap (λ (o : Option Block). is_some o) (blocks_told version g pieces sized k.0 k.1 (group g k.2 k.3) k.2 k.3 false out refl)))
 
   labels_of_made : (k : VolumeKey) → is_some ((said_by version g pieces).labels k) ≡ (said_by version g pieces).made k
   labels_of_made k = by (has_volume g k) (is_made_in (pieces (volume_piece_number g k.0 k.1)))
     where
-      by : (t made : Bool) → is_some (if t then (if made then Some (if version == 2 then bytes_at 16 32 (pieces (volume_piece_number g k.0 k.1)) else no_label) else None) else None) ≡ (t && made)
+      by : (t made : Bool) → is_some (if t then
+          (if made then Some (if version == 2 then bytes_at 16 32
+          (pieces (volume_piece_number g k.0 k.1)) else no_label) else None) else None) ≡ (t && made)
       by true true = refl
       by true false = refl
       by false made = refl

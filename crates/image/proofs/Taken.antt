@@ -23,7 +23,8 @@ module _ (g : Geometry) (pieces : ℕ → List ℕ) (n i : ℕ) where
   first_there less = ap (λ (t : Bool). if t then pieces i else replicate (piece_size g i) 0) (lt-ltb i n less)
 
   pub first_behind : n ≤ i → first_of g pieces n i ≡ replicate (piece_size g i) 0
-  first_behind no_less = ap (λ (t : Bool). if t then pieces i else replicate (piece_size g i) 0) (false_from_ne_true (nat_lt i n) (λ on. let less = ltb-true i n on in omega (arith, less, no_less)))
+  first_behind no_less = ap (λ (t : Bool). if t then pieces i else replicate (piece_size g i) 0)
+      (false_from_ne_true (nat_lt i n) (λ on. let less = ltb-true i n on in omega (arith, less, no_less)))
 
 -- one more piece makes no difference at another
 first_more : (g : Geometry) (pieces : ℕ → List ℕ) (n i : ℕ) → i ≢ n → first_of g pieces n i ≡ first_of g pieces (suc n) i
@@ -40,13 +41,15 @@ no_entries zero k = refl
 no_entries (suc n) zero = refl
 no_entries (suc n) (suc k) = refl
 
-pub zeros_of_volume : (g : Geometry) (pieces : ℕ → List ℕ) (n a v : ℕ) → n ≤ volume_piece_number g a v → first_of g pieces n (volume_piece_number g a v) ≡ replicate 64 0
+pub zeros_of_volume : (g : Geometry) (pieces : ℕ → List ℕ) (n a v : ℕ) → n ≤ volume_piece_number g a v
+    → first_of g pieces n (volume_piece_number g a v) ≡ replicate 64 0
 zeros_of_volume g pieces n a v behind =
     let first : volume_piece_number g a v ≡ volume_piece_number g a v + 0 = omega arith in
     let size : piece_size g (volume_piece_number g a v) ≡ 64 = ap (piece_size g) first ∙ size_there g a v 0 (omega arith) in
     first_behind g pieces n (volume_piece_number g a v) behind ∙ ap (λ (k : ℕ). replicate k 0) size
 
-pub no_block_in_zeros : (g : Geometry) (pieces : ℕ → List ℕ) (n a v s f b : ℕ) → n ≤ stripe_piece_number g a v s → block_in g (first_of g pieces n (stripe_piece_number g a v s)) f b ≡ None
+pub no_block_in_zeros : (g : Geometry) (pieces : ℕ → List ℕ) (n a v s f b : ℕ) → n ≤ stripe_piece_number g a v s
+    → block_in g (first_of g pieces n (stripe_piece_number g a v s)) f b ≡ None
 no_block_in_zeros g pieces n a v s f b behind =
     ap (λ (l : List ℕ). block_in g l f b) (first_behind g pieces n (stripe_piece_number g a v s) behind)
     ∙ ap (λ es. content_at es f b) (no_entries g.quota (piece_size g (stripe_piece_number g a v s)))
@@ -94,23 +97,29 @@ module _ (version : ℕ) (g : Geometry) (pieces : ℕ → List ℕ) (n : ℕ) (b
       (eqb-true (aggregate_of g n) k.0 parts.0, eqb-true (volume_of g n) k.1 parts.1)
 
   pub its_volume : has_volume g (aggregate_of g n, volume_of g n) ≡ true
-  its_volume = and_from _ _ (lt-ltb (aggregate_of g n) g.aggregates (in_aggregates g n below)) (lt-ltb (volume_of g n) g.volumes (in_volumes g n))
+  its_volume = and_from _ _ (lt-ltb (aggregate_of g n) g.aggregates (in_aggregates g n below))
+      (lt-ltb (volume_of g n) g.volumes (in_volumes g n))
 
   there_is : (k : VolumeKey) → is_volume (aggregate_of g n) (volume_of g n) k ≡ true → has_volume g k ≡ true
   there_is k on = let same = same_volume k on in sym (λ i. has_volume g (same.0 i, same.1 i)) ∙ its_volume
 
-  now_there : (k : VolumeKey) (p : ℕ) → is_volume (aggregate_of g n) (volume_of g n) k ≡ true → part_of g n ≡ p → first_of g pieces (suc n) (volume_piece_number g k.0 k.1 + p) ≡ pieces n
+  now_there : (k : VolumeKey) (p : ℕ) → is_volume (aggregate_of g n) (volume_of g n) k ≡ true → part_of g n ≡ p
+      → first_of g pieces (suc n) (volume_piece_number g k.0 k.1 + p) ≡ pieces n
   now_there k p on part =
       let same = same_volume k on in
-      let number : volume_piece_number g k.0 k.1 + p ≡ n = sym (λ i. volume_piece_number g (same.0 i) (same.1 i) + part i) ∙ number_there g n in
+      let number : volume_piece_number g k.0 k.1 + p ≡ n =
+      sym (λ i. volume_piece_number g (same.0 i) (same.1 i) + part i) ∙ number_there g n in
       ap (first_of g pieces (suc n)) number ∙ first_there g pieces (suc n) n (omega arith)
 
   -- where the part is another one
-  other_part : (a v p : ℕ) → p < pieces_of_volume g → part_of g n ≢ p → first_of g pieces n (volume_piece_number g a v + p) ≡ first_of g pieces (suc n) (volume_piece_number g a v + p)
-  other_part a v p few other = first_more g pieces n (volume_piece_number g a v + p) (λ same. other (sym (ap (part_of g) same) ∙ part_there g a v p few))
+  other_part : (a v p : ℕ) → p < pieces_of_volume g → part_of g n ≢ p
+      → first_of g pieces n (volume_piece_number g a v + p) ≡ first_of g pieces (suc n) (volume_piece_number g a v + p)
+  other_part a v p few other = first_more g pieces n (volume_piece_number g a v + p)
+      (λ same. other (sym (ap (part_of g) same) ∙ part_there g a v p few))
 
   -- where the volume is another one
-  other_volume : (k : VolumeKey) (p : ℕ) → p < pieces_of_volume g → is_volume (aggregate_of g n) (volume_of g n) k ≡ false → has_volume g k ≡ true
+  other_volume : (k : VolumeKey) (p : ℕ) → p < pieces_of_volume g → is_volume (aggregate_of g n) (volume_of g n) k ≡ false
+      → has_volume g k ≡ true
       → first_of g pieces n (volume_piece_number g k.0 k.1 + p) ≡ first_of g pieces (suc n) (volume_piece_number g k.0 k.1 + p)
   other_volume k p few off there =
       first_more g pieces n (volume_piece_number g k.0 k.1 + p)
@@ -118,65 +127,90 @@ module _ (version : ℕ) (g : Geometry) (pieces : ℕ → List ℕ) (n : ℕ) (b
       let inside = (is_volume_there g k there).1 in
       let aggregate : aggregate_of g n ≡ k.0 = sym (ap (aggregate_of g) same) ∙ aggregate_there g k.0 k.1 p few inside in
       let volume : volume_of g n ≡ k.1 = sym (ap (volume_of g) same) ∙ volume_there g k.0 k.1 p few inside in
-      let on : is_volume (aggregate_of g n) (volume_of g n) k ≡ true = and_from _ _ (eq-eqb (aggregate_of g n) k.0 aggregate) (eq-eqb (volume_of g n) k.1 volume) in
+      let on : is_volume (aggregate_of g n) (volume_of g n) k ≡ true =
+      and_from _ _ (eq-eqb (aggregate_of g n) k.0 aggregate) (eq-eqb (volume_of g n) k.1 volume) in
       true≢false (sym on ∙ off))
 
-  first_number : (l : ℕ) (k : VolumeKey) → first_of g pieces l (volume_piece_number g k.0 k.1 + 0) ≡ first_of g pieces l (volume_piece_number g k.0 k.1)
-  first_number l k = let same : volume_piece_number g k.0 k.1 + 0 ≡ volume_piece_number g k.0 k.1 = omega arith in ap (first_of g pieces l) same
+  first_number : (l : ℕ) (k : VolumeKey) → first_of g pieces l (volume_piece_number g k.0 k.1 + 0)
+      ≡ first_of g pieces l (volume_piece_number g k.0 k.1)
+  first_number l k =
+      let same : volume_piece_number g k.0 k.1 + 0 ≡ volume_piece_number g k.0 k.1 = omega arith in
+      ap (first_of g pieces l) same
 
   mark_told : (F : List ℕ → Bool) (k : VolumeKey) → part_of g n ≡ 0
-      → (if is_volume (aggregate_of g n) (volume_of g n) k then F (pieces n) else (has_volume g k && F (first_of g pieces n (volume_piece_number g k.0 k.1)))) ≡ (has_volume g k && F (first_of g pieces (suc n) (volume_piece_number g k.0 k.1)))
+      → (if is_volume (aggregate_of g n) (volume_of g n) k then F (pieces n) else
+      (has_volume g k && F (first_of g pieces n (volume_piece_number g k.0 k.1))))
+      ≡ (has_volume g k && F (first_of g pieces (suc n) (volume_piece_number g k.0 k.1)))
   mark_told F k part = by (is_volume (aggregate_of g n) (volume_of g n) k) refl
     where
       by : (t : Bool) → is_volume (aggregate_of g n) (volume_of g n) k ≡ t
-          → (if t then F (pieces n) else (has_volume g k && F (first_of g pieces n (volume_piece_number g k.0 k.1)))) ≡ (has_volume g k && F (first_of g pieces (suc n) (volume_piece_number g k.0 k.1)))
+          → (if t then F (pieces n) else (has_volume g k && F (first_of g pieces n (volume_piece_number g k.0 k.1))))
+          ≡ (has_volume g k && F (first_of g pieces (suc n) (volume_piece_number g k.0 k.1)))
       by true on = sym (λ i. there_is k on i && F ((sym (first_number (suc n) k) ∙ now_there k 0 on part) i))
-      by false off = and_same (has_volume g k) _ _ (λ there. ap F (sym (first_number n k) ∙ other_volume k 0 (omega arith) off there ∙ first_number (suc n) k))
+      by false off = and_same (has_volume g k) _ _
+          (λ there. ap F (sym (first_number n k) ∙ other_volume k 0 (omega arith) off there ∙ first_number (suc n) k))
 
   label_told : (k : VolumeKey) → part_of g n ≡ 0
-      → (if is_volume (aggregate_of g n) (volume_of g n) k then label_in version (pieces n) else (if has_volume g k then label_in version (first_of g pieces n (volume_piece_number g k.0 k.1)) else None))
+      → (if is_volume (aggregate_of g n) (volume_of g n) k then label_in version (pieces n) else
+      (if has_volume g k then label_in version (first_of g pieces n (volume_piece_number g k.0 k.1)) else None))
       ≡ (if has_volume g k then label_in version (first_of g pieces (suc n) (volume_piece_number g k.0 k.1)) else None)
   label_told k part = by (is_volume (aggregate_of g n) (volume_of g n) k) refl
     where
       by : (t : Bool) → is_volume (aggregate_of g n) (volume_of g n) k ≡ t
-          → (if t then label_in version (pieces n) else (if has_volume g k then label_in version (first_of g pieces n (volume_piece_number g k.0 k.1)) else None))
+          → (if t then label_in version (pieces n) else
+          (if has_volume g k then label_in version (first_of g pieces n (volume_piece_number g k.0 k.1)) else None))
           ≡ (if has_volume g k then label_in version (first_of g pieces (suc n) (volume_piece_number g k.0 k.1)) else None)
       by true on = sym (λ i. if there_is k on i then label_in version ((sym (first_number (suc n) k) ∙ now_there k 0 on part) i) else None)
-      by false off = if_same (has_volume g k) _ _ (λ there. ap (label_in version) (sym (first_number n k) ∙ other_volume k 0 (omega arith) off there ∙ first_number (suc n) k))
+      by false off = if_same (has_volume g k) _ _
+          (λ there. ap (label_in version) (sym (first_number n k) ∙ other_volume k 0 (omega arith) off there ∙ first_number (suc n) k))
 
   block_told : (s : ℕ) (k : BlockKey) → part_of g n ≡ suc s
-      → (if is_block_of (aggregate_of g n) (volume_of g n) k && (group g k.2 k.3 == s) then block_in g (pieces n) k.2 k.3 else (if has_volume g (k.0, k.1) then block_in g (first_of g pieces n (stripe_piece_number g k.0 k.1 (group g k.2 k.3))) k.2 k.3 else None))
-      ≡ (if has_volume g (k.0, k.1) then block_in g (first_of g pieces (suc n) (stripe_piece_number g k.0 k.1 (group g k.2 k.3))) k.2 k.3 else None)
+      → (if is_block_of (aggregate_of g n) (volume_of g n) k && (group g k.2 k.3 == s) then block_in g (pieces n) k.2 k.3 else
+      (if has_volume g (k.0, k.1) then block_in g
+      (first_of g pieces n (stripe_piece_number g k.0 k.1 (group g k.2 k.3))) k.2 k.3 else None))
+      ≡ (if has_volume g (k.0, k.1) then block_in g
+      (first_of g pieces (suc n) (stripe_piece_number g k.0 k.1 (group g k.2 k.3))) k.2 k.3 else None)
   block_told s k part = by (is_block_of (aggregate_of g n) (volume_of g n) k) (group g k.2 k.3 == s) refl refl
     where
       few : suc (group g k.2 k.3) < pieces_of_volume g
       few = let below = group_below g k.2 k.3 in omega (arith, below)
 
       by : (t u : Bool) → is_block_of (aggregate_of g n) (volume_of g n) k ≡ t → (group g k.2 k.3 == s) ≡ u
-          → (if t && u then block_in g (pieces n) k.2 k.3 else (if has_volume g (k.0, k.1) then block_in g (first_of g pieces n (stripe_piece_number g k.0 k.1 (group g k.2 k.3))) k.2 k.3 else None))
-          ≡ (if has_volume g (k.0, k.1) then block_in g (first_of g pieces (suc n) (stripe_piece_number g k.0 k.1 (group g k.2 k.3))) k.2 k.3 else None)
+          → (if t && u then block_in g (pieces n) k.2 k.3 else
+          (if has_volume g (k.0, k.1) then block_in g
+          (first_of g pieces n (stripe_piece_number g k.0 k.1 (group g k.2 k.3))) k.2 k.3 else None))
+          ≡ (if has_volume g (k.0, k.1) then block_in g
+          (first_of g pieces (suc n) (stripe_piece_number g k.0 k.1 (group g k.2 k.3))) k.2 k.3 else None)
       by true true on same =
           let its : part_of g n ≡ suc (group g k.2 k.3) = part ∙ sym (ap suc (eqb-true (group g k.2 k.3) s same)) in
           sym (λ i. if there_is (k.0, k.1) on i then block_in g (now_there (k.0, k.1) (suc (group g k.2 k.3)) on its i) k.2 k.3 else None)
       by true false on off =
           if_same (has_volume g (k.0, k.1)) _ _
-          (λ there. ap (λ (l : List ℕ). block_in g l k.2 k.3) (other_part k.0 k.1 (suc (group g k.2 k.3)) few (λ same. true≢false (sym (eq-eqb (group g k.2 k.3) s (omega (arith, same, part))) ∙ off))))
-      by false u off _ = if_same (has_volume g (k.0, k.1)) _ _ (λ there. ap (λ (l : List ℕ). block_in g l k.2 k.3) (other_volume (k.0, k.1) (suc (group g k.2 k.3)) few off there))
+          (λ there. ap (λ (l : List ℕ). block_in g l k.2 k.3)
+          (other_part k.0 k.1 (suc (group g k.2 k.3)) few
+          (λ same. true≢false (sym (eq-eqb (group g k.2 k.3) s (omega (arith, same, part))) ∙ off))))
+      by false u off _ = if_same (has_volume g (k.0, k.1)) _ _
+          (λ there. ap (λ (l : List ℕ). block_in g l k.2 k.3) (other_volume (k.0, k.1) (suc (group g k.2 k.3)) few off there))
 
-  pub one_more_piece : with_piece version g (said_by version g (first_of g pieces n)) n (pieces n) ≡ said_by version g (first_of g pieces (suc n))
+  pub one_more_piece : with_piece version g (said_by version g (first_of g pieces n)) n (pieces n)
+      ≡ said_by version g (first_of g pieces (suc n))
   one_more_piece = by (part_of g n) refl
     where
-      same_first : (s : ℕ) (k : VolumeKey) → part_of g n ≡ suc s → first_of g pieces n (volume_piece_number g k.0 k.1) ≡ first_of g pieces (suc n) (volume_piece_number g k.0 k.1)
-      same_first s k part = sym (first_number n k) ∙ other_part k.0 k.1 0 (omega arith) (λ first. omega (arith, part, first)) ∙ first_number (suc n) k
+      same_first : (s : ℕ) (k : VolumeKey) → part_of g n ≡ suc s
+          → first_of g pieces n (volume_piece_number g k.0 k.1) ≡ first_of g pieces (suc n) (volume_piece_number g k.0 k.1)
+      same_first s k part = sym (first_number n k) ∙ other_part k.0 k.1 0 (omega arith) (λ first. omega (arith, part, first))
+          ∙ first_number (suc n) k
 
-      by : (p : ℕ) → part_of g n ≡ p → with_part version g (said_by version g (first_of g pieces n)) (aggregate_of g n) (volume_of g n) p (pieces n) ≡ said_by version g (first_of g pieces (suc n))
+      by : (p : ℕ) → part_of g n ≡ p → with_part version g (said_by version g (first_of g pieces n)) (aggregate_of g n)
+          (volume_of g n) p (pieces n) ≡ said_by version g (first_of g pieces (suc n))
       by zero part = λ i. record {
         made = λ k. mark_told is_made_in k part i;
         sealed = λ k. mark_told is_sealed_in k part i;
         files = λ k. mark_told (λ l. has_file_in l k.2) (k.0, k.1) part i;
         blocks = λ k.
             if has_volume g (k.0, k.1)
-            then block_in g (other_part k.0 k.1 (suc (group g k.2 k.3)) (let below = group_below g k.2 k.3 in omega (arith, below)) (λ same. omega (arith, same, part)) i) k.2 k.3
+            then block_in g (other_part k.0 k.1 (suc (group g k.2 k.3)) (let below = group_below g k.2 k.3 in omega (arith, below))
+            (λ same. omega (arith, same, part)) i) k.2 k.3
             else None;
         labels = λ k. label_told k part i;
       }
@@ -189,7 +223,8 @@ module _ (version : ℕ) (g : Geometry) (pieces : ℕ → List ℕ) (n : ℕ) (b
       }
 
 -- what the first n pieces say, taken in one after the other
-pub taken : (version : ℕ) (g : Geometry) (bytes : List ℕ) (n : ℕ) → n ≤ piece_count g → said_before version g bytes n ≡ said_by version g (first_of g (piece_in g bytes) n)
+pub taken : (version : ℕ) (g : Geometry) (bytes : List ℕ) (n : ℕ) → n ≤ piece_count g
+    → said_before version g bytes n ≡ said_by version g (first_of g (piece_in g bytes) n)
 taken version g bytes zero few = none_before version g (piece_in g bytes)
 taken version g bytes (suc n) few =
     ap (λ (x : State). with_piece version g x n (piece_in g bytes n)) (taken version g bytes n (omega (arith, few)))

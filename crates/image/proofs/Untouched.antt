@@ -26,12 +26,15 @@ record AgreeAt (x y : State) (a v : ℕ) : Type 0 where
   blocks : (f b : ℕ) → x.blocks (a, v, f, b) ≡ y.blocks (a, v, f, b)
   labels : x.labels (a, v) ≡ y.labels (a, v)
 
-agreeing : (version : ℕ) (g : Geometry) (x y : State) (a v : ℕ) → AgreeAt x y a v → (p : ℕ) → part_piece version g x a v p ≡ part_piece version g y a v p
+agreeing : (version : ℕ) (g : Geometry) (x y : State) (a v : ℕ) → AgreeAt x y a v → (p : ℕ)
+    → part_piece version g x a v p ≡ part_piece version g y a v p
 agreeing version g x y a v same zero = λ i.
     if same.made i
-    then 1 ∷ one_if (same.sealed i) ∷ [] ++ replicate 6 0 ++ little_bytes 8 (sum_below g.files (λ f. if same.files f i then 2 ^ f else 0)) ++ label_bytes version (same.labels i) ++ replicate 16 0
+    then 1 ∷ one_if (same.sealed i) ∷ [] ++ replicate 6 0 ++ little_bytes 8
+    (sum_below g.files (λ f. if same.files f i then 2 ^ f else 0)) ++ label_bytes version (same.labels i) ++ replicate 16 0
     else replicate 64 0
-agreeing version g x y a v same (suc s) = ap (stripe_bytes g.quota) (entries_same g x y a v s (λ f b on. (λ i. entry_if (same.files f i) f b (same.blocks f b i))))
+agreeing version g x y a v same (suc s) =
+    ap (stripe_bytes g.quota) (entries_same g x y a v s (λ f b on. (λ i. entry_if (same.files f i) f b (same.blocks f b i))))
 
 other_three : (p q r : Bool) → (p && q) ≡ false → (p && q && r) ≡ false
 other_three true true r off = absurd (true≢false off)
@@ -91,7 +94,8 @@ module _ (x : State) (i j : ℕ) where
     made = refl;
     sealed = refl;
     files = λ k. refl;
-    blocks = λ k l. ap (λ (t : Bool). if t then Some content else x.blocks (i, j, k, l)) (other_four (a == i) (v == j) (f == k) (b == l) off);
+    blocks = λ k l. ap (λ (t : Bool). if t then Some content else x.blocks (i, j, k, l))
+        (other_four (a == i) (v == j) (f == k) (b == l) off);
     labels = refl;
   }
   agrees_elsewhere (Punch a v f b) off = record {
@@ -119,20 +123,25 @@ module _ (x : State) (i j : ℕ) where
 module _ (g : Geometry) (x : State) (is : IsState g x) (a v s : ℕ) where
   -- A file that is made has no blocks.
   created : (i j k : ℕ) → stripe_piece g (effect x (Create i j k)) a v s ≡ stripe_piece g x a v s
-  created i j k = ap (stripe_bytes g.quota) (entries_same g (effect x (Create i j k)) x a v s (λ f b on. by f b (x.files (a, v, f)) (x.blocks (a, v, f, b)) refl refl))
+  created i j k = ap (stripe_bytes g.quota)
+      (entries_same g (effect x (Create i j k)) x a v s (λ f b on. by f b (x.files (a, v, f)) (x.blocks (a, v, f, b)) refl refl))
     where
-      by : (f b : ℕ) (t : Bool) (o : Option Block) → x.files (a, v, f) ≡ t → x.blocks (a, v, f, b) ≡ o → entry_if (is_file i j k (a, v, f) || t) f b o ≡ entry_if t f b o
+      by : (f b : ℕ) (t : Bool) (o : Option Block) → x.files (a, v, f) ≡ t → x.blocks (a, v, f, b) ≡ o
+          → entry_if (is_file i j k (a, v, f) || t) f b o ≡ entry_if t f b o
       by f b true o there has = ap (λ (t : Bool). entry_if t f b o) (or_true (is_file i j k (a, v, f)))
         where
           or_true : (p : Bool) → (p || true) ≡ true
           or_true true = refl
           or_true false = refl
       by f b false None out has = no_entry_of_none (is_file i j k (a, v, f) || false) f b
-      by f b false (Some content) out has = absurd (true≢false (sym (is.blocks (a, v, f, b) (ap (λ (o : Option Block). is_some o) has)).1 ∙ out))
+      by f b false (Some content) out has = absurd
+          (true≢false (sym (is.blocks (a, v, f, b) (ap (λ (o : Option Block). is_some o) has)).1 ∙ out))
 
 -- one block of another stripe
 block_elsewhere : (g : Geometry) (s i j k l a v f b : ℕ) → s ≢ group g k l → group g f b ≡ s → is_block i j k l (a, v, f, b) ≡ false
-block_elsewhere g s i j k l a v f b other on = by (i == a) (j == v) (k == f) (l == b) (λ file block. other (sym on ∙ sym (λ n. group g (eqb-true k f file n) (eqb-true l b block n))))
+block_elsewhere g s i j k l a v f b other on =
+    by (i == a) (j == v) (k == f) (l == b) (λ file block.
+    other (sym on ∙ sym (λ n. group g (eqb-true k f file n) (eqb-true l b block n))))
   where
     by : (p q r t : Bool) → (r ≡ true → t ≡ true → ⊥) → (p && q && r && t) ≡ false
     by true true true true none = absurd (none refl refl)
@@ -158,13 +167,15 @@ module _ (version : ℕ) (g : Geometry) (x : State) (is : IsState g x) (i j : �
       let other : s ≢ group g f b = λ same. true≢false (sym (eq-eqb (suc s) (suc (group g f b)) (ap suc same)) ∙ off) in
       ap (stripe_bytes g.quota)
       (entries_same g (effect x (Write a v f b content)) x i j s
-      (λ k l on. ap (λ (t : Bool). entry_if (x.files (i, j, k)) k l (if t then Some content else x.blocks (i, j, k, l))) (block_elsewhere g s a v f b i j k l other on)))
+      (λ k l on. ap (λ (t : Bool). entry_if (x.files (i, j, k)) k l (if t then Some content else x.blocks (i, j, k, l)))
+      (block_elsewhere g s a v f b i j k l other on)))
   part_untouched (Punch a v f b) zero off = refl
   part_untouched (Punch a v f b) (suc s) off =
       let other : s ≢ group g f b = λ same. true≢false (sym (eq-eqb (suc s) (suc (group g f b)) (ap suc same)) ∙ off) in
       ap (stripe_bytes g.quota)
       (entries_same g (effect x (Punch a v f b)) x i j s
-      (λ k l on. ap (λ (t : Bool). entry_if (x.files (i, j, k)) k l (if t then None else x.blocks (i, j, k, l))) (block_elsewhere g s a v f b i j k l other on)))
+      (λ k l on. ap (λ (t : Bool). entry_if (x.files (i, j, k)) k l (if t then None else x.blocks (i, j, k, l)))
+      (block_elsewhere g s a v f b i j k l other on)))
   part_untouched (SetLabel a v bytes) zero off = absurd (true≢false off)
   part_untouched (SetLabel a v bytes) (suc s) off = refl
   part_untouched (Read a v f b) p off = refl
@@ -177,9 +188,11 @@ module _ (version : ℕ) (g : Geometry) (x : State) (is : IsState g x) (m : Msg)
   effect_leaves : piece_of version g (effect x m) n ≡ piece_of version g x n
   effect_leaves = by (is_volume (key m).0 (key m).1 (aggregate_of g n, volume_of g n)) refl off
     where
-      by : (t : Bool) → is_volume (key m).0 (key m).1 (aggregate_of g n, volume_of g n) ≡ t → (t && touches_part g m (part_of g n)) ≡ false → piece_of version g (effect x m) n ≡ piece_of version g x n
+      by : (t : Bool) → is_volume (key m).0 (key m).1 (aggregate_of g n, volume_of g n) ≡ t
+          → (t && touches_part g m (part_of g n)) ≡ false → piece_of version g (effect x m) n ≡ piece_of version g x n
       by true on none = part_untouched version g x is (aggregate_of g n) (volume_of g n) m (part_of g n) none
-      by false out none = agreeing version g (effect x m) x (aggregate_of g n) (volume_of g n) (agrees_elsewhere x (aggregate_of g n) (volume_of g n) m out) (part_of g n)
+      by false out none = agreeing version g (effect x m) x (aggregate_of g n) (volume_of g n)
+          (agrees_elsewhere x (aggregate_of g n) (volume_of g n) m out) (part_of g n)
 
   pub piece_stays : piece_of version g (next_state g x m) n ≡ piece_of version g x n
   piece_stays = by (refusal g x m)

@@ -28,13 +28,17 @@ sum_more f n zero few = let none : n ≡ 0 = omega (arith, few) in let same = ap
 sum_more f n (suc m) few =
     ⊎_elim
     (λ (less : n < suc m). let rest = sum_more f n m (omega (arith, less)) in omega (arith, rest))
-    (λ (no_less : suc m ≤ n). let same : n ≡ suc m = omega (arith, few, no_less) in let equal : sum_below n f ≡ sum_below (suc m) f = ap (λ (k : ℕ). sum_below k f) same in omega (arith, equal))
+    (λ (no_less : suc m ≤ n).
+    let same : n ≡ suc m = omega (arith, few, no_less) in
+    let equal : sum_below n f ≡ sum_below (suc m) f = ap (λ (k : ℕ). sum_below k f) same in
+    omega (arith, equal))
     (cases_lt n (suc m))
 
 module _ (g : Geometry) (bytes : List ℕ) (are : AreBytes (piece_at g (piece_count g)) bytes) where
   pub piece_bytes : (n : ℕ) → n < piece_count g → AreBytes (piece_size g n) (piece_in g bytes n)
   piece_bytes n below =
-      let more : piece_at g n + piece_size g n ≤ piece_at g (piece_count g) = let most = sum_more (piece_size g) (suc n) (piece_count g) (omega (arith, below)) in omega (arith, most) in (
+      let most = sum_more (piece_size g) (suc n) (piece_count g) (omega (arith, below)) in
+      let more : piece_at g n + piece_size g n ≤ piece_at g (piece_count g) = omega (arith, most) in (
         omega (arith, are.0, more, length-take (piece_size g n) (drop (piece_at g n) bytes), length-drop (piece_at g n) bytes),
         all-take (λ b. b < 256) (piece_size g n) (drop (piece_at g n) bytes) (all-drop (λ b. b < 256) (piece_at g n) bytes are.1),
       )
@@ -43,25 +47,29 @@ module _ (g : Geometry) (bytes : List ℕ) (are : AreBytes (piece_at g (piece_co
   first_bytes n i below =
       ⊎_elim
       (λ (less : i < n). subst (AreBytes (piece_size g i)) (sym (first_there g (piece_in g bytes) n i less)) (piece_bytes i below))
-      (λ (no_less : n ≤ i). subst (AreBytes (piece_size g i)) (sym (first_behind g (piece_in g bytes) n i no_less)) (length-replicate (piece_size g i) 0, all-zeros (piece_size g i)))
+      (λ (no_less : n ≤ i). subst (AreBytes (piece_size g i)) (sym (first_behind g (piece_in g bytes) n i no_less))
+      (length-replicate (piece_size g i) 0, all-zeros (piece_size g i)))
       (cases_lt i n)
 
 -- ---- what the first pieces say
 
 module _ (version : ℕ) (g : Geometry) (bytes : List ℕ) where
   -- A piece is that of what the image says where it is that of what is said so far.
-  so_far : (n i : ℕ) → i < n → piece_of version g (said version g bytes) i ≡ piece_of version g (said_by version g (first_of g (piece_in g bytes) n)) i
+  so_far : (n i : ℕ) → i < n → piece_of version g (said version g bytes) i
+      ≡ piece_of version g (said_by version g (first_of g (piece_in g bytes) n)) i
   so_far n i less =
       let number = number_there g i in
       piece_same version g (piece_in g bytes) (first_of g (piece_in g bytes) n) i
       (sym (first_there g (piece_in g bytes) n (volume_piece_number g (aggregate_of g i) (volume_of g i)) (omega (arith, number, less))))
       (sym (first_there g (piece_in g bytes) n i less))
 
-  pub no_blocks_yet : (n : ℕ) → n < piece_count g → part_of g n ≡ 0 → (f b : ℕ) → (said_before version g bytes n).blocks (aggregate_of g n, volume_of g n, f, b) ≡ None
+  pub no_blocks_yet : (n : ℕ) → n < piece_count g → part_of g n ≡ 0 → (f b : ℕ)
+      → (said_before version g bytes n).blocks (aggregate_of g n, volume_of g n, f, b) ≡ None
   no_blocks_yet n below part f b =
       let number = number_there g n in
       ap (λ (x : State). x.blocks (aggregate_of g n, volume_of g n, f, b)) (taken version g bytes n (omega (arith, below)))
-      ∙ if_none (has_volume g (aggregate_of g n, volume_of g n)) _ (no_block_in_zeros g (piece_in g bytes) n (aggregate_of g n) (volume_of g n) (group g f b) f b (omega (arith, number, part)))
+      ∙ if_none (has_volume g (aggregate_of g n, volume_of g n)) _
+      (no_block_in_zeros g (piece_in g bytes) n (aggregate_of g n) (volume_of g n) (group g f b) f b (omega (arith, number, part)))
     where
       if_none : (h : Bool) (o : Option Block) → o ≡ None → (if h then o else None) ≡ None
       if_none true o off = off
@@ -77,34 +85,43 @@ module _ (version : ℕ) (g : Geometry) (bytes : List ℕ) where
         files = λ k. and_same (has_volume g (k.0, k.1)) _ _ (λ there. ap (λ (l : List ℕ). has_file_in l k.2) (first (k.0, k.1) there)) i;
         blocks = λ k.
             if_same (has_volume g (k.0, k.1)) _ _
-            (λ there. ap (λ (l : List ℕ). block_in g l k.2 k.3) (part (k.0, k.1) (suc (group g k.2 k.3)) (let below = group_below g k.2 k.3 in omega (arith, below)) there)) i;
+            (λ there. ap (λ (l : List ℕ). block_in g l k.2 k.3)
+            (part (k.0, k.1) (suc (group g k.2 k.3)) (let below = group_below g k.2 k.3 in omega (arith, below)) there)) i;
         labels = λ k. if_same (has_volume g k) _ _ (λ there. ap (label_in version) (first k there)) i;
       })
     where
       part : (k : VolumeKey) (p : ℕ) → p < pieces_of_volume g → has_volume g k ≡ true
-          → first_of g (piece_in g bytes) (piece_count g) (volume_piece_number g k.0 k.1 + p) ≡ piece_in g bytes (volume_piece_number g k.0 k.1 + p)
+          → first_of g (piece_in g bytes) (piece_count g) (volume_piece_number g k.0 k.1 + p)
+          ≡ piece_in g bytes (volume_piece_number g k.0 k.1 + p)
       part k p few there =
           let within = is_volume_there g k there in
           first_there g (piece_in g bytes) (piece_count g) (volume_piece_number g k.0 k.1 + p) (is_piece g k.0 k.1 within.0 within.1 p few)
 
-      first : (k : VolumeKey) → has_volume g k ≡ true → first_of g (piece_in g bytes) (piece_count g) (volume_piece_number g k.0 k.1) ≡ piece_in g bytes (volume_piece_number g k.0 k.1)
+      first : (k : VolumeKey) → has_volume g k ≡ true
+          → first_of g (piece_in g bytes) (piece_count g) (volume_piece_number g k.0 k.1)
+          ≡ piece_in g bytes (volume_piece_number g k.0 k.1)
       first k there =
           let same : volume_piece_number g k.0 k.1 + 0 ≡ volume_piece_number g k.0 k.1 = omega arith in
           sym (ap (first_of g (piece_in g bytes) (piece_count g)) same) ∙ part k 0 (omega arith) there ∙ ap (piece_in g bytes) same
 
 module _ (g : Geometry) (bytes : List ℕ) where
-  pub good_is_seen : (n : ℕ) → n < piece_count g → (is_good g bytes n ≡ true) ↔ (piece_in g bytes n ≡ piece_of (version_in bytes) g (said_before (version_in bytes) g bytes (suc n)) n)
+  pub good_is_seen : (n : ℕ) → n < piece_count g
+      → (is_good g bytes n ≡ true) ↔ (piece_in g bytes n
+      ≡ piece_of (version_in bytes) g (said_before (version_in bytes) g bytes (suc n)) n)
   good_is_seen n below =
       let version : ℕ = version_in bytes in
       let same : piece_of version g (said version g bytes) n ≡ piece_of version g (said_before version g bytes (suc n)) n =
-      so_far version g bytes (suc n) n (omega arith) ∙ ap (λ (x : State). piece_of version g x n) (sym (taken version g bytes (suc n) below)) in
+      so_far version g bytes (suc n) n (omega arith)
+      ∙ ap (λ (x : State). piece_of version g x n) (sym (taken version g bytes (suc n) below)) in
       let decides = bytes_eq-Decides (piece_in g bytes n) (piece_of version g (said version g bytes) n) in
       ((λ on. decides.0 on ∙ same), (λ e. decides.1 (e ∙ sym same)))
 
-  pub good_is_spelled : (n : ℕ) → is_good g bytes n ≡ true → piece_in g bytes n ≡ piece_of (version_in bytes) g (said (version_in bytes) g bytes) n
+  pub good_is_spelled : (n : ℕ) → is_good g bytes n ≡ true
+      → piece_in g bytes n ≡ piece_of (version_in bytes) g (said (version_in bytes) g bytes) n
   good_is_spelled n on = (bytes_eq-Decides (piece_in g bytes n) (piece_of (version_in bytes) g (said (version_in bytes) g bytes) n)).0 on
 
-  pub first_are_a_state : AreBytes (piece_at g (piece_count g)) bytes → (n : ℕ) → n ≤ piece_count g → AreGood g bytes n → IsState g (said_before (version_in bytes) g bytes n)
+  pub first_are_a_state : AreBytes (piece_at g (piece_count g)) bytes → (n : ℕ) → n ≤ piece_count g → AreGood g bytes n
+      → IsState g (said_before (version_in bytes) g bytes n)
   first_are_a_state are n few good =
       let version : ℕ = version_in bytes in
       let first : ℕ → List ℕ = first_of g (piece_in g bytes) n in
@@ -116,29 +133,37 @@ module _ (g : Geometry) (bytes : List ℕ) where
       (λ (no_less : n ≤ i). first_behind g (piece_in g bytes) n i no_less ∙ sym (zero_piece version g (piece_in g bytes) n i no_less))
       (cases_lt i n)))
 
-  pub good_is_read : AreBytes (piece_at g (piece_count g)) bytes → has_head bytes ≡ true → AreGood g bytes (piece_count g) → read g bytes ≡ Some (said_before (version_in bytes) g bytes (piece_count g))
+  pub good_is_read : AreBytes (piece_at g (piece_count g)) bytes → has_head bytes ≡ true → AreGood g bytes (piece_count g)
+      → read g bytes ≡ Some (said_before (version_in bytes) g bytes (piece_count g))
   good_is_read are head good =
       let version : ℕ = version_in bytes in
       let parts = and_parts (is_version version) (bytes_eq (bytes_at 0 64 bytes) (head_of version)) head in
       let begins = (bytes_eq-Decides (bytes_at 0 64 bytes) (head_of version)).0 parts.1 in
-      let spelled : bytes ≡ image_of version g (said version g bytes) = by_pieces version g (said version g bytes) bytes begins are.0 (λ i below. good_is_spelled i (good i below)) in
-      let is : is_image g bytes ≡ true = and_from _ _ parts.0 ((bytes_eq-Decides bytes (image_of version g (said version g bytes))).1 spelled) in
+      let spelled : bytes ≡ image_of version g (said version g bytes) =
+      by_pieces version g (said version g bytes) bytes begins are.0 (λ i below. good_is_spelled i (good i below)) in
+      let is : is_image g bytes ≡ true = and_from _ _ parts.0
+      ((bytes_eq-Decides bytes (image_of version g (said version g bytes))).1 spelled) in
       ap (λ (t : Bool). if t then Some (said version g bytes) else None) is ∙ ap (λ (x : State). Some x) (sym (all_taken version g bytes))
 
-  pub read_is_good : AreBytes (piece_at g (piece_count g)) bytes → is_some (read g bytes) ≡ true → (has_head bytes ≡ true) × AreGood g bytes (piece_count g)
+  pub read_is_good : AreBytes (piece_at g (piece_count g)) bytes → is_some (read g bytes) ≡ true
+      → (has_head bytes ≡ true) × AreGood g bytes (piece_count g)
   read_is_good are some = by (is_image g bytes) refl some
     where
-      by : (t : Bool) → is_image g bytes ≡ t → is_some (if t then Some (said (version_in bytes) g bytes) else None) ≡ true → (has_head bytes ≡ true) × AreGood g bytes (piece_count g)
+      by : (t : Bool) → is_image g bytes ≡ t → is_some (if t then Some (said (version_in bytes) g bytes) else None) ≡ true
+          → (has_head bytes ≡ true) × AreGood g bytes (piece_count g)
       by false off none = absurd (true≢false (sym none))
       by true on _ =
           let version : ℕ = version_in bytes in
           let parts = and_parts (is_version version) (bytes_eq bytes (image_of version g (said version g bytes))) on in
-          let spelled : bytes ≡ image_of version g (said version g bytes) = (bytes_eq-Decides bytes (image_of version g (said version g bytes))).0 parts.1 in
+          let spelled : bytes ≡ image_of version g (said version g bytes) =
+          (bytes_eq-Decides bytes (image_of version g (said version g bytes))).0 parts.1 in
           let begins : bytes_at 0 64 bytes ≡ head_of version = ap (λ (l : List ℕ). bytes_at 0 64 l) spelled in (
             and_from _ _ parts.0 ((bytes_eq-Decides (bytes_at 0 64 bytes) (head_of version)).1 begins),
             λ n below.
                 (bytes_eq-Decides (piece_in g bytes n) (piece_of version g (said version g bytes) n)).1
-                (ap (λ (l : List ℕ). piece_in g l n) spelled ∙ piece_again version g (said version g bytes) (is_measured version g (piece_in g bytes) (piece_bytes g bytes are)) n below),
+                (ap (λ (l : List ℕ). piece_in g l n) spelled
+                ∙ piece_again version g (said version g bytes)
+                (is_measured version g (piece_in g bytes) (piece_bytes g bytes are)) n below),
           )
 
   pub read_is_a_state : AreBytes (piece_at g (piece_count g)) bytes → (x : State) → read g bytes ≡ Some x → IsState g x
@@ -146,5 +171,6 @@ module _ (g : Geometry) (bytes : List ℕ) where
       let good = read_is_good are (ap (λ (o : Option State). is_some o) is) in
       subst (IsState g) (one_value (sym (good_is_read are good.0 good.1) ∙ is)) (first_are_a_state are (piece_count g) (omega arith) good.1)
     where
-      one_value : Some (said_before (version_in bytes) g bytes (piece_count g)) ≡ Some x → said_before (version_in bytes) g bytes (piece_count g) ≡ x
+      one_value : Some (said_before (version_in bytes) g bytes (piece_count g)) ≡ Some x
+          → said_before (version_in bytes) g bytes (piece_count g) ≡ x
       one_value e = cc
