@@ -6,8 +6,8 @@ ghost use Rattle.affinity.specs.Geometry.{group};
 ghost use Rattle.affinity.specs.declared.geometry.Geometry.{Geometry};
 ghost use Rattle.image.specs.Image.{AreGood, has_head, image_of, is_good, read, said_before, version_in, piece_in};
 ghost use Rattle.image.specs.Pieces.{aggregate_of, part_of, piece_at, piece_count, piece_of, piece_size, stripe_entries, volume_of};
-ghost use Rattle.message.specs.Messages.{AreBytes};
 ghost use Rattle.image.specs.Touched.{touches};
+ghost use Rattle.message.specs.Messages.{AreBytes};
 ghost use Rattle.message.specs.declared.Msg.{Msg};
 ghost use Rattle.plain.specs.Serial.{next_state};
 ghost use Rattle.plain.specs.State.{State, IsState};
@@ -39,10 +39,10 @@ pub fn an_image_is_read_piece_by_piece()
         → (f b : ℕ) → (said_before version g bytes n).blocks (aggregate_of g n, volume_of g n, f, b) ≡ None }
     ensures good { (g : Geometry) (bytes : List ℕ) (n : ℕ) → n < piece_count g → (is_good g bytes n ≡ true)
         ↔ (piece_in g bytes n ≡ piece_of (version_in bytes) g (said_before (version_in bytes) g bytes (suc n)) n) }
-    ensures read { (g : Geometry) (bytes : List ℕ) → AreBytes (piece_at g (piece_count g)) bytes
+    ensures all_good { (g : Geometry) (bytes : List ℕ) → AreBytes (piece_at g (piece_count g)) bytes
         → has_head bytes ≡ true → AreGood g bytes (piece_count g)
         → read g bytes ≡ Some (said_before (version_in bytes) g bytes (piece_count g)) }
-    ensures only { (g : Geometry) (bytes : List ℕ) → AreBytes (piece_at g (piece_count g)) bytes
+    ensures only_good { (g : Geometry) (bytes : List ℕ) → AreBytes (piece_at g (piece_count g)) bytes
         → is_some (read g bytes) ≡ true → (has_head bytes ≡ true) × AreGood g bytes (piece_count g) }
 {}
 

@@ -6,7 +6,7 @@ use affinity::{Geometry, group_of};
 use message::Msg;
 
 /// Whether a message may change piece `n` of an image: some of its volume's pieces, and none where it only asks.
-/// All other pieces stay as they are, whatever the message is told.
+/// All other pieces stay as they are, whatever the reply to it is (`laws::an_untouched_piece_stays`).
 pub fn touched(g: &Geometry, m: &Msg, n: usize) -> bool
     ensures { result ≡ touches g.now m.now n }
 {

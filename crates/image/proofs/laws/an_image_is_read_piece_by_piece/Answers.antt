@@ -11,8 +11,8 @@ returns-clause-no_blocks c = no_blocks_yet
 pub returns-clause-good : goal.returns-clause-good
 returns-clause-good c = good_is_seen
 
-pub returns-clause-read : goal.returns-clause-read
-returns-clause-read c = good_is_read
+pub returns-clause-all_good : goal.returns-clause-all_good
+returns-clause-all_good c = good_is_read
 
-pub returns-clause-only : goal.returns-clause-only
-returns-clause-only c = read_is_good
+pub returns-clause-only_good : goal.returns-clause-only_good
+returns-clause-only_good c = read_is_good
