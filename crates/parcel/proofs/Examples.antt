@@ -1,5 +1,5 @@
--- Worked examples: one volume with one file, of whose two stripes the first is out.
-use Rattle.std.proofs.Common.{◌≡◌, zero, suc, true, false, List, [], ◌∷◌, Option, refl, sym, ap, arith}
+-- Worked examples: pieces, and one volume with one file, of whose two stripes the first is out.
+use Rattle.std.proofs.Common.{◌≡◌, zero, suc, true, false, List, [], ◌∷◌, ◌++◌, replicate, Option, refl, sym, ap, arith}
 use Rattle.std.specs.Prelude.{None, Some, is_some}
 use Rattle.std.proofs.lemmas.Bool.{true≢false}
 use Rattle.affinity.specs.Geometry.{small}
@@ -7,7 +7,10 @@ use Rattle.affinity.specs.Interval.{IsPath}
 use Rattle.affinity.specs.Path.{Path, are_related}
 use Rattle.parcel.specs.Nodes.{Node, Nodes, in_row, put_at}
 use Rattle.parcel.specs.Nodes.Node.{Inner, Marks, Files, Slots, Text}
+use Rattle.stripe.specs.Entries.{entry_bytes}
 use Rattle.stripe.specs.Stripe.{StripePart}
+use Rattle.parcel.specs.Pieces.{spelled, said_label, said_piece}
+use Rattle.parcel.specs.declared.pieces.volumes.VolumePiece.{VolumePiece}
 use Rattle.parcel.specs.Tree.{HasGap, IsOut, standing_at}
 
 abbrev no_blocks : StripePart
@@ -99,3 +102,34 @@ put_back_stripe = refl
 
 put_back_other : put_at (0 ∷ 0 ∷ 0 ∷ 0 ∷ []) (leaf_of (Slots no_blocks)) without_first (0 ∷ 0 ∷ 0 ∷ 1 ∷ []) ≡ whole (0 ∷ 0 ∷ 0 ∷ 1 ∷ [])
 put_back_other = refl
+
+-- ---- a volume's piece
+
+abbrev sealed_volume : VolumePiece
+sealed_volume = record { made = true; sealed = true; files = 3; label = replicate 32 0 }
+
+-- made and sealed, with files 0 and 1
+piece_of_a_sealed_volume : spelled sealed_volume ≡ 1 ∷ 1 ∷ 0 ∷ 0 ∷ 0 ∷ 0 ∷ 0 ∷ 0 ∷ 3 ∷ replicate 55 0
+piece_of_a_sealed_volume = refl
+
+piece_with_a_label : spelled (record { made = true; sealed = false; files = 256; label = 99 ∷ replicate 31 0 }) ≡ 1 ∷ replicate 8 0 ++ 1 ∷ replicate 6 0 ++ 99 ∷ replicate 47 0
+piece_with_a_label = refl
+
+-- what isn't made has no marks, files or label, whatever it says
+piece_of_none : spelled (record sealed_volume { made = false }) ≡ replicate 64 0
+piece_of_none = refl
+
+-- of the files that bytes tell, those of the geometry are looked at
+only_its_files : (said_piece 2 small (1 ∷ 1 ∷ replicate 6 0 ++ 7 ∷ replicate 55 0)).files ≡ 3
+only_its_files = refl
+
+-- the label is in the bytes of version 2 alone
+label_of_version_2 : said_label 2 (replicate 16 0 ++ 99 ∷ replicate 47 0) ≡ 99 ∷ replicate 31 0
+label_of_version_2 = refl
+
+no_label_in_version_1 : said_label 1 (replicate 16 0 ++ 99 ∷ replicate 47 0) ≡ replicate 32 0
+no_label_in_version_1 = refl
+
+-- an entry: block 1 of file 1, which holds 0x61 and zeros
+entry_of_a_block : entry_bytes (record { file = 1; block = 1; content = record { 0 = 97 ∷ replicate 511 0 } }) ≡ 1 ∷ 1 ∷ 1 ∷ 0 ∷ 0 ∷ 0 ∷ 0 ∷ 0 ∷ 97 ∷ replicate 511 0
+entry_of_a_block = refl

@@ -11,7 +11,7 @@ use Rattle.std.proofs.Math.Nat.{pow-le-pow_right}
 use Rattle.plain.specs.State.{sum_below}
 use Rattle.parcel.specs.Shown.{has_bit}
 
-sum_bits : (n m : ℕ) → sum_below n (λ f. if has_bit m f then 2 ^ f else 0) ≡ m % 2 ^ n
+pub sum_bits : (n m : ℕ) → sum_below n (λ f. if has_bit m f then 2 ^ f else 0) ≡ m % 2 ^ n
 sum_bits zero m = omega arith
 sum_bits (suc n) m =
     let before = sum_bits n m in

@@ -24,17 +24,17 @@ absent_behind e [] h = refl
 absent_behind e (d ∷ es) h = ap (λ t. if t then Some d.content else content_at es e.file e.block) (before_differs e d h.0) ∙ absent_behind e es h.1
 
 module _ (g : Geometry) (s : ℕ) where
-  abbrev Lies : List Entry → Type 0
+  abbrev pub Lies : List Entry → Type 0
   Lies es = (f b : ℕ) → is_some (content_at es f b) ≡ true → (f < g.files) × (b < g.blocks) × (group g f b ≡ s)
 
-  lies_behind : (e : Entry) (es : List Entry) → Lies (e ∷ es) → Lies es
+  pub lies_behind : (e : Entry) (es : List Entry) → Lies (e ∷ es) → Lies es
   lies_behind e es lies f b there = lies f b (still ((f == e.file) && (b == e.block)))
     where
       still : (t : Bool) → is_some (if t then Some e.content else content_at es f b) ≡ true
       still true = refl
       still false = there
 
-  lies_first : (e : Entry) (es : List Entry) → Lies (e ∷ es) → (e.file < g.files) × (e.block < g.blocks) × (group g e.file e.block ≡ s)
+  pub lies_first : (e : Entry) (es : List Entry) → Lies (e ∷ es) → (e.file < g.files) × (e.block < g.blocks) × (group g e.file e.block ≡ s)
   lies_first e es lies = lies e.file e.block (λ i. is_some (if eq-eqb e.file e.file refl i && eq-eqb e.block e.block refl i then Some e.content else content_at es e.file e.block))
 
   abbrev counted : List Entry → ℕ → ℕ → ℕ

@@ -59,7 +59,7 @@ lent_from_taken g p t l old new h fits stands = record {
   rest = h.rest;
 }
 
-put_there : (p q : Path) (part old : Nodes) → put_at p part old (p ++ q) ≡ part q
+pub put_there : (p q : Path) (part old : Nodes) → put_at p part old (p ++ q) ≡ part q
 put_there [] q part old = refl
 put_there (x ∷ p) q part old = cond-true _ _ _ (eq-eqb x x refl) ∙ put_there p q part (λ r. old (x ∷ r))
 

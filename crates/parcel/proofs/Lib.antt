@@ -19,3 +19,8 @@ pub mod StripeRows
 pub mod StripeTotals
 pub mod Summing
 pub mod VolumeRows
+pub mod PieceBytes
+pub mod VolumePieces
+pub mod StripePieces
+pub mod PieceParts
+pub mod PiecesTaken

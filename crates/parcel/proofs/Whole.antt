@@ -57,7 +57,7 @@ root_whole (Some r) h = all_whole is_whole_aggregate IsWholeAggregate aggregate_
 abbrev pub IsAllIn : (Path → Type 0) → Nodes → Type 0
 IsAllIn IsThere n = (q : Path) → IsThere q → is_some (n q) ≡ true
 
-child_whole_at : {X : Type 0} (IsWhole : X → Type 0) (xs : List (Option X)) (i : ℕ) → i < length xs → AllByRecursion (IsWholeChild IsWhole) xs → IsWholeChild IsWhole (slice_index_or xs i None)
+pub child_whole_at : {X : Type 0} (IsWhole : X → Type 0) (xs : List (Option X)) (i : ℕ) → i < length xs → AllByRecursion (IsWholeChild IsWhole) xs → IsWholeChild IsWhole (slice_index_or xs i None)
 child_whole_at IsWhole [] i below h = absurd (omega arith)
 child_whole_at IsWhole (x ∷ xs) zero below h = h.0
 child_whole_at IsWhole (x ∷ xs) (suc i) below h = child_whole_at IsWhole xs i (omega arith) h.1

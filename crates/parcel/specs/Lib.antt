@@ -11,3 +11,4 @@ pub mod Dropping
 pub mod Totals
 pub mod RunLaws
 pub mod Holding
+pub mod Pieces

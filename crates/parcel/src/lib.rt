@@ -5,11 +5,13 @@
 mod job;
 pub mod laws;
 mod parts;
+mod pieces;
 mod running;
 mod tree;
 
 pub use job::{Done, Job};
 pub use parts::{Aggr, Label, Logical, Parcels, Root, Standing, Vol};
+pub use pieces::{BadPiece, read_piece, read_piece_1, write_piece};
 pub use running::run;
 pub use stripe::StripeParcel;
 pub use tree::Tree;

@@ -16,8 +16,8 @@ use std::marker::Model;
 /// All that a server holds, of which parts may be out.
 #[derive(Drop)]
 pub struct Tree {
-    geometry: Geometry,
-    root: Option<Root>,
+    pub(crate) geometry: Geometry,
+    pub(crate) root: Option<Root>,
 }
 
 impl Model for Tree {

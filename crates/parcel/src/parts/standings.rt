@@ -47,7 +47,7 @@ fn standing_in(root: &Option<Root>, a: u16, v: u16) -> Standing
     }
 }
 
-fn files_of(volume: &Vol) -> u64
+pub(crate) fn files_of(volume: &Vol) -> u64
     ensures { result ≡ files_bits (in_volume volume.now (0 ∷ [])) }
 {
     match &volume.logical {
@@ -56,8 +56,8 @@ fn files_of(volume: &Vol) -> u64
     }
 }
 
-// A volume, where it and its aggregate are in.
-fn volume_at(root: &Option<Root>, a: usize, v: usize) -> Option<&Vol>
+/// A volume, where it and its aggregate are in.
+pub(crate) fn volume_at(root: &Option<Root>, a: usize, v: usize) -> Option<&Vol>
     ensures { option_copied result ≡ volume_in root.now a v }
 {
     root.as_ref()?

@@ -1,0 +1,160 @@
+-- A part of a volume was read, and the volume is where the tree has it.
+use Rattle.std.proofs.Common.{◌≡◌, ℕ, zero, suc, ◌*◌, ◌%◌, ◌^◌, ◌<◌, Bool, true, false, List, [], ◌∷◌, length, get_or, slice_index_or, Option, Some, None, IfSome, is_some, refl, sym, ◌∙◌, ap, subst, arith, true≢false, mod-lt}
+use Rattle.std.specs.Prelude.{◌↔◌, ◌==◌, if◌then◌else◌, IsTrue, IsFalse}
+use Rattle.std.specs.List.{AllByRecursion}
+use Rattle.std.proofs.lemmas.Nat.{pow_pos}
+use Rattle.affinity.specs.Geometry.{group}
+use Rattle.affinity.specs.Interval.{IsPath}
+use Rattle.affinity.specs.Path.{Path}
+use Rattle.affinity.specs.declared.geometry.Geometry.{Geometry}
+use Rattle.byteorder.specs.Endian.{little_number}
+use Rattle.message.specs.Messages.{AreBytes}
+use Rattle.message.specs.Replies.{has_file}
+use Rattle.message.specs.declared.Block.{Block}
+use Rattle.plain.specs.State.{State, IsState}
+use Rattle.stripe.specs.Entries.{IsStripePiece}
+use Rattle.stripe.specs.Stripe.{StripePart}
+use Rattle.image.specs.Pieces.{block_in, bytes_at, piece_count, aggregate_of, volume_of as volume_number}
+use Rattle.image.proofs.Numbers.{in_aggregates, in_volumes}
+use Rattle.parcel.specs.Fits.{FitsLogical, FitsVolume, FitsAggregate, FitsRoot, IsWholeChild, IsWholeLogical, IsWholeVolume, IsWholeAggregate, IsWholeRoot}
+use Rattle.parcel.specs.Levels.{volume_of, volume_in, is_whole_root}
+use Rattle.parcel.specs.Nodes.{Nodes, in_child, in_stripe, in_label, in_logical, in_volume, in_aggregate, in_root, marks_made, marks_sealed, files_have, slots_hold, text_of, tree_state}
+use Rattle.parcel.specs.Pieces.{HasFacts, IsPartRead, spelled, said_piece, volume_with, with_files, facts_with}
+use Rattle.parcel.specs.Shown.{by_volume, files_in, blocks_below, blocks_in, blocks_of, label_in}
+use Rattle.parcel.specs.Tree.{IsIn}
+use Rattle.parcel.specs.declared.parts.Label.{Label}
+use Rattle.parcel.specs.declared.parts.Logical.{Logical}
+use Rattle.parcel.specs.declared.parts.Vol.{Vol}
+use Rattle.parcel.specs.declared.parts.Aggr.{Aggr}
+use Rattle.parcel.specs.declared.parts.Root.{Root}
+use Rattle.parcel.proofs.ChildRows.{fits_in_place}
+use Rattle.parcel.proofs.Lending.{path_there}
+use Rattle.parcel.proofs.StripePieces.{stripe_good, stripe_is_piece}
+use Rattle.parcel.proofs.VolumePieces.{volume_said, facts_said}
+use Rattle.parcel.proofs.Whole.{root_whole, root_gap, child_whole_at}
+
+-- ---- the volume's own piece
+
+pub volume_is_read : (version : ℕ) (g : Geometry) (bytes : List ℕ) (good : Bool) (old new : Vol) → FitsVolume g old → IsWholeVolume old
+    → (IsTrue good ↔ (bytes ≡ spelled (said_piece version g bytes))) → (IsTrue good → new ≡ volume_with (said_piece version g bytes) old) → (IsFalse good → new ≡ old)
+    → IsPartRead version g zero bytes good old new
+volume_is_read version g bytes good old new fits whole is taken kept = record {
+  fits = by_fits good refl;
+  whole = by_whole good refl;
+  spelled = λ x a v state has. (
+    λ on. is.0 on ∙ sym (volume_said version g x a v bytes),
+    λ same. is.1 (same ∙ volume_said version g x a v bytes),
+  );
+  facts = λ on. ap (by_volume g) (taken on) ∙ facts_said version g bytes (is.0 on) old whole;
+}
+  where
+    files_fit : (o : Option Logical) → IfSome o (FitsLogical g) → IfSome (with_files (little_number 8 (bytes_at 8 8 bytes) % 2 ^ g.files) o) (FitsLogical g)
+    files_fit None h = tt
+    files_fit (Some l) h = record { files = mod-lt (little_number 8 (bytes_at 8 8 bytes)) (pow_pos g.files); count = h.count; stripes = h.stripes }
+
+    still_whole : (n : ℕ) (o : Option Logical) → IsWholeChild IsWholeLogical o → IsWholeChild IsWholeLogical (with_files n o)
+    still_whole n None h = h
+    still_whole n (Some l) h = h
+
+    by_fits : (t : Bool) → good ≡ t → FitsVolume g new
+    by_fits true on = subst (FitsVolume g) (sym (taken on)) (record { logical = files_fit old.logical fits.logical })
+    by_fits false off = subst (FitsVolume g) (sym (kept off)) fits
+
+    by_whole : (t : Bool) → good ≡ t → IsWholeVolume new
+    by_whole true on = subst IsWholeVolume (sym (taken on)) (still_whole (little_number 8 (bytes_at 8 8 bytes) % 2 ^ g.files) old.logical whole.0, tt)
+    by_whole false off = subst IsWholeVolume (sym (kept off)) whole
+
+-- ---- the piece of a stripe
+
+pub all_bytes : (bytes : List ℕ) → ((i : ℕ) → get_or bytes i 0 < 256) → AllByRecursion (λ b. b < 256) bytes
+all_bytes [] each = tt
+all_bytes (b ∷ bytes) each = (each 0, all_bytes bytes (λ i. each (suc i)))
+
+pub stripe_is_read : (version : ℕ) (g : Geometry) (s : ℕ) (bytes : List ℕ) (good : Bool) (old : Vol) (l k : Logical) → old.logical ≡ Some l → IsWholeVolume old → FitsLogical g k → IsWholeLogical k → k.files ≡ l.files
+    → (IsTrue good ↔ IsStripePiece g l.files s bytes)
+    → (IsTrue good → (f b : ℕ) → blocks_of g k.stripes.items f b ≡ (if group g f b == s then block_in g bytes f b else blocks_of g l.stripes.items f b))
+    → AreBytes (g.quota * 520) bytes → IsPartRead version g (suc s) bytes good old (record old { logical = Some k })
+stripe_is_read version g s bytes good old l k was whole fits now_whole files piece blocks are = record {
+  fits = record { logical = fits };
+  whole = (now_whole, whole.1);
+  spelled = λ x a v is has. let there : (f : ℕ) → x.files (a, v, f) ≡ has_file l.files f = λ f. has.files f ∙ ap (λ o. files_in o f) was in (
+    λ on. stripe_good g x is a v s l.files there bytes are (piece.0 on),
+    λ same. piece.1 (stripe_is_piece g x is a v s l.files there bytes are same),
+  );
+  facts = λ on i. record {
+    made = old.made;
+    sealed = old.sealed;
+    files = λ f. (ap (λ n. has_file n f) files ∙ sym (ap (λ o. files_in o f) was)) i;
+    blocks = λ f b. (blocks on f b ∙ sym (ap (λ o. if group g f b == s then block_in g bytes f b else blocks_below g o f b) was)) i;
+    label = label_in old.label;
+  };
+}
+
+-- ---- the volume, where the tree has it
+
+module _ (g : Geometry) where
+  pub tree_whole : (o : Option Root) → IfSome o (FitsRoot g) → IsIn g [] (in_child in_root o) → IsWholeChild IsWholeRoot o
+  tree_whole o fits all = by (is_whole_root o) refl
+    where
+      by : (t : Bool) → is_whole_root o ≡ t → IsWholeChild IsWholeRoot o
+      by true on = root_whole o on
+      by false off =
+          let gap = root_gap g o fits off in
+          absurd (true≢false (sym (all gap.0 (path_there g gap.0 gap.1) refl) ∙ ap is_some gap.2))
+
+  -- a volume that is in, and fits
+  abbrev IsThere : Option Vol → Type 0
+  IsThere found = IfSome found (FitsVolume g) × IsWholeChild IsWholeVolume found
+
+  of_aggregate : (v : ℕ) → v < g.volumes → (x : Option Aggr) → IfSome x (FitsAggregate g) → IsWholeChild IsWholeAggregate x → IsThere (volume_of x v)
+  of_aggregate v below None fits whole = absurd whole
+  of_aggregate v below (Some r) fits whole =
+      let within : v < length r.volumes.items = omega (arith, below, fits.count) in
+      (fits_in_place (λ v. FitsVolume g) r.volumes.items fits.volumes v _ refl, child_whole_at IsWholeVolume r.volumes.items v within whole)
+
+  volume_is_there : (a v : ℕ) → a < g.aggregates → v < g.volumes → (o : Option Root) → IfSome o (FitsRoot g) → IsWholeChild IsWholeRoot o → IsThere (volume_in o a v)
+  volume_is_there a v first second None fits whole = absurd whole
+  volume_is_there a v first second (Some r) fits whole =
+      let within : a < length r.aggregates.items = omega (arith, first, fits.count) in
+      of_aggregate v second (slice_index_or r.aggregates.items a None) (fits_in_place (λ a. FitsAggregate g) r.aggregates.items fits.aggregates a _ refl) (child_whole_at IsWholeAggregate r.aggregates.items a within whole)
+
+  -- the volume of a piece, where nothing is out
+  pub piece_is_there : (o : Option Root) → IfSome o (FitsRoot g) → IsIn g [] (in_child in_root o) → (n a v : ℕ) → n < piece_count g → a ≡ aggregate_of g n → v ≡ volume_number g n → IsThere (volume_in o a v)
+  piece_is_there o fits all n a v below aggregate volume =
+      volume_is_there a v (subst (λ (k : ℕ). k < g.aggregates) (sym aggregate) (in_aggregates g n below)) (subst (λ (k : ℕ). k < g.volumes) (sym volume) (in_volumes g n)) o fits (tree_whole o fits all)
+
+  -- ---- the nodes and the state there
+
+  pub nodes_there : (a v : ℕ) (o : Option Root) (q : Path) → in_child in_root o (a ∷ v ∷ q) ≡ in_child in_volume (volume_in o a v) q
+  nodes_there a v None q = refl
+  nodes_there a v (Some r) q = by (slice_index_or r.aggregates.items a None)
+    where
+      by : (x : Option Aggr) → in_child in_aggregate x (v ∷ q) ≡ in_child in_volume (volume_of x v) q
+      by None = refl
+      by (Some r) = refl
+
+  files_same : (o : Option Logical) (f : ℕ) → files_have (in_child in_logical o []) f ≡ files_in o f
+  files_same None f = refl
+  files_same (Some l) f = refl
+
+  stripe_same : (o : Option StripePart) (f b : ℕ) → slots_hold (in_child in_stripe o []) f b ≡ blocks_in o f b
+  stripe_same None f b = refl
+  stripe_same (Some p) f b = refl
+
+  blocks_same : (o : Option Logical) (f b : ℕ) → slots_hold (in_child in_logical o (group g f b ∷ [])) f b ≡ blocks_below g o f b
+  blocks_same None f b = refl
+  blocks_same (Some l) f b = stripe_same (slice_index_or l.stripes.items (group g f b) None) f b
+
+  label_same : (o : Option Label) → text_of (in_child in_label o []) ≡ label_in o
+  label_same None = refl
+  label_same (Some l) = refl
+
+  -- the state of nodes has there what the volume has
+  pub state_there : (n : Nodes) (a v : ℕ) (w : Vol) → ((q : Path) → n (a ∷ v ∷ q) ≡ in_volume w q) → HasFacts (tree_state g n) a v (by_volume g w)
+  state_there n a v w at = record {
+    made = ap marks_made (at []);
+    sealed = ap marks_sealed (at []);
+    files = λ f. ap (λ o. files_have o f) (at (0 ∷ [])) ∙ files_same w.logical f;
+    blocks = λ f b. ap (λ o. slots_hold o f b) (at (0 ∷ group g f b ∷ [])) ∙ blocks_same w.logical f b;
+    label = ap text_of (at (1 ∷ [])) ∙ label_same w.label;
+  }

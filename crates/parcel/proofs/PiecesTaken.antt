@@ -1,0 +1,135 @@
+-- A piece that was read in the tree: its state is the one with that piece taken in.
+use Rattle.std.proofs.Common.{◌≡◌, ℕ, zero, suc, ◌<◌, Bool, true, false, ◌&&◌, List, [], ◌∷◌, ◌++◌, Option, Some, None, is_some, refl, sym, ◌∙◌, ap, subst, true≢false}
+use Rattle.std.specs.Prelude.{◌↔◌, ◌==◌, if◌then◌else◌, not, IsTrue}
+use Rattle.std.proofs.lemmas.Bool.{and_parts, and_from, eqb-true, eq-eqb, not-true}
+use Rattle.affinity.specs.Geometry.{group}
+use Rattle.affinity.specs.Interval.{IsPath}
+use Rattle.affinity.specs.Path.{Path, begins, volume}
+use Rattle.affinity.specs.declared.geometry.Geometry.{Geometry}
+use Rattle.message.specs.Messages.{AreBytes}
+use Rattle.message.specs.Replies.{has_file}
+use Rattle.message.specs.declared.Block.{Block}
+use Rattle.plain.specs.Laws.{outside}
+use Rattle.plain.specs.Shares.{AgreeOn}
+use Rattle.plain.specs.State.{State, VolumeKey, FileKey, BlockKey, IsState, is_volume, is_block_of}
+use Rattle.plain.proofs.Agree.{agree-sym, agree-trans}
+use Rattle.plain.proofs.ShareLaws.{agree_in_and_out}
+use Rattle.image.specs.Pieces.{part_piece, part_size, with_part, with_volume_piece, with_stripe_piece, is_made_in, is_sealed_in, has_file_in, label_in as said_label_in, block_in}
+use Rattle.parcel.specs.Nodes.{Nodes, in_child, in_logical, in_volume, files_bits, tree_state, PutsBack}
+use Rattle.parcel.specs.Pieces.{HasFacts, IsPartRead, IsRead, facts_with, spelled, said_piece}
+use Rattle.parcel.specs.Shown.{by_volume, files_in}
+use Rattle.parcel.specs.Tree.{IsIn}
+use Rattle.parcel.specs.Volume.{Facts}
+use Rattle.parcel.specs.declared.parts.Logical.{Logical}
+use Rattle.parcel.specs.declared.parts.Vol.{Vol}
+use Rattle.parcel.specs.declared.parts.Parcels.TheVariants as parcels
+use Rattle.parcel.proofs.Leaving.{put_leaves, put_outside}
+use Rattle.parcel.proofs.Lending.{put_there, restored_is_in}
+use Rattle.parcel.proofs.PieceParts.{state_there}
+use Rattle.parcel.proofs.SerialRuns.{begins_split}
+use Rattle.parcel.proofs.Shows.{has_none}
+use Rattle.parcel.proofs.StripePieces.{stripe_is_piece, stripe_state}
+use Rattle.parcel.proofs.VolumePieces.{volume_said, volume_state}
+
+-- ---- states that have the same there
+
+module _ (g : Geometry) (a v : ℕ) where
+  there_from : (x y : ℕ) (q : Path) → begins (volume a v) (x ∷ y ∷ q) ≡ true → (a ≡ x) × (v ≡ y)
+  there_from x y q on =
+      let first = and_parts (a == x) ((v == y) && true) on in
+      let second = and_parts (v == y) true first.1 in
+      (eqb-true a x first.0, eqb-true v y second.0)
+
+  pub same_there : (x y : State) (h : Facts) → HasFacts x a v h → HasFacts y a v h → AgreeOn g (begins (volume a v)) x y
+  same_there x y h one two = record {
+    made = λ k r. let s = there_from k.0 k.1 [] r in sym (λ i. x.made (s.0 i, s.1 i)) ∙ one.made ∙ sym two.made ∙ (λ i. y.made (s.0 i, s.1 i));
+    sealed = λ k r. let s = there_from k.0 k.1 [] r in sym (λ i. x.sealed (s.0 i, s.1 i)) ∙ one.sealed ∙ sym two.sealed ∙ (λ i. y.sealed (s.0 i, s.1 i));
+    files = λ k r. let s = there_from k.0 k.1 (0 ∷ []) r in sym (λ i. x.files (s.0 i, s.1 i, k.2)) ∙ one.files k.2 ∙ sym (two.files k.2) ∙ (λ i. y.files (s.0 i, s.1 i, k.2));
+    blocks = λ k r. let s = there_from k.0 k.1 (0 ∷ group g k.2 k.3 ∷ []) r in sym (λ i. x.blocks (s.0 i, s.1 i, k.2, k.3)) ∙ one.blocks k.2 k.3 ∙ sym (two.blocks k.2 k.3) ∙ (λ i. y.blocks (s.0 i, s.1 i, k.2, k.3));
+    labels = λ k r. let s = there_from k.0 k.1 (1 ∷ []) r in sym (λ i. x.labels (s.0 i, s.1 i)) ∙ one.label ∙ sym two.label ∙ (λ i. y.labels (s.0 i, s.1 i));
+  }
+
+  here : is_volume a v (a, v) ≡ true
+  here = and_from (a == a) (v == v) (eq-eqb a a refl) (eq-eqb v v refl)
+
+  -- what a state has there with a piece taken in
+  pub facts_taken : (version : ℕ) (x : State) (h : Facts) → HasFacts x a v h → (part : ℕ) (bytes : List ℕ) → HasFacts (with_part version g x a v part bytes) a v (facts_with version g h part bytes)
+  facts_taken version x h has zero bytes = record {
+    made = ap (λ (t : Bool). if t then is_made_in bytes else x.made (a, v)) here;
+    sealed = ap (λ (t : Bool). if t then is_sealed_in bytes else x.sealed (a, v)) here;
+    files = λ f. ap (λ (t : Bool). if t then has_file_in bytes f else x.files (a, v, f)) here;
+    blocks = has.blocks;
+    label = ap (λ (t : Bool). if t then said_label_in version bytes else x.labels (a, v)) here;
+  }
+  facts_taken version x h has (suc s) bytes = record {
+    made = has.made;
+    sealed = has.sealed;
+    files = has.files;
+    blocks = λ f b. (λ i. if here i && (group g f b == s) then block_in g bytes f b else has.blocks f b i);
+    label = has.label;
+  }
+
+  not_there : (x y : ℕ) (q : Path) → outside (volume a v) (x ∷ y ∷ q) ≡ true → is_volume a v (x, y) ≡ false
+  not_there x y q off = both (a == x) (v == y) (not-true (begins (volume a v) (x ∷ y ∷ q)) off)
+    where
+      both : (s t : Bool) → (s && (t && true)) ≡ false → (s && t) ≡ false
+      both true true e = e
+      both true false e = refl
+      both false t e = refl
+
+  pub elsewhere_taken : (version : ℕ) (x : State) (part : ℕ) (bytes : List ℕ) → AgreeOn g (outside (volume a v)) (with_part version g x a v part bytes) x
+  elsewhere_taken version x zero bytes = record {
+    made = λ k r. ap (λ (t : Bool). if t then is_made_in bytes else x.made k) (not_there k.0 k.1 [] r);
+    sealed = λ k r. ap (λ (t : Bool). if t then is_sealed_in bytes else x.sealed k) (not_there k.0 k.1 [] r);
+    files = λ k r. ap (λ (t : Bool). if t then has_file_in bytes k.2 else x.files k) (not_there k.0 k.1 (0 ∷ []) r);
+    blocks = λ k r. refl;
+    labels = λ k r. ap (λ (t : Bool). if t then said_label_in version bytes else x.labels k) (not_there k.0 k.1 (1 ∷ []) r);
+  }
+  elsewhere_taken version x (suc s) bytes = record {
+    made = λ k r. refl;
+    sealed = λ k r. refl;
+    files = λ k r. refl;
+    blocks = λ k r. ap (λ (t : Bool). if t && (group g k.2 k.3 == s) then block_in g bytes k.2 k.3 else x.blocks k) (not_there k.0 k.1 (0 ∷ group g k.2 k.3 ∷ []) r);
+    labels = λ k r. refl;
+  }
+
+-- ---- the state stays one of the geometry
+
+files_told : (o : Option Logical) (f : ℕ) → files_in o f ≡ has_file (files_bits (in_child in_logical o [])) f
+files_told None f = sym (has_none f)
+files_told (Some l) f = refl
+
+pub part_state : (version : ℕ) (g : Geometry) (x : State) → IsState g x → (a v : ℕ) → a < g.aggregates → v < g.volumes → (w : Vol) → HasFacts x a v (by_volume g w) → (part : ℕ) → (part ≡ 0 → (f b : ℕ) → x.blocks (a, v, f, b) ≡ None)
+    → (bytes : List ℕ) → AreBytes (part_size g part) bytes → bytes ≡ part_piece version g (with_part version g x a v part bytes) a v part → IsState g (with_part version g x a v part bytes)
+part_state version g x is a v first second w has zero empty bytes are good =
+    volume_state version g bytes (good ∙ volume_said version g x a v bytes) x is a v first second (empty refl) are
+part_state version g x is a v first second w has (suc s) empty bytes are good =
+    let files : ℕ = files_bits (in_child in_logical w.logical []) in
+    let told : (f : ℕ) → x.files (a, v, f) ≡ has_file files f = λ f. has.files f ∙ files_told w.logical f in
+    stripe_state g x is a v s files told bytes are (stripe_is_piece g x is a v s files told bytes are good)
+
+-- ---- in the tree
+
+module _ (version : ℕ) (g : Geometry) (part : ℕ) (bytes : List ℕ) (good : Bool) (a v : ℕ) (found : Option Vol) (old new : Nodes) (read : IsRead version g part bytes good (volume a v) found old new)
+    (at : (q : Path) → old (a ∷ v ∷ q) ≡ in_child in_volume found q) where
+  pub has_then : HasFacts (tree_state g old) a v (by_volume g read.was)
+  has_then = state_there g old a v read.was (λ q. at q ∙ ap (λ o. in_child in_volume o q) read.there)
+
+  pub read_good : IsState g (tree_state g old) → IsTrue good ↔ (bytes ≡ part_piece version g (with_part version g (tree_state g old) a v part bytes) a v part)
+  read_good is = read.read.spelled (tree_state g old) a v is has_then
+
+  pub read_taken : IsTrue good → tree_state g new ≡ with_part version g (tree_state g old) a v part bytes
+  read_taken on =
+      let now = state_there g new a v read.now (λ q. read.nodes (a ∷ v ∷ q) ∙ put_there (volume a v) q (in_volume read.now) old) in
+      let told = subst (λ (h : Facts). HasFacts (tree_state g new) a v h) (read.read.facts on) now in
+      agree_in_and_out g (volume a v) (tree_state g new) (with_part version g (tree_state g old) a v part bytes)
+      (same_there g a v (tree_state g new) (with_part version g (tree_state g old) a v part bytes) _ told (facts_taken g a v version (tree_state g old) (by_volume g read.was) has_then part bytes))
+      (agree-trans (put_leaves g (volume a v) (in_volume read.now) old new read.nodes) (agree-sym (elsewhere_taken g a v version (tree_state g old) part bytes)))
+
+  pub read_in : IsIn g [] old → IsIn g [] new
+  read_in whole q path related =
+      elim (begins (volume a v) q) as (λ b. begins (volume a v) q ≡ b → is_some (new q) ≡ true) [
+        | true ↦ λ e. let rest = begins_split (volume a v) q e in
+            subst (λ r. is_some (new r) ≡ true) (sym rest.1) (restored_is_in g (volume a v) (parcels.Vol read.now) old new read.nodes (read.read.fits, read.read.whole) rest.0 (subst (λ r. IsPath g r) rest.1 path))
+        | false ↦ λ e. ap is_some (read.nodes q ∙ put_outside (volume a v) (in_volume read.now) old q e) ∙ whole q path refl
+      ] refl

@@ -1,0 +1,230 @@
+-- A volume's piece: what is spelled is what the volume has, and bytes that spell what they say leave a state.
+use Rattle.std.proofs.Common.{◌≡◌, ℕ, zero, suc, ◌+◌, ◌-◌, ◌%◌, ◌^◌, ◌<◌, ◌≤◌, Bool, true, false, ◌&&◌, List, [], ◌∷◌, ◌++◌, length, take, drop, get_or, replicate, unwrap_or, Option, Some, None, IfSome, is_some, refl, sym, ◌∙◌, ap, subst, arith, ⊎_elim, true≢false, length-take, length-drop, mod-lt}
+use Rattle.std.specs.Prelude.{◌==◌, if◌then◌else◌}
+use Rattle.std.specs.List.{AllByRecursion}
+use Rattle.std.proofs.lemmas.Bool.{cases_lt, and_parts, and_from, eqb-true, eq-eqb}
+use Rattle.std.proofs.lemmas.Nat.{pow_pos}
+use Rattle.std.proofs.lemmas.Nat.Bits.{bit_at_above}
+use Rattle.std.proofs.Math.Nat.{pow-le-pow_right}
+use Rattle.affinity.specs.declared.geometry.Geometry.{Geometry}
+use Rattle.byteorder.specs.Endian.{little_bytes, little_number}
+use Rattle.message.specs.Messages.{AreBytes}
+use Rattle.message.specs.Replies.{has_file}
+use Rattle.message.specs.declared.Block.{Block}
+use Rattle.plain.specs.Serial.{file_bits, no_label}
+use Rattle.plain.specs.State.{State, VolumeKey, FileKey, BlockKey, IsState, is_volume, sum_below, one_if}
+use Rattle.image.specs.Pieces.{volume_piece, label_bytes, bytes_at, is_made_in, is_sealed_in, has_file_in, label_in as said_label_in, with_volume_piece}
+use Rattle.image.proofs.Measures.{all-take, all-drop, all-zeros}
+use Rattle.parcel.specs.Fits.{FitsLogical, FitsVolume, IsWholeChild, IsWholeLogical, IsWholeVolume}
+use Rattle.parcel.specs.Nodes.{in_child, in_logical, files_bits}
+use Rattle.parcel.specs.Pieces.{HasFacts, spelled, said_label, said_piece, piece_in, volume_with, with_files, facts_with}
+use Rattle.parcel.specs.Shown.{by_volume, files_in, blocks_below}
+use Rattle.parcel.specs.declared.parts.Logical.{Logical}
+use Rattle.parcel.specs.declared.parts.Vol.{Vol}
+use Rattle.parcel.specs.declared.pieces.volumes.VolumePiece.{VolumePiece}
+use Rattle.parcel.proofs.FileBits.{sum_bits, bits_back}
+use Rattle.parcel.proofs.Shows.{has_none}
+
+-- ---- what is spelled
+
+-- the marks, the files and the label, where the volume is made
+volume_spelled : (version : ℕ) (g : Geometry) (x : State) (a v : ℕ) (p : VolumePiece) → x.made (a, v) ≡ p.made → x.sealed (a, v) ≡ p.sealed → file_bits g x a v ≡ p.files
+    → (p.made ≡ true → label_bytes version (x.labels (a, v)) ≡ p.label) → volume_piece version g x a v ≡ spelled p
+volume_spelled version g x a v p made sealed files label = by p.made refl
+  where
+    by : (t : Bool) → p.made ≡ t → volume_piece version g x a v ≡ spelled p
+    by true on =
+        let same = label on in
+        λ i. if made i then 1 ∷ one_if (sealed i) ∷ [] ++ replicate 6 0 ++ little_bytes 8 (files i) ++ same i ++ replicate 16 0 else replicate 64 0
+    by false off =
+        ap (λ (t : Bool). if t then 1 ∷ one_if (x.sealed (a, v)) ∷ [] ++ replicate 6 0 ++ little_bytes 8 (file_bits g x a v) ++ label_bytes version (x.labels (a, v)) ++ replicate 16 0 else replicate 64 0) (made ∙ off)
+        ∙ sym (ap (λ (t : Bool). if t then 1 ∷ one_if p.sealed ∷ [] ++ replicate 6 0 ++ little_bytes 8 p.files ++ p.label ++ replicate 16 0 else replicate 64 0) off)
+
+files_are : (g : Geometry) (x : State) (a v : ℕ) (o : Option Logical) → IfSome o (FitsLogical g) → IsWholeChild IsWholeLogical o → ((f : ℕ) → x.files (a, v, f) ≡ files_in o f)
+    → file_bits g x a v ≡ files_bits (in_child in_logical o [])
+files_are g x a v None fits whole has = absurd whole
+files_are g x a v (Some l) fits whole has = (λ i. sum_below g.files (λ f. if has f i then 2 ^ f else 0)) ∙ bits_back g.files l.files fits.files
+
+-- the piece of a volume of the tree is that of each state in which a volume has the same
+pub volume_written : (g : Geometry) (x : State) (a v : ℕ) (w : Vol) → FitsVolume g w → IsWholeVolume w → HasFacts x a v (by_volume g w) → volume_piece 2 g x a v ≡ spelled (piece_in w)
+volume_written g x a v w fits whole has =
+    volume_spelled 2 g x a v (piece_in w) has.made has.sealed (files_are g x a v w.logical fits.logical whole.0 has.files)
+    (λ on. ap (λ (o : Option (List ℕ)). unwrap_or o no_label) has.label)
+
+here : (a v : ℕ) → is_volume a v (a, v) ≡ true
+here a v = and_from (a == a) (v == v) (eq-eqb a a refl) (eq-eqb v v refl)
+
+-- what bytes say, spelled in the state that they lead to
+pub volume_said : (version : ℕ) (g : Geometry) (x : State) (a v : ℕ) (bytes : List ℕ) → volume_piece version g (with_volume_piece version x a v bytes) a v ≡ spelled (said_piece version g bytes)
+volume_said version g x a v bytes =
+    volume_spelled version g (with_volume_piece version x a v bytes) a v (said_piece version g bytes)
+    (ap (λ (t : Bool). if t then is_made_in bytes else x.made (a, v)) (here a v))
+    (ap (λ (t : Bool). if t then is_sealed_in bytes else x.sealed (a, v)) (here a v))
+    ((λ i. sum_below g.files (λ f. if (if here a v i then has_file_in bytes f else x.files (a, v, f)) then 2 ^ f else 0)) ∙ sum_bits g.files (little_number 8 (bytes_at 8 8 bytes)))
+    (λ on.
+    ap (λ (t : Bool). label_bytes version (if t then said_label_in version bytes else x.labels (a, v))) (here a v)
+    ∙ ap (λ (t : Bool). label_bytes version (if t then Some (if version == 2 then bytes_at 16 32 bytes else no_label) else None)) on
+    ∙ by (version == 2))
+  where
+    by : (t : Bool) → (if t then unwrap_or (Some (if t then bytes_at 16 32 bytes else no_label)) no_label else no_label) ≡ (if t then bytes_at 16 32 bytes else no_label)
+    by true = refl
+    by false = refl
+
+-- ---- bytes that spell what they say
+
+module _ (version : ℕ) (g : Geometry) (bytes : List ℕ) (good : bytes ≡ spelled (said_piece version g bytes)) where
+  abbrev number : ℕ
+  number = little_number 8 (bytes_at 8 8 bytes)
+
+  small : number % 2 ^ g.files < 2 ^ g.files
+  small = mod-lt number (pow_pos g.files)
+
+  fits_eight : number % 2 ^ g.files < 2 ^ 64
+  fits_eight = let most : 2 ^ g.files ≤ 2 ^ 64 = pow-le-pow_right {n = 2} (omega arith) {i = g.files} {j = 64} g.files_range.1 in omega (arith, small, most)
+
+  not_made : is_made_in bytes ≡ false → bytes ≡ replicate 64 0
+  not_made off =
+      good ∙ ap (λ (t : Bool). if t then 1 ∷ one_if (is_sealed_in bytes) ∷ [] ++ replicate 6 0 ++ little_bytes 8 (number % 2 ^ g.files) ++ said_label version bytes ++ replicate 16 0 else replicate 64 0) off
+
+  eight_again : (n : ℕ) → n < 2 ^ 64 → little_number 8 (little_bytes 8 n) ≡ n
+  eight_again n below = omega (arith, below)
+
+  -- they tell no file that the geometry hasn't
+  pub number_whole : number % 2 ^ g.files ≡ number
+  number_whole = by (is_made_in bytes) refl
+    where
+      by : (t : Bool) → is_made_in bytes ≡ t → number % 2 ^ g.files ≡ number
+      by true on =
+          sym (eight_again (number % 2 ^ g.files) fits_eight)
+          ∙ sym (ap (λ (l : List ℕ). little_number 8 (bytes_at 8 8 l))
+              (good ∙ ap (λ (t : Bool). if t then 1 ∷ one_if (is_sealed_in bytes) ∷ [] ++ replicate 6 0 ++ little_bytes 8 (number % 2 ^ g.files) ++ said_label version bytes ++ replicate 16 0 else replicate 64 0) on))
+      by false off =
+          let none : number ≡ 0 = ap (λ (l : List ℕ). little_number 8 (bytes_at 8 8 l)) (not_made off) in
+          let least = pow_pos g.files in
+          ap (λ (n : ℕ). n % 2 ^ g.files) none ∙ zero_left (2 ^ g.files) least ∙ sym none
+        where
+          zero_left : (k : ℕ) → 0 < k → 0 % k ≡ 0
+          zero_left k least = omega (arith, least, mod-lt 0 least)
+
+  sealed_is_made : is_sealed_in bytes ≡ true → is_made_in bytes ≡ true
+  sealed_is_made sealed = by (is_made_in bytes) refl
+    where
+      by : (t : Bool) → is_made_in bytes ≡ t → is_made_in bytes ≡ true
+      by true on = on
+      by false off = absurd (true≢false (sym sealed ∙ ap is_sealed_in (not_made off)))
+
+  file_is_made : (f : ℕ) → has_file_in bytes f ≡ true → is_made_in bytes ≡ true
+  file_is_made f there = by (is_made_in bytes) refl
+    where
+      by : (t : Bool) → is_made_in bytes ≡ t → is_made_in bytes ≡ true
+      by true on = on
+      by false off = absurd (true≢false (sym there ∙ ap (λ (l : List ℕ). has_file_in l f) (not_made off) ∙ has_none f))
+
+  file_within : (f : ℕ) → has_file_in bytes f ≡ true → f < g.files
+  file_within f there =
+      ⊎_elim
+      (λ (less : f < g.files). less)
+      (λ (no_less : g.files ≤ f). absurd (true≢false (sym there ∙ ap (λ (n : ℕ). n == 1) (bit_at_above number g.files f (subst (λ (n : ℕ). n < 2 ^ g.files) number_whole small) no_less))))
+      (cases_lt f g.files)
+
+  -- what the volume has then
+  pub facts_said : (w : Vol) → IsWholeVolume w → by_volume g (volume_with (said_piece version g bytes) w) ≡ facts_with version g (by_volume g w) zero bytes
+  facts_said w whole = λ i. record {
+    made = is_made_in bytes;
+    sealed = is_sealed_in bytes;
+    files = λ f. files_same w.logical whole.0 f i;
+    blocks = λ f b. blocks_same w.logical f b i;
+    label = said_label_in version bytes;
+  }
+    where
+      files_same : (o : Option Logical) → IsWholeChild IsWholeLogical o → (f : ℕ) → files_in (with_files (number % 2 ^ g.files) o) f ≡ has_file_in bytes f
+      files_same None whole f = absurd whole
+      files_same (Some l) whole f = ap (λ (n : ℕ). has_file n f) number_whole
+
+      blocks_same : (o : Option Logical) (f b : ℕ) → blocks_below g (with_files (number % 2 ^ g.files) o) f b ≡ blocks_below g o f b
+      blocks_same None f b = refl
+      blocks_same (Some l) f b = refl
+
+  -- ---- the state that they lead to
+
+  label_said : AreBytes 64 bytes → IfSome (said_label_in version bytes) (AreBytes 32)
+  label_said are = by (is_made_in bytes) (version == 2)
+    where
+      by : (made told : Bool) → IfSome (if made then Some (if told then bytes_at 16 32 bytes else no_label) else None) (AreBytes 32)
+      by true true = (
+        omega (arith, are.0, length-drop 16 bytes, length-take 32 (drop 16 bytes)),
+        all-take (λ b. b < 256) 32 (drop 16 bytes) (all-drop (λ b. b < 256) 16 bytes are.1),
+      )
+      by true false = (refl, all-zeros 32)
+      by false told = tt
+
+  module _ (x : State) (is : IsState g x) (a v : ℕ) (aggregate : a < g.aggregates) (volume : v < g.volumes) (empty : (f b : ℕ) → x.blocks (a, v, f, b) ≡ None) (are : AreBytes 64 bytes) where
+    abbrev taken : State
+    taken = with_volume_piece version x a v bytes
+
+    same_volume : (k : VolumeKey) → is_volume a v k ≡ true → (a ≡ k.0) × (v ≡ k.1)
+    same_volume k on = let parts = and_parts (a == k.0) (v == k.1) on in (eqb-true a k.0 parts.0, eqb-true v k.1 parts.1)
+
+    made_there : (k : VolumeKey) → is_volume a v k ≡ true → is_made_in bytes ≡ true → taken.made k ≡ true
+    made_there k on made = ap (λ (t : Bool). if t then is_made_in bytes else x.made k) on ∙ made
+
+    made_elsewhere : (k : VolumeKey) → is_volume a v k ≡ false → x.made k ≡ true → taken.made k ≡ true
+    made_elsewhere k off made = ap (λ (t : Bool). if t then is_made_in bytes else x.made k) off ∙ made
+
+    made_range : (k : VolumeKey) → taken.made k ≡ true → (k.0 < g.aggregates) × (k.1 < g.volumes)
+    made_range k = by (is_volume a v k) refl
+      where
+        by : (t : Bool) → is_volume a v k ≡ t → (if t then is_made_in bytes else x.made k) ≡ true → (k.0 < g.aggregates) × (k.1 < g.volumes)
+        by true on made = let same = same_volume k on in (subst (λ (n : ℕ). n < g.aggregates) same.0 aggregate, subst (λ (n : ℕ). n < g.volumes) same.1 volume)
+        by false off made = is.made k made
+
+    sealed_made : (k : VolumeKey) → taken.sealed k ≡ true → taken.made k ≡ true
+    sealed_made k = by (is_volume a v k) refl
+      where
+        by : (t : Bool) → is_volume a v k ≡ t → (if t then is_sealed_in bytes else x.sealed k) ≡ true → taken.made k ≡ true
+        by true on sealed = made_there k on (sealed_is_made sealed)
+        by false off sealed = made_elsewhere k off (is.sealed k sealed)
+
+    files_range : (k : FileKey) → taken.files k ≡ true → (k.2 < g.files) × (taken.made (k.0, k.1) ≡ true)
+    files_range k = by (is_volume a v (k.0, k.1)) refl
+      where
+        by : (t : Bool) → is_volume a v (k.0, k.1) ≡ t → (if t then has_file_in bytes k.2 else x.files k) ≡ true → (k.2 < g.files) × (taken.made (k.0, k.1) ≡ true)
+        by true on there = (file_within k.2 there, made_there (k.0, k.1) on (file_is_made k.2 there))
+        by false off there = let was = is.files k there in (was.0, made_elsewhere (k.0, k.1) off was.1)
+
+    blocks_range : (k : BlockKey) → is_some (taken.blocks k) ≡ true → (k.3 < g.blocks) × (taken.files (k.0, k.1, k.2) ≡ true)
+    blocks_range k some = let was = is.blocks k some in (was.0, by (is_volume a v (k.0, k.1)) refl was.1)
+      where
+        by : (t : Bool) → is_volume a v (k.0, k.1) ≡ t → x.files (k.0, k.1, k.2) ≡ true → taken.files (k.0, k.1, k.2) ≡ true
+        by true on there =
+            let same = same_volume (k.0, k.1) on in
+            let none : x.blocks k ≡ None = sym (λ i. x.blocks (same.0 i, same.1 i, k.2, k.3)) ∙ empty k.2 k.3 in
+            absurd (true≢false (sym some ∙ ap (λ (o : Option Block). is_some o) none))
+        by false off there = ap (λ (t : Bool). if t then has_file_in bytes k.2 else x.files (k.0, k.1, k.2)) off ∙ there
+
+    labels_made : (k : VolumeKey) → is_some (taken.labels k) ≡ taken.made k
+    labels_made k = by (is_volume a v k) (is_made_in bytes)
+      where
+        by : (t made : Bool) → is_some (if t then (if made then Some (if version == 2 then bytes_at 16 32 bytes else no_label) else None) else x.labels k) ≡ (if t then made else x.made k)
+        by true true = refl
+        by true false = refl
+        by false made = is.labels k
+
+    label_bounds : (k : VolumeKey) → IfSome (taken.labels k) (AreBytes 32)
+    label_bounds k =
+        elim (is_volume a v k) as (λ (t : Bool). IfSome (if t then said_label_in version bytes else x.labels k) (AreBytes 32)) [
+          | true ↦ label_said are
+          | false ↦ is.label_content k
+        ]
+
+    pub volume_state : IsState g taken
+    volume_state = record {
+      made = made_range;
+      sealed = sealed_made;
+      files = files_range;
+      blocks = blocks_range;
+      labels = labels_made;
+      content = is.content;
+      label_content = label_bounds;
+      quota = is.quota;
+    }

@@ -1,0 +1,23 @@
+-- The stripe is one of its row.
+use Rattle.std.proofs.Common.{◌≡◌, ℕ, ◌<◌, length, slice_index_or, sym, subst, ◌∙◌, arith}
+use Rattle.std.specs.Prelude.{None, IfSome}
+use Rattle.std.proofs.lemmas.List.{get_or_read, length-set}
+use Rattle.parcel.specs.Fits.{FitsStripe}
+use Rattle.parcel.proofs.ChildRows.{each_set, fits_in_place}
+use Rattle.parcel.proofs.pieces.stripes.read_stripe.Goals as goal
+
+pub read_at-requires-clause-fits : goal.read_at-requires-clause-fits
+read_at-requires-clause-fits c =
+    let row = c.args.logical.now.stripes in
+    let below : c.args.s < length row.items = omega (arith, c.requires.stripe, c.requires.fits.count) in
+    let at : slice_index_or row.items c.args.s None ≡ c.index_mut.result.now = sym (get_or_read row.items _ _ below c.index_mut.ensures.value None) in
+    fits_in_place (FitsStripe c.args.g.now) row.items c.requires.fits.stripes c.args.s c.index_mut.result.now at
+
+pub returns-clause-fits : goal.returns-clause-fits
+returns-clause-fits c =
+    let row = c.args.logical.now.stripes in
+    record {
+      files = c.requires.fits.files;
+      count = length-set row.items c.args.s c.read_at.new.place ∙ c.requires.fits.count;
+      stripes = each_set (FitsStripe c.args.g.now) 0 c.args.s row.items c.read_at.new.place c.requires.fits.stripes (subst (λ (n : ℕ). IfSome c.read_at.new.place (FitsStripe c.args.g.now n)) (omega arith) c.read_at.ensures.fits);
+    }

@@ -1,0 +1,83 @@
+-- The pieces of an image, by what one volume of the tree has.
+use Rattle.std.specs.Prelude.{◌≡◌, ◌↔◌, ℕ, Bool, zero, suc, ◌==◌, ◌%◌, ◌^◌, if◌then◌else◌, List, [], ◌∷◌, ◌++◌, replicate, unwrap_or, Option, Some, None, IfSome, IsTrue}
+use Rattle.affinity.specs.Geometry.{group}
+use Rattle.affinity.specs.Path.{Path}
+use Rattle.affinity.specs.declared.geometry.Geometry.{Geometry}
+use Rattle.byteorder.specs.Endian.{little_bytes, little_number}
+use Rattle.stripe.specs.Entries.{IsStripePiece}
+use Rattle.stripe.specs.Stripe.{StripePart}
+use Rattle.plain.specs.State.{State, IsState, one_if}
+use Rattle.plain.specs.Serial.{no_label}
+use Rattle.image.specs.Pieces.{is_made_in, is_sealed_in, has_file_in, label_in as said_label_in, block_in, bytes_at, part_piece, with_part}
+use Rattle.parcel.specs.Fits.{FitsStripe, FitsVolume, IsWholeChild, IsWholeVolume}
+use Rattle.parcel.specs.Nodes.{Nodes, in_volume, files_bits, PutsBack}
+use Rattle.parcel.specs.Shown.{blocks_in, by_volume, label_in}
+use Rattle.parcel.specs.Volume.{Facts}
+use Rattle.parcel.specs.declared.parts.Logical.{Logical}
+use Rattle.parcel.specs.declared.parts.Vol.{Vol}
+use Rattle.parcel.specs.declared.pieces.volumes.VolumePiece.{VolumePiece}
+
+-- the 64 bytes of a volume's piece with these marks, files and label
+abbrev pub spelled : VolumePiece → List ℕ
+spelled p =
+    if p.made
+    then 1 ∷ one_if p.sealed ∷ [] ++ replicate 6 0 ++ little_bytes 8 p.files ++ p.label ++ replicate 16 0
+    else replicate 64 0
+
+-- the label that bytes say: before version 2 there is none, and zeros stand for it
+abbrev pub said_label : ℕ → List ℕ → List ℕ
+said_label version bytes = if version == 2 then bytes_at 16 32 bytes else no_label
+
+-- what bytes say as a volume's piece, of the files that the geometry has
+abbrev pub said_piece : ℕ → Geometry → List ℕ → VolumePiece
+said_piece version g bytes =
+    record { made = is_made_in bytes; sealed = is_sealed_in bytes; files = little_number 8 (bytes_at 8 8 bytes) % 2 ^ g.files; label = said_label version bytes }
+
+-- the piece of a volume of the tree
+abbrev pub piece_in : Vol → VolumePiece
+piece_in w = record { made = w.made; sealed = w.sealed; files = files_bits (in_volume w (0 ∷ [])); label = unwrap_or (label_in w.label) no_label }
+
+abbrev pub with_files : ℕ → Option Logical → Option Logical
+with_files files None = None
+with_files files (Some l) = Some (record l { files = files })
+
+-- the volume with what a piece says
+abbrev pub volume_with : VolumePiece → Vol → Vol
+volume_with p w =
+    record { made = p.made; sealed = p.sealed; logical = with_files p.files w.logical; label = Some (record { bytes = if p.made then Some p.label else None }) }
+
+-- A volume of a state has these facts.
+pub record HasFacts (x : State) (a v : ℕ) (h : Facts) : Type 0 where
+  pub made : x.made (a, v) ≡ h.made
+  pub sealed : x.sealed (a, v) ≡ h.sealed
+  pub files : (f : ℕ) → x.files (a, v, f) ≡ h.files f
+  pub blocks : (f b : ℕ) → x.blocks (a, v, f, b) ≡ h.blocks f b
+  pub label : x.labels (a, v) ≡ h.label
+
+-- what the volume has once these bytes were taken in as its piece, or as that of one of its stripes
+abbrev pub facts_with : ℕ → Geometry → Facts → ℕ → List ℕ → Facts
+facts_with version g h zero bytes =
+    record { made = is_made_in bytes; sealed = is_sealed_in bytes; files = has_file_in bytes; blocks = h.blocks; label = said_label_in version bytes }
+facts_with version g h (suc s) bytes = record h { blocks = λ f b. if group g f b == s then block_in g bytes f b else h.blocks f b }
+
+-- The bytes were read as this part of a volume: good where they spell what they say, in each state in which the volume has what it had, and then it has what they say.
+pub record IsPartRead (version : ℕ) (g : Geometry) (part : ℕ) (bytes : List ℕ) (good : Bool) (old new : Vol) : Type 0 where
+  pub fits : FitsVolume g new
+  pub whole : IsWholeVolume new
+  pub spelled : (x : State) (a v : ℕ) → IsState g x → HasFacts x a v (by_volume g old) → IsTrue good ↔ (bytes ≡ part_piece version g (with_part version g x a v part bytes) a v part)
+  pub facts : IsTrue good → by_volume g new ≡ facts_with version g (by_volume g old) part bytes
+
+-- They were read at a path, at which this volume was: the nodes there are those of the volume now, and the rest stays.
+pub record IsRead (version : ℕ) (g : Geometry) (part : ℕ) (bytes : List ℕ) (good : Bool) (p : Path) (found : Option Vol) (old new : Nodes) : Type 0 where
+  pub was : Vol
+  pub now : Vol
+  pub there : found ≡ Some was
+  pub read : IsPartRead version g part bytes good was now
+  pub nodes : PutsBack p (in_volume now) old new
+
+-- They were read as the piece of the stripe at one place, of a volume with these files.
+pub record IsStripeRead (g : Geometry) (files s : ℕ) (bytes : List ℕ) (good : Bool) (new : Option StripePart) : Type 0 where
+  pub fits : IfSome new (FitsStripe g s)
+  pub whole : IsWholeChild (λ (p : StripePart). Unit {0}) new
+  pub piece : IsTrue good ↔ IsStripePiece g files s bytes
+  pub blocks : IsTrue good → (f b : ℕ) → blocks_in new f b ≡ block_in g bytes f b

@@ -1,0 +1,262 @@
+//! The pieces of an image: what the tree holds, written as the bytes of its pieces and taken in from
+//! them, one at a time and with no memory of their own.
+ghost use Rattle.std.specs.Prelude.{◌≡◌, ◌↔◌, ◌<◌, ◌≤◌, ℕ, length, [], ◌∷◌, None, IfSome, IsOk, OnOk};
+ghost use Rattle.image.specs.Pieces.{aggregate_of, volume_of, part_of, part_piece, part_size};
+ghost use Rattle.image.specs.Pieces.{piece_count, piece_of, piece_size, with_piece};
+ghost use Rattle.plain.specs.State.{State, IsState};
+ghost use Rattle.parcel.specs.Fits.{FitsAggregate, FitsRoot, FitsVolume};
+ghost use Rattle.parcel.specs.Fits.{IsWholeAggregate, IsWholeChild, IsWholeRoot, IsWholeVolume};
+ghost use Rattle.parcel.specs.Pieces.{HasFacts, IsPartRead, IsRead};
+ghost use Rattle.parcel.specs.Levels.{volume_of as volume_at, volume_in};
+ghost use Rattle.parcel.specs.Nodes.{in_aggregate, in_child, in_root, in_volume};
+ghost use Rattle.parcel.specs.Shown.{by_volume};
+ghost use Rattle.parcel.specs.Tree.{IsWholeTree, state_in};
+
+mod stripes;
+mod volumes;
+
+use crate::parts::volume_at;
+use crate::{Aggr, Root, Tree, Vol};
+use affinity::Geometry;
+use std::error::Error;
+use std::fmt;
+use stripes::{read_stripe, write_stripe};
+use volumes::{WITH_LABELS, read_volume, write_volume};
+
+/// The version of an image in which no volume has its label.
+const WITHOUT_LABELS: u8 = 1;
+
+/// Bytes that are not the piece of what they say.
+#[derive(Clone, Copy, Debug, PartialEq, Eq)]
+pub struct BadPiece;
+
+impl fmt::Display for BadPiece {
+    fn fmt<W: fmt::Write>(&self, f: &mut fmt::Formatter<W>) -> fmt::Result {
+        f.write_str("bad piece of an image")
+    }
+}
+
+impl Error for BadPiece {}
+
+/// Where a piece lies: its aggregate, its volume, and there 0 for the volume's own piece and `s + 1`
+/// for that of stripe s.
+#[derive(Clone, Copy)]
+pub(crate) struct PiecePlace {
+    aggregate: usize,
+    volume: usize,
+    part: usize,
+}
+
+fn place_of_piece(g: &Geometry, n: usize) -> PiecePlace
+    ensures aggregate { result.aggregate ≡ aggregate_of g.now n }
+    ensures volume { result.volume ≡ volume_of g.now n }
+    ensures part { result.part ≡ part_of g.now n }
+{
+    let pieces_of_volume = usize::from(g.stripes) + 1;
+    let volumes = usize::from(g.volumes);
+    let volume = n / pieces_of_volume;
+    PiecePlace {
+        aggregate: volume / volumes,
+        volume: volume % volumes,
+        part: n % pieces_of_volume,
+    }
+}
+
+/// Writes piece `n` of the state that the tree holds into `out`, as an image of version 2 has it.
+/// Nothing of the tree may be out. The size is that of the piece: 64 bytes for a volume's own, and
+/// 520 for each block that a stripe can hold.
+pub fn write_piece(t: &Tree, n: usize, out: &mut [u8])
+    requires whole { IsWholeTree t.now }
+    requires piece { n < piece_count t.now.geometry }
+    requires size { length out.old ≡ piece_size t.now.geometry n }
+    ensures { out.new ≡ piece_of 2 t.now.geometry (state_in t.now) n }
+{
+    let place = place_of_piece(&t.geometry, n);
+    match volume_at(&t.root, place.aggregate, place.volume) {
+        Some(volume) => write_part(volume, &t.geometry, place.part, out),
+        None => unreachable!(),
+    }
+}
+
+// Writes the piece of a volume, or of one of its stripes: in each state in which a volume has what
+// this one has.
+fn write_part(volume: &Vol, g: &Geometry, part: usize, out: &mut [u8])
+    requires fits { FitsVolume g.now volume.now }
+    requires whole { IsWholeVolume volume.now }
+    requires part { part ≤ g.now.stripes }
+    requires size { length out.old ≡ part_size g.now part }
+    ensures { (x : State) (a v : ℕ) → IsState g.now x
+        → HasFacts x a v (by_volume g.now volume.now) → out.new ≡ part_piece 2 g.now x a v part }
+{
+    if part == 0 {
+        return write_volume(volume, out);
+    }
+    let Some(logical) = &volume.logical else {
+        unreachable!()
+    };
+    let s = part - 1;
+    match &logical.stripes[s] {
+        Some(stripe) => write_stripe(stripe, g, s, out),
+        None => unreachable!(),
+    }
+}
+
+/// Takes in bytes as piece `n`, in the place of what the tree has there. `BadPiece` exactly where they
+/// are not the piece, in an image of version 2, of the state that they lead to; then it is open what
+/// the tree has there. Nothing of the tree may be out, and before a volume's own piece it has no
+/// block there.
+pub fn read_piece(t: &mut Tree, n: usize, bytes: &[u8]) -> Result<(), BadPiece>
+    requires whole { IsWholeTree t.old }
+    requires piece { n < piece_count t.old.geometry }
+    requires size { length bytes.now ≡ piece_size t.old.geometry n }
+    requires empty { part_of t.old.geometry n ≡ 0 → (f b : ℕ)
+        → (state_in t.old).blocks (aggregate_of t.old.geometry n, volume_of t.old.geometry n, f, b) ≡ None }
+    ensures good { IsOk result ↔ (bytes.now
+        ≡ piece_of 2 t.old.geometry (with_piece 2 t.old.geometry (state_in t.old) n bytes.now) n) }
+    ensures taken { OnOk result (state_in t.new
+        ≡ with_piece 2 t.old.geometry (state_in t.old) n bytes.now) }
+    ensures whole { OnOk result (IsWholeTree t.new) }
+    ensures geometry { t.new.geometry ≡ t.old.geometry }
+{
+    read_version(t, WITH_LABELS, n, bytes)
+}
+
+/// The same for an image of version 1, in which zeros stand where the labels would: each volume that
+/// is made gets a label of zeros.
+pub fn read_piece_1(t: &mut Tree, n: usize, bytes: &[u8]) -> Result<(), BadPiece>
+    requires whole { IsWholeTree t.old }
+    requires piece { n < piece_count t.old.geometry }
+    requires size { length bytes.now ≡ piece_size t.old.geometry n }
+    requires empty { part_of t.old.geometry n ≡ 0 → (f b : ℕ)
+        → (state_in t.old).blocks (aggregate_of t.old.geometry n, volume_of t.old.geometry n, f, b) ≡ None }
+    ensures good { IsOk result ↔ (bytes.now
+        ≡ piece_of 1 t.old.geometry (with_piece 1 t.old.geometry (state_in t.old) n bytes.now) n) }
+    ensures taken { OnOk result (state_in t.new
+        ≡ with_piece 1 t.old.geometry (state_in t.old) n bytes.now) }
+    ensures whole { OnOk result (IsWholeTree t.new) }
+    ensures geometry { t.new.geometry ≡ t.old.geometry }
+{
+    read_version(t, WITHOUT_LABELS, n, bytes)
+}
+
+// Takes in bytes as piece `n` of an image of a version.
+fn read_version(t: &mut Tree, version: u8, n: usize, bytes: &[u8]) -> Result<(), BadPiece>
+    requires whole { IsWholeTree t.old }
+    requires piece { n < piece_count t.old.geometry }
+    requires size { length bytes.now ≡ piece_size t.old.geometry n }
+    requires empty { part_of t.old.geometry n ≡ 0 → (f b : ℕ)
+        → (state_in t.old).blocks (aggregate_of t.old.geometry n, volume_of t.old.geometry n, f, b) ≡ None }
+    ensures good { IsOk result ↔ (bytes.now
+        ≡ piece_of version t.old.geometry (with_piece version t.old.geometry (state_in t.old) n bytes.now) n) }
+    ensures taken { OnOk result (state_in t.new
+        ≡ with_piece version t.old.geometry (state_in t.old) n bytes.now) }
+    ensures whole { OnOk result (IsWholeTree t.new) }
+    ensures geometry { t.new.geometry ≡ t.old.geometry }
+{
+    let g = t.geometry;
+    let place = place_of_piece(&g, n);
+    if !read_in_root(&mut t.root, &g, place, version, bytes) {
+        return Err(BadPiece);
+    }
+    Ok(())
+}
+
+// Takes in bytes as a piece of what lies in the tree: whether they are good.
+fn read_in_root(
+    tree: &mut Option<Root>,
+    g: &Geometry,
+    place: PiecePlace,
+    version: u8,
+    bytes: &[u8],
+) -> bool
+    requires fits { IfSome tree.old (FitsRoot g.now) }
+    requires whole { IsWholeChild IsWholeRoot tree.old }
+    requires aggregate { place.aggregate < g.now.aggregates }
+    requires volume { place.volume < g.now.volumes }
+    requires part { place.part ≤ g.now.stripes }
+    requires size { length bytes.now ≡ part_size g.now place.part }
+    ensures fits { IfSome tree.new (FitsRoot g.now) }
+    ensures read { IsRead version g.now place.part bytes.now result
+        (place.aggregate ∷ place.volume ∷ []) (volume_in tree.old place.aggregate place.volume)
+        (in_child in_root tree.old) (in_child in_root tree.new) }
+{
+    match tree {
+        Some(root) => read_in_aggregate(
+            &mut root.aggregates[place.aggregate],
+            g,
+            place,
+            version,
+            bytes,
+        ),
+        None => unreachable!(),
+    }
+}
+
+// Takes in bytes as a piece of what lies in an aggregate.
+fn read_in_aggregate(
+    at: &mut Option<Aggr>,
+    g: &Geometry,
+    place: PiecePlace,
+    version: u8,
+    bytes: &[u8],
+) -> bool
+    requires fits { IfSome at.old (FitsAggregate g.now) }
+    requires whole { IsWholeChild IsWholeAggregate at.old }
+    requires volume { place.volume < g.now.volumes }
+    requires part { place.part ≤ g.now.stripes }
+    requires size { length bytes.now ≡ part_size g.now place.part }
+    ensures fits { IfSome at.new (FitsAggregate g.now) }
+    ensures read { IsRead version g.now place.part bytes.now result
+        (place.volume ∷ []) (volume_at at.old place.volume)
+        (in_child in_aggregate at.old) (in_child in_aggregate at.new) }
+{
+    match at {
+        Some(aggregate) => read_in_volume(
+            &mut aggregate.volumes[place.volume],
+            g,
+            place.part,
+            version,
+            bytes,
+        ),
+        None => unreachable!(),
+    }
+}
+
+// Takes in bytes as a piece of what lies in a volume.
+fn read_in_volume(
+    at: &mut Option<Vol>,
+    g: &Geometry,
+    part: usize,
+    version: u8,
+    bytes: &[u8],
+) -> bool
+    requires fits { IfSome at.old (FitsVolume g.now) }
+    requires whole { IsWholeChild IsWholeVolume at.old }
+    requires part { part ≤ g.now.stripes }
+    requires size { length bytes.now ≡ part_size g.now part }
+    ensures fits { IfSome at.new (FitsVolume g.now) }
+    ensures read { IsRead version g.now part bytes.now result
+        [] at.old (in_child in_volume at.old) (in_child in_volume at.new) }
+{
+    match at {
+        Some(volume) => read_part(volume, g, part, version, bytes),
+        None => unreachable!(),
+    }
+}
+
+// Takes in bytes as the piece of a volume, or of one of its stripes.
+fn read_part(volume: &mut Vol, g: &Geometry, part: usize, version: u8, bytes: &[u8]) -> bool
+    requires fits { FitsVolume g.now volume.old }
+    requires whole { IsWholeVolume volume.old }
+    requires part { part ≤ g.now.stripes }
+    requires size { length bytes.now ≡ part_size g.now part }
+    ensures { IsPartRead version g.now part bytes.now result volume.old volume.new }
+{
+    if part == 0 {
+        return read_volume(volume, g, version, bytes);
+    }
+    match &mut volume.logical {
+        Some(logical) => read_stripe(logical, g, part - 1, bytes),
+        None => unreachable!(),
+    }
+}

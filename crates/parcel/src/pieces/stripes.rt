@@ -1,0 +1,71 @@
+//! A stripe's piece of an image, from the stripe of a volume and into it.
+ghost use Rattle.std.specs.Prelude.{◌≡◌, ◌↔◌, ◌*◌, ◌<◌, ◌^◌, ◌==◌, ℕ, length, if◌then◌else◌, IfSome, IsTrue};
+ghost use Rattle.affinity.specs.Geometry.{group};
+ghost use Rattle.image.specs.Pieces.{block_in, stripe_piece};
+ghost use Rattle.plain.specs.State.{State, IsState};
+ghost use Rattle.stripe.specs.Entries.{IsStripePiece};
+ghost use Rattle.stripe.specs.Stripe.{StripePart, content_at};
+ghost use Rattle.parcel.specs.Fits.{FitsLogical, FitsStripe, IsWholeChild, IsWholeLogical};
+ghost use Rattle.parcel.specs.Pieces.{IsStripeRead};
+ghost use Rattle.parcel.specs.Shown.{blocks_of};
+
+use crate::{Logical, StripeParcel};
+use affinity::Geometry;
+
+/// Writes the piece of stripe `s` of a volume: that of each state which has the blocks of the stripe
+/// there.
+pub(super) fn write_stripe(stripe: &StripeParcel, g: &Geometry, s: usize, out: &mut [u8])
+    requires fits { FitsStripe g.now s stripe.now }
+    requires size { length out.old ≡ g.now.quota * 520 }
+    ensures { (x : State) (a v : ℕ) → IsState g.now x
+        → ((f b : ℕ) → group g.now f b ≡ s
+            → x.blocks (a, v, f, b) ≡ content_at stripe.now.entries f b)
+        → out.new ≡ stripe_piece g.now x a v s }
+{
+    // A stripe keeps its blocks in their order, and `len` says so.
+    let most = usize::from(g.quota);
+    prove!(stripe.len() <= most);
+    stripe.write_piece(out);
+}
+
+/// Takes in the piece of stripe `s` of a volume, in the place of all blocks that are there: whether
+/// the bytes are such a piece, of files that are there. Where they aren't, no block is left.
+pub(super) fn read_stripe(logical: &mut Logical, g: &Geometry, s: usize, bytes: &[u8]) -> bool
+    requires fits { FitsLogical g.now logical.old }
+    requires whole { IsWholeLogical logical.old }
+    requires stripe { s < g.now.stripes }
+    requires size { length bytes.now ≡ g.now.quota * 520 }
+    ensures piece { IsTrue result ↔ IsStripePiece g.now logical.old.files s bytes.now }
+    ensures files { logical.new.files ≡ logical.old.files }
+    ensures blocks { IsTrue result → (f b : ℕ) → blocks_of g.now logical.new.stripes.items f b
+        ≡ (if group g.now f b == s then block_in g.now bytes.now f b
+            else blocks_of g.now logical.old.stripes.items f b) }
+    ensures fits { FitsLogical g.now logical.new }
+    ensures whole { IsWholeLogical logical.new }
+{
+    let files = logical.files;
+    read_at(&mut logical.stripes[s], g, files, s as u16, bytes)
+}
+
+// Takes in the piece of the stripe at one place.
+fn read_at(
+    place: &mut Option<StripeParcel>,
+    g: &Geometry,
+    files: u64,
+    s: u16,
+    bytes: &[u8],
+) -> bool
+    requires fits { IfSome place.old (FitsStripe g.now s) }
+    requires whole { IsWholeChild (λ (p : StripePart). Unit {0}) place.old }
+    requires files { files < 2 ^ g.now.files }
+    requires size { length bytes.now ≡ g.now.quota * 520 }
+    ensures { IsStripeRead g.now files s bytes.now result place.new }
+{
+    let Some(stripe) = place else { unreachable!() };
+    stripe.drop_all();
+    if stripe.read_piece(g, files, s, bytes) {
+        return true;
+    }
+    stripe.drop_all();
+    false
+}

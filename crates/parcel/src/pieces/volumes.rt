@@ -1,0 +1,150 @@
+//! A volume's piece of an image: its marks, its files and its label, in 64 bytes.
+ghost use Rattle.std.specs.Prelude.{◌≡◌, ◌↔◌, ◌^◌, ◌-◌, length, unwrap_or, if◌then◌else◌, Some, None, IsTrue, IsFalse};
+ghost use Rattle.plain.specs.Serial.{no_label};
+ghost use Rattle.parcel.specs.Pieces.{piece_in, said_label, said_piece, spelled, volume_with};
+ghost use Rattle.parcel.specs.Shown.{label_in};
+
+use crate::parts::files_of;
+use crate::{Label, Vol};
+use affinity::Geometry;
+use byteorder::{ByteOrder, LittleEndian};
+
+/// How many bytes a volume's piece has.
+const VOLUME_PIECE_SIZE: usize = 64;
+
+/// Where the files and the label stand in a volume's piece, and the zeros behind them.
+const FILES_AT: usize = 8;
+const LABEL_AT: usize = 16;
+const ZEROS_AT: usize = 48;
+
+/// The version of an image whose volumes have their labels.
+pub(super) const WITH_LABELS: u8 = 2;
+
+/// What a volume's piece says.
+#[derive(Clone, Copy)]
+pub(crate) struct VolumePiece {
+    made: bool,
+    sealed: bool,
+    /// File `f` is bit `f`.
+    files: u64,
+    label: [u8; 32],
+}
+
+/// The label of a volume, or zeros where it has none.
+fn label_of(volume: &Vol) -> [u8; 32]
+    ensures { result ≡ unwrap_or (label_in volume.now.label) no_label }
+{
+    match &volume.label {
+        Some(label) => label.bytes.unwrap_or([0; 32]),
+        None => [0; 32],
+    }
+}
+
+/// The number in which each file of the geometry is there.
+fn all_files(g: &Geometry) -> u64
+    ensures { result ≡ 2 ^ g.now.files - 1 }
+{
+    u64::MAX >> (64 - g.files)
+}
+
+/// The label in the bytes of a volume's piece. Before version 2 there is none, and zeros stand for it.
+fn label_said(version: u8, bytes: &[u8]) -> [u8; 32]
+    requires size { length bytes.now ≡ 64 }
+    ensures { result ≡ said_label version bytes.now }
+{
+    let mut label = [0; 32];
+    if version == WITH_LABELS {
+        label.copy_from_slice(&bytes[LABEL_AT..ZEROS_AT]);
+    }
+    label
+}
+
+impl VolumePiece {
+    /// The piece of a volume.
+    fn of(volume: &Vol) -> VolumePiece
+        ensures { result ≡ piece_in volume.now }
+    {
+        VolumePiece {
+            made: volume.made,
+            sealed: volume.sealed,
+            files: files_of(volume),
+            label: label_of(volume),
+        }
+    }
+
+    /// What bytes say as a volume's piece, whatever else they spell. Of the files those of the
+    /// geometry are looked at.
+    fn said(g: &Geometry, version: u8, bytes: &[u8]) -> VolumePiece
+        requires size { length bytes.now ≡ 64 }
+        ensures { result ≡ said_piece version g.now bytes.now }
+    {
+        VolumePiece {
+            made: bytes[0] == 1,
+            sealed: bytes[1] == 1,
+            files: LittleEndian::read_u64(&bytes[FILES_AT..LABEL_AT]) & all_files(g),
+            label: label_said(version, bytes),
+        }
+    }
+
+    /// Writes the piece: where the volume isn't made, zeros.
+    fn write(&self, out: &mut [u8])
+        requires size { length out.old ≡ 64 }
+        ensures { out.new ≡ spelled self.now }
+    {
+        if !self.made {
+            out.fill(0);
+            return;
+        }
+        out[..FILES_AT].copy_from_slice(&[1, u8::from(self.sealed), 0, 0, 0, 0, 0, 0]);
+        LittleEndian::write_u64(&mut out[FILES_AT..LABEL_AT], self.files);
+        out[LABEL_AT..ZEROS_AT].copy_from_slice(&self.label);
+        out[ZEROS_AT..].copy_from_slice(&[0; 16]);
+    }
+
+    /// Gives a volume the marks, the files and the label.
+    fn put_into(&self, volume: &mut Vol)
+        ensures { volume.new ≡ volume_with self.now volume.old }
+    {
+        volume.made = self.made;
+        volume.sealed = self.sealed;
+        if let Some(logical) = &mut volume.logical {
+            logical.files = self.files;
+        }
+        volume.label = Some(Label {
+            bytes: self.label(),
+        });
+    }
+
+    /// The label, where the volume is made.
+    fn label(&self) -> Option<[u8; 32]>
+        ensures { result ≡ (if self.now.made then Some self.now.label else None) }
+    {
+        if self.made { Some(self.label) } else { None }
+    }
+}
+
+/// Writes the piece of a volume.
+pub(super) fn write_volume(volume: &Vol, out: &mut [u8])
+    requires size { length out.old ≡ 64 }
+    ensures { out.new ≡ spelled (piece_in volume.now) }
+{
+    VolumePiece::of(volume).write(out);
+}
+
+/// Takes in a volume's piece: whether the bytes are what they say, spelled. Where they aren't, the
+/// volume stays.
+pub(super) fn read_volume(volume: &mut Vol, g: &Geometry, version: u8, bytes: &[u8]) -> bool
+    requires size { length bytes.now ≡ 64 }
+    ensures good { IsTrue result ↔ (bytes.now ≡ spelled (said_piece version g.now bytes.now)) }
+    ensures taken { IsTrue result → volume.new ≡ volume_with (said_piece version g.now bytes.now) volume.old }
+    ensures kept { IsFalse result → volume.new ≡ volume.old }
+{
+    let said = VolumePiece::said(g, version, bytes);
+    let mut written = [0; VOLUME_PIECE_SIZE];
+    said.write(&mut written);
+    if bytes != written.as_slice() {
+        return false;
+    }
+    said.put_into(volume);
+    true
+}
