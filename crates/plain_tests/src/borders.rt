@@ -111,10 +111,10 @@ const WIDE_ROWS: [(&str, &str); 48] = [
 
 #[test]
 fn each_kind_is_in_range_up_to_its_limits(rt: HostRuntime) -> Result<(), Fail> {
-    expect_lines(&rt, rt.alloc(), SMALL, SMALL_ROWS.as_slice())
+    expect_lines(&rt, rt.alloc(), SMALL, &SMALL_ROWS)
 }
 
 #[test]
 fn each_kind_is_in_range_up_to_wider_limits(rt: HostRuntime) -> Result<(), Fail> {
-    expect_lines(&rt, rt.alloc(), WIDE, WIDE_ROWS.as_slice())
+    expect_lines(&rt, rt.alloc(), WIDE, &WIDE_ROWS)
 }

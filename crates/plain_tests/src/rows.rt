@@ -1,13 +1,35 @@
 //! Lines, each with the reply to it.
 use affinity::Geometry;
-use plain::serve_plain;
+use plain::{PlainFault, serve_plain};
 use std::alloc::Global;
+use std::io::{Read, Write};
 use std::process::Abort;
 use std::test::Fail;
 
 /// One volume of two files of four blocks, in two stripes that hold two blocks each. Neighboring
 /// blocks of a file lie in different stripes.
 pub(crate) const SMALL: [u16; 8] = [1, 1, 2, 1, 2, 4, 2, 4];
+
+/// How a session ends that serves this input at a geometry.
+pub(crate) fn served_into<R: Read + Drop, W: Write>(
+    alloc: Global,
+    numbers: [u16; 8],
+    input: R,
+    output: &mut W,
+) -> Result<(), PlainFault> {
+    let Ok(geometry) = Geometry::new(numbers) else {
+        return Err(PlainFault::OutOfMemory);
+    };
+    serve_plain(alloc, &geometry, input, output)
+}
+
+pub(crate) fn ends(rt: &impl Abort, got: Result<(), PlainFault>, want: Result<(), PlainFault>) {
+    assert_eq!(rt; got, want);
+}
+
+pub(crate) fn writes(rt: &impl Abort, got: &[u8], want: &[u8]) {
+    assert_eq!(rt; str::from_utf8(got), str::from_utf8(want));
+}
 
 /// Serves the lines at a geometry, and looks at the replies.
 pub(crate) fn expect_lines(
@@ -16,7 +38,6 @@ pub(crate) fn expect_lines(
     numbers: [u16; 8],
     rows: &[(&str, &str)],
 ) -> Result<(), Fail> {
-    let geometry = Geometry::new(numbers)?;
     let mut input = Vec::new(alloc);
     let mut replies = Vec::new(alloc);
     for (line, reply) in rows {
@@ -26,11 +47,8 @@ pub(crate) fn expect_lines(
         replies.push(b'\n')?;
     }
     let mut output = Vec::new(alloc);
-    let end = serve_plain(alloc, &geometry, input.as_slice(), &mut output);
-    assert_eq!(rt; end, Ok(()));
-    assert_eq!(rt;
-        str::from_utf8(output.as_slice()),
-        str::from_utf8(replies.as_slice())
-    );
+    let end = served_into(alloc, numbers, input.as_slice(), &mut output);
+    ends(rt, end, Ok(()));
+    writes(rt, output.as_slice(), replies.as_slice());
     Ok(())
 }

@@ -1,11 +1,11 @@
 //! How a session ends: at the end of its input, at a failed read, at a failed write.
-use crate::rows::SMALL;
+use crate::rows::{SMALL, ends, served_into, writes};
 use affinity::Geometry;
-use plain::{PlainFault, serve_from, serve_plain};
-use std::alloc::{AllocError, Global};
+use plain::{PlainFault, serve_from};
+use std::alloc::Global;
 use std::io;
 use std::io::{ErrorKind, Read, Write};
-use std::test::Fail;
+use std::process::Abort;
 
 /// Gives one byte a read, and fails where the bytes end.
 #[derive(Drop)]
@@ -53,17 +53,17 @@ impl Write for Unflushed {
     }
 }
 
-/// What is written for an input at the small geometry, and how it ends.
-fn served<R: Read + Drop>(
+/// Looks at what is written for an input at the small geometry, and at how it ends.
+fn expect<R: Read + Drop>(
+    rt: &impl Abort,
     alloc: Global,
     input: R,
-) -> Result<(Vec<u8>, Result<(), PlainFault>), AllocError> {
+    end: Result<(), PlainFault>,
+    replies: &[u8],
+) {
     let mut output = Vec::new(alloc);
-    let Ok(geometry) = Geometry::new(SMALL) else {
-        return Ok((output, Err(PlainFault::OutOfMemory)));
-    };
-    let end = serve_plain(alloc, &geometry, input, &mut output);
-    Ok((output, end))
+    ends(rt, served_into(alloc, SMALL, input, &mut output), end);
+    writes(rt, output.as_slice(), replies);
 }
 
 const FULL_STRIPE: &[u8] = b"makevol 0 0
@@ -91,81 +91,80 @@ error line
 ";
 
 #[test]
-fn a_stripe_is_full_where_its_quota_is_used(rt: HostRuntime) -> Result<(), Fail> {
-    let (output, end) = served(rt.alloc(), FULL_STRIPE)?;
-    assert_eq!(rt; end, Ok(()));
-    assert_eq!(rt; output.as_slice(), FULL_STRIPE_REPLIES);
-    Ok(())
+fn a_stripe_is_full_where_its_quota_is_used(rt: HostRuntime) {
+    expect(&rt, rt.alloc(), FULL_STRIPE, Ok(()), FULL_STRIPE_REPLIES);
 }
 
+/// What a reader gives before it fails, and the replies to it.
+const CUT_INPUTS: [(&[u8], &[u8]); 4] = [
+    (b"", b""),
+    (b"makevol 0 0", b""),
+    (b"makevol 0 0\n", b"done\n"),
+    (
+        b"makevol 0 0\nmakevol 0 0\ncreate 0 ",
+        b"done\nerror exists\n",
+    ),
+];
+
 #[test]
-fn whole_lines_are_answered_before_a_failed_read(rt: HostRuntime) -> Result<(), Fail> {
-    let rows: [(&[u8], &[u8]); 4] = [
-        (b"", b""),
-        (b"makevol 0 0", b""),
-        (b"makevol 0 0\n", b"done\n"),
-        (
-            b"makevol 0 0\nmakevol 0 0\ncreate 0 ",
-            b"done\nerror exists\n",
-        ),
-    ];
-    for (input, replies) in rows {
-        let (output, end) = served(rt.alloc(), Failing(input))?;
-        assert_eq!(rt; end, Err(PlainFault::Read));
-        assert_eq!(rt; output.as_slice(), replies);
+fn whole_lines_are_answered_before_a_failed_read(rt: HostRuntime) {
+    for (input, replies) in CUT_INPUTS {
+        let fault = Err(PlainFault::Read);
+        expect(&rt, rt.alloc(), Failing(input), fault, replies);
     }
-    Ok(())
+}
+
+const ONE_LINE: &[u8] = b"makevol 0 0\n";
+
+#[test]
+fn a_failed_write_is_told(rt: HostRuntime) {
+    let end = served_into(rt.alloc(), SMALL, ONE_LINE, &mut Full);
+    ends(&rt, end, Err(PlainFault::Write));
 }
 
 #[test]
-fn a_failed_write_is_told(rt: HostRuntime) -> Result<(), Fail> {
-    let geometry = Geometry::new(SMALL)?;
-    let end = serve_plain(
-        rt.alloc(),
-        &geometry,
-        b"makevol 0 0\n".as_slice(),
-        &mut Full,
-    );
-    assert_eq!(rt; end, Err(PlainFault::Write));
-    Ok(())
-}
-
-#[test]
-fn no_line_is_written_again_after_a_failed_write(rt: HostRuntime) -> Result<(), Fail> {
-    let geometry = Geometry::new(SMALL)?;
+fn no_line_is_written_again_after_a_failed_write(rt: HostRuntime) {
     let mut output = Unflushed(Vec::new(rt.alloc()));
-    let input = b"makevol 0 0\n".as_slice();
-    let end = serve_plain(rt.alloc(), &geometry, input, &mut output);
-    assert_eq!(rt; end, Err(PlainFault::Write));
-    assert_eq!(rt; output.0.as_slice(), b"done\n".as_slice());
-    Ok(())
+    let end = served_into(rt.alloc(), SMALL, ONE_LINE, &mut output);
+    ends(&rt, end, Err(PlainFault::Write));
+    writes(&rt, output.0.as_slice(), b"done\n");
+}
+
+/// How a session ends that serves at the small geometry what a reader has left.
+fn served_from<R: Read>(
+    alloc: Global,
+    input: &mut R,
+    output: &mut Vec<u8>,
+) -> Result<(), PlainFault> {
+    let Ok(geometry) = Geometry::new(SMALL) else {
+        return Err(PlainFault::OutOfMemory);
+    };
+    serve_from(alloc, &geometry, input, output)
+}
+
+const CUT_LINE: &[u8] = b"makevol 0 0\ncreate 0 0 2";
+
+#[test]
+fn a_reader_that_is_lent_has_nothing_left(rt: HostRuntime) {
+    let mut input = CUT_LINE;
+    let mut output = Vec::new(rt.alloc());
+    let end = served_from(rt.alloc(), &mut input, &mut output);
+    ends(&rt, end, Ok(()));
+    writes(&rt, input, b"");
+    writes(&rt, output.as_slice(), b"done\nerror range\n");
 }
 
 #[test]
-fn a_reader_that_is_lent_has_nothing_left(rt: HostRuntime) -> Result<(), Fail> {
-    let mut input = b"makevol 0 0\ncreate 0 0 2".as_slice();
+fn a_reader_that_fails_is_read_no_further(rt: HostRuntime) {
+    let mut input = Failing(CUT_LINE);
     let mut output = Vec::new(rt.alloc());
-    let geometry = Geometry::new(SMALL)?;
-    let end = serve_from(rt.alloc(), &geometry, &mut input, &mut output);
-    assert_eq!(rt; end, Ok(()));
-    assert!(rt; input.is_empty());
-    assert_eq!(rt; output.as_slice(), b"done\nerror range\n".as_slice());
-    Ok(())
-}
-
-#[test]
-fn a_reader_that_fails_is_read_no_further(rt: HostRuntime) -> Result<(), Fail> {
-    let mut input = Failing(b"makevol 0 0\ncreate 0 0 2".as_slice());
-    let mut output = Vec::new(rt.alloc());
-    let geometry = Geometry::new(SMALL)?;
-    let end = serve_from(rt.alloc(), &geometry, &mut input, &mut output);
-    assert_eq!(rt; end, Err(PlainFault::Read));
-    assert_eq!(rt; output.as_slice(), b"done\n".as_slice());
+    let end = served_from(rt.alloc(), &mut input, &mut output);
+    ends(&rt, end, Err(PlainFault::Read));
+    writes(&rt, output.as_slice(), b"done\n");
 
     // What is left is answered to the next call, from an empty state on.
-    input.0 = b"makevol 0 0\n".as_slice();
-    let end = serve_from(rt.alloc(), &geometry, &mut input, &mut output);
-    assert_eq!(rt; end, Err(PlainFault::Read));
-    assert_eq!(rt; output.as_slice(), b"done\ndone\n".as_slice());
-    Ok(())
+    input.0 = ONE_LINE;
+    let end = served_from(rt.alloc(), &mut input, &mut output);
+    ends(&rt, end, Err(PlainFault::Read));
+    writes(&rt, output.as_slice(), b"done\ndone\n");
 }

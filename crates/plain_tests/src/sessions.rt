@@ -1,7 +1,6 @@
 //! When replies are written: before a read that may wait, and where the buffer is full.
-use crate::rows::SMALL;
-use affinity::Geometry;
-use plain::{PlainFault, serve_plain};
+use crate::rows::{SMALL, served_into};
+use plain::PlainFault;
 use std::alloc::{AllocError, Global};
 use std::cell::Cell;
 use std::io;
@@ -55,11 +54,7 @@ impl Write for Pipe<'_> {
 }
 
 /// How many bytes a client got in all, where it had got what it should at each read.
-fn got_in_time(
-    alloc: Global,
-    geometry: &Geometry,
-    reads: &[(usize, &[u8])],
-) -> Result<usize, PlainFault> {
+fn got_in_time(alloc: Global, reads: &[(usize, &[u8])]) -> Result<usize, PlainFault> {
     let got = Cell::new(0);
     let is_amiss = Cell::new(false);
     let client = Client {
@@ -72,24 +67,23 @@ fn got_in_time(
         taken: 0,
         got: &got,
     };
-    serve_plain(alloc, geometry, client, &mut pipe)?;
+    served_into(alloc, SMALL, client, &mut pipe)?;
     if is_amiss.get() {
         return Err(PlainFault::Read);
     }
     Ok(got.get())
 }
 
+const READS: [(usize, &[u8]); 4] = [
+    (0, b"makevol 0 0\n"),
+    (5, b"makevol 0 0\ncreate 0 "),
+    (18, b"0 0\nsummary"),
+    (23, b""),
+];
+
 #[test]
-fn replies_are_written_before_a_read_that_may_wait(rt: HostRuntime) -> Result<(), Fail> {
-    let reads: [(usize, &[u8]); 4] = [
-        (0, b"makevol 0 0\n"),
-        (5, b"makevol 0 0\ncreate 0 "),
-        (18, b"0 0\nsummary"),
-        (23, b""),
-    ];
-    let geometry = Geometry::new(SMALL)?;
-    assert_eq!(rt; got_in_time(rt.alloc(), &geometry, &reads), Ok(37));
-    Ok(())
+fn replies_are_written_before_a_read_that_may_wait(rt: HostRuntime) {
+    assert_eq!(rt; got_in_time(rt.alloc(), &READS), Ok(37));
 }
 
 /// Refuses each write, and counts them and their bytes.
@@ -114,11 +108,10 @@ impl Write for Refusing<'_> {
 /// Lines that write a full block and read it 100 times. All but the first three replies have 1,031
 /// bytes.
 fn long_answers(alloc: Global) -> Result<Vec<u8>, AllocError> {
+    let digits = vec![in alloc; b'6'; 1024]?;
     let mut input = Vec::new(alloc);
     input.extend_from_slice(b"makevol 0 0\ncreate 0 0 0\nwrite 0 0 0 0 ")?;
-    for _ in 0..512 {
-        input.extend_from_slice(b"61")?;
-    }
+    input.extend_from_slice(digits.as_slice())?;
     input.push(b'\n')?;
     for _ in 0..100 {
         input.extend_from_slice(b"read 0 0 0 0\n")?;
@@ -128,7 +121,6 @@ fn long_answers(alloc: Global) -> Result<Vec<u8>, AllocError> {
 
 #[test]
 fn a_full_buffer_is_written_once(rt: HostRuntime) -> Result<(), Fail> {
-    let geometry = Geometry::new(SMALL)?;
     let input = long_answers(rt.alloc())?;
     let writes = Cell::new(0);
     let bytes = Cell::new(0);
@@ -136,7 +128,7 @@ fn a_full_buffer_is_written_once(rt: HostRuntime) -> Result<(), Fail> {
         writes: &writes,
         bytes: &bytes,
     };
-    let end = serve_plain(rt.alloc(), &geometry, input.as_slice(), &mut refusing);
+    let end = served_into(rt.alloc(), SMALL, input.as_slice(), &mut refusing);
     // 64 KiB have room for three short replies and 63 long ones.
     let seen = (end, writes.get(), bytes.get());
     assert_eq!(rt; seen, (Err(PlainFault::Write), 1, 15 + 63 * 1031));
