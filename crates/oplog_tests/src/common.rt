@@ -1,30 +1,18 @@
-//! What tests share: a small server with its device, calls of a log in a row, and assertions that are called with rows.
-ghost use Rattle.std.specs.Prelude.{◌≡◌, ◌<◌, ◌≤◌, false, true, length, IfOk, OnOk, IsTrue};
-ghost use Rattle.affinity.specs.Limits.{IsWithin};
+//! What tests share: a small server with its log and its device, and assertions that are called with rows.
+ghost use Rattle.std.specs.Prelude.{◌≡◌, ◌<◌, ◌≤◌, false, length, IfOk, OnOk, IsTrue};
 ghost use Rattle.disk.specs.Memory.{medium_of};
 ghost use Rattle.disk.specs.Torn.{HasBytes};
 ghost use Rattle.oplog.specs.Calls.{HasParts, IsReadyFor};
-ghost use Rattle.oplog.specs.Layout.{layout_of, device_size};
 ghost use Rattle.oplog.specs.Logged.{AreLogged, IsLogged};
 
 use affinity::{Geometry, changing, place_of};
-use disk::{Disk, MemDisk, Torn};
+use disk::{Disk, DiskFault, MemDisk, Torn};
 use message::Msg;
 use oplog::layout::device_len;
 use oplog::{Halves, LogFault};
 use std::alloc::{AllocError, Global};
 use std::process::Abort;
 use std::test::Fail;
-
-/// A server of one volume with two stripes, and so many records in a half, with a device of zeros for it.
-pub(crate) fn small(alloc: Global, half: u16) -> Result<(Geometry, MemDisk), Fail>
-    requires { IsWithin 4 1024 half }
-    ensures { IfOk result (λ p. device_size (layout_of p.0) ≤ length (medium_of p.1).now) }
-{
-    let g = Geometry::new([1, 1, 2, 1, 2, 4, 2, half])?;
-    let disk = MemDisk::new(alloc, device_len(&g))?;
-    Ok((g, disk))
-}
 
 fn is_logged(g: &Geometry, m: &Msg) -> bool
     ensures { IsTrue result → IsLogged g.now m.now }
@@ -45,14 +33,13 @@ fn are_logged(g: &Geometry, messages: &[Msg]) -> bool
 }
 
 /// Clears the half that isn't named, and names it.
-pub(crate) fn change_halves<D: Disk>(disk: &mut D, log: &mut Halves) -> Result<(), LogFault>
+fn change_halves<D: Disk>(disk: &mut D, log: &mut Halves) -> Result<(), LogFault>
     requires sound { log.old.failed ≡ false }
     requires together { log.old.current ≡ log.old.named }
     requires whole { HasParts log.old (D.medium disk.old) }
     ensures ready { OnOk result (D.keeps → IsReadyFor log.new (D.medium disk.new)) }
     ensures geometry { log.new.geometry ≡ log.old.geometry }
     ensures sound { OnOk result (log.new.failed ≡ false) }
-    ensures together { OnOk result (log.new.current ≡ log.new.named) }
     ensures len { length (D.medium disk.new).now ≡ length (D.medium disk.old).now }
 {
     log.clear_other(disk)?;
@@ -61,7 +48,7 @@ pub(crate) fn change_halves<D: Disk>(disk: &mut D, log: &mut Halves) -> Result<(
 }
 
 /// Clears the half that isn't named, and opens the chain to it.
-pub(crate) fn chain_halves<D: Disk>(disk: &mut D, log: &mut Halves) -> Result<(), LogFault>
+fn chain_halves<D: Disk>(disk: &mut D, log: &mut Halves) -> Result<(), LogFault>
     requires sound { log.old.failed ≡ false }
     requires together { log.old.current ≡ log.old.named }
     requires half { log.old.named < 2 }
@@ -77,82 +64,196 @@ pub(crate) fn chain_halves<D: Disk>(disk: &mut D, log: &mut Halves) -> Result<()
 }
 
 /// Appends these, if there is room and the log keeps them, and tells whether it did.
-pub(crate) fn appends<D: Disk>(
-    g: &Geometry,
-    disk: &mut D,
-    log: &mut Halves,
-    messages: &[Msg],
-) -> bool
+fn appends<D: Disk>(disk: &mut D, log: &mut Halves, messages: &[Msg]) -> bool
     requires sound { log.old.failed ≡ false }
-    requires geometry { log.old.geometry ≡ g.now }
     requires whole { HasParts log.old (D.medium disk.old) }
     requires ready { D.keeps → IsReadyFor log.old (D.medium disk.old) }
-    ensures geometry { log.new.geometry ≡ g.now }
-    ensures sound { IsTrue result → log.new.failed ≡ false }
+    ensures geometry { log.new.geometry ≡ log.old.geometry }
     ensures len { length (D.medium disk.new).now ≡ length (D.medium disk.old).now }
 {
-    are_logged(g, messages) && messages.len() <= log.room() && log.append(disk, messages).is_ok()
+    let g = log.geometry();
+    are_logged(&g, messages) && messages.len() <= log.room() && log.append(disk, messages).is_ok()
 }
 
-/// Changes the halves of a new log and appends these messages: whether all of it went well.
-pub(crate) fn begins_with<D: Disk>(
-    alloc: Global,
-    g: &Geometry,
-    disk: &mut D,
-    messages: &[Msg],
-) -> Result<bool, AllocError>
-    requires { device_size (layout_of g.now) ≤ length (D.medium disk.old).now }
-    ensures { length (D.medium disk.new).now ≡ length (D.medium disk.old).now }
-{
-    let mut log = Halves::new(alloc, g)?;
-    if change_halves(disk, &mut log).is_err() {
-        return Ok(false);
-    }
-    Ok(appends(g, disk, &mut log, messages))
+/// Which half the messages go to: the other one once it is named, or the other one behind a chain.
+#[derive(Clone, Copy, Drop)]
+pub(crate) enum Way {
+    Named,
+    Chained,
 }
 
-/// Opens the chain of a new log and appends these messages: whether all of it went well.
-pub(crate) fn goes_on_with<D: Disk>(
-    alloc: Global,
-    g: &Geometry,
-    disk: &mut D,
-    messages: &[Msg],
-) -> Result<bool, AllocError>
-    requires { device_size (layout_of g.now) ≤ length (D.medium disk.old).now }
-    ensures { length (D.medium disk.new).now ≡ length (D.medium disk.old).now }
-{
-    let mut log = Halves::new(alloc, g)?;
-    if chain_halves(disk, &mut log).is_err() {
-        return Ok(false);
-    }
-    Ok(appends(g, disk, &mut log, messages))
+/// A call of a log.
+#[derive(Clone, Copy, Drop)]
+pub(crate) enum Step {
+    /// Clears the half that isn't named.
+    Clear,
+    /// Clears it, and opens the chain to it.
+    Chain,
+    /// Names it.
+    Flip,
+    Name(usize),
+    Front(usize),
+    Record(usize, usize),
 }
 
-/// The messages in the open front of a half.
-pub(crate) fn front_of<D: Disk>(
-    alloc: Global,
-    g: &Geometry,
-    disk: &mut D,
-    half: usize,
-) -> Result<Vec<Msg>, Fail>
-    requires half { half < 2 }
-    requires whole { device_size (layout_of g.now) ≤ length (D.medium disk.old).now }
-    ensures { length (D.medium disk.new).now ≡ length (D.medium disk.old).now }
-{
-    let mut log = Halves::new(alloc, g)?;
-    let mut messages = Vec::new(alloc);
-    let count = log.front(disk, half)?;
-    for i in 0..count {
-        messages.push(log.record(disk, half, i)?)?;
+/// A call that wasn't made, since the log is not fit for it.
+pub(crate) const UNFIT: LogFault = LogFault::BadRecord(9, 9);
+
+/// A server of one volume with two stripes: its log, and its device, which is long enough for it.
+#[derive(Drop)]
+pub(crate) struct Server {
+    pub(crate) disk: MemDisk,
+    pub(crate) log: Halves,
+    ghost whole: { HasParts log (medium_of disk) },
+}
+
+impl Server {
+    /// With so many records in a half, and a device of zeros.
+    pub(crate) fn new(alloc: Global, half: u16) -> Result<Server, Fail> {
+        let g = Geometry::new([1, 1, 2, 1, 2, 4, 2, half])?;
+        let disk = MemDisk::new(alloc, device_len(&g))?;
+        let log = Halves::new(alloc, &g)?;
+        Ok(Server { disk, log })
     }
-    Ok(messages)
+
+    /// Behind one of the kinds of crash, with a log of which nothing is known.
+    pub(crate) fn crashed(self, alloc: Global, kind: usize) -> Result<Server, AllocError> {
+        let Server { disk, log } = self;
+        let g = log.geometry();
+        let log = Halves::new(alloc, &g)?;
+        let disk = disk.crash(torn(alloc, kind)?);
+        Ok(Server { disk, log })
+    }
+
+    /// Lets the n-th call of the device fail, and all later ones if it stops there.
+    pub(crate) fn fails_at(&mut self, n: u64, stops: bool) {
+        if n == 0 {
+            return;
+        }
+        if stops {
+            self.disk.stop_at(n);
+        } else {
+            self.disk.fail_at(n);
+        }
+    }
+
+    /// Writes past the log.
+    pub(crate) fn write(&mut self, at: u64, bytes: &[u8]) -> Result<(), DiskFault> {
+        self.disk.write_at(at, bytes)
+    }
+
+    /// Changes the halves and appends these messages.
+    pub(crate) fn takes(&mut self, way: Way, messages: &[Msg]) -> Result<bool, LogFault> {
+        if self.log.failed() || self.log.current() != self.log.named() {
+            return Err(UNFIT);
+        }
+        match way {
+            Way::Named => {
+                change_halves(&mut self.disk, &mut self.log)?;
+                Ok(appends(&mut self.disk, &mut self.log, messages))
+            }
+            Way::Chained => {
+                chain_halves(&mut self.disk, &mut self.log)?;
+                Ok(appends(&mut self.disk, &mut self.log, messages))
+            }
+        }
+    }
+
+    fn clears(&mut self) -> Result<(), LogFault> {
+        if self.log.failed() || self.log.current() != self.log.named() {
+            return Err(UNFIT);
+        }
+        self.log.clear_other(&mut self.disk)?;
+        Ok(())
+    }
+
+    fn chains(&mut self) -> Result<(), LogFault> {
+        if self.log.failed() || self.log.current() != self.log.named() {
+            return Err(UNFIT);
+        }
+        chain_halves(&mut self.disk, &mut self.log)?;
+        Ok(())
+    }
+
+    fn flips(&mut self) -> Result<(), LogFault> {
+        if self.log.failed() {
+            return Err(UNFIT);
+        }
+        self.log.flip_root(&mut self.disk)?;
+        Ok(())
+    }
+
+    fn names(&mut self, half: usize) -> Result<(), LogFault> {
+        if self.log.failed() || half >= 2 {
+            return Err(UNFIT);
+        }
+        self.log.name(half);
+        Ok(())
+    }
+
+    /// How many records the open front of a half has.
+    pub(crate) fn front(&mut self, half: usize) -> Result<usize, LogFault> {
+        if self.log.failed() || half >= 2 {
+            return Err(UNFIT);
+        }
+        let count = self.log.front(&mut self.disk, half)?;
+        Ok(count)
+    }
+
+    pub(crate) fn record(&mut self, half: usize, i: usize) -> Result<Msg, LogFault> {
+        if self.log.failed() || half >= 2 || i >= usize::from(self.log.geometry().half) {
+            return Err(UNFIT);
+        }
+        let message = self.log.record(&mut self.disk, half, i)?;
+        Ok(message)
+    }
+
+    pub(crate) fn does(&mut self, step: Step) -> Result<(), LogFault> {
+        match step {
+            Step::Clear => self.clears(),
+            Step::Chain => self.chains(),
+            Step::Flip => self.flips(),
+            Step::Name(half) => self.names(half),
+            Step::Front(half) => self.front(half).map(|_| ()),
+            Step::Record(half, i) => self.record(half, i).map(|_| ()),
+        }
+    }
+
+    /// The messages in the open front of a half.
+    pub(crate) fn messages(&mut self, alloc: Global, half: usize) -> Result<Vec<Msg>, Fail> {
+        let mut messages = Vec::new(alloc);
+        let count = self.front(half)?;
+        for i in 0..count {
+            messages.push(self.record(half, i)?)?;
+        }
+        Ok(messages)
+    }
+
+    /// The byte at this place of the device.
+    pub(crate) fn byte(&self, at: usize) -> u64 {
+        self.disk
+            .bytes()
+            .get(at)
+            .map_or(256, |byte| u64::from(*byte))
+    }
+
+    /// How many bytes of the device are not zero.
+    pub(crate) fn nonzero(&self) -> u64 {
+        let mut count = 0u64;
+        for byte in self.disk.bytes() {
+            if *byte != 0 {
+                count = count.saturating_add(1);
+            }
+        }
+        count
+    }
 }
 
 /// How many kinds of crash `torn` knows.
 pub(crate) const KINDS: usize = 7;
 
 /// One of the kinds of crash.
-pub(crate) fn torn(alloc: Global, kind: usize) -> Result<Torn, AllocError>
+fn torn(alloc: Global, kind: usize) -> Result<Torn, AllocError>
     ensures { IfOk result HasBytes }
 {
     Ok(match kind {
@@ -166,9 +267,7 @@ pub(crate) fn torn(alloc: Global, kind: usize) -> Result<Torn, AllocError>
     })
 }
 
-pub(crate) fn holds(rt: &impl Abort, fact: bool)
-    ensures { IsTrue fact }
-{
+pub(crate) fn holds(rt: &impl Abort, fact: bool) {
     assert!(rt; fact);
 }
 
@@ -182,15 +281,6 @@ pub(crate) fn answers(rt: &impl Abort, got: Result<(), LogFault>, want: Result<(
 
 pub(crate) fn reads(rt: &impl Abort, got: Result<Msg, LogFault>, want: Result<Msg, LogFault>) {
     assert_eq!(rt; got, want);
-}
-
-pub(crate) fn finds(rt: &impl Abort, got: Result<usize, LogFault>, want: Result<usize, LogFault>) {
-    assert_eq!(rt; got, want);
-}
-
-/// The byte at this place of a device.
-pub(crate) fn byte(disk: &MemDisk, at: usize) -> u64 {
-    disk.bytes().get(at).map_or(256, |byte| u64::from(*byte))
 }
 
 pub(crate) fn same_messages(rt: &impl Abort, got: &[Msg], want: &[Msg]) {

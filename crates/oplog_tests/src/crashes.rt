@@ -1,13 +1,5 @@
 //! Devices that fail or stop at each call, and crashes of every kind.
-ghost use Rattle.std.specs.Prelude.{◌<◌, ◌≤◌, length, IfOk};
-ghost use Rattle.disk.specs.Memory.{medium_of};
-ghost use Rattle.oplog.specs.Layout.{layout_of, device_size};
-
-use crate::common::{
-    KINDS, begins_with, byte, counts, front_of, goes_on_with, holds, same_messages, small, torn,
-};
-use affinity::Geometry;
-use disk::MemDisk;
+use crate::common::{KINDS, Server, Way, counts, holds, same_messages};
 use message::Msg;
 use std::alloc::Global;
 use std::process::Abort;
@@ -15,39 +7,19 @@ use std::test::Fail;
 
 const MESSAGES: [Msg; 3] = [Msg::MakeVol(0, 0), Msg::Seal(0, 0), Msg::Unseal(0, 0)];
 
-#[derive(Clone, Copy, Drop)]
-enum Fuse {
-    FailAt,
-    StopAt,
-}
-
-/// Which half the messages go to: the other one once it is named, or the other one behind a chain.
-#[derive(Clone, Copy, Drop)]
-enum Way {
-    Named,
-    Chained,
-}
-
-/// A device for a half of four records, and whether the calls on it went well, of which the n-th failed.
-fn used_until(
+/// Whether a server for a half of four records took the messages, of whose calls the n-th fails, and all later ones too
+/// if it stops there; and the server behind a crash of this kind.
+fn crashed_at(
     alloc: Global,
     way: Way,
-    fuse: Fuse,
     n: u64,
-) -> Result<(Geometry, MemDisk, bool), Fail>
-    requires { 0 < n }
-    ensures { IfOk result (λ p. device_size (layout_of p.0) ≤ length (medium_of p.1).now) }
-{
-    let (g, mut disk) = small(alloc, 4)?;
-    match fuse {
-        Fuse::FailAt => disk.fail_at(n),
-        Fuse::StopAt => disk.stop_at(n),
-    }
-    let went_well = match way {
-        Way::Named => begins_with(alloc, &g, &mut disk, &MESSAGES)?,
-        Way::Chained => goes_on_with(alloc, &g, &mut disk, &MESSAGES)?,
-    };
-    Ok((g, disk, went_well))
+    stops: bool,
+    kind: usize,
+) -> Result<(bool, Server), Fail> {
+    let mut server = Server::new(alloc, 4)?;
+    server.fails_at(n, stops);
+    let went_well = matches!(server.takes(way, &MESSAGES), Ok(true));
+    Ok((went_well, server.crashed(alloc, kind)?))
 }
 
 /// Of these messages the first so many were read, behind a fault at the n-th call and a crash of this kind.
@@ -62,30 +34,34 @@ fn is_beginning(rt: &impl Abort, read: &[Msg], n: u64, kind: usize) {
     holds(rt, n != 7 || kind != 5 || count == 1);
 }
 
+/// Taken in by a half of 128 records, these messages take so many calls of the device.
+fn takes_calls(rt: &impl Abort, alloc: Global, messages: &[Msg], calls: u64) -> Result<(), Fail> {
+    let mut server = Server::new(alloc, 128)?;
+    holds(rt, server.takes(Way::Named, messages)?);
+    counts(rt, server.disk.calls(), calls);
+    let read = server.messages(alloc, 1)?;
+    same_messages(rt, &read, messages);
+    Ok(())
+}
+
 #[test]
 fn a_batch_is_four_calls(rt: HostRuntime) -> Result<(), Fail> {
     let many = vec![in rt.alloc(); Msg::Seal(0, 0); 70]?;
-    for (messages, calls) in [(many.as_slice(), 12), (&MESSAGES, 8), (&[], 4)] {
-        let (g, mut disk) = small(rt.alloc(), 128)?;
-        holds(&rt, begins_with(rt.alloc(), &g, &mut disk, messages)?);
-        // Four of the calls cleared the other half and named it.
-        counts(&rt, disk.calls(), calls);
-        let read = front_of(rt.alloc(), &g, &mut disk, 1)?;
-        same_messages(&rt, &read, messages);
-    }
-    Ok(())
+    // Four of the calls clear the other half and name it.
+    takes_calls(&rt, rt.alloc(), &many, 12)?;
+    takes_calls(&rt, rt.alloc(), &MESSAGES, 8)?;
+    takes_calls(&rt, rt.alloc(), &[], 4)
 }
 
 #[test]
 fn the_second_batch_may_be_lost(rt: HostRuntime) -> Result<(), Fail> {
     let many = vec![in rt.alloc(); Msg::Seal(0, 0); 70]?;
     for (kind, wanted) in [(0, 64), (1, 70)] {
-        let (g, mut disk) = small(rt.alloc(), 128)?;
+        let mut server = Server::new(rt.alloc(), 128)?;
         // The write of the second batch's gates fails.
-        disk.stop_at(11);
-        holds(&rt, !begins_with(rt.alloc(), &g, &mut disk, &many)?);
-        let mut disk = disk.crash(torn(rt.alloc(), kind)?);
-        let read = front_of(rt.alloc(), &g, &mut disk, 1)?;
+        server.fails_at(11, true);
+        holds(&rt, !server.takes(Way::Named, &many)?);
+        let read = server.crashed(rt.alloc(), kind)?.messages(rt.alloc(), 1)?;
         counts(&rt, read.len() as u64, wanted);
     }
     Ok(())
@@ -94,14 +70,13 @@ fn the_second_batch_may_be_lost(rt: HostRuntime) -> Result<(), Fail> {
 #[test]
 fn each_crash_leaves_a_beginning_of_the_messages(rt: HostRuntime) -> Result<(), Fail> {
     for n in 1..10 {
-        for fuse in [Fuse::StopAt, Fuse::FailAt] {
+        for stops in [true, false] {
             for kind in 0..KINDS {
-                let (g, disk, went_well) = used_until(rt.alloc(), Way::Named, fuse, n)?;
+                let (went_well, mut server) = crashed_at(rt.alloc(), Way::Named, n, stops, kind)?;
                 holds(&rt, went_well == (n == 9));
-                let mut disk = disk.crash(torn(rt.alloc(), kind)?);
                 // A half that isn't named may hold anything while it is cleared.
-                let named = usize::from(byte(&disk, 64) == 1);
-                let read = front_of(rt.alloc(), &g, &mut disk, named)?;
+                let named = usize::from(server.byte(64) == 1);
+                let read = server.messages(rt.alloc(), named)?;
                 is_beginning(&rt, &read, n, kind);
             }
         }
@@ -112,19 +87,18 @@ fn each_crash_leaves_a_beginning_of_the_messages(rt: HostRuntime) -> Result<(), 
 #[test]
 fn each_crash_of_a_chain_leaves_one_too(rt: HostRuntime) -> Result<(), Fail> {
     for n in 1..10 {
-        for fuse in [Fuse::StopAt, Fuse::FailAt] {
+        for stops in [true, false] {
             for kind in 0..KINDS {
-                let (g, disk, went_well) = used_until(rt.alloc(), Way::Chained, fuse, n)?;
+                let (went_well, mut server) = crashed_at(rt.alloc(), Way::Chained, n, stops, kind)?;
                 holds(&rt, went_well == (n == 9));
-                let mut disk = disk.crash(torn(rt.alloc(), kind)?);
-                let chain = byte(&disk, 128);
+                let chain = server.byte(128);
                 // Half 0 is named, and its chain byte is written by the third call and synced by the fourth.
-                holds(&rt, byte(&disk, 64) == 0);
+                holds(&rt, server.byte(64) == 0);
                 holds(&rt, n > 2 || chain == 0);
                 holds(&rt, n < 5 || chain == 1);
                 // Behind a chain that isn't there, the other half counts for nothing.
                 let last = usize::from(chain == 1);
-                let read = front_of(rt.alloc(), &g, &mut disk, last)?;
+                let read = server.messages(rt.alloc(), last)?;
                 is_beginning(&rt, &read, n, kind);
             }
         }

@@ -1,154 +1,143 @@
 //! Worked examples on a device of 8,840 bytes.
-use crate::common::{
-    answers, appends, begins_with, byte, change_halves, counts, finds, holds, reads, small,
-};
+use crate::common::{Server, Step, Way, answers, counts, holds, reads};
 use affinity::Geometry;
 use disk::Disk;
 use message::Msg;
 use oplog::{Halves, LogFault};
+use std::process::Abort;
 use std::test::Fail;
 
-#[test]
-fn a_record_is_appended_and_read(rt: HostRuntime) -> Result<(), Fail> {
-    let (g, mut disk) = small(rt.alloc(), 4)?;
-    counts(&rt, disk.len(), 8840);
-    let mut log = Halves::new(rt.alloc(), &g)?;
-    counts(&rt, log.room() as u64, 0);
-    change_halves(&mut disk, &mut log)?;
-    counts(&rt, byte(&disk, 64), 1);
-    counts(&rt, log.room() as u64, 4);
-    holds(&rt, appends(&g, &mut disk, &mut log, &[Msg::MakeVol(0, 0)]));
-    holds(&rt, !log.failed());
-    // The root byte, the gate, and the first byte of the record.
-    counts(&rt, byte(&disk, 2340), 1);
-    counts(&rt, byte(&disk, 2344), 1);
-    let nonzero = disk.bytes().iter().filter(|byte| **byte != 0).count();
-    counts(&rt, nonzero as u64, 3);
-    counts(&rt, log.room() as u64, 3);
-    counts(&rt, log.front(&mut disk, 1)? as u64, 1);
-    reads(&rt, log.record(&mut disk, 1, 0), Ok(Msg::MakeVol(0, 0)));
-    Ok(())
+/// The byte that names an area, the room, the half that is named and the one that records are appended to.
+fn stands(rt: &impl Abort, server: &Server, want: [u64; 4]) {
+    let [root, room, named, current] = want;
+    counts(rt, server.byte(64), root);
+    counts(rt, server.log.room() as u64, room);
+    counts(rt, server.log.named() as u64, named);
+    counts(rt, server.log.current() as u64, current);
+}
+
+/// Makes these calls, and looks at the server behind each.
+fn goes(rt: &impl Abort, server: &mut Server, rows: &[(Step, [u64; 4])]) {
+    for (step, want) in rows {
+        answers(rt, server.does(*step), Ok(()));
+        stands(rt, server, *want);
+    }
 }
 
 #[test]
+fn a_record_is_appended_and_read(rt: HostRuntime) -> Result<(), Fail> {
+    let mut server = Server::new(rt.alloc(), 4)?;
+    counts(&rt, server.disk.len(), 8840);
+    stands(&rt, &server, [0, 0, 0, 0]);
+    holds(&rt, server.takes(Way::Named, &[Msg::MakeVol(0, 0)])?);
+    holds(&rt, !server.log.failed());
+    stands(&rt, &server, [1, 3, 1, 1]);
+    // The root byte, the gate, and the first byte of the record.
+    counts(&rt, server.byte(2340), 1);
+    counts(&rt, server.byte(2344), 1);
+    counts(&rt, server.nonzero(), 3);
+    counts(&rt, server.front(1)? as u64, 1);
+    reads(&rt, server.record(1, 0), Ok(Msg::MakeVol(0, 0)));
+    Ok(())
+}
+
+/// A chain is opened to half 1, which is named then.
+const CHAIN: [(Step, [u64; 4]); 2] = [(Step::Chain, [0, 4, 0, 1]), (Step::Flip, [1, 4, 1, 1])];
+
+#[test]
 fn a_chain_goes_on_in_the_other_half(rt: HostRuntime) -> Result<(), Fail> {
-    let (g, mut disk) = small(rt.alloc(), 4)?;
-    let mut log = Halves::new(rt.alloc(), &g)?;
-    log.clear_other(&mut disk)?;
-    log.open_chain(&mut disk)?;
+    let mut server = Server::new(rt.alloc(), 4)?;
+    goes(&rt, &mut server, &CHAIN[..1]);
     // The chain byte of half 0, and nothing beside it.
-    counts(&rt, byte(&disk, 128), 1);
-    let nonzero = disk.bytes().iter().filter(|byte| **byte != 0).count();
-    counts(&rt, nonzero as u64, 1);
-    counts(&rt, log.room() as u64, 4);
-    counts(&rt, log.named() as u64, 0);
-    counts(&rt, log.current() as u64, 1);
-    log.flip_root(&mut disk)?;
-    counts(&rt, byte(&disk, 64), 1);
-    counts(&rt, log.room() as u64, 4);
-    counts(&rt, log.named() as u64, 1);
-    counts(&rt, log.current() as u64, 1);
+    counts(&rt, server.byte(128), 1);
+    counts(&rt, server.nonzero(), 1);
+    goes(&rt, &mut server, &CHAIN[1..]);
     Ok(())
 }
 
 #[test]
 fn zeros_are_no_record(rt: HostRuntime) -> Result<(), Fail> {
-    let (g, mut disk) = small(rt.alloc(), 4)?;
-    holds(
-        &rt,
-        begins_with(rt.alloc(), &g, &mut disk, &[Msg::MakeVol(0, 0)])?,
-    );
-    disk.write_at(2341, &[1])?;
-    let mut log = Halves::new(rt.alloc(), &g)?;
-    counts(&rt, log.front(&mut disk, 1)? as u64, 2);
-    let first = log.record(&mut disk, 1, 0)?;
-    reads(&rt, Ok(first), Ok(Msg::MakeVol(0, 0)));
-    reads(
-        &rt,
-        log.record(&mut disk, 1, 1),
-        Err(LogFault::BadRecord(1, 1)),
-    );
+    let mut server = Server::new(rt.alloc(), 4)?;
+    holds(&rt, server.takes(Way::Named, &[Msg::MakeVol(0, 0)])?);
+    server.write(2341, &[1])?;
+    counts(&rt, server.front(1)? as u64, 2);
+    reads(&rt, server.record(1, 0), Ok(Msg::MakeVol(0, 0)));
+    reads(&rt, server.record(1, 1), Err(LogFault::BadRecord(1, 1)));
     Ok(())
 }
+
+/// Kind 1 makes a volume, 5 seals one, 13 labels one, 9 reads a block, 10 lists the files, and 14 asks for the label.
+/// There is no volume 1, and no kind 15.
+const RECORDS: [([u8; 3], Result<Msg, LogFault>); 8] = [
+    ([1, 0, 0], Ok(Msg::MakeVol(0, 0))),
+    ([5, 0, 0], Ok(Msg::Seal(0, 0))),
+    ([13, 0, 0], Ok(Msg::SetLabel(0, 0, [0; 32]))),
+    ([9, 0, 0], Err(LogFault::BadRecord(0, 3))),
+    ([10, 0, 0], Err(LogFault::BadRecord(0, 3))),
+    ([14, 0, 0], Err(LogFault::BadRecord(0, 3))),
+    ([1, 0, 1], Err(LogFault::BadRecord(0, 3))),
+    ([15, 0, 0], Err(LogFault::BadRecord(0, 3))),
+];
 
 #[test]
 fn no_message_that_changes_nothing_is_read(rt: HostRuntime) -> Result<(), Fail> {
-    // Kind 1 makes a volume, 5 seals one, 13 labels one, 9 reads a block, 10 lists the files, and
-    // 14 asks for the label. There is no volume 1, and no kind 15.
-    let rows = [
-        ([1, 0, 0], Ok(Msg::MakeVol(0, 0))),
-        ([5, 0, 0], Ok(Msg::Seal(0, 0))),
-        ([13, 0, 0], Ok(Msg::SetLabel(0, 0, [0; 32]))),
-        ([9, 0, 0], Err(LogFault::BadRecord(0, 3))),
-        ([10, 0, 0], Err(LogFault::BadRecord(0, 3))),
-        ([14, 0, 0], Err(LogFault::BadRecord(0, 3))),
-        ([1, 0, 1], Err(LogFault::BadRecord(0, 3))),
-        ([15, 0, 0], Err(LogFault::BadRecord(0, 3))),
-    ];
-    for (front, wanted) in rows {
-        let (g, mut disk) = small(rt.alloc(), 4)?;
-        let mut log = Halves::new(rt.alloc(), &g)?;
-        disk.write_at(196 + 3 * 520, &front)?;
-        reads(&rt, log.record(&mut disk, 0, 3), wanted);
+    for (front, wanted) in RECORDS {
+        let mut server = Server::new(rt.alloc(), 4)?;
+        server.write(196 + 3 * 520, &front)?;
+        reads(&rt, server.record(0, 3), wanted);
     }
     Ok(())
 }
+
+/// The gates of a half, and how many records its open front has.
+const GATES: [([u8; 4], u64); 4] = [
+    ([1, 77, 1, 0], 1),
+    ([0, 1, 1, 1], 0),
+    ([1, 1, 1, 1], 4),
+    ([1, 1, 0, 1], 2),
+];
 
 #[test]
 fn the_front_ends_at_a_gate_that_is_not_open(rt: HostRuntime) -> Result<(), Fail> {
-    let rows = [
-        ([1, 77, 1, 0], 1),
-        ([0, 1, 1, 1], 0),
-        ([1, 1, 1, 1], 4),
-        ([1, 1, 0, 1], 2),
-    ];
-    for (gates, wanted) in rows {
-        let (g, mut disk) = small(rt.alloc(), 4)?;
-        let mut log = Halves::new(rt.alloc(), &g)?;
-        disk.write_at(2340, &gates)?;
-        counts(&rt, log.front(&mut disk, 1)? as u64, wanted);
-        counts(&rt, log.front(&mut disk, 0)? as u64, 0);
+    for (gates, wanted) in GATES {
+        let mut server = Server::new(rt.alloc(), 4)?;
+        server.write(2340, &gates)?;
+        counts(&rt, server.front(1)? as u64, wanted);
+        counts(&rt, server.front(0)? as u64, 0);
     }
     Ok(())
 }
 
+/// A half has room where it was cleared before it was named, and not since.
+const CHANGES: [(Step, [u64; 4]); 8] = [
+    (Step::Flip, [1, 0, 1, 1]),
+    (Step::Clear, [1, 0, 1, 1]),
+    (Step::Flip, [0, 4, 0, 0]),
+    (Step::Flip, [1, 0, 1, 1]),
+    (Step::Flip, [0, 0, 0, 0]),
+    (Step::Clear, [0, 0, 0, 0]),
+    (Step::Name(1), [0, 0, 1, 1]),
+    (Step::Flip, [0, 0, 0, 0]),
+];
+
 #[test]
 fn a_half_that_was_not_cleared_has_no_room(rt: HostRuntime) -> Result<(), Fail> {
-    let (g, mut disk) = small(rt.alloc(), 4)?;
-    let mut log = Halves::new(rt.alloc(), &g)?;
-    log.flip_root(&mut disk)?;
-    counts(&rt, byte(&disk, 64), 1);
-    counts(&rt, log.room() as u64, 0);
-    log.clear_other(&mut disk)?;
-    log.flip_root(&mut disk)?;
-    counts(&rt, byte(&disk, 64), 0);
-    counts(&rt, log.room() as u64, 4);
-    // It was cleared before it was named, and not since.
-    log.flip_root(&mut disk)?;
-    log.flip_root(&mut disk)?;
-    counts(&rt, log.room() as u64, 0);
-    log.clear_other(&mut disk)?;
-    log.name(1);
-    counts(&rt, log.room() as u64, 0);
-    log.flip_root(&mut disk)?;
-    counts(&rt, byte(&disk, 64), 0);
-    counts(&rt, log.room() as u64, 0);
+    let mut server = Server::new(rt.alloc(), 4)?;
+    goes(&rt, &mut server, &CHANGES);
     Ok(())
 }
 
 #[test]
 fn clearing_keeps_the_records(rt: HostRuntime) -> Result<(), Fail> {
-    let (g, mut disk) = small(rt.alloc(), 4)?;
-    disk.write_at(2276, &[7; 2148])?;
-    let mut log = Halves::new(rt.alloc(), &g)?;
-    log.clear_other(&mut disk)?;
-    let zeros = disk.bytes()[2276..4424]
-        .iter()
-        .filter(|byte| **byte == 0)
-        .count();
-    counts(&rt, zeros as u64, 68);
-    counts(&rt, byte(&disk, 2343), 0);
-    counts(&rt, byte(&disk, 2344), 7);
+    let mut server = Server::new(rt.alloc(), 4)?;
+    // Half 1, and not a byte beside it.
+    server.write(2276, &[7; 2148])?;
+    answers(&rt, server.does(Step::Clear), Ok(()));
+    // The chain area and the gates are 68 bytes.
+    counts(&rt, server.nonzero(), 2080);
+    counts(&rt, server.byte(2276), 0);
+    counts(&rt, server.byte(2343), 0);
+    counts(&rt, server.byte(2344), 7);
     Ok(())
 }
 
@@ -165,29 +154,23 @@ fn a_refused_log_is_made_at_the_next_try(rt: HostRuntime) -> Result<(), Fail> {
     Ok(())
 }
 
+/// Which call of the device fails, and which call of a new log it fails in.
+const FAULTS: [(u64, Step); 5] = [
+    (1, Step::Clear),
+    (2, Step::Flip),
+    // Two calls clear the other half.
+    (3, Step::Chain),
+    (1, Step::Front(0)),
+    (1, Step::Record(0, 0)),
+];
+
 #[test]
 fn a_failed_log_says_so(rt: HostRuntime) -> Result<(), Fail> {
-    let (g, mut disk) = small(rt.alloc(), 4)?;
-    let mut log = Halves::new(rt.alloc(), &g)?;
-    disk.fail_at(1);
-    answers(&rt, log.clear_other(&mut disk), Err(LogFault::Device));
-    holds(&rt, log.failed());
-    let mut log = Halves::new(rt.alloc(), &g)?;
-    disk.fail_at(2);
-    answers(&rt, log.flip_root(&mut disk), Err(LogFault::Device));
-    holds(&rt, log.failed());
-    let mut log = Halves::new(rt.alloc(), &g)?;
-    log.clear_other(&mut disk)?;
-    disk.fail_at(1);
-    answers(&rt, log.open_chain(&mut disk), Err(LogFault::Device));
-    holds(&rt, log.failed());
-    let mut log = Halves::new(rt.alloc(), &g)?;
-    disk.fail_at(1);
-    finds(&rt, log.front(&mut disk, 0), Err(LogFault::Device));
-    holds(&rt, log.failed());
-    let mut log = Halves::new(rt.alloc(), &g)?;
-    disk.fail_at(1);
-    reads(&rt, log.record(&mut disk, 0, 0), Err(LogFault::Device));
-    holds(&rt, log.failed());
+    for (n, step) in FAULTS {
+        let mut server = Server::new(rt.alloc(), 4)?;
+        server.fails_at(n, false);
+        answers(&rt, server.does(step), Err(LogFault::Device));
+        holds(&rt, server.log.failed());
+    }
     Ok(())
 }
