@@ -4,8 +4,6 @@
 #[cfg(test)]
 mod lines;
 #[cfg(test)]
-mod messages;
-#[cfg(test)]
 mod runs;
 #[cfg(test)]
 mod stripes;

@@ -8,7 +8,7 @@ use Rattle.message.specs.Messages.{kind, place}
 use Rattle.parcel.specs.Fits.{Fits, IsKindOf, Suits}
 use Rattle.parcel.specs.Run.{Asked}
 use Rattle.parcel.proofs.Serving.{fits_where_lent}
-use Rattle.parcel_tests.proofs.messages.serve.Goals as goal
+use Rattle.parcel_tests.proofs.lines.serve.Goals as goal
 
 pub restore-requires-clause-fits : goal.restore-requires-clause-fits
 restore-requires-clause-fits c =
