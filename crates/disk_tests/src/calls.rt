@@ -1,6 +1,7 @@
 //! Calls of a device, and what it answers to them.
 use disk::{Disk, DiskFault};
 use std::alloc::{AllocError, Global};
+use std::process::Abort;
 
 #[derive(Drop)]
 pub(crate) enum Call {
@@ -32,4 +33,25 @@ pub(crate) fn answers<D: Disk>(
         answers.push(answer)?;
     }
     Ok(answers)
+}
+
+/// These calls are answered so.
+pub(crate) fn expect<D: Disk>(
+    rt: &impl Abort,
+    alloc: Global,
+    disk: &mut D,
+    calls: &[Call],
+    wanted: &[Result<(), DiskFault>],
+) -> Result<(), AllocError> {
+    let got = answers(alloc, disk, calls)?;
+    assert_eq!(rt; got.as_slice(), wanted);
+    Ok(())
+}
+
+pub(crate) fn same(rt: &impl Abort, got: &[u8], want: &[u8]) {
+    assert_eq!(rt; got, want);
+}
+
+pub(crate) fn holds(rt: &impl Abort, fact: bool) {
+    assert!(rt; fact);
 }

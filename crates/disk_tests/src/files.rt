@@ -1,159 +1,174 @@
 //! Files of the system as devices.
-use crate::calls::{Call, FAULT, FINE, OUTSIDE, answers};
-use disk::{Disk, FileDisk, FileFault};
+use crate::calls::{Call, FAULT, FINE, OUTSIDE, expect, holds, same};
+use disk::{Disk, DiskFault, FileDisk, FileFault};
 use std::fs::{self, OpenOptions, Permissions};
 use std::os::unix::fs::PermissionsExt;
-use std::process;
+use std::process::{self, Abort};
 use std::test::Fail;
 
-/// The path of a new, empty folder of this name.
-fn new_folder(rt: &HostRuntime, name: &str) -> Result<String, Fail> {
-    let id = process::id(rt.process());
-    let folder = format!(in rt.alloc(); "/tmp/disk_tests_{name}_{id}")?;
-    if fs::exists(rt, folder.as_str())? {
-        fs::remove_dir_all(rt, folder.as_str())?;
-    }
-    fs::create_dir(rt, folder.as_str())?;
-    Ok(folder)
+/// A new, empty folder, and the path of a file in it.
+#[derive(Drop)]
+struct Place {
+    folder: String,
+    path: String,
 }
+
+impl Place {
+    fn new(rt: &HostRuntime, name: &str) -> Result<Place, Fail> {
+        let id = process::id(rt.process());
+        let folder = format!(in rt.alloc(); "/tmp/disk_tests_{name}_{id}")?;
+        if fs::exists(rt, folder.as_str())? {
+            fs::remove_dir_all(rt, folder.as_str())?;
+        }
+        fs::create_dir(rt, folder.as_str())?;
+        let path = format!(in rt.alloc(); "{folder}/device")?;
+        Ok(Place { folder, path })
+    }
+
+    /// Puts these bytes into the file.
+    fn write(&self, rt: &HostRuntime, bytes: &[u8]) -> Result<(), Fail> {
+        Ok(fs::write(rt, self.path.as_str(), bytes)?)
+    }
+
+    fn create(&self, rt: &HostRuntime, len: u64) -> Result<FileDisk, FileFault> {
+        FileDisk::create(rt, self.path.as_str(), len)
+    }
+
+    fn open(&self, rt: &HostRuntime) -> Result<FileDisk, FileFault> {
+        FileDisk::open(rt, self.path.as_str())
+    }
+
+    /// The bytes of the file.
+    fn read(&self, rt: &HostRuntime) -> Result<Vec<u8>, Fail> {
+        Ok(fs::read(rt, self.path.as_str())?)
+    }
+
+    fn remove(self, rt: &HostRuntime) -> Result<(), Fail> {
+        Ok(fs::remove_dir_all(rt, self.folder.as_str())?)
+    }
+}
+
+/// Whether the system may write this file.
+fn may_write(rt: &HostRuntime, path: &str) -> bool {
+    OpenOptions::new()
+        .read(true)
+        .write(true)
+        .open(rt, path)
+        .is_ok()
+}
+
+/// The system refused it.
+fn is_fault(rt: &impl Abort, made: Result<FileDisk, FileFault>) {
+    holds(rt, matches!(made, Err(FileFault::Device)));
+}
+
+const CALLS: [Call; 8] = [
+    Call::Write(3, b"abc"),
+    Call::Write(11, b"z"),
+    Call::Sync,
+    Call::Read(0, 12),
+    Call::Read(11, 2),
+    Call::Write(u64::MAX, b"ab"),
+    Call::Write(13, b""),
+    Call::Write(12, b""),
+];
+
+const ANSWERS: [Result<(), DiskFault>; 8] = [
+    FINE, FINE, FINE, FINE, OUTSIDE, OUTSIDE, OUTSIDE, FINE,
+];
 
 #[test]
 fn a_file_holds_what_was_written(rt: HostRuntime) -> Result<(), Fail> {
-    let folder = new_folder(&rt, "written")?;
-    let path = format!(in rt.alloc(); "{folder}/device")?;
-    fs::write(
-        &rt,
-        path.as_str(),
-        b"something else that was there".as_slice(),
-    )?;
-    let mut disk = FileDisk::create(&rt, path.as_str(), 12)?;
-    let calls = [
-        Call::Write(3, b"abc"),
-        Call::Write(11, b"z"),
-        Call::Sync,
-        Call::Read(0, 12),
-        Call::Read(11, 2),
-        Call::Write(u64::MAX, b"ab"),
-        Call::Write(13, b""),
-        Call::Write(12, b""),
-    ];
-    let wanted = [FINE, FINE, FINE, FINE, OUTSIDE, OUTSIDE, OUTSIDE, FINE];
-    let got = answers(rt.alloc(), &mut disk, &calls)?;
-    assert_eq!(rt; got.as_slice(), wanted.as_slice());
-    let bytes = fs::read(&rt, path.as_str())?;
-    assert_eq!(rt; bytes.as_slice(), b"\0\0\0abc\0\0\0\0\0z".as_slice());
+    let place = Place::new(&rt, "written")?;
+    place.write(&rt, b"something else that was there")?;
+    let mut disk = place.create(&rt, 12)?;
+    expect(&rt, rt.alloc(), &mut disk, &CALLS, &ANSWERS)?;
+    same(&rt, &place.read(&rt)?, b"\0\0\0abc\0\0\0\0\0z");
     drop(disk);
 
-    let mut disk = FileDisk::open(&rt, path.as_str())?;
-    assert_eq!(rt; disk.len(), 12);
+    let mut disk = place.open(&rt)?;
+    holds(&rt, disk.len() == 12);
     let mut part = [0; 5];
     disk.read_at(2, &mut part)?;
-    assert_eq!(rt; part, *b"\0abc\0");
+    same(&rt, &part, b"\0abc\0");
     drop(disk);
-    fs::remove_dir_all(&rt, folder.as_str())?;
-    Ok(())
+    place.remove(&rt)
 }
+
+/// Reads of a device of eight bytes whose file has six.
+const SHORT_READS: [Call; 4] = [
+    Call::Read(4, 4),
+    Call::Read(2, 4),
+    Call::Read(7, 1),
+    Call::Read(7, 2),
+];
 
 #[test]
 fn a_file_that_ends_early_is_a_fault(rt: HostRuntime) -> Result<(), Fail> {
-    let folder = new_folder(&rt, "short")?;
-    let path = format!(in rt.alloc(); "{folder}/device")?;
-    let mut disk = FileDisk::create(&rt, path.as_str(), 8)?;
-    let file = OpenOptions::new().write(true).open(&rt, path.as_str())?;
-    file.set_len(6)?;
-    let calls = [
-        Call::Read(4, 4),
-        Call::Read(2, 4),
-        Call::Read(7, 1),
-        Call::Read(7, 2),
-    ];
-    let got = answers(rt.alloc(), &mut disk, &calls)?;
-    assert_eq!(rt; got.as_slice(), [FAULT, FINE, FAULT, OUTSIDE].as_slice());
-    assert_eq!(rt; disk.len(), 8);
+    let place = Place::new(&rt, "short")?;
+    let mut disk = place.create(&rt, 8)?;
+    place.write(&rt, b"\0\0\0\0\0\0")?;
+    let wanted = [FAULT, FINE, FAULT, OUTSIDE];
+    expect(&rt, rt.alloc(), &mut disk, &SHORT_READS, &wanted)?;
+    holds(&rt, disk.len() == 8);
     drop(disk);
-    fs::remove_dir_all(&rt, folder.as_str())?;
-    Ok(())
+    place.remove(&rt)
 }
 
 #[test]
 fn what_the_system_refuses_is_a_fault(rt: HostRuntime) -> Result<(), Fail> {
-    let folder = new_folder(&rt, "refused")?;
-    let path = format!(in rt.alloc(); "{folder}/device")?;
-    let below = format!(in rt.alloc(); "{folder}/missing/device")?;
+    let place = Place::new(&rt, "refused")?;
+    let below = format!(in rt.alloc(); "{}/missing/device", place.folder)?;
     // There is no such file, nor such a folder, and a folder is no file.
-    for missing in [path.as_str(), below.as_str(), folder.as_str()] {
-        assert!(rt; matches!(FileDisk::open(&rt, missing), Err(FileFault::Device)));
-    }
-    for refused in [below.as_str(), folder.as_str()] {
-        assert!(rt; matches!(FileDisk::create(&rt, refused, 4), Err(FileFault::Device)));
-    }
+    is_fault(&rt, place.open(&rt));
+    is_fault(&rt, FileDisk::open(&rt, below.as_str()));
+    is_fault(&rt, FileDisk::open(&rt, place.folder.as_str()));
+    is_fault(&rt, FileDisk::create(&rt, below.as_str(), 4));
+    is_fault(&rt, FileDisk::create(&rt, place.folder.as_str(), 4));
     // No file is that long.
-    assert!(rt;
-        matches!(
-            FileDisk::create(&rt, path.as_str(), u64::MAX),
-            Err(FileFault::Device)
-        )
-    );
-    fs::remove_dir_all(&rt, folder.as_str())?;
-    Ok(())
+    is_fault(&rt, place.create(&rt, u64::MAX));
+    place.remove(&rt)
 }
+
+/// Writes that leave a device of four bytes.
+const OUTSIDE_WRITES: [Call; 4] = [
+    Call::Write(3, b"xy"),
+    Call::Write(4, b"x"),
+    Call::Write(0, b"longer"),
+    Call::Write(9, b"x"),
+];
 
 /// Each write leaves the device: it is refused, and the file keeps its bytes and its length.
 #[test]
 fn a_write_out_of_range_leaves_the_file(rt: HostRuntime) -> Result<(), Fail> {
-    let folder = new_folder(&rt, "outside")?;
-    let path = format!(in rt.alloc(); "{folder}/device")?;
-    fs::write(&rt, path.as_str(), b"kept".as_slice())?;
-    let mut disk = FileDisk::open(&rt, path.as_str())?;
-    let calls = [
-        Call::Write(3, b"xy"),
-        Call::Write(4, b"x"),
-        Call::Write(0, b"longer"),
-        Call::Write(9, b"x"),
-    ];
-    let got = answers(rt.alloc(), &mut disk, &calls)?;
-    assert_eq!(rt; got.as_slice(), [OUTSIDE; 4].as_slice());
-    let bytes = fs::read(&rt, path.as_str())?;
-    assert_eq!(rt; bytes.as_slice(), b"kept".as_slice());
+    let place = Place::new(&rt, "outside")?;
+    place.write(&rt, b"kept")?;
+    let mut disk = place.open(&rt)?;
+    expect(&rt, rt.alloc(), &mut disk, &OUTSIDE_WRITES, &[OUTSIDE; 4])?;
+    same(&rt, &place.read(&rt)?, b"kept");
     drop(disk);
-    fs::remove_dir_all(&rt, folder.as_str())?;
-    Ok(())
+    place.remove(&rt)
 }
 
 /// The system opens this file and refuses to sync it.
 #[test]
 fn a_file_that_is_not_synced_is_a_fault(rt: HostRuntime) {
     let path = "/dev/null";
-    assert!(rt;
-        OpenOptions::new()
-            .read(true)
-            .write(true)
-            .open(&rt, path)
-            .is_ok()
-    );
-    assert!(rt; matches!(FileDisk::open(&rt, path), Err(FileFault::Device)));
+    holds(&rt, may_write(&rt, path));
+    is_fault(&rt, FileDisk::open(&rt, path));
 }
 
 #[test]
 fn a_read_only_file_is_a_fault(rt: HostRuntime) -> Result<(), Fail> {
-    let folder = new_folder(&rt, "read_only")?;
-    let path = format!(in rt.alloc(); "{folder}/device")?;
-    fs::write(&rt, path.as_str(), b"kept".as_slice())?;
-    fs::set_permissions(&rt, path.as_str(), Permissions::from_mode(0o444))?;
+    let place = Place::new(&rt, "read_only")?;
+    place.write(&rt, b"kept")?;
+    fs::set_permissions(&rt, place.path.as_str(), Permissions::from_mode(0o444))?;
     // The administrator may write such a file.
-    let may_write = OpenOptions::new()
-        .write(true)
-        .open(&rt, path.as_str())
-        .is_ok();
-    let fault = FileDisk::open(&rt, path.as_str()).err();
-    assert_eq!(rt;
-        fault,
-        if may_write {
-            None
-        } else {
-            Some(FileFault::Device)
-        }
-    );
-    fs::remove_dir_all(&rt, folder.as_str())?;
-    Ok(())
+    let wanted = if may_write(&rt, place.path.as_str()) {
+        None
+    } else {
+        Some(FileFault::Device)
+    };
+    holds(&rt, place.open(&rt).err() == wanted);
+    place.remove(&rt)
 }

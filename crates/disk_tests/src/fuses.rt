@@ -1,5 +1,5 @@
 //! Calls that fail by a fuse, and devices for which there is no memory.
-use crate::calls::{Call, FAULT, FINE, OUTSIDE, answers};
+use crate::calls::{Call, FAULT, FINE, OUTSIDE, expect, holds, same};
 use disk::{DiskFault, MemDisk, Torn};
 use std::alloc::{AllocError, Global};
 use std::test::Fail;
@@ -10,17 +10,12 @@ enum Fuse {
     StopAt(u64),
 }
 
-/// A device with these fuses set, one after the other.
-fn with_fuses(alloc: Global, fuses: &[Fuse]) -> Result<MemDisk, AllocError> {
-    let mut disk = MemDisk::new(alloc, 4)?;
-    for fuse in fuses {
-        match fuse {
-            Fuse::FailAt(n) if *n > 0 => disk.fail_at(*n),
-            Fuse::StopAt(n) if *n > 0 => disk.stop_at(*n),
-            _ => {}
-        }
+fn set(disk: &mut MemDisk, fuse: &Fuse) {
+    match fuse {
+        Fuse::FailAt(n) if *n > 0 => disk.fail_at(*n),
+        Fuse::StopAt(n) if *n > 0 => disk.stop_at(*n),
+        _ => {}
     }
-    Ok(disk)
 }
 
 const CALLS: [Call; 5] = [
@@ -46,22 +41,21 @@ const BLOWN: [(&[Fuse], [Result<(), DiskFault>; 5]); 5] = [
     ),
 ];
 
+const NONE_BLOWN: [Result<(), DiskFault>; 5] = [FINE, FINE, OUTSIDE, FINE, FINE];
+
 #[test]
 fn fuses_fail_the_calls_that_they_name(rt: HostRuntime) -> Result<(), Fail> {
-    let alloc = rt.alloc();
     for (fuses, wanted) in BLOWN {
-        let mut disk = with_fuses(alloc, fuses)?;
-        let got = answers(alloc, &mut disk, &CALLS)?;
-        assert_eq!(rt; got.as_slice(), wanted.as_slice());
+        let mut disk = MemDisk::new(rt.alloc(), 4)?;
+        for fuse in fuses {
+            set(&mut disk, fuse);
+        }
+        expect(&rt, rt.alloc(), &mut disk, &CALLS, &wanted)?;
         // A call that leaves the device is not counted.
-        assert_eq!(rt; disk.calls(), 4);
+        holds(&rt, disk.calls() == 4);
         let mut disk = disk.crash(Torn::Old);
-        assert_eq!(rt; disk.calls(), 0);
-        let got = answers(alloc, &mut disk, &CALLS)?;
-        assert_eq!(rt;
-            got.as_slice(),
-            [FINE, FINE, OUTSIDE, FINE, FINE].as_slice()
-        );
+        holds(&rt, disk.calls() == 0);
+        expect(&rt, rt.alloc(), &mut disk, &CALLS, &NONE_BLOWN)?;
     }
     Ok(())
 }
@@ -79,16 +73,16 @@ fn a_refused_device_is_made_at_the_next_try(rt: HostRuntime) -> Result<(), Fail>
         Ok(disk) => disk,
         Err(_) => MemDisk::new(alloc, 3)?,
     };
-    assert_eq!(rt; zeros.bytes(), [0; 3].as_slice());
+    same(&rt, zeros.bytes(), &[0; 3]);
     let given = match of_three(alloc) {
         Ok(disk) => disk,
         Err(_) => of_three(alloc)?,
     };
-    assert_eq!(rt; given.bytes(), [1, 2, 3].as_slice());
+    same(&rt, given.bytes(), &[1, 2, 3]);
     Ok(())
 }
 
 #[test]
 fn a_length_that_no_memory_has_is_refused(rt: HostRuntime) {
-    assert!(rt; MemDisk::new(rt.alloc(), u64::MAX).is_err());
+    holds(&rt, MemDisk::new(rt.alloc(), u64::MAX).is_err());
 }

@@ -1,7 +1,10 @@
 //! What each kind of crash leaves.
-use crate::calls::{Call, answers};
+ghost use Rattle.disk.specs.Torn.{HasBytes};
+
+use crate::calls::{Call, answers, same};
 use disk::{MemDisk, Torn};
 use std::alloc::{AllocError, Global};
+use std::process::Abort;
 use std::test::Fail;
 
 /// A device after some calls: which of them fails, if one does, what a read gives, and what each kind of crash
@@ -74,22 +77,36 @@ fn device_of(alloc: Global, row: &Row) -> Result<MemDisk, AllocError> {
     Ok(disk)
 }
 
+/// What a crash of this kind leaves of the device, and a second one behind it, where nothing is loose.
+fn leaves(
+    rt: &impl Abort,
+    alloc: Global,
+    row: &Row,
+    torn: Torn,
+    want: &[u8],
+) -> Result<(), AllocError>
+    requires { HasBytes torn }
+{
+    let disk = device_of(alloc, row)?.crash(torn);
+    same(rt, disk.bytes(), want);
+    same(rt, disk.crash(Torn::Fill(8)).bytes(), want);
+    Ok(())
+}
+
+/// After these calls each kind of crash tears what is loose.
+fn tears(rt: &impl Abort, alloc: Global, row: &Row) -> Result<(), AllocError> {
+    same(rt, device_of(alloc, row)?.bytes(), &row.now);
+    leaves(rt, alloc, row, Torn::Old, &row.old)?;
+    leaves(rt, alloc, row, Torn::New, &row.new)?;
+    leaves(rt, alloc, row, Torn::Fill(7), &row.filled)?;
+    let mixed = Torn::Mixed(vec![in alloc; 1, 77, 1]?);
+    leaves(rt, alloc, row, mixed, &row.mixed)
+}
+
 #[test]
 fn each_kind_of_crash_tears_what_is_loose(rt: HostRuntime) -> Result<(), Fail> {
-    let alloc = rt.alloc();
-    for row in ROWS {
-        assert_eq!(rt; device_of(alloc, &row)?.bytes(), row.now.as_slice());
-        let disk = device_of(alloc, &row)?.crash(Torn::Old);
-        assert_eq!(rt; disk.bytes(), row.old.as_slice());
-        let disk = device_of(alloc, &row)?.crash(Torn::New);
-        assert_eq!(rt; disk.bytes(), row.new.as_slice());
-        let disk = device_of(alloc, &row)?.crash(Torn::Mixed(vec![in alloc; 1, 77, 1]?));
-        assert_eq!(rt; disk.bytes(), row.mixed.as_slice());
-        // After a crash nothing is loose.
-        let disk = device_of(alloc, &row)?
-            .crash(Torn::Fill(7))
-            .crash(Torn::Fill(8));
-        assert_eq!(rt; disk.bytes(), row.filled.as_slice());
+    for row in &ROWS {
+        tears(&rt, rt.alloc(), row)?;
     }
     Ok(())
 }
