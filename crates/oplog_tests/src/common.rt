@@ -6,7 +6,7 @@ ghost use Rattle.oplog.specs.Calls.{HasParts, IsReadyFor};
 ghost use Rattle.oplog.specs.Logged.{AreLogged, IsLogged};
 
 use affinity::{Geometry, changing, place_of};
-use disk::{Disk, DiskFault, MemDisk, Torn};
+use disk::{Disk, MemDisk, Torn};
 use message::Msg;
 use oplog::layout::device_len;
 use oplog::{Halves, LogFault};
@@ -137,13 +137,17 @@ impl Server {
         }
     }
 
-    /// Writes past the log.
-    pub(crate) fn write(&mut self, at: u64, bytes: &[u8]) -> Result<(), DiskFault> {
-        self.disk.write_at(at, bytes)
+    /// Writes past the log, and tells whether it went well.
+    pub(crate) fn writes(&mut self, at: u64, bytes: &[u8]) -> bool {
+        self.disk.write_at(at, bytes).is_ok()
     }
 
-    /// Changes the halves and appends these messages.
-    pub(crate) fn takes(&mut self, way: Way, messages: &[Msg]) -> Result<bool, LogFault> {
+    /// Changes the halves and appends these messages: whether all of it went well.
+    pub(crate) fn takes(&mut self, way: Way, messages: &[Msg]) -> bool {
+        matches!(self.changes(way, messages), Ok(true))
+    }
+
+    fn changes(&mut self, way: Way, messages: &[Msg]) -> Result<bool, LogFault> {
         if self.log.failed() || self.log.current() != self.log.named() {
             return Err(UNFIT);
         }
@@ -281,6 +285,10 @@ pub(crate) fn answers(rt: &impl Abort, got: Result<(), LogFault>, want: Result<(
 
 pub(crate) fn reads(rt: &impl Abort, got: Result<Msg, LogFault>, want: Result<Msg, LogFault>) {
     assert_eq!(rt; got, want);
+}
+
+pub(crate) fn finds(rt: &impl Abort, got: Result<usize, LogFault>, want: usize) {
+    assert_eq!(rt; got, Ok(want));
 }
 
 pub(crate) fn same_messages(rt: &impl Abort, got: &[Msg], want: &[Msg]) {

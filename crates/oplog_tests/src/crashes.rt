@@ -18,7 +18,7 @@ fn crashed_at(
 ) -> Result<(bool, Server), Fail> {
     let mut server = Server::new(alloc, 4)?;
     server.fails_at(n, stops);
-    let went_well = matches!(server.takes(way, &MESSAGES), Ok(true));
+    let went_well = server.takes(way, &MESSAGES);
     Ok((went_well, server.crashed(alloc, kind)?))
 }
 
@@ -37,7 +37,7 @@ fn is_beginning(rt: &impl Abort, read: &[Msg], n: u64, kind: usize) {
 /// Taken in by a half of 128 records, these messages take so many calls of the device.
 fn takes_calls(rt: &impl Abort, alloc: Global, messages: &[Msg], calls: u64) -> Result<(), Fail> {
     let mut server = Server::new(alloc, 128)?;
-    holds(rt, server.takes(Way::Named, messages)?);
+    holds(rt, server.takes(Way::Named, messages));
     counts(rt, server.disk.calls(), calls);
     let read = server.messages(alloc, 1)?;
     same_messages(rt, &read, messages);
@@ -60,7 +60,7 @@ fn the_second_batch_may_be_lost(rt: HostRuntime) -> Result<(), Fail> {
         let mut server = Server::new(rt.alloc(), 128)?;
         // The write of the second batch's gates fails.
         server.fails_at(11, true);
-        holds(&rt, !server.takes(Way::Named, &many)?);
+        holds(&rt, !server.takes(Way::Named, &many));
         let read = server.crashed(rt.alloc(), kind)?.messages(rt.alloc(), 1)?;
         counts(&rt, read.len() as u64, wanted);
     }

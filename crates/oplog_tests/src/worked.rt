@@ -1,5 +1,5 @@
 //! Worked examples on a device of 8,840 bytes.
-use crate::common::{Server, Step, Way, answers, counts, holds, reads};
+use crate::common::{Server, Step, Way, answers, counts, finds, holds, reads};
 use affinity::Geometry;
 use disk::Disk;
 use message::Msg;
@@ -29,14 +29,14 @@ fn a_record_is_appended_and_read(rt: HostRuntime) -> Result<(), Fail> {
     let mut server = Server::new(rt.alloc(), 4)?;
     counts(&rt, server.disk.len(), 8840);
     stands(&rt, &server, [0, 0, 0, 0]);
-    holds(&rt, server.takes(Way::Named, &[Msg::MakeVol(0, 0)])?);
+    holds(&rt, server.takes(Way::Named, &[Msg::MakeVol(0, 0)]));
     holds(&rt, !server.log.failed());
     stands(&rt, &server, [1, 3, 1, 1]);
     // The root byte, the gate, and the first byte of the record.
     counts(&rt, server.byte(2340), 1);
     counts(&rt, server.byte(2344), 1);
     counts(&rt, server.nonzero(), 3);
-    counts(&rt, server.front(1)? as u64, 1);
+    finds(&rt, server.front(1), 1);
     reads(&rt, server.record(1, 0), Ok(Msg::MakeVol(0, 0)));
     Ok(())
 }
@@ -58,9 +58,9 @@ fn a_chain_goes_on_in_the_other_half(rt: HostRuntime) -> Result<(), Fail> {
 #[test]
 fn zeros_are_no_record(rt: HostRuntime) -> Result<(), Fail> {
     let mut server = Server::new(rt.alloc(), 4)?;
-    holds(&rt, server.takes(Way::Named, &[Msg::MakeVol(0, 0)])?);
-    server.write(2341, &[1])?;
-    counts(&rt, server.front(1)? as u64, 2);
+    holds(&rt, server.takes(Way::Named, &[Msg::MakeVol(0, 0)]));
+    holds(&rt, server.writes(2341, &[1]));
+    finds(&rt, server.front(1), 2);
     reads(&rt, server.record(1, 0), Ok(Msg::MakeVol(0, 0)));
     reads(&rt, server.record(1, 1), Err(LogFault::BadRecord(1, 1)));
     Ok(())
@@ -83,14 +83,14 @@ const RECORDS: [([u8; 3], Result<Msg, LogFault>); 8] = [
 fn no_message_that_changes_nothing_is_read(rt: HostRuntime) -> Result<(), Fail> {
     for (front, wanted) in RECORDS {
         let mut server = Server::new(rt.alloc(), 4)?;
-        server.write(196 + 3 * 520, &front)?;
+        holds(&rt, server.writes(196 + 3 * 520, &front));
         reads(&rt, server.record(0, 3), wanted);
     }
     Ok(())
 }
 
 /// The gates of a half, and how many records its open front has.
-const GATES: [([u8; 4], u64); 4] = [
+const GATES: [([u8; 4], usize); 4] = [
     ([1, 77, 1, 0], 1),
     ([0, 1, 1, 1], 0),
     ([1, 1, 1, 1], 4),
@@ -101,9 +101,9 @@ const GATES: [([u8; 4], u64); 4] = [
 fn the_front_ends_at_a_gate_that_is_not_open(rt: HostRuntime) -> Result<(), Fail> {
     for (gates, wanted) in GATES {
         let mut server = Server::new(rt.alloc(), 4)?;
-        server.write(2340, &gates)?;
-        counts(&rt, server.front(1)? as u64, wanted);
-        counts(&rt, server.front(0)? as u64, 0);
+        holds(&rt, server.writes(2340, &gates));
+        finds(&rt, server.front(1), wanted);
+        finds(&rt, server.front(0), 0);
     }
     Ok(())
 }
@@ -131,7 +131,7 @@ fn a_half_that_was_not_cleared_has_no_room(rt: HostRuntime) -> Result<(), Fail> 
 fn clearing_keeps_the_records(rt: HostRuntime) -> Result<(), Fail> {
     let mut server = Server::new(rt.alloc(), 4)?;
     // Half 1, and not a byte beside it.
-    server.write(2276, &[7; 2148])?;
+    holds(&rt, server.writes(2276, &[7; 2148]));
     answers(&rt, server.does(Step::Clear), Ok(()));
     // The chain area and the gates are 68 bytes.
     counts(&rt, server.nonzero(), 2080);
