@@ -4,36 +4,40 @@ use crate::common::{block_of, padded, says};
 use message::{Block, Msg, parse_line};
 use std::process::Abort;
 
+const MESSAGES: [(&str, Msg); 8] = [
+    ("makevol 0 0", Msg::MakeVol(0, 0)),
+    ("makevol 65535 10", Msg::MakeVol(65535, 10)),
+    ("create 0 0 0", Msg::Create(0, 0, 0)),
+    ("create 1 20 300", Msg::Create(1, 20, 300)),
+    ("read 0 0 0 63", Msg::Read(0, 0, 0, 63)),
+    ("read 0 0 0 65535", Msg::Read(0, 0, 0, 65535)),
+    (
+        "read 65535 65535 65535 65535",
+        Msg::Read(65535, 65535, 65535, 65535),
+    ),
+    ("read 10 100 1000 10000", Msg::Read(10, 100, 1000, 10000)),
+];
+
+/// Lines that write, their numbers, and the bytes that the block begins with.
+const WRITES: [(&str, [u16; 4], &[u8]); 4] = [
+    ("write 0 0 0 0 6162", [0, 0, 0, 0], b"ab"),
+    ("write 1 2 3 4 00", [1, 2, 3, 4], b""),
+    ("write 1 2 3 4 000A", [1, 2, 3, 4], &[0, 10]),
+    ("write 9 8 7 6 aAfF09", [9, 8, 7, 6], &[170, 255, 9]),
+];
+
+fn says_write(rt: &impl Abort, line: &[u8], numbers: [u16; 4], front: &[u8]) {
+    let [a, v, f, b] = numbers;
+    says(rt, line, Some(Msg::Write(a, v, f, b, block_of(front))));
+}
+
 #[test]
 fn reads_messages(rt: HostRuntime) {
-    let rows: [(&str, Msg); 12] = [
-        ("makevol 0 0", Msg::MakeVol(0, 0)),
-        ("makevol 65535 10", Msg::MakeVol(65535, 10)),
-        ("create 0 0 0", Msg::Create(0, 0, 0)),
-        ("create 1 20 300", Msg::Create(1, 20, 300)),
-        (
-            "write 0 0 0 0 6162",
-            Msg::Write(0, 0, 0, 0, block_of(b"ab")),
-        ),
-        ("write 1 2 3 4 00", Msg::Write(1, 2, 3, 4, block_of(b""))),
-        (
-            "write 1 2 3 4 000A",
-            Msg::Write(1, 2, 3, 4, block_of(&[0, 10])),
-        ),
-        (
-            "write 9 8 7 6 aAfF09",
-            Msg::Write(9, 8, 7, 6, block_of(&[170, 255, 9])),
-        ),
-        ("read 0 0 0 63", Msg::Read(0, 0, 0, 63)),
-        ("read 0 0 0 65535", Msg::Read(0, 0, 0, 65535)),
-        (
-            "read 65535 65535 65535 65535",
-            Msg::Read(65535, 65535, 65535, 65535),
-        ),
-        ("read 10 100 1000 10000", Msg::Read(10, 100, 1000, 10000)),
-    ];
-    for (line, message) in rows.iter() {
+    for (line, message) in MESSAGES.iter() {
         says(&rt, line.as_bytes(), Some(*message));
+    }
+    for (line, numbers, front) in WRITES.iter() {
+        says_write(&rt, line.as_bytes(), *numbers, front);
     }
 }
 
@@ -126,39 +130,38 @@ fn has_numbers(rt: &impl Abort, line: &[u8], message: &Msg, numbers: [u16; 4]) {
     assert_eq!(rt; message.numbers(), numbers, "at {line:?}");
 }
 
+const OTHER_KINDS: [(&str, Msg, [u16; 4]); 9] = [
+    ("dropvol 1 2", Msg::DropVol(1, 2), [1, 2, 0, 0]),
+    ("delete 1 2 3", Msg::Delete(1, 2, 3), [1, 2, 3, 0]),
+    ("seal 1 2", Msg::Seal(1, 2), [1, 2, 0, 0]),
+    ("unseal 1 2", Msg::Unseal(1, 2), [1, 2, 0, 0]),
+    ("punch 1 2 3 4", Msg::Punch(1, 2, 3, 4), [1, 2, 3, 4]),
+    ("list 1 2", Msg::List(1, 2), [1, 2, 0, 0]),
+    ("usage 1 2", Msg::Usage(1, 2), [1, 2, 0, 0]),
+    ("summary", Msg::Summary, [0, 0, 0, 0]),
+    ("label 3 4", Msg::Label(3, 4), [3, 4, 0, 0]),
+];
+
+const OTHERS_REFUSED: [&str; 9] = [
+    "summary 0",
+    "summary ",
+    "list 0",
+    "seal 0 0 0",
+    "setlabel 0 0",
+    "setlabel 0 0 6",
+    "setlabel 0 0 ",
+    "label 0 0 61",
+    "Summary",
+];
+
 #[test]
 fn reads_each_kind(rt: HostRuntime) {
-    let rows = [
-        ("dropvol 1 2", Msg::DropVol(1, 2), [1, 2, 0, 0]),
-        ("delete 1 2 3", Msg::Delete(1, 2, 3), [1, 2, 3, 0]),
-        ("seal 1 2", Msg::Seal(1, 2), [1, 2, 0, 0]),
-        ("unseal 1 2", Msg::Unseal(1, 2), [1, 2, 0, 0]),
-        ("punch 1 2 3 4", Msg::Punch(1, 2, 3, 4), [1, 2, 3, 4]),
-        ("list 1 2", Msg::List(1, 2), [1, 2, 0, 0]),
-        ("usage 1 2", Msg::Usage(1, 2), [1, 2, 0, 0]),
-        ("summary", Msg::Summary, [0, 0, 0, 0]),
-        (
-            "setlabel 0 0 6162",
-            Msg::SetLabel(0, 0, padded(b"ab")),
-            [0, 0, 0, 0],
-        ),
-        ("label 3 4", Msg::Label(3, 4), [3, 4, 0, 0]),
-    ];
-    for (line, message, numbers) in rows.iter() {
+    for (line, message, numbers) in OTHER_KINDS.iter() {
         has_numbers(&rt, line.as_bytes(), message, *numbers);
     }
-    let refused = [
-        "summary 0",
-        "summary ",
-        "list 0",
-        "seal 0 0 0",
-        "setlabel 0 0",
-        "setlabel 0 0 6",
-        "setlabel 0 0 ",
-        "label 0 0 61",
-        "Summary",
-    ];
-    for line in refused {
+    let label = Msg::SetLabel(0, 0, padded(b"ab"));
+    has_numbers(&rt, b"setlabel 0 0 6162", &label, [0, 0, 0, 0]);
+    for line in OTHERS_REFUSED.iter() {
         says(&rt, line.as_bytes(), None);
     }
 }

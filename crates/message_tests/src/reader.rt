@@ -7,6 +7,7 @@ use message::{Found, LineReader};
 use std::alloc::{AllocError, Global};
 use std::io;
 use std::io::{ErrorKind, Read};
+use std::process::Abort;
 use std::test::Fail;
 
 // Gives at most `most` bytes a read. At `stop` it gives what `pause` says, once, and then the rest.
@@ -77,21 +78,23 @@ fn answers<R: Read + Drop>(
     Ok(told)
 }
 
+/// Inputs, how many answers are looked at, and these.
+const INPUTS: [(&[u8], usize, &[u8]); 6] = [
+    (b"", 2, b"(end)\n(end)\n"),
+    (b"\n", 2, b"\n(end)\n"),
+    (b"\n\n", 4, b"\n\n(end)\n(end)\n"),
+    (b"one\ntwo", 4, b"one\ntwo\n(end)\n(end)\n"),
+    (b"one\ntwo\n", 3, b"one\ntwo\n(end)\n"),
+    (
+        b" a\r\n\nlast \x00\xFF",
+        4,
+        b" a\r\n\nlast \x00\xFF\n(end)\n",
+    ),
+];
+
 #[test]
 fn lines_however_the_reads_are_cut(rt: HostRuntime) -> Result<(), Fail> {
-    let rows: [(&[u8], usize, &[u8]); 6] = [
-        (b"", 2, b"(end)\n(end)\n"),
-        (b"\n", 2, b"\n(end)\n"),
-        (b"\n\n", 4, b"\n\n(end)\n(end)\n"),
-        (b"one\ntwo", 4, b"one\ntwo\n(end)\n(end)\n"),
-        (b"one\ntwo\n", 3, b"one\ntwo\n(end)\n"),
-        (
-            b" a\r\n\nlast \x00\xFF",
-            4,
-            b" a\r\n\nlast \x00\xFF\n(end)\n",
-        ),
-    ];
-    for (input, count, want) in rows {
+    for (input, count, want) in INPUTS {
         for most in [1, 2, 5, 4096] {
             for room in [1101, 65536] {
                 let told = answers(rt.alloc(), in_pieces(input, most), room, count)?;
@@ -143,28 +146,42 @@ fn a_last_line_without_newline_may_be_too_long(rt: HostRuntime) -> Result<(), Fa
     Ok(())
 }
 
-#[test]
-fn a_fault_is_for_good(rt: HostRuntime) -> Result<(), Fail> {
-    let long = long_then_short(rt.alloc(), 3000)?;
-    let rows: [(&[u8], usize, &[u8]); 6] = [
-        (b"one\ntwo\n", 0, b"(fault)\n(fault)\n(fault)\n"),
-        (b"one\ntwo\n", 2, b"(fault)\n(fault)\n(fault)\n"),
-        (b"one\ntwo\n", 4, b"one\n(fault)\n(fault)\n"),
-        (b"one\ntwo\n", 6, b"one\n(fault)\n(fault)\n"),
-        (b"one\ntwo\n", 8, b"one\ntwo\n(fault)\n"),
-        (long.as_slice(), 2000, b"(fault)\n(fault)\n(fault)\n"),
-    ];
-    for (bytes, stop, want) in rows {
-        for kind in [ErrorKind::Other, ErrorKind::Interrupted] {
-            for most in [1, 3, 65536] {
-                let mut reader = in_pieces(bytes, most);
-                reader.stop = Some(stop);
-                reader.pause = Some(kind);
-                let told = answers(rt.alloc(), reader, 1101, 3)?;
-                same(&rt, told.as_slice(), want);
-            }
+// The first three answers where the read fails that would give the byte at `stop`.
+fn is_for_good(
+    rt: &impl Abort,
+    alloc: Global,
+    bytes: &[u8],
+    stop: usize,
+    want: &[u8],
+) -> Result<(), AllocError> {
+    for kind in [ErrorKind::Other, ErrorKind::Interrupted] {
+        for most in [1, 3, 65536] {
+            let mut reader = in_pieces(bytes, most);
+            reader.stop = Some(stop);
+            reader.pause = Some(kind);
+            let told = answers(alloc, reader, 1101, 3)?;
+            same(rt, told.as_slice(), want);
         }
     }
+    Ok(())
+}
+
+const FAULTS: [(usize, &[u8]); 5] = [
+    (0, b"(fault)\n(fault)\n(fault)\n"),
+    (2, b"(fault)\n(fault)\n(fault)\n"),
+    (4, b"one\n(fault)\n(fault)\n"),
+    (6, b"one\n(fault)\n(fault)\n"),
+    (8, b"one\ntwo\n(fault)\n"),
+];
+
+#[test]
+fn a_fault_is_for_good(rt: HostRuntime) -> Result<(), Fail> {
+    for (stop, want) in FAULTS {
+        is_for_good(&rt, rt.alloc(), b"one\ntwo\n", stop, want)?;
+    }
+    let long = long_then_short(rt.alloc(), 3000)?;
+    let want: &[u8] = b"(fault)\n(fault)\n(fault)\n";
+    is_for_good(&rt, rt.alloc(), &long, 2000, want)?;
     Ok(())
 }
 

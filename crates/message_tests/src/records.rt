@@ -9,6 +9,19 @@ fn decodes(rt: &impl Abort, front: &[u8], g: &Geometry, message: Option<Msg>) {
     assert_eq!(rt; decode(&padded(front), g), message, "at {front:?}");
 }
 
+/// What records begin with, with zeros behind it, and what they say at the default geometry.
+const RECORDS: [(&[u8], Option<Msg>); 9] = [
+    (&[1], Some(Msg::MakeVol(0, 0))),
+    (&[1, 0, 3], Some(Msg::MakeVol(0, 3))),
+    (&[12], Some(Msg::Summary)),
+    (&[14, 0, 1], Some(Msg::Label(0, 1))),
+    (&[1, 0, 4], None),
+    (&[1, 0, 0, 0, 0, 0, 0, 1], None),
+    (&[1, 0, 0, 1], None),
+    (&[15], None),
+    (&[0], None),
+];
+
 #[test]
 fn records_have_one_spelling(rt: HostRuntime) {
     let g = Geometry::default();
@@ -25,20 +38,11 @@ fn records_have_one_spelling(rt: HostRuntime) {
     let punch = [8, 255, 254, 253, 2, 1];
     same(&rt, &out, &padded::<520>(&punch));
 
-    let rows: [(&[u8], Option<Msg>); 11] = [
-        (&[1], Some(Msg::MakeVol(0, 0))),
-        (&[1, 0, 3], Some(Msg::MakeVol(0, 3))),
-        (&write, Some(Msg::Write(0, 0, 1, 2, block_of(b"ab")))),
-        (&label, Some(Msg::SetLabel(0, 0, padded(b"ab")))),
-        (&[12], Some(Msg::Summary)),
-        (&[14, 0, 1], Some(Msg::Label(0, 1))),
-        (&[1, 0, 4], None),
-        (&[1, 0, 0, 0, 0, 0, 0, 1], None),
-        (&[1, 0, 0, 1], None),
-        (&[15], None),
-        (&[0], None),
-    ];
-    for (front, message) in rows.iter() {
+    let message = Msg::Write(0, 0, 1, 2, block_of(b"ab"));
+    decodes(&rt, &write, &g, Some(message));
+    let message = Msg::SetLabel(0, 0, padded(b"ab"));
+    decodes(&rt, &label, &g, Some(message));
+    for (front, message) in RECORDS.iter() {
         decodes(&rt, front, &g, *message);
     }
 }
