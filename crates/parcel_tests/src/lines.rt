@@ -62,7 +62,7 @@ fn expect_lines(rt: &impl Abort, alloc: Global, rows: &[(&str, &str)]) -> Result
     same(rt, told.as_slice(), replies.as_slice());
     let mut output = Vec::new(alloc);
     let end = serve_plain(alloc, &g, input.as_slice(), &mut output);
-    assert!(rt; end.is_ok());
+    assert_eq!(rt; end, Ok(()));
     same(rt, output.as_slice(), replies.as_slice());
     Ok(())
 }

@@ -30,122 +30,182 @@ fn put(stripe: &mut StripeParcel, quota: usize, f: u16, b: u16, byte: u8) -> boo
     true
 }
 
-// There is room for these blocks, one after the other, or they are there.
-fn expect_put(rt: &impl Abort, stripe: &mut StripeParcel, quota: usize, rows: &[(u16, u16, u8)])
+/// What is done to a stripe, or seen of it.
+enum Step {
+    /// There is room for a block of one byte throughout, or it is there: it is set.
+    Put(u16, u16, u8),
+
+    /// There is no room for a block that isn't there.
+    Full,
+    Clear(u16, u16),
+    DropFile(u16),
+    DropAll,
+
+    /// A block holds this byte throughout.
+    Holds(u16, u16, u8),
+    Lacks(u16, u16),
+
+    /// There are so many blocks.
+    Len(usize),
+}
+
+// What is said of the stripe holds, or what is done to it goes well.
+fn goes(stripe: &mut StripeParcel, quota: usize, step: &Step) -> bool
     requires { stripe.old.quota ≡ quota }
     ensures { stripe.new.quota ≡ quota }
 {
-    for (f, b, byte) in rows {
-        assert!(rt; put(stripe, quota, *f, *b, *byte));
+    match step {
+        Step::Put(f, b, byte) => put(stripe, quota, *f, *b, *byte),
+        Step::Full => !put(stripe, quota, 9, 9, 3),
+        Step::Clear(f, b) => {
+            stripe.clear(*f, *b);
+            true
+        }
+        Step::DropFile(f) => {
+            stripe.drop_file(*f);
+            true
+        }
+        Step::DropAll => {
+            stripe.drop_all();
+            true
+        }
+        Step::Holds(f, b, byte) => stripe.get(*f, *b).copied() == Some(filled(*byte)),
+        Step::Lacks(f, b) => stripe.get(*f, *b).is_none(),
+        Step::Len(len) => stripe.len() == *len,
     }
 }
 
-// There is no room for a block that isn't there.
-fn expect_full(rt: &impl Abort, stripe: &mut StripeParcel, quota: usize)
-    requires { stripe.old.quota ≡ quota }
-    ensures { stripe.new.quota ≡ quota }
+// A new stripe with room for so many blocks goes through these steps.
+fn expect(rt: &impl Abort, alloc: Global, quota: usize, steps: &[Step]) -> Result<(), AllocError>
+    requires { quota ≤ 64 }
 {
-    assert!(rt; !put(stripe, quota, 9, 9, 3));
+    let mut stripe = made(alloc, quota)?;
+    for (number, step) in steps.iter().enumerate() {
+        assert!(rt; goes(&mut stripe, quota, step), "at step {number}");
+    }
+    Ok(())
 }
 
-// Each of these blocks holds its byte throughout, or is not there, and there are so many blocks.
-fn expect(rt: &impl Abort, stripe: &StripeParcel, rows: &[(u16, u16, Option<u8>)], len: usize) {
-    for (f, b, byte) in rows {
-        let held = stripe.get(*f, *b).copied();
-        assert_eq!(rt; held, byte.map(filled), "at block {b} of file {f}");
-    }
-    assert_eq!(rt; stripe.len(), len);
-}
+const SET_AGAIN: [Step; 9] = [
+    Step::Lacks(0, 1),
+    Step::Len(0),
+    Step::Put(0, 1, 0x61),
+    Step::Holds(0, 1, 0x61),
+    Step::Len(1),
+    Step::Put(0, 1, 0),
+    Step::Holds(0, 1, 0),
+    Step::Lacks(1, 0),
+    Step::Len(1),
+];
 
 #[test]
 fn a_block_is_set_and_set_again(rt: HostRuntime) -> Result<(), Fail> {
-    let mut stripe = made(rt.alloc(), 3)?;
-    expect(&rt, &stripe, &[(0, 1, None)], 0);
-    expect_put(&rt, &mut stripe, 3, &[(0, 1, 0x61)]);
-    expect(&rt, &stripe, &[(0, 1, Some(0x61))], 1);
-    expect_put(&rt, &mut stripe, 3, &[(0, 1, 0)]);
-    expect(&rt, &stripe, &[(0, 1, Some(0)), (1, 0, None)], 1);
-    Ok(())
+    Ok(expect(&rt, rt.alloc(), 3, &SET_AGAIN)?)
 }
+
+const ANY_ORDER: [Step; 16] = [
+    Step::Put(2, 0, 1),
+    Step::Put(0, 5, 2),
+    Step::Put(1, 3, 3),
+    Step::Put(0, 1, 4),
+    Step::Holds(2, 0, 1),
+    Step::Holds(0, 5, 2),
+    Step::Holds(1, 3, 3),
+    Step::Holds(0, 1, 4),
+    Step::Lacks(0, 0),
+    Step::Len(4),
+    Step::Clear(1, 3),
+    Step::Clear(1, 4), // there is none
+    Step::Lacks(1, 3),
+    Step::Holds(2, 0, 1),
+    Step::Holds(0, 5, 2),
+    Step::Len(3),
+];
 
 #[test]
 fn blocks_come_in_any_order(rt: HostRuntime) -> Result<(), Fail> {
-    let mut stripe = made(rt.alloc(), 4)?;
-    let blocks = [(2, 0, 1), (0, 5, 2), (1, 3, 3), (0, 1, 4)];
-    expect_put(&rt, &mut stripe, 4, &blocks);
-    let held = [
-        (2, 0, Some(1)),
-        (0, 5, Some(2)),
-        (1, 3, Some(3)),
-        (0, 1, Some(4)),
-        (0, 0, None),
-    ];
-    expect(&rt, &stripe, &held, 4);
-    stripe.clear(1, 3);
-    stripe.clear(1, 4); // there is none
-    let left = [(1, 3, None), (2, 0, Some(1)), (0, 5, Some(2))];
-    expect(&rt, &stripe, &left, 3);
-    Ok(())
+    Ok(expect(&rt, rt.alloc(), 4, &ANY_ORDER)?)
 }
+
+const BETWEEN_OTHERS: [Step; 13] = [
+    Step::Put(1, 0, 1),
+    Step::Put(0, 7, 2),
+    Step::Put(1, 9, 3),
+    Step::Put(2, 0, 4),
+    Step::Put(1, 4, 5),
+    Step::DropFile(3), // there is none
+    Step::Holds(1, 4, 5),
+    Step::Len(5),
+    Step::DropFile(1),
+    Step::Lacks(1, 4),
+    Step::Holds(0, 7, 2),
+    Step::Holds(2, 0, 4),
+    Step::Len(2),
+];
 
 #[test]
 fn a_file_between_others_goes(rt: HostRuntime) -> Result<(), Fail> {
-    let mut stripe = made(rt.alloc(), 6)?;
-    let blocks = [(1, 0, 1), (0, 7, 2), (1, 9, 3), (2, 0, 4), (1, 4, 5)];
-    expect_put(&rt, &mut stripe, 6, &blocks);
-    stripe.drop_file(3); // there is none
-    expect(&rt, &stripe, &[(1, 4, Some(5))], 5);
-    stripe.drop_file(1);
-    let left = [(1, 4, None), (0, 7, Some(2)), (2, 0, Some(4))];
-    expect(&rt, &stripe, &left, 2);
-    Ok(())
+    Ok(expect(&rt, rt.alloc(), 6, &BETWEEN_OTHERS)?)
 }
+
+const LAST_FILE: [Step; 6] = [
+    Step::Put(65535, 65535, 1),
+    Step::Put(65534, 65535, 2),
+    Step::DropFile(65535),
+    Step::Lacks(65535, 65535),
+    Step::Holds(65534, 65535, 2),
+    Step::Len(1),
+];
 
 #[test]
 fn the_last_file_goes(rt: HostRuntime) -> Result<(), Fail> {
-    let mut stripe = made(rt.alloc(), 2)?;
-    expect_put(&rt, &mut stripe, 2, &[(65535, 65535, 1), (65534, 65535, 2)]);
-    stripe.drop_file(65535);
-    expect(
-        &rt,
-        &stripe,
-        &[(65535, 65535, None), (65534, 65535, Some(2))],
-        1,
-    );
-    Ok(())
+    Ok(expect(&rt, rt.alloc(), 2, &LAST_FILE)?)
 }
+
+const ALL_GO: [Step; 9] = [
+    Step::Put(0, 0, 1),
+    Step::Put(1, 0, 2),
+    Step::DropAll,
+    Step::Lacks(0, 0),
+    Step::Len(0),
+    Step::Put(1, 1, 3),
+    Step::Put(0, 1, 4),
+    Step::Holds(1, 1, 3),
+    Step::Len(2),
+];
 
 #[test]
 fn all_blocks_go(rt: HostRuntime) -> Result<(), Fail> {
-    let mut stripe = made(rt.alloc(), 2)?;
-    expect_put(&rt, &mut stripe, 2, &[(0, 0, 1), (1, 0, 2)]);
-    stripe.drop_all();
-    expect(&rt, &stripe, &[(0, 0, None)], 0);
-    expect_put(&rt, &mut stripe, 2, &[(1, 1, 3), (0, 1, 4)]);
-    expect(&rt, &stripe, &[(1, 1, Some(3))], 2);
-    Ok(())
+    Ok(expect(&rt, rt.alloc(), 2, &ALL_GO)?)
 }
+
+const ROOM_AGAIN: [Step; 10] = [
+    Step::Put(0, 1, 1),
+    Step::Put(0, 0, 2),
+    Step::Full,
+    Step::Put(0, 1, 4), // it is there
+    Step::Clear(0, 0),
+    Step::Put(0, 2, 3),
+    Step::Lacks(0, 0),
+    Step::Holds(0, 1, 4),
+    Step::Holds(0, 2, 3),
+    Step::Len(2),
+];
 
 #[test]
 fn a_full_stripe_has_room_again(rt: HostRuntime) -> Result<(), Fail> {
-    let mut stripe = made(rt.alloc(), 2)?;
-    expect_put(&rt, &mut stripe, 2, &[(0, 1, 1), (0, 0, 2)]);
-    expect_full(&rt, &mut stripe, 2);
-    expect_put(&rt, &mut stripe, 2, &[(0, 1, 4)]); // it is there
-    stripe.clear(0, 0);
-    expect_put(&rt, &mut stripe, 2, &[(0, 2, 3)]);
-    let held = [(0, 0, None), (0, 1, Some(4)), (0, 2, Some(3))];
-    expect(&rt, &stripe, &held, 2);
-    Ok(())
+    Ok(expect(&rt, rt.alloc(), 2, &ROOM_AGAIN)?)
 }
+
+const NO_ROOM: [Step; 5] = [
+    Step::Full,
+    Step::Clear(0, 0),
+    Step::DropFile(0),
+    Step::DropAll,
+    Step::Len(0),
+];
 
 #[test]
 fn a_stripe_without_room(rt: HostRuntime) -> Result<(), Fail> {
-    let mut stripe = made(rt.alloc(), 0)?;
-    expect_full(&rt, &mut stripe, 0);
-    stripe.clear(0, 0);
-    stripe.drop_file(0);
-    stripe.drop_all();
-    expect(&rt, &stripe, &[], 0);
-    Ok(())
+    Ok(expect(&rt, rt.alloc(), 0, &NO_ROOM)?)
 }

@@ -1,5 +1,5 @@
 use Rattle.std.proofs.Common.{◌≡◌}
-use Rattle.parcel_tests.proofs.stripes.expect_put.Given as goal
+use Rattle.parcel_tests.proofs.stripes.expect.Given as goal
 
-abbrev pub invariant-loop-f : goal.invariant-loop-f
-invariant-loop-f g l = l.stripe.quota ≡ l.quota
+abbrev pub invariant-loop-number : goal.invariant-loop-number
+invariant-loop-number g l = l.stripe.quota ≡ l.quota
