@@ -1,7 +1,7 @@
 //! Lines, each with the reply to it.
 use affinity::Geometry;
 use plain::{PlainFault, serve_plain};
-use std::alloc::Global;
+use std::alloc::{AllocError, Global};
 use std::io::{Read, Write};
 use std::process::Abort;
 use std::test::Fail;
@@ -21,6 +21,11 @@ pub(crate) fn served_into<R: Read + Drop, W: Write>(
         return Err(PlainFault::OutOfMemory);
     };
     serve_plain(alloc, &geometry, input, output)
+}
+
+/// An empty output with room for all that is written here, so that no write takes memory.
+pub(crate) fn room(alloc: Global) -> Result<Vec<u8>, AllocError> {
+    Vec::with_capacity(alloc, 4096)
 }
 
 pub(crate) fn ends(rt: &impl Abort, got: Result<(), PlainFault>, want: Result<(), PlainFault>) {
@@ -46,7 +51,7 @@ pub(crate) fn expect_lines(
         replies.extend_from_slice(reply.as_bytes())?;
         replies.push(b'\n')?;
     }
-    let mut output = Vec::new(alloc);
+    let mut output = room(alloc)?;
     let end = served_into(alloc, numbers, input.as_slice(), &mut output);
     ends(rt, end, Ok(()));
     writes(rt, output.as_slice(), replies.as_slice());

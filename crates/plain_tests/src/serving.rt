@@ -1,11 +1,12 @@
 //! How a session ends: at the end of its input, at a failed read, at a failed write.
-use crate::rows::{SMALL, ends, served_into, writes};
+use crate::rows::{SMALL, ends, room, served_into, writes};
 use affinity::Geometry;
 use plain::{PlainFault, serve_from};
-use std::alloc::Global;
+use std::alloc::{AllocError, Global};
 use std::io;
 use std::io::{ErrorKind, Read, Write};
 use std::process::Abort;
+use std::test::Fail;
 
 /// Gives one byte a read, and fails where the bytes end.
 #[derive(Drop)]
@@ -60,10 +61,11 @@ fn expect<R: Read + Drop>(
     input: R,
     end: Result<(), PlainFault>,
     replies: &[u8],
-) {
-    let mut output = Vec::new(alloc);
+) -> Result<(), AllocError> {
+    let mut output = room(alloc)?;
     ends(rt, served_into(alloc, SMALL, input, &mut output), end);
     writes(rt, output.as_slice(), replies);
+    Ok(())
 }
 
 const FULL_STRIPE: &[u8] = b"makevol 0 0
@@ -91,8 +93,9 @@ error line
 ";
 
 #[test]
-fn a_stripe_is_full_where_its_quota_is_used(rt: HostRuntime) {
-    expect(&rt, rt.alloc(), FULL_STRIPE, Ok(()), FULL_STRIPE_REPLIES);
+fn a_stripe_is_full_where_its_quota_is_used(rt: HostRuntime) -> Result<(), Fail> {
+    expect(&rt, rt.alloc(), FULL_STRIPE, Ok(()), FULL_STRIPE_REPLIES)?;
+    Ok(())
 }
 
 /// What a reader gives before it fails, and the replies to it.
@@ -107,11 +110,12 @@ const CUT_INPUTS: [(&[u8], &[u8]); 4] = [
 ];
 
 #[test]
-fn whole_lines_are_answered_before_a_failed_read(rt: HostRuntime) {
+fn whole_lines_are_answered_before_a_failed_read(rt: HostRuntime) -> Result<(), Fail> {
     for (input, replies) in CUT_INPUTS {
         let fault = Err(PlainFault::Read);
-        expect(&rt, rt.alloc(), Failing(input), fault, replies);
+        expect(&rt, rt.alloc(), Failing(input), fault, replies)?;
     }
+    Ok(())
 }
 
 const ONE_LINE: &[u8] = b"makevol 0 0\n";
@@ -123,11 +127,12 @@ fn a_failed_write_is_told(rt: HostRuntime) {
 }
 
 #[test]
-fn no_line_is_written_again_after_a_failed_write(rt: HostRuntime) {
-    let mut output = Unflushed(Vec::new(rt.alloc()));
+fn no_line_is_written_again_after_a_failed_write(rt: HostRuntime) -> Result<(), Fail> {
+    let mut output = Unflushed(room(rt.alloc())?);
     let end = served_into(rt.alloc(), SMALL, ONE_LINE, &mut output);
     ends(&rt, end, Err(PlainFault::Write));
     writes(&rt, output.0.as_slice(), b"done\n");
+    Ok(())
 }
 
 /// How a session ends that serves at the small geometry what a reader has left.
@@ -145,19 +150,20 @@ fn served_from<R: Read>(
 const CUT_LINE: &[u8] = b"makevol 0 0\ncreate 0 0 2";
 
 #[test]
-fn a_reader_that_is_lent_has_nothing_left(rt: HostRuntime) {
+fn a_reader_that_is_lent_has_nothing_left(rt: HostRuntime) -> Result<(), Fail> {
     let mut input = CUT_LINE;
-    let mut output = Vec::new(rt.alloc());
+    let mut output = room(rt.alloc())?;
     let end = served_from(rt.alloc(), &mut input, &mut output);
     ends(&rt, end, Ok(()));
     writes(&rt, input, b"");
     writes(&rt, output.as_slice(), b"done\nerror range\n");
+    Ok(())
 }
 
 #[test]
-fn a_reader_that_fails_is_read_no_further(rt: HostRuntime) {
+fn a_reader_that_fails_is_read_no_further(rt: HostRuntime) -> Result<(), Fail> {
     let mut input = Failing(CUT_LINE);
-    let mut output = Vec::new(rt.alloc());
+    let mut output = room(rt.alloc())?;
     let end = served_from(rt.alloc(), &mut input, &mut output);
     ends(&rt, end, Err(PlainFault::Read));
     writes(&rt, output.as_slice(), b"done\n");
@@ -167,4 +173,5 @@ fn a_reader_that_fails_is_read_no_further(rt: HostRuntime) {
     let end = served_from(rt.alloc(), &mut input, &mut output);
     ends(&rt, end, Err(PlainFault::Read));
     writes(&rt, output.as_slice(), b"done\ndone\n");
+    Ok(())
 }
