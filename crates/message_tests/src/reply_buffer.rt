@@ -133,7 +133,8 @@ fn replies_are_sent_before_a_read(rt: HostRuntime) -> Result<(), Fail> {
 
 #[test]
 fn what_was_added_is_written_in_order(rt: HostRuntime) -> Result<(), Fail> {
-    let mut w = Vec::new(rt.alloc());
+    // With room for all that is written, so that no write takes memory.
+    let mut w = Vec::with_capacity(rt.alloc(), 64)?;
     w.extend_from_slice(b"before\n")?;
     let mut out = ReplyBuffer::new(rt.alloc())?;
     holds(&rt, out.add_reply(&Reply::Done, &mut w) == Ok(()));
