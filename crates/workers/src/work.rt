@@ -11,6 +11,7 @@ use crate::seats::{DispatchSeat, Seat, WorkSeat};
 use crate::steps::{self, Words};
 use crate::words::{DELIVERIES, FIRST_PLACE, Load, OFFERED, OFFERS, STOP, low};
 use parcel::run;
+use std::alloc::AllocError;
 use std::sync::Wait;
 use std::thread::{Scope, Threads};
 
@@ -35,16 +36,19 @@ impl Bench {
         WorkSeat { seat: pass }
     }
 
-    /// Starts a thread of the scope for each seat, which works until the bench is stopped. False where
-    /// one could not be started: stop the bench then, and those that were started end.
+    /// Starts a thread of the scope for each seat, which works until the bench is stopped. Where one
+    /// can't be started it stops the bench, so that those before it end: nothing is left running.
     pub fn start<'s, E, R: Threads + Wait + Sync, G: Gate + Sync>(
         &'s self,
         rt: &'s R,
         scope: &Scope<'s, E>,
+        desk: &mut DispatchSeat,
         mut seats: Vec<WorkSeat>,
         gate: &'s G,
-    ) -> bool
-        requires { All (λ w. w ≡ self.now) seats.items }
+    ) -> Result<(), AllocError>
+        requires desk { desk.old.bench ≡ self.now }
+        requires seats { All (λ w. w ≡ self.now) seats.items }
+        ensures { desk.new ≡ desk.old }
     {
         while let Some(seat) = seats.pop() {
             let started = scope.spawn(
@@ -53,10 +57,11 @@ impl Bench {
                 { self.work(rt, seat, gate) },
             );
             if started.is_err() {
-                return false;
+                self.stop(desk);
+                return Err(AllocError);
             }
         }
-        true
+        Ok(())
     }
 
     /// Sleeps until something was delivered since the last wait returned, or since the start.

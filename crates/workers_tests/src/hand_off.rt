@@ -130,7 +130,7 @@ fn one_worker_answers_one_job(rt: HostRuntime) -> Result<(), Fail> {
         {
             let mut desk = desk;
             let offered = offers_one(bench, &mut desk, alloc);
-            let started = bench.start(runtime, scope, seats, gate);
+            let started = bench.start(runtime, scope, &mut desk, seats, gate).is_ok();
             let collected = tells(bench, &mut desk, 0, 11, &alone);
             bench.stop(&mut desk);
             Ok(offered? && started && collected)
@@ -178,7 +178,7 @@ fn a_wait_ends_with_the_delivery(rt: HostRuntime) -> Result<(), Fail> {
             requires seats { All (λ w. w ≡ bench.now) seats.items }
         {
             let mut desk = desk;
-            let started = bench.start(runtime, scope, seats, gate);
+            let started = bench.start(runtime, scope, &mut desk, seats, gate).is_ok();
             let fine = if started {
                 jobs_waited_for(bench, &mut desk, alloc, runtime)
             } else {
@@ -254,7 +254,7 @@ fn two_jobs_run_at_once(rt: HostRuntime) -> Result<(), Fail> {
             requires seats { All (λ w. w ≡ bench.now) seats.items }
         {
             let mut desk = desk;
-            let started = bench.start(runtime, scope, seats, gate);
+            let started = bench.start(runtime, scope, &mut desk, seats, gate).is_ok();
             let fine = two_jobs(bench, &mut desk, alloc, gate);
             bench.stop(&mut desk);
             Ok(fine? && started)
@@ -377,7 +377,7 @@ fn hands_off_all<R: Threads + Wait + Sync>(
             requires seats { All (λ w. w ≡ bench.now) seats.items }
         {
             let mut desk = desk;
-            let started = bench.start(rt, scope, seats, gate);
+            let started = bench.start(rt, scope, &mut desk, seats, gate).is_ok();
             let fine = all_jobs(bench, &mut desk, alloc, places, rounds);
             bench.stop(&mut desk);
             Ok(fine? && started)
