@@ -1,0 +1,6 @@
+use Rattle.std.proofs.Common.{◌≡◌}
+use Rattle.handoff.specs.Lent.{AreOfGeometry}
+use Rattle.handoff.proofs.trips.go_round.Given as goal
+
+abbrev pub invariant-loop : goal.invariant-loop
+invariant-loop g l = (l.desk.bench ≡ l.initial.desk.bench) × AreOfGeometry l.g l.desk.lent

@@ -1,0 +1,6 @@
+use Rattle.std.proofs.Common.{◌≡◌}
+use Rattle.handoff.specs.Lent.{AreOfGeometry}
+use Rattle.handoff.proofs.trips.offer_first.Given as goal
+
+abbrev pub invariant-loop-k : goal.invariant-loop-k
+invariant-loop-k l = (l.desk.bench ≡ l.initial.desk.bench) × (l.tree.geometry ≡ l.initial.tree.geometry) × AreOfGeometry l.initial.tree.geometry l.desk.lent

@@ -1,0 +1,165 @@
+//! One job at each place, which is offered again as soon as its result is there.
+ghost use Rattle.std.specs.Prelude.{◌≡◌, ◌<◌, ◌≤◌, All, IfSome, vec_len};
+ghost use Rattle.handoff.specs.Lent.{AreOfGeometry};
+
+use affinity::{Geometry, place_of};
+use message::{Block, Msg, Reply};
+use parcel::{Done, Job, Standing, Tree, run};
+use std::alloc::{AllocError, Global};
+use std::sync::Wait;
+use std::thread;
+use std::thread::Threads;
+use workers::{Bench, DispatchSeat, OpenGate};
+
+/// Four aggregates of eight volumes, each with one file of one block.
+const NUMBERS: [u16; 8] = [4, 8, 1, 1, 1, 1, 1, 4];
+
+/// How many places there can be: one for each volume.
+const MOST_PLACES: u16 = 32;
+
+// A volume that is there, not sealed, and has its file.
+const STANDING: Standing = Standing {
+    made: true,
+    sealed: false,
+    files: 1,
+};
+
+// The job that reads the block of volume k, where it was written before.
+fn reading(tree: &mut Tree, k: u16) -> Option<Job>
+    ensures tree { tree.new.geometry ≡ tree.old.geometry }
+    ensures job { IfSome result (λ job. job.geometry ≡ tree.old.geometry) }
+{
+    let g = tree.geometry();
+    let (a, v) = (k / 8, k % 8);
+    let write = Msg::Write(a, v, 0, 0, Block([7; 512]));
+    let place = place_of(&g, write.kind(), write.numbers())?;
+    let (_standing, parcels) = tree.lend(place)?;
+    let written = run(Job::new(g, 0, write, STANDING, parcels));
+    let read = Msg::Read(a, v, 0, 0);
+    Some(Job::new(g, 0, read, STANDING, written.into_parcels()))
+}
+
+// Offers a job. Says whether the place took it.
+fn offer(bench: &Bench, desk: &mut DispatchSeat, g: &Geometry, k: usize, job: Job) -> bool
+    requires bench { (desk.old.bench ≡ bench.now) × (k < bench.now.slots) }
+    requires lent { AreOfGeometry g.now desk.old.lent }
+    requires job { job.geometry ≡ g.now }
+    ensures bench { desk.new.bench ≡ desk.old.bench }
+    ensures lent { AreOfGeometry g.now desk.new.lent }
+{
+    bench.offer(desk, k, job).is_ok()
+}
+
+// Offers a job at each place. Says whether there is one for each.
+fn offer_first(bench: &Bench, desk: &mut DispatchSeat, tree: &mut Tree, places: u16) -> bool
+    requires bench { (desk.old.bench ≡ bench.now) × (places ≡ bench.now.slots) }
+    requires lent { AreOfGeometry tree.old.geometry desk.old.lent }
+    ensures bench { (desk.new.bench ≡ desk.old.bench) × (tree.new.geometry ≡ tree.old.geometry) }
+    ensures lent { AreOfGeometry tree.old.geometry desk.new.lent }
+{
+    let g = tree.geometry();
+    for k in 0..places {
+        let Some(job) = reading(tree, k) else {
+            return false;
+        };
+        if !offer(bench, desk, &g, usize::from(k), job) {
+            return false;
+        }
+    }
+    true
+}
+
+// Takes the result at a place, if it is there, and offers its message and its parcels again. Says
+// whether a block was read there.
+fn trip(bench: &Bench, desk: &mut DispatchSeat, g: &Geometry, k: usize) -> bool
+    requires bench { (desk.old.bench ≡ bench.now) × (k < bench.now.slots) }
+    requires lent { AreOfGeometry g.now desk.old.lent }
+    ensures bench { desk.new.bench ≡ desk.old.bench }
+    ensures lent { AreOfGeometry g.now desk.new.lent }
+{
+    let Some(done) = bench.collect(desk, k) else {
+        return false;
+    };
+    let was_read = matches!(done.reply(), Reply::Block(_));
+    let (ticket, message) = (done.ticket(), *done.msg());
+    let parcels = done.into_parcels();
+    let job = Job::new(*g, ticket.wrapping_add(1), message, STANDING, parcels);
+    offer(bench, desk, g, k, job) && was_read
+}
+
+// Looks at each place once. Says how many round trips ended.
+fn round(bench: &Bench, desk: &mut DispatchSeat, g: &Geometry, places: usize) -> u64
+    requires bench { (desk.old.bench ≡ bench.now) × (places ≡ bench.now.slots) }
+    requires lent { AreOfGeometry g.now desk.old.lent }
+    ensures bench { desk.new.bench ≡ desk.old.bench }
+    ensures lent { AreOfGeometry g.now desk.new.lent }
+{
+    let mut ended = 0u64;
+    for k in 0..places {
+        if trip(bench, desk, g, k) {
+            ended = ended.wrapping_add(1);
+        }
+    }
+    ended
+}
+
+// Waits for results and offers their jobs again until there were so many round trips, or some more.
+fn go_round<R: Wait>(
+    rt: &R,
+    bench: &Bench,
+    desk: &mut DispatchSeat,
+    g: &Geometry,
+    places: usize,
+    trips: u64,
+)
+    requires bench { (desk.old.bench ≡ bench.now) × (places ≡ bench.now.slots) }
+    requires lent { AreOfGeometry g.now desk.old.lent }
+    ensures { desk.new.bench ≡ desk.old.bench }
+{
+    let mut left = trips;
+    for _ in rt.forever() {
+        if left == 0 {
+            break;
+        }
+        bench.wait(rt, desk);
+        left = left.saturating_sub(round(bench, desk, g, places));
+    }
+}
+
+/// Makes so many round trips, by as many workers as places. False where there can't be as many.
+pub fn make_trips<R: Threads + Wait + Sync>(
+    rt: &R,
+    alloc: Global,
+    workers: u16,
+    trips: u64,
+) -> Result<bool, AllocError> {
+    let Ok(g) = Geometry::new(NUMBERS) else {
+        return Ok(false);
+    };
+    if workers == 0 || workers > MOST_PLACES {
+        return Ok(false);
+    }
+    let places = usize::from(workers);
+    let tree = Tree::new(alloc, g)?;
+    let (bench, desk, seats) = Bench::open(alloc, places, places)?;
+    let gate = OpenGate;
+    let (bench, gate) = (&bench, &gate);
+    thread::scope(
+        thread::scope_env(),
+        rt,
+        move |scope| -> Result<bool, AllocError>
+            requires desk { (desk.bench ≡ bench.now) × (bench.now.slots ≡ places) × (places ≡ workers) }
+            requires lent { AreOfGeometry tree.geometry desk.lent }
+            requires seats { All (λ w. w ≡ bench.now) seats.items }
+        {
+            let (mut desk, mut tree) = (desk, tree);
+            bench.start(rt, scope, &mut desk, seats, gate)?;
+            let all = offer_first(bench, &mut desk, &mut tree, workers);
+            if all {
+                go_round(rt, bench, &mut desk, &tree.geometry(), places, trips);
+            }
+            bench.stop(&mut desk);
+            Ok(all)
+        },
+    )
+}
