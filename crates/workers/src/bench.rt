@@ -7,7 +7,7 @@ ghost use Rattle.workers.specs.declared.seats.View.TheVariants.{Dispatcher};
 
 use crate::seats::{DispatchSeat, Seat, View, WorkSeat, turn_to};
 use crate::steps::{self, Handoff, Words};
-use crate::words::{FIRST_PLACE, Load, MOST_PLACES, OFFERS};
+use crate::words::{FIRST_PLACE, Load, MOST_PLACES, OFFERS, RING, is_slept_on};
 use atomic_table::Table;
 use parcel::{Done, Job};
 use std::alloc::{AllocError, Global};
@@ -18,7 +18,6 @@ use std::marker::Model;
 #[derive(Drop)]
 pub struct Bench {
     pub(crate) table: Table<Option<Load>, View, usize, Handoff, Global>,
-    workers: usize,
 }
 
 impl Model for Bench {
@@ -50,16 +49,12 @@ impl Bench {
         let (table, mut seat) = lay(alloc, &words, places)?;
         ready_all(&table.shared, &mut seat, places);
         let seats = seat_workers(alloc, &table.shared, &mut seat, workers)?;
-        let bench = Bench { table, workers };
-        let desk = DispatchSeat {
-            seat,
-            lent,
-            heard: 0,
-        };
-        Ok((bench, desk, seats))
+        let desk = DispatchSeat { seat, lent };
+        Ok((Bench { table }, desk, seats))
     }
 
-    /// Lends a job to the workers at place k and wakes one. Hands it back where something is lent there.
+    /// Lends a job to the workers at place k and wakes one that sleeps. Hands it back where something is
+    /// lent there.
     pub fn offer(&self, seat: &mut DispatchSeat, k: usize, job: Job) -> Result<(), Job>
         requires { (seat.old.bench ≡ self.now) × (k < self.now.slots) }
         ensures bench { seat.new.bench ≡ seat.old.bench }
@@ -68,8 +63,11 @@ impl Bench {
         if seat.lent[k] {
             return Err(job);
         }
-        lend(&self.table.shared, &mut seat.seat, &mut seat.lent, k, job);
-        self.table.shared.wake_one(OFFERS);
+        let words = &self.table.shared;
+        lend(words, &mut seat.seat, &mut seat.lent, k, job);
+        if is_slept_on(steps::count(words, &mut seat.seat, RING)) {
+            words.wake_one(OFFERS);
+        }
         Ok(())
     }
 
@@ -94,10 +92,8 @@ impl Bench {
     {
         let words = &self.table.shared;
         steps::close(words, &mut seat.seat);
-        steps::ring(words, &mut seat.seat, OFFERS);
-        for _ in 0..self.workers {
-            words.wake_one(OFFERS);
-        }
+        steps::count(words, &mut seat.seat, RING);
+        words.wake_all(OFFERS);
     }
 }
 
@@ -149,7 +145,7 @@ fn ready_all(words: &Words, seat: &mut Seat, places: usize)
     }
 }
 
-// Offers a job at a place where nothing is lent, and rings the bell.
+// Offers a job at a place where nothing is lent.
 fn lend(words: &Words, seat: &mut Seat, lent: &mut [bool], k: usize, job: Job)
     requires bench { (seat.old.table_id ≡ words.now.table_id) × (k < words.now.table_id.slots) }
     requires desk { IsDesk words.now.table_id seat.old.me lent.old }
@@ -163,7 +159,6 @@ fn lend(words: &Words, seat: &mut Seat, lent: &mut [bool], k: usize, job: Job)
     steps::offer(words, seat, k);
     lent[k] = true;
     turn_to(seat, lent, k + 1, lent.len());
-    steps::ring(words, seat, OFFERS);
 }
 
 // Takes the result from a place where something is lent, if it was delivered.

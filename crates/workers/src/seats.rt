@@ -28,8 +28,6 @@ pub struct DispatchSeat {
     pub(crate) seat: Seat,
     // Whether something is lent at each place.
     pub(crate) lent: Vec<bool>,
-    // The low half of the delivery bell when the last wait returned.
-    pub(crate) heard: u32,
 }
 
 impl Model for DispatchSeat {

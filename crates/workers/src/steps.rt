@@ -10,7 +10,9 @@ ghost use Rattle.workers.specs.declared.words.Load.TheVariants.{Offered, Answere
 ghost use Rattle.workers.specs.declared.seats.View.TheVariants.{Dispatcher, Idle, Claimed};
 
 use crate::seats::{Seat, View};
-use crate::words::{ANSWERED, CLAIMED, EMPTY, FIRST_PLACE, Load, OFFERED, STOP};
+use crate::words::{
+    ANSWERED, CLAIMED, DELIVERIES, EMPTY, FIRST_PLACE, Load, OFFERED, OFFERS, QUIET, SLEPT_ON, STOP,
+};
 use atomic_table::{Play, Shared, Split, TableRule};
 
 /// The shared part of the table.
@@ -136,13 +138,29 @@ pub fn collect(words: &Words, seat: &mut Seat, k: usize) -> bool
     words.compare_exchange::<Collecting>(seat, k + FIRST_PLACE, ANSWERED, EMPTY) == ANSWERED
 }
 
-/// Rings a bell, one more.
-pub fn ring(words: &Words, seat: &mut Seat, bell: usize)
-    requires bench { (seat.old.table_id ≡ words.now.table_id) × IsBench words.now.table_id }
-    requires bell { bell < 3 }
+/// Counts a ring of the bell of the offers, or a worker that sleeps there or got up. Gives what the
+/// bell was.
+pub fn count(words: &Words, seat: &mut Seat, added: u64) -> u64
+    requires { (seat.old.table_id ≡ words.now.table_id) × IsBench words.now.table_id }
     ensures { (seat.new.table_id ≡ seat.old.table_id) × (seat.new.me ≡ seat.old.me) }
 {
-    words.fetch_add::<Aside>(seat, bell, 1);
+    words.fetch_add::<Aside>(seat, OFFERS, added)
+}
+
+/// Sets the bell of the deliveries, and gives what it was.
+pub fn set_bell(words: &Words, seat: &mut Seat, new: u64) -> u64
+    requires { (seat.old.table_id ≡ words.now.table_id) × IsBench words.now.table_id }
+    ensures { (seat.new.table_id ≡ seat.old.table_id) × (seat.new.me ≡ seat.old.me) }
+{
+    words.swap::<Aside>(seat, DELIVERIES, new)
+}
+
+/// Says at the bell of the deliveries that it is slept on, if it is quiet, and gives what it was. One try.
+pub fn lie_down(words: &Words, seat: &mut Seat) -> u64
+    requires { (seat.old.table_id ≡ words.now.table_id) × IsBench words.now.table_id }
+    ensures { (seat.new.table_id ≡ seat.old.table_id) × (seat.new.me ≡ seat.old.me) }
+{
+    words.compare_exchange::<Aside>(seat, DELIVERIES, QUIET, SLEPT_ON)
 }
 
 /// Says by the stop word that the bench is stopped.

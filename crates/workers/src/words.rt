@@ -6,10 +6,11 @@ use parcel::{Done, Job};
 /// The word that is 0 at first, and 1 once the bench is stopped.
 pub const STOP: usize = 0;
 
-/// The bell of the offers, on which workers sleep: a counter that wraps.
+/// The bell of the offers, on which workers sleep. Its low half counts the rings, and wraps; its high
+/// half counts the workers that sleep or are about to.
 pub const OFFERS: usize = 1;
 
-/// The bell of the deliveries, on which the dispatcher sleeps.
+/// The bell of the deliveries, on which the dispatcher sleeps: quiet, rung or slept on.
 pub const DELIVERIES: usize = 2;
 
 /// How many words there are before those of the places.
@@ -30,6 +31,24 @@ pub const CLAIMED: u64 = 2;
 /// A place's word: its slot has the result of the job that was offered there.
 pub const ANSWERED: u64 = 3;
 
+/// What is added to the bell of the offers: one more ring.
+pub const RING: u64 = 1;
+
+/// What is added to it by a worker that goes to sleep.
+pub const SLEEPER: u64 = 1 << 32;
+
+/// What is added to it by a worker that got up: one sleeper less.
+pub const RISEN: u64 = u64::MAX - SLEEPER + 1;
+
+/// The bell of the deliveries: nothing was delivered since the last wait returned.
+pub const QUIET: u64 = 0;
+
+/// The bell of the deliveries: something was.
+pub const RUNG: u64 = 1;
+
+/// The bell of the deliveries: nothing was, and the dispatcher sleeps or is about to.
+pub const SLEPT_ON: u64 = 2;
+
 /// What a slot holds.
 #[derive(Drop)]
 pub enum Load {
@@ -37,7 +56,12 @@ pub enum Load {
     Answered(Done),
 }
 
-/// The half of a bell by which a thread that sleeps on it sees it change.
-pub fn low(bell: u64) -> u32 {
+/// How often the bell of the offers was rung: by this half a worker that sleeps on it sees it change.
+pub fn rings(bell: u64) -> u32 {
     (bell & 0xffff_ffff) as u32
+}
+
+/// Whether a worker sleeps on the bell of the offers, or is about to.
+pub fn is_slept_on(bell: u64) -> bool {
+    bell >= SLEEPER
 }

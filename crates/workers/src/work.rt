@@ -9,7 +9,9 @@ use crate::bench::Bench;
 use crate::pace::Gate;
 use crate::seats::{DispatchSeat, Seat, WorkSeat};
 use crate::steps::{self, Words};
-use crate::words::{DELIVERIES, FIRST_PLACE, Load, OFFERED, OFFERS, STOP, low};
+use crate::words::{
+    DELIVERIES, FIRST_PLACE, Load, OFFERED, OFFERS, QUIET, RISEN, RUNG, SLEEPER, SLEPT_ON, STOP, rings,
+};
 use parcel::run;
 use std::alloc::AllocError;
 use std::sync::Wait;
@@ -30,7 +32,7 @@ impl Bench {
                 break;
             }
             if !serve_round(words, &mut pass, places, gate) {
-                words.park(rt, OFFERS, low(bell));
+                sleep(words, &mut pass, rt, rings(bell));
             }
         }
         WorkSeat { seat: pass }
@@ -69,23 +71,43 @@ impl Bench {
         requires { seat.old.bench ≡ self.now }
         ensures { seat.new ≡ seat.old }
     {
-        seat.heard = hear(&self.table.shared, rt, seat.heard);
+        hear(&self.table.shared, &mut seat.seat, rt);
     }
 }
 
-// Sleeps while the delivery bell has this number, and gives the number that it has then.
-fn hear<R: Wait>(words: &Words, rt: &R, heard: u32) -> u32
-    requires { IsBench words.now.table_id }
+// Sleeps until the bell of the deliveries is rung, and quiets it.
+fn hear<R: Wait>(words: &Words, seat: &mut Seat, rt: &R)
+    requires { (seat.old.table_id ≡ words.now.table_id) × IsBench words.now.table_id }
+    ensures { (seat.new.table_id ≡ seat.old.table_id) × (seat.new.me ≡ seat.old.me) }
 {
-    let mut bell = low(words.peek(DELIVERIES));
     for _ in rt.forever() {
-        if bell != heard {
+        if steps::lie_down(words, seat) == RUNG {
             break;
         }
-        words.park(rt, DELIVERIES, heard);
-        bell = low(words.peek(DELIVERIES));
+        words.park(rt, DELIVERIES, SLEPT_ON as u32);
     }
-    bell
+    steps::set_bell(words, seat, QUIET);
+}
+
+// Rings the bell of the deliveries, and wakes the dispatcher if it sleeps there.
+fn tell(words: &Words, seat: &mut Seat)
+    requires { (seat.old.table_id ≡ words.now.table_id) × IsBench words.now.table_id }
+    ensures { (seat.new.table_id ≡ seat.old.table_id) × (seat.new.me ≡ seat.old.me) }
+{
+    if steps::set_bell(words, seat, RUNG) == SLEPT_ON {
+        words.wake_one(DELIVERIES);
+    }
+}
+
+// Sleeps on the bell of the offers for as long as it was rung just so often.
+fn sleep<R: Wait>(words: &Words, seat: &mut Seat, rt: &R, heard: u32)
+    requires { (seat.old.table_id ≡ words.now.table_id) × IsBench words.now.table_id }
+    ensures { (seat.new.table_id ≡ seat.old.table_id) × (seat.new.me ≡ seat.old.me) }
+{
+    if rings(steps::count(words, seat, SLEEPER)) == heard {
+        words.park(rt, OFFERS, heard);
+    }
+    steps::count(words, seat, RISEN);
 }
 
 // Tries each place once, and does the jobs that it could claim. Says whether there was one.
@@ -135,6 +157,5 @@ fn answer<G: Gate>(words: &Words, seat: &mut Seat, k: usize, gate: &G)
     let done = run(job);
     drop(words.exchange(seat, k, Some(Load::Answered(done))));
     steps::deliver(words, seat, k);
-    steps::ring(words, seat, DELIVERIES);
-    words.wake_one(DELIVERIES);
+    tell(words, seat);
 }

@@ -33,4 +33,4 @@ returns-clause-desk c = let m = c.args.seat.now.me in let k = c.args.k in let ls
     let lent = lends k ls c.args.job c.exchange.new.seat.me c.offer.new.seat.me full c.offer.ensures.lent near in let row = set ls k (Some c.args.job) in
     let flags = flag_set c.args.lent.now k ls (Some c.args.job) d.flagged in
     let long = counted c.args.lent.now ls d.flagged in let wide = length-set ls k (Some c.args.job) in let flags_long = length-set c.args.lent.now k true in
-    desk_of _ _ _ row d.bench (c.ring.ensures.1 ∙ settles (k + 1) _ row c.offer.new.seat.me c.turn_to-2.new.seat.me lent c.turn_to-2.ensures.slots (omega arith)) flags (flags_long ∙ d.places)
+    desk_of _ _ _ row d.bench (settles (k + 1) _ row c.offer.new.seat.me c.turn_to-2.new.seat.me lent c.turn_to-2.ensures.slots (omega arith)) flags (flags_long ∙ d.places)
