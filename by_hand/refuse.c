@@ -1,10 +1,12 @@
 /* Stands between a program and the GNU C library. It refuses one request for memory, or one and all behind
- * it, or fails one read of standard input or one write of standard output. The environment says which,
- * counted from 1: REFUSE_ONE, REFUSE_FROM, FAIL_READ, FAIL_WRITE. Once it has happened it makes the file
- * that HAPPENED names. */
+ * it, or one for a thread, or fails one read of standard input or one write of standard output. The
+ * environment says which, counted from 1: REFUSE_ONE, REFUSE_FROM, REFUSE_THREAD, FAIL_READ, FAIL_WRITE. Once
+ * it has happened it makes the file that HAPPENED names. */
 #define _GNU_SOURCE
+#include <dlfcn.h>
 #include <errno.h>
 #include <fcntl.h>
+#include <pthread.h>
 #include <stdlib.h>
 #include <unistd.h>
 #include <sys/syscall.h>
@@ -22,6 +24,7 @@ struct turn {
 
 static struct turn refused_one = {"REFUSE_ONE", -1, 0};
 static struct turn refused_from = {"REFUSE_FROM", -1, 0};
+static struct turn thread_turn = {"REFUSE_THREAD", -1, 0};
 static struct turn read_turn = {"FAIL_READ", -1, 0};
 static struct turn write_turn = {"FAIL_WRITE", -1, 0};
 
@@ -64,6 +67,15 @@ void *realloc(void *old, size_t size) {
         return NULL;
     }
     return __libc_realloc(old, size);
+}
+
+int pthread_create(pthread_t *thread, const pthread_attr_t *how, void *(*run)(void *), void *with) {
+    static int (*create)(pthread_t *, const pthread_attr_t *, void *(*)(void *), void *);
+    if (is_due(&thread_turn))
+        return EAGAIN;
+    if (!create)
+        *(void **)&create = dlsym(RTLD_NEXT, "pthread_create");
+    return create(thread, how, run, with);
 }
 
 ssize_t read(int file, void *to, size_t size) {

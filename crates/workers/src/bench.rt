@@ -155,7 +155,7 @@ fn lend(words: &Words, seat: &mut Seat, lent: &mut [bool], k: usize, job: Job)
     ensures lent { lent_of seat.new.me.0 ≡ slice_set (lent_of seat.old.me.0) k (Some job) }
 {
     turn_to(seat, lent, 0, k);
-    drop(words.exchange(seat, k, Some(Load::Offered(job))));
+    steps::fill(words, seat, k, Load::Offered(job));
     steps::offer(words, seat, k);
     lent[k] = true;
     turn_to(seat, lent, k + 1, lent.len());

@@ -1,4 +1,5 @@
-//! The eight kinds of atomic step on the table, each one try. Nothing else changes a word.
+//! The kinds of atomic step on the table, each one try. Nothing else changes a word.
+//! A slot is filled between them.
 ghost use Rattle.std.specs.Prelude.{◌≡◌, ℕ, ◌+◌, ◌<◌, ◌≤◌, List, [], ◌∷◌, replicate, slice_set, Option, None, Some, IsTrue, IsFalse};
 ghost use Rattle.atomic_table.specs.Table.{rest};
 ghost use Rattle.parcel.specs.Run.{Asked, IsRun};
@@ -6,6 +7,7 @@ ghost use Rattle.parcel.specs.declared.job.Done.{Done as TheDone};
 ghost use Rattle.workers.specs.Rule.{Row, Kept, lent_at};
 ghost use Rattle.workers.specs.Desk.{IsBench, lent_of, idle};
 ghost use Rattle.workers.specs.Steps.{job_on, Readies, Offers, Claims, Delivers, Collects, OfPlace};
+ghost use Rattle.workers.specs.declared.words.Load.{Load as TheLoad};
 ghost use Rattle.workers.specs.declared.words.Load.TheVariants.{Offered, Answered};
 ghost use Rattle.workers.specs.declared.seats.View.TheVariants.{Dispatcher, Idle, Claimed};
 
@@ -169,4 +171,15 @@ pub fn close(words: &Words, seat: &mut Seat)
     ensures { (seat.new.table_id ≡ seat.old.table_id) × (seat.new.me ≡ seat.old.me) }
 {
     words.store::<Aside>(seat, STOP, 1);
+}
+
+/// Puts a job or a result into the slot that the seat took last. It is written there and nowhere else.
+#[inline(always)]
+pub fn fill(words: &Words, seat: &mut Seat, k: usize, load: Load)
+    requires { (seat.old.table_id ≡ words.now.table_id) × ((old : Option TheLoad) × (seat.old.me.1 ≡ (k, old) ∷ rest seat.old.me.1)) }
+    ensures bench { seat.new.table_id ≡ seat.old.table_id }
+    ensures slot { seat.new.me ≡ (seat.old.me.0, (k, Some load) ∷ rest seat.old.me.1) }
+{
+    let slot = seat.slot_mut(words, k);
+    *slot = Some(load);
 }

@@ -155,7 +155,7 @@ fn answer<G: Gate>(words: &Words, seat: &mut Seat, k: usize, gate: &G)
     };
     gate.before(job.ticket());
     let done = run(job);
-    drop(words.exchange(seat, k, Some(Load::Answered(done))));
+    steps::fill(words, seat, k, Load::Answered(done));
     steps::deliver(words, seat, k);
     tell(words, seat);
 }

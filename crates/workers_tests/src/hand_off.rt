@@ -140,6 +140,27 @@ fn one_worker_answers_one_job(rt: HostRuntime) -> Result<(), Fail> {
     Ok(())
 }
 
+// Where a thread can't be started nobody stops the bench but `start`, so this ends only if it did.
+#[test]
+fn a_bench_with_no_job_starts_and_ends(rt: HostRuntime) -> Result<(), Fail> {
+    let (bench, desk, seats) = Bench::open(rt.alloc(), 2, 3)?;
+    let gate = OpenGate;
+    let (runtime, bench, gate) = (&rt, &bench, &gate);
+    thread::scope(
+        thread::scope_env(),
+        runtime,
+        move |scope| -> Result<(), Fail>
+            requires desk { desk.bench ≡ bench.now }
+            requires seats { All (λ w. w ≡ bench.now) seats.items }
+        {
+            let mut desk = desk;
+            bench.start(runtime, scope, &mut desk, seats, gate)?;
+            bench.stop(&mut desk);
+            Ok(())
+        },
+    )
+}
+
 // Each of many jobs at place 0 is there when the wait for it returns.
 fn jobs_waited_for<R: Wait>(
     bench: &Bench,

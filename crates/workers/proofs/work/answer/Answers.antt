@@ -15,6 +15,6 @@ deliver-requires-clause-result g c = let t = c.requires.claimed in let k = c.arg
     let same = one_job c.in-Some-Offered.job t.0 _ c.exchange.result c.in-Some-Offered.is c.in-Some-Offered.field-0-is found in (
       t.0,
       c.run-done.result,
-      answered k t.0 _ _ _ c.args.seat.now.me c.exchange.new.seat.me c.exchange-2.new.seat.me t.1 c.exchange.ensures.3 c.exchange-2.ensures.3,
+      answered k t.0 _ _ _ c.args.seat.now.me c.exchange.new.seat.me c.fill.new.seat.me t.1 c.exchange.ensures.3 c.fill.ensures.slot,
       subst (λ job. IsRun job c.run-done.result) same c.run-done.ensures,
     )
