@@ -1,5 +1,5 @@
 //! The words of the table and what they may be, and what a slot holds.
-ghost use Rattle.std.specs.Prelude.{◌<◌, ◌^◌};
+ghost use Rattle.std.specs.Prelude.{◌≡◌, ◌<◌, ◌%◌, ◌^◌, nat_le};
 
 use parcel::{Done, Job};
 
@@ -57,11 +57,15 @@ pub enum Load {
 }
 
 /// How often the bell of the offers was rung: by this half a worker that sleeps on it sees it change.
-pub fn rings(bell: u64) -> u32 {
-    (bell & 0xffff_ffff) as u32
+pub fn rings(bell: u64) -> u32
+    ensures { result ≡ bell % 2 ^ 32 }
+{
+    (bell % SLEEPER) as u32
 }
 
 /// Whether a worker sleeps on the bell of the offers, or is about to.
-pub fn is_slept_on(bell: u64) -> bool {
+pub fn is_slept_on(bell: u64) -> bool
+    ensures { result ≡ nat_le (2 ^ 32) bell }
+{
     bell >= SLEEPER
 }

@@ -10,7 +10,8 @@ use crate::pace::Gate;
 use crate::seats::{DispatchSeat, Seat, WorkSeat};
 use crate::steps::{self, Words};
 use crate::words::{
-    DELIVERIES, FIRST_PLACE, Load, OFFERED, OFFERS, QUIET, RISEN, RUNG, SLEEPER, SLEPT_ON, STOP, rings,
+    DELIVERIES, FIRST_PLACE, Load, OFFERED, OFFERS, QUIET, RISEN, RUNG, SLEEPER, SLEPT_ON, STOP,
+    rings,
 };
 use parcel::run;
 use std::alloc::AllocError;
