@@ -4,3 +4,4 @@ mod Blank
 mod Laid
 mod Opened
 mod Examples
+mod Served

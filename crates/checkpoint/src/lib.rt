@@ -7,6 +7,7 @@
 
 mod fault;
 mod formatting;
+mod stepping;
 
 pub use fault::{FormatError, FormatFault, OpenFault};
 pub use formatting::format;

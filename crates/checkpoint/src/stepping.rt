@@ -1,0 +1,34 @@
+//! One message on a tree of which nothing is out.
+ghost use Rattle.std.specs.Prelude.{◌≡◌, true};
+ghost use Rattle.message.specs.Messages.{is_in_range};
+ghost use Rattle.parcel.specs.Tree.{IsWholeTree, state_in};
+ghost use Rattle.plain.specs.Serial.{next_state, reply_to};
+
+use affinity::place_of;
+use message::{Msg, Reply, know_message};
+use parcel::{Job, Tree, run};
+
+/// Runs a message that is in range on the whole tree, and gives its reply: the serial step of the tree's state.
+pub(crate) fn step(tree: &mut Tree, m: Msg) -> Reply
+    requires whole { IsWholeTree tree.old }
+    requires range { is_in_range tree.old.geometry m ≡ true }
+    ensures reply { result ≡ reply_to tree.old.geometry (state_in tree.old) m }
+    ensures state { state_in tree.new ≡ next_state tree.old.geometry (state_in tree.old) m }
+    ensures whole { IsWholeTree tree.new }
+    ensures geometry { tree.new.geometry ≡ tree.old.geometry }
+{
+    let g = tree.geometry();
+    know_message(&m);
+    let Some(place) = place_of(&g, m.kind(), m.numbers()) else {
+        unreachable!()
+    };
+    let Some((standing, parcels)) = tree.lend(place) else {
+        unreachable!()
+    };
+    let done = run(Job::new(g, 0, m, standing, parcels));
+    let reply = *done.reply();
+    let Ok(()) = tree.restore(place, done.into_parcels()) else {
+        unreachable!()
+    };
+    reply
+}
