@@ -5,3 +5,4 @@ mod Laid
 mod Opened
 mod Examples
 mod Served
+mod Recorded

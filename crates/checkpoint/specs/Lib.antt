@@ -2,3 +2,4 @@ pub mod Header
 pub mod Recovery
 pub mod Refusals
 pub mod Formatting
+pub mod Loading

@@ -1,5 +1,9 @@
 //! Why a device can't be made or opened.
+ghost use Rattle.std.specs.Prelude.{◌≡◌};
+ghost use Rattle.checkpoint.specs.Loading.{fault_of_log};
+
 use disk::Disk;
+use oplog::LogFault;
 use thiserror::Error;
 
 /// Why a device can't be made.
@@ -55,4 +59,15 @@ pub enum OpenFault {
     /// This record, told by its half and its number there, is in force and can't stand there.
     #[error("bad record {0} {1}")]
     BadRecord(usize, usize),
+}
+
+impl From<LogFault> for OpenFault {
+    ghost from_gives = { λ e fault. fault ≡ fault_of_log e };
+
+    fn from(e: LogFault) -> OpenFault {
+        match e {
+            LogFault::Device => OpenFault::Device,
+            LogFault::BadRecord(half, i) => OpenFault::BadRecord(half, i),
+        }
+    }
 }

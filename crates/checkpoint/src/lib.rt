@@ -7,6 +7,7 @@
 
 mod fault;
 mod formatting;
+mod replaying;
 mod stepping;
 
 pub use fault::{FormatError, FormatFault, OpenFault};

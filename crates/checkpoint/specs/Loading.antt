@@ -1,0 +1,38 @@
+-- Reading a device into a tree: what its steps answer, and what they leave.
+use Rattle.std.specs.Prelude.{◌≡◌, ℕ, ◌+◌, List, Option, Some, None, is_none, Result, Ok, Err}
+use Rattle.affinity.specs.declared.geometry.Geometry.{Geometry}
+use Rattle.checkpoint.specs.declared.fault.OpenFault.{OpenFault}
+use Rattle.checkpoint.specs.declared.fault.OpenFault.TheVariants.{Device, TooShort, NotFormatted, BadGeometry, OutOfMemory, BadVersion, BadPiece, BadChain, BadRecord}
+use Rattle.checkpoint.specs.Recovery.{apply}
+use Rattle.checkpoint.specs.Refusals.{fault_if, fault_of, first_bad_record}
+use Rattle.oplog.specs.declared.fault.LogFault.{LogFault}
+use Rattle.oplog.specs.declared.fault.LogFault.TheVariants as log
+use Rattle.plain.specs.State.{State}
+
+-- A call adds one to the count of the device's failures exactly where it answers `Device`.
+abbrev pub CountsOpenFault : {T : Type 0} → Result T OpenFault → ℕ → ℕ → Type 0
+CountsOpenFault (Ok _) old new = new ≡ old
+CountsOpenFault (Err Device) old new = new ≡ old + 1
+CountsOpenFault (Err _) old new = new ≡ old
+
+-- This fault is the one that the bytes of a device with a header give. Of a device that fails and of want of memory
+-- they tell nothing.
+abbrev pub IsFault : Option OpenFault → OpenFault → Type 0
+IsFault given Device = Unit {0}
+IsFault given OutOfMemory = Unit {0}
+IsFault given NotFormatted = ⊥
+IsFault given BadGeometry = ⊥
+IsFault given fault = given ≡ Some fault
+
+-- what a fault of the log is to the one who opens the device
+abbrev pub fault_of_log : LogFault → OpenFault
+fault_of_log log.Device = Device
+fault_of_log (log.BadRecord h i) = BadRecord h i
+
+-- the fault of record i of half h, with these bytes, where it can't be run on a state
+abbrev pub record_fault : Geometry → State → ℕ → ℕ → List ℕ → Option OpenFault
+record_fault g x h i bytes = fault_if (is_none (apply g x bytes)) (BadRecord h i) None
+
+-- the fault of the first of these records of half h that can't be run where it stands
+abbrev pub records_fault : Geometry → State → ℕ → List (List ℕ) → Option OpenFault
+records_fault g x h records = fault_of (BadRecord h) (first_bad_record g 0 (Some x) records) None
