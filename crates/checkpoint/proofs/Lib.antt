@@ -6,3 +6,4 @@ mod Opened
 mod Examples
 mod Served
 mod Recorded
+mod Replays

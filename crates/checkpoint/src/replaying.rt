@@ -49,3 +49,68 @@ fn replay_record<D: Disk>(
         _ => Err(OpenFault::BadRecord(half, i)),
     }
 }
+
+/// Runs so many records of this half on the tree, the first ones, in order.
+fn replay_front<D: Disk>(
+    log: &mut Halves,
+    disk: &mut D,
+    half: usize,
+    count: usize,
+    tree: &mut Tree,
+) -> Result<(), OpenFault>
+    requires sound { log.old.failed ≡ false }
+    requires half { half < 2 }
+    requires within { count ≤ log.old.geometry.half }
+    requires count { D.keeps → HasFront log.old half count (D.medium disk.old) }
+    requires parts { HasParts log.old (D.medium disk.old) }
+    requires whole { IsWholeTree tree.old }
+    requires geometry { log.old.geometry ≡ tree.old.geometry }
+    ensures done { OnOk result (D.keeps →
+        run (means tree.old.geometry) (Some (state_in tree.old))
+            (front (layout log.old) half (D.medium disk.old).now) ≡ Some (state_in tree.new)) }
+    ensures refused { IfErr result (λ e. D.keeps → IsFault (records_fault tree.old.geometry
+        (state_in tree.old) half (front (layout log.old) half (D.medium disk.old).now)) e) }
+    ensures whole { OnOk result (IsWholeTree tree.new) }
+    ensures geometry { OnOk result (tree.new.geometry ≡ tree.old.geometry) }
+    ensures log { OnOk result (log.new ≡ log.old) }
+    ensures untouched { D.keeps → moments (D.medium disk.new) ≡ moments (D.medium disk.old) }
+    ensures counts { CountsOpenFault result (D.medium disk.old).faults (D.medium disk.new).faults }
+    ensures len { length (D.medium disk.new).now ≡ length (D.medium disk.old).now }
+{
+    for i in 0..count {
+        replay_record(log, disk, half, i, tree)?;
+    }
+    Ok(())
+}
+
+/// Runs the records of this half that are in force on the tree, in order, and gives their number. `BadRecord` exactly
+/// where one can't be run, of the first of these; then the tree isn't of use any more.
+pub(crate) fn replay<D: Disk>(
+    log: &mut Halves,
+    disk: &mut D,
+    half: usize,
+    tree: &mut Tree,
+) -> Result<usize, OpenFault>
+    requires sound { log.old.failed ≡ false }
+    requires half { half < 2 }
+    requires parts { HasParts log.old (D.medium disk.old) }
+    requires whole { IsWholeTree tree.old }
+    requires geometry { log.old.geometry ≡ tree.old.geometry }
+    ensures count { IfOk result (λ n. D.keeps → HasFront log.old half n (D.medium disk.old)) }
+    ensures few { IfOk result (λ n. n ≤ log.old.geometry.half) }
+    ensures done { OnOk result (D.keeps →
+        run (means tree.old.geometry) (Some (state_in tree.old))
+            (front (layout log.old) half (D.medium disk.old).now) ≡ Some (state_in tree.new)) }
+    ensures refused { IfErr result (λ e. D.keeps → IsFault (records_fault tree.old.geometry
+        (state_in tree.old) half (front (layout log.old) half (D.medium disk.old).now)) e) }
+    ensures whole { OnOk result (IsWholeTree tree.new) }
+    ensures geometry { OnOk result (tree.new.geometry ≡ tree.old.geometry) }
+    ensures log { OnOk result (log.new ≡ log.old) }
+    ensures untouched { D.keeps → moments (D.medium disk.new) ≡ moments (D.medium disk.old) }
+    ensures counts { CountsOpenFault result (D.medium disk.old).faults (D.medium disk.new).faults }
+    ensures len { length (D.medium disk.new).now ≡ length (D.medium disk.old).now }
+{
+    let count = log.front(disk, half)?;
+    replay_front(log, disk, half, count, tree)?;
+    Ok(count)
+}

@@ -1,0 +1,102 @@
+-- Records that are run one after the other, seen from where the run has come to.
+use Rattle.std.proofs.Common.{◌≡◌, ℕ, suc, ◌+◌, ◌<◌, List, [], ◌∷◌, length, drop, get_or, Option, Some, None, is_none, is_some, refl, sym, ◌∙◌, ap, subst, add-one}
+use Rattle.std.specs.Prelude.{if◌then◌else◌}
+use Rattle.std.proofs.lemmas.List.{drop_more}
+use Rattle.affinity.specs.declared.geometry.Geometry.{Geometry}
+use Rattle.checkpoint.specs.declared.fault.OpenFault.{OpenFault}
+use Rattle.checkpoint.specs.declared.fault.OpenFault.TheVariants.{Device, TooShort, NotFormatted, BadGeometry, OutOfMemory, BadVersion, BadPiece, BadChain, BadRecord}
+use Rattle.checkpoint.specs.Loading.{IsFault, fault_of_log, record_fault, records_fault}
+use Rattle.checkpoint.specs.Recovery.{apply, means}
+use Rattle.checkpoint.specs.Refusals.{fault_if, fault_of, first_bad_record}
+use Rattle.disk.specs.Device.{Medium, Moment, moments}
+use Rattle.oplog.specs.declared.fault.LogFault.{LogFault}
+use Rattle.oplog.specs.declared.fault.LogFault.TheVariants as log
+use Rattle.oplog.specs.Front.{front, record_at}
+use Rattle.oplog.specs.Layout.{Layout}
+use Rattle.oplog.specs.Log.{Log, layout}
+use Rattle.oplog.specs.Stands.{run}
+use Rattle.oplog.proofs.Reading.{front_record}
+use Rattle.plain.specs.State.{State}
+
+-- ---- what a read leaves
+
+now_in : List Moment → List ℕ
+now_in [] = []
+now_in (m ∷ ms) = m.now
+
+pub same_bytes : (old new : Medium) → moments new ≡ moments old → new.now ≡ old.now
+unfolding now_in
+same_bytes old new same = ap (λ (ms : List Moment). now_in ms) same
+
+-- ---- faults
+
+-- A fault that was looked for alone comes of those that are looked for later too.
+pub fault_from : (o p : Option OpenFault) → ((e : OpenFault) → o ≡ Some e → p ≡ Some e) → (e : OpenFault) → IsFault o e → IsFault p e
+fault_from o p gives Device is = tt
+fault_from o p gives OutOfMemory is = tt
+fault_from o p gives NotFormatted is = absurd is
+fault_from o p gives BadGeometry is = absurd is
+fault_from o p gives TooShort is = gives TooShort is
+fault_from o p gives BadVersion is = gives BadVersion is
+fault_from o p gives (BadPiece n) is = gives (BadPiece n) is
+fault_from o p gives BadChain is = gives BadChain is
+fault_from o p gives (BadRecord h i) is = gives (BadRecord h i) is
+
+-- ---- one record of several
+
+module _ (g : Geometry) (h i : ℕ) (x : State) (r : List ℕ) (rs : List (List ℕ)) where
+  bad_here : (e : OpenFault) → record_fault g x h i r ≡ Some e → fault_of (BadRecord h) (first_bad_record g i (Some x) (r ∷ rs)) None ≡ Some e
+  bad_here e is = by (apply g x r) is
+    where
+      by : (o : Option State) → fault_if (is_none o) (BadRecord h i) None ≡ Some e → fault_of (BadRecord h) (if is_some o then first_bad_record g (suc i) o rs else Some i) None ≡ Some e
+      by None is = is
+      by (Some y) is = cc
+
+  runs : (y : State) → apply g x r ≡ Some y → run (means g) (Some x) (r ∷ rs) ≡ run (means g) (Some y) rs
+  runs y is = ap (λ (o : Option State). run (means g) o rs) is
+
+  good_here : (y : State) → apply g x r ≡ Some y → first_bad_record g i (Some x) (r ∷ rs) ≡ first_bad_record g (i + 1) (Some y) rs
+  good_here y is =
+      ap (λ (o : Option State). if is_some o then first_bad_record g (suc i) o rs else Some i) is
+      ∙ ap (λ (k : ℕ). first_bad_record g k (Some y) rs) (sym (add-one i))
+
+-- ---- the front of a half, of which i records were run
+
+module _ (g : Geometry) (l : Layout) (h : ℕ) (c : List ℕ) (x0 : State) where
+  -- what is left of it, from state x on, is as the whole of it
+  pub record IsAt (i : ℕ) (x : State) : Type 0 where
+    pub ran : run (means g) (Some x0) (front l h c) ≡ run (means g) (Some x) (drop i (front l h c))
+    pub first : first_bad_record g 0 (Some x0) (front l h c) ≡ first_bad_record g i (Some x) (drop i (front l h c))
+
+  next : (i : ℕ) → i < length (front l h c) → drop i (front l h c) ≡ record_at l h i c ∷ drop (i + 1) (front l h c)
+  next i few = drop_more (front l h c) i [] few ∙ ap (λ (r : List ℕ). r ∷ drop (i + 1) (front l h c)) (front_record l h i c few)
+
+  pub at_first : IsAt 0 x0
+  at_first = record { ran = refl; first = refl }
+
+  pub at_next : (i : ℕ) (x y : State) → i < length (front l h c) → apply g x (record_at l h i c) ≡ Some y → IsAt i x → IsAt (i + 1) y
+  at_next i x y few is before = record {
+    ran = before.ran ∙ ap (λ (rs : List (List ℕ)). run (means g) (Some x) rs) (next i few) ∙ runs g h i x (record_at l h i c) (drop (i + 1) (front l h c)) y is;
+    first = before.first ∙ ap (λ (rs : List (List ℕ)). first_bad_record g i (Some x) rs) (next i few) ∙ good_here g h i x (record_at l h i c) (drop (i + 1) (front l h c)) y is;
+  }
+
+  pub bad_at : (i : ℕ) (x : State) → i < length (front l h c) → IsAt i x → (e : OpenFault) → IsFault (record_fault g x h i (record_at l h i c)) e → IsFault (records_fault g x0 h (front l h c)) e
+  bad_at i x few before =
+      fault_from _ _
+      (λ e is.
+       ap (λ (o : Option ℕ). fault_of (BadRecord h) o None) (before.first ∙ ap (λ (rs : List (List ℕ)). first_bad_record g i (Some x) rs) (next i few))
+       ∙ bad_here g h i x (record_at l h i c) (drop (i + 1) (front l h c)) e is)
+
+-- ---- of a tree, a log and bytes that are the same
+
+pub apply_same : (g h : Geometry) → h ≡ g → (a b : Log) → b ≡ a → (c d : List ℕ) → d ≡ c → (x : State) (half i : ℕ)
+    → apply h x (record_at (layout b) half i d) ≡ apply g x (record_at (layout a) half i c)
+apply_same g h geometry a b log c d bytes x half i = λ j. apply (geometry j) x (record_at (layout (log j)) half i (bytes j))
+
+pub record_fault_same : (g h : Geometry) → h ≡ g → (a b : Log) → b ≡ a → (c d : List ℕ) → d ≡ c → (x : State) (half i : ℕ) (e : OpenFault)
+    → IsFault (record_fault h x half i (record_at (layout b) half i d)) e → IsFault (record_fault g x half i (record_at (layout a) half i c)) e
+record_fault_same g h geometry a b log c d bytes x half i e =
+    subst (λ (o : Option OpenFault). IsFault o e) (λ j. record_fault (geometry j) x half i (record_at (layout (log j)) half i (bytes j)))
+
+pub front_same : (a b : Log) → b ≡ a → (c d : List ℕ) → d ≡ c → (half : ℕ) → front (layout b) half d ≡ front (layout a) half c
+front_same a b log c d bytes half = λ j. front (layout (log j)) half (bytes j)
