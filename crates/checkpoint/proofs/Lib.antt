@@ -7,3 +7,4 @@ mod Examples
 mod Served
 mod Recorded
 mod Replays
+mod Heads

@@ -5,7 +5,6 @@
 ghost use Rattle.std.specs.Prelude.{◌≡◌, ◌⊎◌, ◌↔◌, ◌+◌, ◌-◌, ◌<◌, ◌≤◌, Some, length, replicate, OnOk, IfOk, IfErr, MatchResult, IsErrOf};
 ghost use Rattle.affinity.specs.declared.geometry.Geometry.{Geometry};
 ghost use Rattle.checkpoint.specs.Formatting.{FormatLeaves, IsLaid, IsShut, IsShutNow};
-ghost use Rattle.checkpoint.specs.Header.{header_of};
 ghost use Rattle.checkpoint.specs.Recovery.{holds};
 ghost use Rattle.disk.specs.Device.{CountsFault, IsSynced, Leaves, SameOutside, overlaid};
 ghost use Rattle.disk.specs.Moments.{LeavesOnly};
@@ -13,38 +12,22 @@ ghost use Rattle.oplog.specs.Changes.{ChangesOnly};
 ghost use Rattle.oplog.specs.Layout.{device_size, layout_of};
 ghost use Rattle.plain.specs.State.{empty};
 
+use crate::header::{OPEN, header_of};
 use crate::{FormatError, FormatFault};
 use affinity::Geometry;
-use byteorder::{ByteOrder, LittleEndian};
 use disk::{Disk, DiskFault};
 use oplog::layout::{
-    CHAIN_AREA, HEADER_SIZE, ROOT_ZONE_AT, ROOT_ZONE_SIZE, device_len, half_at, image_at,
+    CHAIN_AREA, ROOT_ZONE_AT, ROOT_ZONE_SIZE, device_len, half_at, image_at,
     image_size,
 };
 use oplog::store::{store, write};
 use std::alloc::{AllocError, Global};
-
-/// The gate byte of a formatted device.
-const OPEN: u8 = 1;
-
-/// With what a formatted device begins.
-const MARKS_OF_FORMAT: [u8; 8] = [OPEN, b'W', b'A', b'F', b'F', b'S', b'R', b'V'];
 
 /// The version of an image that is written, with which it begins.
 const VERSION: u8 = 2;
 
 /// How many zeros are written at a time, at most.
 const ZEROS_AT_A_TIME: usize = 65536;
-
-/// The header of a device of this geometry.
-fn header_of(g: &Geometry) -> [u8; HEADER_SIZE]
-    ensures { result ≡ header_of g.now }
-{
-    let mut header = [0u8; HEADER_SIZE];
-    header[..8].copy_from_slice(&MARKS_OF_FORMAT);
-    LittleEndian::write_u16_into(&g.numbers(), &mut header[8..24]);
-    header
-}
 
 /// A row of zeros. `AllocError` where there is no memory.
 fn zeros(alloc: Global, count: usize) -> Result<Vec<u8>, AllocError>

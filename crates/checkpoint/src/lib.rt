@@ -7,6 +7,9 @@
 
 mod fault;
 mod formatting;
+mod header;
+mod heading;
+mod reading;
 mod replaying;
 mod stepping;
 

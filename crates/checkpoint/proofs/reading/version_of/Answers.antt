@@ -1,0 +1,33 @@
+use Rattle.std.proofs.Common.{◌≡◌, ◌+◌, List, Bool, not, None, length, sym, ◌∙◌, ap, arith, ℕ}
+use Rattle.image.specs.Image.{has_head, version_in}
+use Rattle.oplog.specs.Layout.{image, layout_of, part}
+use Rattle.oplog.proofs.Slices.{image_sized, part_inside}
+use Rattle.checkpoint.specs.declared.fault.OpenFault.TheVariants.{BadVersion}
+use Rattle.checkpoint.specs.Refusals.{fault_if}
+use Rattle.checkpoint.proofs.Heads.{has_head_first, head_there, version_first}
+use Rattle.checkpoint.proofs.Laid.{image_some}
+use Rattle.checkpoint.proofs.reading.version_of.Goals as goal
+
+pub read-requires : goal.read-requires
+read-requires g c =
+    omega (arith, c.image_at.ensures, part_inside (layout_of c.args.g.now) (image c.args.number) (omega (arith, c.requires.number)),
+     image_sized (layout_of c.args.g.now) c.args.number c.requires.number, image_some c.args.g.now, c.requires.whole)
+
+pub returns-then-not-has_head-clause-refused : goal.returns-then-not-has_head-clause-refused
+returns-then-not-has_head-clause-refused g c = λ k.
+    let now = (g.D.Disk.medium c.args.disk.now).now in
+    let there = head_there c.args.g.now c.args.number c.image_at.result now c.read.new.out c.requires.number c.image_at.ensures (c.in_ok-read.ensures.bytes k) in
+    ap (λ (b : Bool). fault_if (not b) BadVersion None)
+    (sym (ap has_head there ∙ has_head_first (part (layout_of c.args.g.now) (image c.args.number) now)) ∙ sym c.has_head.ensures ∙ c.if-not-has_head.true)
+
+pub returns-clause-version : goal.returns-clause-version
+returns-clause-version g c = λ k.
+    let now = (g.D.Disk.medium c.args.disk.now).now in
+    ap version_in (head_there c.args.g.now c.args.number c.image_at.result now c.read.new.out c.requires.number c.image_at.ensures (c.in_ok-read.ensures.bytes k))
+    ∙ version_first (part (layout_of c.args.g.now) (image c.args.number) now)
+
+pub returns-clause-head : goal.returns-clause-head
+returns-clause-head g c = λ k.
+    let now = (g.D.Disk.medium c.args.disk.now).now in
+    let there = head_there c.args.g.now c.args.number c.image_at.result now c.read.new.out c.requires.number c.image_at.ensures (c.in_ok-read.ensures.bytes k) in
+    sym (ap has_head there ∙ has_head_first (part (layout_of c.args.g.now) (image c.args.number) now)) ∙ sym c.has_head.ensures ∙ c.if-not-has_head.false

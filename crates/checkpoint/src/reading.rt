@@ -1,0 +1,96 @@
+//! What stands on a device in front of the pieces and records: its heading, the head of an image, and the chain bytes.
+ghost use Rattle.std.specs.Prelude.{◌≡◌, ◌+◌, ◌<◌, ◌≤◌, ◌==◌, not, true, None, length, IfErr, IfOk, OnOk};
+ghost use Rattle.checkpoint.specs.declared.fault.OpenFault.TheVariants.{Device, BadVersion};
+ghost use Rattle.checkpoint.specs.Header.{HasHeader};
+ghost use Rattle.checkpoint.specs.Loading.{CountsOpenFault, IsFault};
+ghost use Rattle.checkpoint.specs.Refusals.{IsRefused, fault_if};
+ghost use Rattle.disk.specs.Device.{moments};
+ghost use Rattle.image.specs.Image.{has_head, head_of, is_version, version_in};
+ghost use Rattle.oplog.specs.Front.{chain};
+ghost use Rattle.oplog.specs.Layout.{device_size, image, layout_of, part, slice};
+ghost use Rattle.oplog.specs.Stands.{named_area};
+
+use crate::OpenFault;
+use affinity::Geometry;
+use disk::Disk;
+use oplog::layout::{IMAGE_HEAD_SIZE, half_at, image_at};
+
+/// Fills `out` with bytes of the device, from `at` on.
+pub(crate) fn read<D: Disk>(disk: &mut D, at: u64, out: &mut [u8]) -> Result<(), OpenFault>
+    requires { at + length out.old ≤ length (D.medium disk.old).now }
+    ensures bytes { OnOk result (D.keeps → out.new ≡ slice (D.medium disk.old).now at (length out.old)) }
+    ensures device { IfErr result (λ e. e ≡ Device) }
+    ensures untouched { D.keeps → moments (D.medium disk.new) ≡ moments (D.medium disk.old) }
+    ensures counts { CountsOpenFault result (D.medium disk.old).faults (D.medium disk.new).faults }
+    ensures len { length (D.medium disk.new).now ≡ length (D.medium disk.old).now }
+{
+    if disk.read_at(at, out).is_err() {
+        return Err(OpenFault::Device);
+    }
+    Ok(())
+}
+
+/// Whether the chain byte of this half is 1.
+pub(crate) fn is_chained<D: Disk>(disk: &mut D, g: &Geometry, half: usize) -> Result<bool, OpenFault>
+    requires half { half < 2 }
+    requires whole { device_size (layout_of g.now) ≤ length (D.medium disk.old).now }
+    ensures chained { IfOk result (λ b. D.keeps →
+        b ≡ (chain (layout_of g.now) half (D.medium disk.old).now == 1)) }
+    ensures device { IfErr result (λ e. e ≡ Device) }
+    ensures untouched { D.keeps → moments (D.medium disk.new) ≡ moments (D.medium disk.old) }
+    ensures counts { CountsOpenFault result (D.medium disk.old).faults (D.medium disk.new).faults }
+    ensures len { length (D.medium disk.new).now ≡ length (D.medium disk.old).now }
+{
+    let mut byte = [0u8];
+    read(disk, half_at(g, half), &mut byte)?;
+    Ok(byte[0] == 1)
+}
+
+/// What an image of this version begins with.
+fn head_of(version: u8) -> [u8; IMAGE_HEAD_SIZE]
+    ensures { result ≡ head_of version }
+{
+    let mut head = [0u8; IMAGE_HEAD_SIZE];
+    head[0] = version;
+    head
+}
+
+fn is_version(version: u8) -> bool
+    ensures { result ≡ is_version version }
+{
+    version == 1 || version == 2
+}
+
+/// Whether an image that begins so has a head: a version and zeros.
+fn has_head(head: &[u8; IMAGE_HEAD_SIZE]) -> bool
+    ensures { result ≡ has_head head.now }
+{
+    let version = head[0];
+    if !is_version(version) {
+        return false;
+    }
+    head[..] == head_of(version)[..]
+}
+
+/// The version of this image. `BadVersion` exactly where it doesn't begin with a version and zeros.
+pub(crate) fn version_of<D: Disk>(disk: &mut D, g: &Geometry, number: usize) -> Result<u8, OpenFault>
+    requires number { number < 2 }
+    requires whole { device_size (layout_of g.now) ≤ length (D.medium disk.old).now }
+    ensures version { IfOk result (λ v. D.keeps →
+        v ≡ version_in (part (layout_of g.now) (image number) (D.medium disk.old).now)) }
+    ensures known { IfOk result (λ v. is_version v ≡ true) }
+    ensures head { OnOk result (D.keeps →
+        has_head (part (layout_of g.now) (image number) (D.medium disk.old).now) ≡ true) }
+    ensures refused { IfErr result (λ e. D.keeps → IsFault (fault_if (not (has_head
+        (part (layout_of g.now) (image number) (D.medium disk.old).now))) BadVersion None) e) }
+    ensures untouched { D.keeps → moments (D.medium disk.new) ≡ moments (D.medium disk.old) }
+    ensures counts { CountsOpenFault result (D.medium disk.old).faults (D.medium disk.new).faults }
+    ensures len { length (D.medium disk.new).now ≡ length (D.medium disk.old).now }
+{
+    let mut head = [0u8; IMAGE_HEAD_SIZE];
+    read(disk, image_at(g, number), &mut head)?;
+    if !has_head(&head) {
+        return Err(OpenFault::BadVersion);
+    }
+    Ok(head[0])
+}
