@@ -8,3 +8,5 @@ mod Served
 mod Recorded
 mod Replays
 mod Heads
+mod Walked
+mod Refusing

@@ -3,3 +3,4 @@ pub mod Recovery
 pub mod Refusals
 pub mod Formatting
 pub mod Loading
+pub mod Shown

@@ -1,12 +1,16 @@
 -- Reading a device into a tree: what its steps answer, and what they leave.
-use Rattle.std.specs.Prelude.{◌≡◌, ℕ, ◌+◌, List, Option, Some, None, is_none, Result, Ok, Err}
+use Rattle.std.specs.Prelude.{◌≡◌, ℕ, ◌+◌, Bool, not, ◌&&◌, ◌==◌, if◌then◌else◌, List, [], Option, Some, None, is_none, Result, Ok, Err}
 use Rattle.affinity.specs.declared.geometry.Geometry.{Geometry}
 use Rattle.checkpoint.specs.declared.fault.OpenFault.{OpenFault}
 use Rattle.checkpoint.specs.declared.fault.OpenFault.TheVariants.{Device, TooShort, NotFormatted, BadGeometry, OutOfMemory, BadVersion, BadPiece, BadChain, BadRecord}
-use Rattle.checkpoint.specs.Recovery.{apply}
-use Rattle.checkpoint.specs.Refusals.{fault_if, fault_of, first_bad_record}
+use Rattle.checkpoint.specs.Recovery.{apply, means}
+use Rattle.checkpoint.specs.Refusals.{fault_if, fault_of, first_bad_piece, first_bad_record}
+use Rattle.image.specs.Image.{has_head}
 use Rattle.oplog.specs.declared.fault.LogFault.{LogFault}
 use Rattle.oplog.specs.declared.fault.LogFault.TheVariants as log
+use Rattle.oplog.specs.Front.{chain, front}
+use Rattle.oplog.specs.Layout.{Layout, layout_of, other}
+use Rattle.oplog.specs.Stands.{run}
 use Rattle.plain.specs.State.{State}
 
 -- A call adds one to the count of the device's failures exactly where it answers `Device`.
@@ -36,3 +40,18 @@ record_fault g x h i bytes = fault_if (is_none (apply g x bytes)) (BadRecord h i
 -- the fault of the first of these records of half h that can't be run where it stands
 abbrev pub records_fault : Geometry → State → ℕ → List (List ℕ) → Option OpenFault
 records_fault g x h records = fault_of (BadRecord h) (first_bad_record g 0 (Some x) records) None
+
+-- why these bytes can't be read as an image
+abbrev pub image_fault : Geometry → List ℕ → Option OpenFault
+image_fault g bytes = fault_if (not (has_head bytes)) BadVersion (fault_of BadPiece (first_bad_piece g bytes) None)
+
+-- the chain bytes of both halves are 1
+abbrev pub are_chained : Layout → List ℕ → Bool
+are_chained l c = (chain l 0 c == 1) && (chain l 1 c == 1)
+
+-- the fault of the first record in force that can't be run where it stands, from a state on, with area n for the named one
+abbrev pub in_force_fault : Geometry → State → ℕ → List ℕ → Option OpenFault
+in_force_fault g x n c =
+    let l = layout_of g in
+    fault_of (BadRecord n) (first_bad_record g 0 (Some x) (front l n c))
+    (fault_of (BadRecord (other n)) (first_bad_record g 0 (run (means g) (Some x) (front l n c)) (if chain l n c == 1 then front l (other n) c else [])) None)

@@ -1,9 +1,11 @@
 //! Why a device can't be made or opened.
 ghost use Rattle.std.specs.Prelude.{◌≡◌};
+ghost use Rattle.checkpoint.specs.declared.fault.OpenFault.TheVariants.{OutOfMemory};
 ghost use Rattle.checkpoint.specs.Loading.{fault_of_log};
 
 use disk::Disk;
 use oplog::LogFault;
+use std::alloc::AllocError;
 use thiserror::Error;
 
 /// Why a device can't be made.
@@ -59,6 +61,23 @@ pub enum OpenFault {
     /// This record, told by its half and its number there, is in force and can't stand there.
     #[error("bad record {0} {1}")]
     BadRecord(usize, usize),
+}
+
+/// The device that can't be opened, and why.
+#[derive(Drop)]
+pub struct OpenError<D: Disk> {
+    /// The device.
+    pub disk: D,
+    /// What was wrong.
+    pub fault: OpenFault,
+}
+
+impl From<AllocError> for OpenFault {
+    ghost from_gives = { λ e fault. fault ≡ OutOfMemory };
+
+    fn from(_e: AllocError) -> OpenFault {
+        OpenFault::OutOfMemory
+    }
 }
 
 impl From<LogFault> for OpenFault {

@@ -9,10 +9,14 @@ mod fault;
 mod formatting;
 mod header;
 mod heading;
+mod imaging;
+mod inspecting;
+mod loading;
 mod reading;
 mod replaying;
 mod stepping;
 
-pub use fault::{FormatError, FormatFault, OpenFault};
+pub use fault::{FormatError, FormatFault, OpenError, OpenFault};
 pub use formatting::format;
+pub use inspecting::{Shown, inspect};
 pub use oplog::layout::device_len;

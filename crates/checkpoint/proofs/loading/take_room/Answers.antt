@@ -1,0 +1,12 @@
+use Rattle.std.proofs.Common.{[], sym, subst}
+use Rattle.affinity.specs.declared.geometry.Geometry.{Geometry}
+use Rattle.parcel.specs.Tree.{IsIn, in_tree}
+use Rattle.plain.specs.State.{IsState, State}
+use Rattle.plain.proofs.Kept.{empty_is_state}
+use Rattle.checkpoint.proofs.loading.take_room.Goals as goal
+
+pub returns-clause-whole : goal.returns-clause-whole
+returns-clause-whole c = record {
+  all_in = subst (λ (h : Geometry). IsIn h [] (in_tree c.in_ok-tree.tree)) (sym c.in_ok-tree.ensures.geometry) c.in_ok-tree.ensures.all_in;
+  state = subst (λ (x : State). IsState c.in_ok-tree.tree.geometry x) (sym c.in_ok-tree.ensures.empty) (empty_is_state c.in_ok-tree.tree.geometry);
+}

@@ -1,0 +1,44 @@
+-- What is loaded from a device, and what is told of it.
+use Rattle.std.specs.Prelude.{◌≡◌, ℕ, List, Some, None, length}
+use Rattle.checkpoint.specs.declared.inspecting.Shown.{Shown}
+use Rattle.checkpoint.specs.declared.loading.Loaded.{Loaded}
+use Rattle.checkpoint.specs.Header.{HasHeader}
+use Rattle.checkpoint.specs.Recovery.{holds}
+use Rattle.checkpoint.specs.Refusals.{refused}
+use Rattle.image.specs.Image.{version_in}
+use Rattle.message.specs.declared.Msg.TheVariants.{Summary}
+use Rattle.oplog.specs.Layout.{layout_of, image, part}
+use Rattle.oplog.specs.Stands.{in_force, named_area}
+use Rattle.parcel.specs.Tree.{state_in}
+use Rattle.plain.specs.Serial.{reply_to}
+use Rattle.plain.specs.State.{State}
+
+-- All was loaded from a device with these bytes, which isn't refused: the tree has the state that it stands for.
+pub record IsLoaded (c : List ℕ) (l : Loaded) : Type 0 where
+  pub header : HasHeader l.tree.geometry c
+  pub sound : refused l.tree.geometry c ≡ None
+  pub area : l.area ≡ named_area (layout_of l.tree.geometry) c
+  pub version : l.version ≡ version_in (part (layout_of l.tree.geometry) (image l.area) c)
+  pub records : l.records ≡ length (in_force (layout_of l.tree.geometry) l.area c)
+  pub state : holds l.tree.geometry c ≡ Some (state_in l.tree)
+
+-- This is told of what was loaded.
+pub record ShowsLoaded (l : Loaded) (s : Shown) : Type 0 where
+  pub geometry : s.geometry ≡ l.tree.geometry
+  pub area : s.area ≡ l.area
+  pub records : s.records ≡ l.records
+  pub version : s.version ≡ l.version
+  pub summary : s.summary ≡ reply_to l.tree.geometry (state_in l.tree) Summary
+
+-- This is what a device with these bytes holds: it isn't refused, and stands for a state of which the summary is told.
+pub record IsShown (c : List ℕ) (s : Shown) : Type 0 where
+  -- the numbers are those of its header
+  pub header : HasHeader s.geometry c
+  pub sound : refused s.geometry c ≡ None
+  pub area : s.area ≡ named_area (layout_of s.geometry) c
+  -- the front of the named half, and where that one is chained, of the other half
+  pub records : s.records ≡ length (in_force (layout_of s.geometry) s.area c)
+  pub version : s.version ≡ version_in (part (layout_of s.geometry) (image s.area) c)
+  pub state : State
+  pub held : holds s.geometry c ≡ Some state
+  pub summary : s.summary ≡ reply_to s.geometry state Summary

@@ -1,0 +1,116 @@
+//! An image, read into a tree piece by piece.
+ghost use Rattle.std.specs.Prelude.{◌≡◌, ◌↔◌, ◌+◌, ◌*◌, ◌<◌, ◌≤◌, ℕ, true, None, Some, length, IfErr, IfOk, IsOk, OnOk};
+ghost use Rattle.checkpoint.specs.declared.fault.OpenFault.TheVariants.{BadPiece};
+ghost use Rattle.checkpoint.specs.Loading.{CountsOpenFault, IsFault};
+ghost use Rattle.checkpoint.specs.Refusals.{fault_of, first_bad_piece};
+ghost use Rattle.disk.specs.Device.{moments};
+ghost use Rattle.image.specs.Image.{has_head, is_version, read, version_in};
+ghost use Rattle.image.specs.Pieces.{aggregate_of, part_of, piece_count, piece_of, piece_size, volume_of, with_piece};
+ghost use Rattle.oplog.specs.Layout.{device_size, image, layout_of, part};
+ghost use Rattle.parcel.specs.Tree.{IsWholeTree, state_in};
+ghost use Rattle.plain.specs.State.{empty};
+
+use crate::OpenFault;
+use crate::reading::read;
+use affinity::Geometry;
+use disk::Disk;
+use oplog::layout::{IMAGE_HEAD_SIZE, RECORD_SIZE, VOLUME_PIECE_SIZE, image_at};
+use parcel::{Tree, read_piece, read_piece_1};
+
+/// How many pieces an image has.
+fn piece_count(g: &Geometry) -> usize
+    ensures count { result ≡ piece_count g.now }
+    ensures most { result ≤ 288 }
+{
+    usize::from(g.aggregates) * usize::from(g.volumes) * (1 + usize::from(g.stripes))
+}
+
+/// The size of the largest piece of an image, which is one of a stripe.
+pub(crate) fn largest_piece(g: &Geometry) -> usize
+    ensures size { result ≡ g.now.quota * 520 }
+    ensures some { 0 < result }
+{
+    usize::from(g.quota) * RECORD_SIZE
+}
+
+/// The size of piece `n`.
+fn piece_size(g: &Geometry, n: usize) -> usize
+    ensures size { result ≡ piece_size g.now n }
+    ensures most { result ≤ g.now.quota * 520 }
+{
+    if n % (1 + usize::from(g.stripes)) == 0 {
+        VOLUME_PIECE_SIZE
+    } else {
+        largest_piece(g)
+    }
+}
+
+/// Takes in bytes as piece `n` of an image of this version. `BadPiece` exactly where they are none of a state that has
+/// what the tree has.
+fn take_piece(tree: &mut Tree, version: u8, n: usize, piece: &[u8]) -> Result<(), OpenFault>
+    requires whole { IsWholeTree tree.old }
+    requires known { is_version version ≡ true }
+    requires n { n < piece_count tree.old.geometry }
+    requires size { length piece.now ≡ piece_size tree.old.geometry n }
+    requires empty { part_of tree.old.geometry n ≡ 0 → (f b : ℕ) → (state_in tree.old).blocks
+        (aggregate_of tree.old.geometry n, volume_of tree.old.geometry n, f, b) ≡ None }
+    ensures good { IsOk result ↔ (piece.now ≡ piece_of version tree.old.geometry
+        (with_piece version tree.old.geometry (state_in tree.old) n piece.now) n) }
+    ensures bad { IfErr result (λ e. e ≡ BadPiece n) }
+    ensures taken { OnOk result (state_in tree.new
+        ≡ with_piece version tree.old.geometry (state_in tree.old) n piece.now) }
+    ensures whole { OnOk result (IsWholeTree tree.new) }
+    ensures geometry { tree.new.geometry ≡ tree.old.geometry }
+{
+    let taken = if version == 1 {
+        read_piece_1(tree, n, piece)
+    } else {
+        read_piece(tree, n, piece)
+    };
+    if taken.is_err() {
+        return Err(OpenFault::BadPiece(n));
+    }
+    Ok(())
+}
+
+/// Reads the pieces of an image with a head into a new tree, through a buffer. `BadPiece` exactly where one of them
+/// isn't that of what the image says, of the first of these; then the tree isn't of use any more.
+pub(crate) fn read_pieces<D: Disk>(
+    disk: &mut D,
+    tree: &mut Tree,
+    number: usize,
+    version: u8,
+    buffer: &mut [u8],
+) -> Result<(), OpenFault>
+    requires whole { IsWholeTree tree.old }
+    requires empty { state_in tree.old ≡ empty }
+    requires number { number < 2 }
+    requires known { is_version version ≡ true }
+    requires version { D.keeps → version ≡ version_in
+        (part (layout_of tree.old.geometry) (image number) (D.medium disk.old).now) }
+    requires head { D.keeps → has_head
+        (part (layout_of tree.old.geometry) (image number) (D.medium disk.old).now) ≡ true }
+    requires parts { device_size (layout_of tree.old.geometry) ≤ length (D.medium disk.old).now }
+    requires room { tree.old.geometry.quota * 520 ≤ length buffer.old }
+    ensures read { OnOk result (D.keeps → read tree.old.geometry
+        (part (layout_of tree.old.geometry) (image number) (D.medium disk.old).now) ≡ Some (state_in tree.new)) }
+    ensures good { OnOk result (D.keeps → first_bad_piece tree.old.geometry
+        (part (layout_of tree.old.geometry) (image number) (D.medium disk.old).now) ≡ None) }
+    ensures refused { IfErr result (λ e. D.keeps → IsFault (fault_of BadPiece (first_bad_piece tree.old.geometry
+        (part (layout_of tree.old.geometry) (image number) (D.medium disk.old).now)) None) e) }
+    ensures whole { OnOk result (IsWholeTree tree.new) }
+    ensures geometry { tree.new.geometry ≡ tree.old.geometry }
+    ensures untouched { D.keeps → moments (D.medium disk.new) ≡ moments (D.medium disk.old) }
+    ensures counts { CountsOpenFault result (D.medium disk.old).faults (D.medium disk.new).faults }
+    ensures len { length (D.medium disk.new).now ≡ length (D.medium disk.old).now }
+{
+    let g = tree.geometry();
+    let mut at = image_at(&g, number) + IMAGE_HEAD_SIZE as u64;
+    for n in 0..piece_count(&g) {
+        let piece = &mut buffer[..piece_size(&g, n)];
+        read(disk, at, piece)?;
+        take_piece(tree, version, n, piece)?;
+        at += piece.len() as u64;
+    }
+    Ok(())
+}

@@ -1,0 +1,78 @@
+//! What a device holds, or why it is refused.
+ghost use Rattle.std.specs.Prelude.{◌≡◌, ◌↔◌, ◌+◌, IfErr, IfOk, MatchResult, length};
+ghost use Rattle.checkpoint.specs.Refusals.{IsRefused};
+ghost use Rattle.checkpoint.specs.Shown.{IsShown, ShowsLoaded};
+ghost use Rattle.disk.specs.Device.{moments};
+ghost use Rattle.parcel.specs.Tree.{IsWholeTree};
+
+use crate::loading::{Loaded, load};
+use crate::stepping::step;
+use crate::{OpenError, OpenFault};
+use affinity::Geometry;
+use disk::Disk;
+use message::{Msg, Reply};
+use std::alloc::Global;
+
+/// What a device holds.
+#[derive(Clone, Copy, Debug, PartialEq, Eq)]
+pub struct Shown {
+    /// The numbers of its server.
+    pub geometry: Geometry,
+    /// The area that is named, 0 or 1: image and half of that number.
+    pub area: usize,
+    /// How many records are in force.
+    pub records: usize,
+    /// What `summary` is answered in the state that the device stands for.
+    pub summary: Reply,
+    /// The version of the named image.
+    pub version: u8,
+}
+
+/// Tells of what was loaded.
+fn show(loaded: Loaded) -> Shown
+    requires { IsWholeTree loaded.tree }
+    ensures { ShowsLoaded loaded result }
+{
+    let Loaded {
+        mut tree,
+        log: _,
+        area,
+        version,
+        records,
+    } = loaded;
+    let geometry = tree.geometry();
+    let summary = step(&mut tree, Msg::Summary);
+    Shown {
+        geometry,
+        area,
+        records,
+        summary,
+        version,
+    }
+}
+
+/// Tells what a device holds, and hands it back. It is only read: what a read gives, and what a crash may leave now or
+/// might have left at any moment, is as before.
+///
+/// It is refused exactly where its bytes are, with the first fault in the order of the tests: length, marks, geometry,
+/// length for that geometry, memory, the head of the named image, its pieces, the chain bytes, the records of the named
+/// half, those of the other one. `Device` exactly where the device failed.
+pub fn inspect<D: Disk>(alloc: Global, d: D) -> Result<(Shown, D), OpenError<D>>
+    ensures shown { IfOk result (λ r. D.keeps → IsShown (D.medium d).now r.0) }
+    ensures refused { IfErr result (λ e. D.keeps → IsRefused (D.medium d).now e.fault) }
+    ensures untouched { D.keeps → MatchResult result
+        (λ r. moments (D.medium r.1) ≡ moments (D.medium d))
+        (λ e. moments (D.medium e.disk) ≡ moments (D.medium d)) }
+    ensures device { IfErr result (λ e. e.fault ≡ OpenFault.Device
+        ↔ (D.medium e.disk).faults ≡ (D.medium d).faults + 1) }
+    ensures fine { IfOk result (λ r. (D.medium r.1).faults ≡ (D.medium d).faults) }
+    ensures len { MatchResult result
+        (λ r. length (D.medium r.1).now ≡ length (D.medium d).now)
+        (λ e. length (D.medium e.disk).now ≡ length (D.medium d).now) }
+{
+    let mut disk = d;
+    match load(alloc, &mut disk) {
+        Ok(loaded) => Ok((show(loaded), disk)),
+        Err(fault) => Err(OpenError { disk, fault }),
+    }
+}

@@ -1,0 +1,179 @@
+//! A device, loaded: its named image is read into a tree, and the records in force are run on it.
+ghost use Rattle.std.specs.Prelude.{◌≡◌, ◌+◌, ◌*◌, ◌<◌, ◌≤◌, ◌==◌, false, None, Some, length, IfErr, IfOk, OnOk};
+ghost use Rattle.checkpoint.specs.declared.fault.OpenFault.TheVariants.{BadChain, OutOfMemory};
+ghost use Rattle.checkpoint.specs.Loading.{CountsOpenFault, IsFault, are_chained, image_fault, in_force_fault};
+ghost use Rattle.checkpoint.specs.Recovery.{means};
+ghost use Rattle.checkpoint.specs.Refusals.{IsRefused, fault_if};
+ghost use Rattle.checkpoint.specs.Shown.{IsLoaded};
+ghost use Rattle.disk.specs.Device.{moments};
+ghost use Rattle.image.specs.Image.{read, version_in};
+ghost use Rattle.oplog.specs.Calls.{HasParts};
+ghost use Rattle.oplog.specs.Front.{chain};
+ghost use Rattle.oplog.specs.Layout.{device_size, image, layout_of, part};
+ghost use Rattle.oplog.specs.Log.{layout, new_log, renamed};
+ghost use Rattle.oplog.specs.Stands.{in_force, run};
+ghost use Rattle.parcel.specs.Tree.{IsWholeTree, state_in};
+ghost use Rattle.plain.specs.State.{empty};
+
+use crate::OpenFault;
+use crate::heading::{named_area, read_header};
+use crate::imaging::{largest_piece, read_pieces};
+use crate::reading::{is_chained, version_of};
+use crate::replaying::replay;
+use affinity::Geometry;
+use disk::Disk;
+use oplog::Halves;
+use parcel::Tree;
+use std::alloc::Global;
+
+/// What was loaded from a device.
+#[derive(Drop)]
+pub(crate) struct Loaded {
+    /// The state that the device stands for.
+    pub tree: Tree,
+    /// The log, with the named half for the current one and no room.
+    pub log: Halves,
+    /// The area that is named.
+    pub area: usize,
+    /// The version of its image.
+    pub version: u8,
+    /// How many records are in force.
+    pub records: usize,
+}
+
+/// All memory that loading a device takes: an empty tree, a log, and a buffer for the largest piece of an image.
+fn take_room(alloc: Global, g: &Geometry) -> Result<(Tree, Halves, Vec<u8>), OpenFault>
+    ensures whole { IfOk result (λ r. IsWholeTree r.0) }
+    ensures empty { IfOk result (λ r. state_in r.0 ≡ empty) }
+    ensures geometry { IfOk result (λ r. r.0.geometry ≡ g.now) }
+    ensures log { IfOk result (λ r. r.1 ≡ new_log g.now) }
+    ensures buffer { IfOk result (λ r. length r.2.items ≡ g.now.quota * 520) }
+    ensures fault { IfErr result (λ e. e ≡ OutOfMemory) }
+{
+    let tree = Tree::new(alloc, *g)?;
+    let log = Halves::new(alloc, g)?;
+    let buffer = vec![in alloc; 0u8; largest_piece(g)]?;
+    Ok((tree, log, buffer))
+}
+
+/// Reads the image of this area into an empty tree, and gives its version.
+fn read_image<D: Disk>(
+    disk: &mut D,
+    tree: &mut Tree,
+    area: usize,
+    buffer: &mut [u8],
+) -> Result<u8, OpenFault>
+    requires whole { IsWholeTree tree.old }
+    requires empty { state_in tree.old ≡ empty }
+    requires area { area < 2 }
+    requires parts { device_size (layout_of tree.old.geometry) ≤ length (D.medium disk.old).now }
+    requires room { tree.old.geometry.quota * 520 ≤ length buffer.old }
+    ensures version { IfOk result (λ v. D.keeps →
+        v ≡ version_in (part (layout_of tree.old.geometry) (image area) (D.medium disk.old).now)) }
+    ensures read { OnOk result (D.keeps → read tree.old.geometry
+        (part (layout_of tree.old.geometry) (image area) (D.medium disk.old).now) ≡ Some (state_in tree.new)) }
+    ensures sound { OnOk result (D.keeps → image_fault tree.old.geometry
+        (part (layout_of tree.old.geometry) (image area) (D.medium disk.old).now) ≡ None) }
+    ensures refused { IfErr result (λ e. D.keeps → IsFault (image_fault tree.old.geometry
+        (part (layout_of tree.old.geometry) (image area) (D.medium disk.old).now)) e) }
+    ensures whole { OnOk result (IsWholeTree tree.new) }
+    ensures geometry { OnOk result (tree.new.geometry ≡ tree.old.geometry) }
+    ensures untouched { D.keeps → moments (D.medium disk.new) ≡ moments (D.medium disk.old) }
+    ensures counts { CountsOpenFault result (D.medium disk.old).faults (D.medium disk.new).faults }
+    ensures len { length (D.medium disk.new).now ≡ length (D.medium disk.old).now }
+{
+    let version = version_of(disk, &tree.geometry(), area)?;
+    read_pieces(disk, tree, area, version, buffer)?;
+    Ok(version)
+}
+
+/// Whether the chain byte of this area's half is 1. `BadChain` exactly where those of both halves are.
+fn chain_of<D: Disk>(disk: &mut D, g: &Geometry, area: usize) -> Result<bool, OpenFault>
+    requires area { area < 2 }
+    requires parts { device_size (layout_of g.now) ≤ length (D.medium disk.old).now }
+    ensures chained { IfOk result (λ b. D.keeps →
+        b ≡ (chain (layout_of g.now) area (D.medium disk.old).now == 1)) }
+    ensures sound { OnOk result (D.keeps → are_chained (layout_of g.now) (D.medium disk.old).now ≡ false) }
+    ensures refused { IfErr result (λ e. D.keeps →
+        IsFault (fault_if (are_chained (layout_of g.now) (D.medium disk.old).now) BadChain None) e) }
+    ensures untouched { D.keeps → moments (D.medium disk.new) ≡ moments (D.medium disk.old) }
+    ensures counts { CountsOpenFault result (D.medium disk.old).faults (D.medium disk.new).faults }
+    ensures len { length (D.medium disk.new).now ≡ length (D.medium disk.old).now }
+{
+    let named = is_chained(disk, g, area)?;
+    if !named {
+        return Ok(false);
+    }
+    let behind = is_chained(disk, g, 1 - area)?;
+    if behind {
+        return Err(OpenFault::BadChain);
+    }
+    Ok(true)
+}
+
+/// Runs the records in force on the tree, where this area is named, and gives their number.
+fn replay_in_force<D: Disk>(
+    log: &mut Halves,
+    disk: &mut D,
+    area: usize,
+    chained: bool,
+    tree: &mut Tree,
+) -> Result<usize, OpenFault>
+    requires sound { log.old.failed ≡ false }
+    requires area { area < 2 }
+    requires chained { D.keeps → chained ≡ (chain (layout log.old) area (D.medium disk.old).now == 1) }
+    requires parts { HasParts log.old (D.medium disk.old) }
+    requires whole { IsWholeTree tree.old }
+    requires geometry { log.old.geometry ≡ tree.old.geometry }
+    ensures count { IfOk result (λ n. D.keeps →
+        n ≡ length (in_force (layout_of tree.old.geometry) area (D.medium disk.old).now)) }
+    ensures done { OnOk result (D.keeps → run (means tree.old.geometry) (Some (state_in tree.old))
+        (in_force (layout_of tree.old.geometry) area (D.medium disk.old).now) ≡ Some (state_in tree.new)) }
+    ensures sound { OnOk result (D.keeps →
+        in_force_fault tree.old.geometry (state_in tree.old) area (D.medium disk.old).now ≡ None) }
+    ensures refused { IfErr result (λ e. D.keeps →
+        IsFault (in_force_fault tree.old.geometry (state_in tree.old) area (D.medium disk.old).now) e) }
+    ensures whole { OnOk result (IsWholeTree tree.new) }
+    ensures geometry { OnOk result (tree.new.geometry ≡ tree.old.geometry) }
+    ensures log { OnOk result (log.new ≡ log.old) }
+    ensures untouched { D.keeps → moments (D.medium disk.new) ≡ moments (D.medium disk.old) }
+    ensures counts { CountsOpenFault result (D.medium disk.old).faults (D.medium disk.new).faults }
+    ensures len { length (D.medium disk.new).now ≡ length (D.medium disk.old).now }
+{
+    let count = replay(log, disk, area, tree)?;
+    if !chained {
+        return Ok(count);
+    }
+    let more = replay(log, disk, 1 - area, tree)?;
+    Ok(count + more)
+}
+
+/// Loads a device. It is refused exactly where its bytes are, with the first fault in the order of the tests, or where
+/// it fails or there is no memory. The device is only read.
+pub(crate) fn load<D: Disk>(alloc: Global, disk: &mut D) -> Result<Loaded, OpenFault>
+    ensures loaded { IfOk result (λ l. D.keeps → IsLoaded (D.medium disk.old).now l) }
+    ensures whole { IfOk result (λ l. IsWholeTree l.tree) }
+    ensures log { IfOk result (λ l. l.log ≡ renamed l.area (new_log l.tree.geometry)) }
+    ensures area { IfOk result (λ l. l.area < 2) }
+    ensures parts { IfOk result (λ l.
+        device_size (layout_of l.tree.geometry) ≤ length (D.medium disk.old).now) }
+    ensures refused { IfErr result (λ e. D.keeps → IsRefused (D.medium disk.old).now e) }
+    ensures untouched { D.keeps → moments (D.medium disk.new) ≡ moments (D.medium disk.old) }
+    ensures counts { CountsOpenFault result (D.medium disk.old).faults (D.medium disk.new).faults }
+    ensures len { length (D.medium disk.new).now ≡ length (D.medium disk.old).now }
+{
+    let g = read_header(disk)?;
+    let (mut tree, mut log, mut buffer) = take_room(alloc, &g)?;
+    let area = named_area(disk, &g)?;
+    let version = read_image(disk, &mut tree, area, &mut buffer)?;
+    let chained = chain_of(disk, &g, area)?;
+    log.name(area);
+    let records = replay_in_force(&mut log, disk, area, chained, &mut tree)?;
+    Ok(Loaded {
+        tree,
+        log,
+        area,
+        version,
+        records,
+    })
+}
