@@ -1,12 +1,13 @@
 -- Worked examples of the definitions, on a small server: one volume of two files of four blocks, in two stripes that
 -- hold two blocks each, and four records in a half. Its device has 8,840 bytes.
-use Rattle.std.proofs.Common.{◌≡◌, ℕ, ◌+◌, List, ◌∷◌, ◌++◌, take, drop, replicate, Option, Some, None, refl}
+use Rattle.std.proofs.Common.{◌≡◌, ℕ, ◌+◌, ◌%◌, List, ◌∷◌, ◌++◌, take, drop, get_or, replicate, Option, Some, None, refl, ap, arith, lit≤}
+use Rattle.affinity.specs.declared.geometry.Geometry.{Geometry}
 use Rattle.affinity.specs.Geometry.{small, standard}
 use Rattle.checkpoint.specs.declared.fault.OpenFault.{OpenFault}
 use Rattle.checkpoint.specs.declared.fault.OpenFault.TheVariants.{TooShort, BadVersion, BadPiece, BadChain, BadRecord}
 use Rattle.checkpoint.specs.Header.{header_of}
 use Rattle.checkpoint.specs.Recovery.{holds}
-use Rattle.checkpoint.specs.Refusals.{refused}
+use Rattle.checkpoint.specs.Refusals.{HasNoGeometry, IsUnformatted, refused}
 use Rattle.message.specs.declared.Reply.{Reply}
 use Rattle.message.specs.declared.Reply.TheVariants.{Summary}
 use Rattle.message.specs.declared.Msg.TheVariants.{Summary as AskSummary}
@@ -21,6 +22,31 @@ header_of_small = refl
 size_of_the_standard : device_size (layout_of standard) ≡ 1332608
 unfolding image_size
 size_of_the_standard = refl
+
+-- each number as great as it may be
+abbrev greatest : Geometry
+greatest = record {
+  aggregates = 4;
+  volumes = 8;
+  stripes = 8;
+  width = 64;
+  files = 64;
+  blocks = 256;
+  quota = 64;
+  half = 1024;
+  aggregates_range = (lit≤ tt, lit≤ tt);
+  volumes_range = (lit≤ tt, lit≤ tt);
+  stripes_range = (lit≤ tt, lit≤ tt);
+  width_range = (lit≤ tt, lit≤ tt);
+  files_range = (lit≤ tt, lit≤ tt);
+  blocks_range = (lit≤ tt, lit≤ tt);
+  quota_range = (lit≤ tt, lit≤ tt);
+  half_range = (lit≤ tt, lit≤ tt);
+}
+
+size_of_the_greatest : device_size (layout_of greatest) ≡ 18110848
+unfolding image_size
+size_of_the_greatest = refl
 
 -- ---- a formatted device, whose image 0 has version 2
 
@@ -53,6 +79,20 @@ a_record_is_run = refl
 version_1 : summary_with (changed 4424 1 (changed 4488 1 formatted)) ≡ Some (Summary 1 0 0)
 unfolding image_size message_in_fields kind_numbered data_of
 version_1 = refl
+
+-- ---- headers of no device
+
+gate_shut : IsUnformatted (changed 0 0 formatted)
+gate_shut = (lit≤ tt, λ are. let gate : 0 ≡ 1 = ap (λ (l : List ℕ). get_or l 0 0) are in absurd (omega (arith, gate)))
+
+other_marks : IsUnformatted (changed 1 0 formatted)
+other_marks = (lit≤ tt, λ are. let mark : 0 ≡ 87 = ap (λ (l : List ℕ). get_or l 1 0) are in absurd (omega (arith, mark)))
+
+too_many_aggregates : HasNoGeometry (changed 8 5 formatted)
+too_many_aggregates = (lit≤ tt, refl, λ g head. let number : 5 ≡ g.aggregates % 256 = ap (λ (l : List ℕ). get_or l 8 0) head in absurd (omega (arith, number, g.aggregates_range)))
+
+more_than_numbers : HasNoGeometry (changed 24 1 formatted)
+more_than_numbers = (lit≤ tt, refl, λ g head. let behind : 1 ≡ 0 = ap (λ (l : List ℕ). get_or l 24 0) head in absurd (omega (arith, behind)))
 
 -- ---- damage
 

@@ -10,10 +10,10 @@ use std::process::Abort;
 use std::test::Fail;
 
 /// One volume of two files of four blocks, in two stripes that hold two blocks each, and four records in a half.
-const SMALL: [u16; 8] = [1, 1, 2, 1, 2, 4, 2, 4];
+pub(crate) const SMALL: [u16; 8] = [1, 1, 2, 1, 2, 4, 2, 4];
 
 /// The length of its device.
-const LEN: usize = 8840;
+pub(crate) const LEN: usize = 8840;
 
 /// The header of its device, but for the zeros behind.
 const HEADER: [u8; 24] = [
@@ -23,7 +23,7 @@ const HEADER: [u8; 24] = [
 /// More calls of the device than the making of one takes.
 const CALLS: u64 = 15;
 
-fn holds(rt: &impl Abort, fact: bool) {
+pub(crate) fn holds(rt: &impl Abort, fact: bool) {
     assert!(rt; fact);
 }
 
@@ -42,7 +42,7 @@ fn torn(alloc: Global, kind: usize) -> Result<Torn, AllocError>
 }
 
 /// Sets a byte, if there is one.
-fn put(bytes: &mut [u8], at: usize, byte: u8) {
+pub(crate) fn put(bytes: &mut [u8], at: usize, byte: u8) {
     if let Some(there) = bytes.get_mut(at) {
         *there = byte;
     }
@@ -79,7 +79,7 @@ fn old_bytes(alloc: Global, len: usize, which: usize) -> Result<Vec<u8>, AllocEr
 }
 
 /// The same once an empty device is made of it: what lies in the records and in image 1 stays.
-fn new_bytes(alloc: Global, len: usize, which: usize) -> Result<Vec<u8>, AllocError> {
+pub(crate) fn new_bytes(alloc: Global, len: usize, which: usize) -> Result<Vec<u8>, AllocError> {
     let mut bytes = old_bytes(alloc, len, which)?;
     begin(&mut bytes, &HEADER);
     clear(&mut bytes, 64, 196);

@@ -1,4 +1,4 @@
-use Rattle.std.proofs.Common.{◌≡◌, ℕ, ◌+◌, ◌==◌, Bool, false, true, List, length, Option, Some, sym, ◌∙◌, ap, subst}
+use Rattle.std.proofs.Common.{◌≡◌, ℕ, ◌+◌, ◌==◌, Bool, false, true, List, length, Option, Some, sym, ◌∙◌, ap, subst, arith}
 use Rattle.std.proofs.lemmas.Result.{err_from_is_err_and}
 use Rattle.affinity.specs.declared.geometry.Geometry.{Geometry}
 use Rattle.checkpoint.specs.Loading.{IsFault, records_fault}
@@ -64,13 +64,15 @@ returns-clause-count g c = λ k.
     let now = (g.D.Disk.medium c.args.disk.now).now in
     let same = same_bytes (g.D.Disk.medium c.args.disk.now) (g.D.Disk.medium c.replay.new.disk) (c.replay.ensures.untouched k) in
     let log : c.replay.new.log.geometry ≡ c.args.tree.now.geometry = ap (λ (l : Log). l.geometry) c.in_ok-count.ensures.log ∙ c.requires.geometry in
-    (λ i. (c.in_ok-count.ensures.count k ∙ ap (λ (h : Geometry). length (front (layout_of h) c.args.area now)) c.requires.geometry) i
-        + (c.in_ok-more.ensures.count k ∙ (λ j. length (front (layout_of (log j)) (other c.args.area) (same j)))) i)
-    ∙ both_count c.args.tree.now.geometry (state_in c.args.tree.now) c.args.area now (state_in c.replay.new.tree)
-      (sym (ap (λ (h : Geometry). run (means c.args.tree.now.geometry) (Some (state_in c.args.tree.now)) (front (layout_of h) c.args.area now)) c.requires.geometry) ∙ c.in_ok-count.ensures.done k)
-      (sym (ap (λ (h : Geometry). chain (layout_of h) c.args.area now == 1) c.requires.geometry) ∙ sym (c.requires.chained k) ∙ c.if-not-chained.false)
-      (state_in c.replay-2.new.tree)
-      (sym (λ i. run (means (c.in_ok-count.ensures.geometry i)) (Some (state_in c.replay.new.tree)) (front (layout_of (log i)) (other c.args.area) (same i))) ∙ c.in_ok-more.ensures.done k)
+    let first = c.in_ok-count.ensures.count k ∙ ap (λ (h : Geometry). length (front (layout_of h) c.args.area now)) c.requires.geometry in
+    let second = c.in_ok-more.ensures.count k ∙ (λ j. length (front (layout_of (log j)) (other c.args.area) (same j))) in
+    let both =
+    both_count c.args.tree.now.geometry (state_in c.args.tree.now) c.args.area now (state_in c.replay.new.tree)
+    (sym (ap (λ (h : Geometry). run (means c.args.tree.now.geometry) (Some (state_in c.args.tree.now)) (front (layout_of h) c.args.area now)) c.requires.geometry) ∙ c.in_ok-count.ensures.done k)
+    (sym (ap (λ (h : Geometry). chain (layout_of h) c.args.area now == 1) c.requires.geometry) ∙ sym (c.requires.chained k) ∙ c.if-not-chained.false)
+    (state_in c.replay-2.new.tree)
+    (sym (λ i. run (means (c.in_ok-count.ensures.geometry i)) (Some (state_in c.replay.new.tree)) (front (layout_of (log i)) (other c.args.area) (same i))) ∙ c.in_ok-more.ensures.done k) in
+    omega (arith, first, second, both)
 
 pub returns-clause-done : goal.returns-clause-done
 returns-clause-done g c = λ k.
