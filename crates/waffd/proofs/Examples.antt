@@ -1,27 +1,32 @@
--- What words that are written out ask for. The program's own name is any text.
-use Rattle.std.proofs.Common.{◌≡◌, ℕ, List, [], ◌∷◌, codes, refl, sym, subst, lit≤, arith, ◌≤◌}
-use Rattle.affinity.specs.Geometry.{standard}
+-- What words that are written out ask for, and what is printed. The program's own name is any text.
+use Rattle.std.proofs.Common.{◌≡◌, ◌++◌, ℕ, List, [], ◌∷◌, codes, refl, sym, subst, lit≤, arith, ◌≤◌}
+use Rattle.std.specs.Fmt.{digits}
+use Rattle.affinity.specs.Geometry.{small, standard}
+use Rattle.checkpoint.specs.declared.inspecting.Shown.{Shown}
+use Rattle.message.specs.declared.Reply.TheVariants.{Summary}
+use Rattle.oplog.specs.Layout.{image_size}
 use Rattle.clap.proofs.OnLiterals.{clap_on_literals}
-use Rattle.waffd.specs.Words.{AsksHelp, AsksNoService, AsksOutOfRange, AsksPlain, IsWrong}
+use Rattle.waffd.specs.Lines.{formatted_line, shown_lines}
+use Rattle.waffd.specs.Words.{AsksFormat, AsksHelp, AsksNoService, AsksOutOfRange, AsksPlain, AsksShow, IsWrong}
 
 pub asks_plain : (program : List ℕ) → AsksPlain (program ∷ codes "plain" ∷ []) standard
 unfolding clap_on_literals
-asks_plain program = (refl, refl)
+asks_plain program = (refl, (λ e. cc, λ e. cc), refl)
 
 pub asks_alone : (words : List (List ℕ)) (program : List ℕ) → words ≡ program ∷ codes "plain" ∷ [] → AsksPlain words standard
 asks_alone words program are = subst (λ (ws : List (List ℕ)). AsksPlain ws standard) (sym are) (asks_plain program)
 
 pub asks_two_files : (program : List ℕ) → AsksPlain (program ∷ codes "plain" ∷ codes "--files" ∷ codes "2" ∷ []) (record standard { files = 2; files_range = (lit≤ tt, lit≤ tt) })
 unfolding clap_on_literals
-asks_two_files program = (refl, refl)
+asks_two_files program = (refl, (λ e. cc, λ e. cc), refl)
 
 pub asks_two_files_at_once : (program : List ℕ) → AsksPlain (program ∷ codes "plain" ∷ codes "--files=2" ∷ []) (record standard { files = 2; files_range = (lit≤ tt, lit≤ tt) })
 unfolding clap_on_literals
-asks_two_files_at_once program = (refl, refl)
+asks_two_files_at_once program = (refl, (λ e. cc, λ e. cc), refl)
 
 pub asks_short_half : (program : List ℕ) → AsksOutOfRange (program ∷ codes "plain" ∷ codes "--half" ∷ codes "3" ∷ [])
 unfolding clap_on_literals
-asks_short_half program = (refl, λ in_range. let least : 4 ≤ 3 = in_range.7.0 in absurd (omega (arith, least)))
+asks_short_half program = (refl, λ e. cc, λ in_range. let least : 4 ≤ 3 = in_range.7.0 in absurd (omega (arith, least)))
 
 pub asks_help : (program : List ℕ) → AsksHelp (program ∷ codes "--help" ∷ [])
 unfolding clap_on_literals
@@ -46,3 +51,41 @@ nothing_is_wrong program = (λ e. cc, refl)
 pub large_number_is_wrong : (program : List ℕ) → IsWrong (program ∷ codes "plain" ∷ codes "--files" ∷ codes "65536" ∷ [])
 unfolding clap_on_literals
 large_number_is_wrong program = (λ e. cc, refl)
+
+pub asks_format : (program : List ℕ) → AsksFormat (program ∷ codes "format" ∷ codes "d" ∷ []) (codes "d") standard
+unfolding clap_on_literals
+asks_format program = (refl, refl, refl, refl)
+
+pub asks_format_behind_an_option : (program : List ℕ)
+    → AsksFormat (program ∷ codes "format" ∷ codes "--files=2" ∷ codes "d" ∷ []) (codes "d") (record standard { files = 2; files_range = (lit≤ tt, lit≤ tt) })
+unfolding clap_on_literals
+asks_format_behind_an_option program = (refl, refl, refl, refl)
+
+pub asks_format_of_short_half : (program : List ℕ) → AsksOutOfRange (program ∷ codes "format" ∷ codes "d" ∷ codes "--half" ∷ codes "3" ∷ [])
+unfolding clap_on_literals
+asks_format_of_short_half program = (refl, λ e. cc, λ in_range. let least : 4 ≤ 3 = in_range.7.0 in absurd (omega (arith, least)))
+
+pub asks_show : (program : List ℕ) → AsksShow (program ∷ codes "show" ∷ codes "d" ∷ []) (codes "d")
+unfolding clap_on_literals
+asks_show program = (refl, refl, refl)
+
+pub no_device_is_wrong : (program : List ℕ) → IsWrong (program ∷ codes "show" ∷ [])
+unfolding clap_on_literals
+no_device_is_wrong program = (λ e. cc, refl)
+
+pub options_of_show_are_wrong : (program : List ℕ) → IsWrong (program ∷ codes "show" ∷ codes "d" ∷ codes "--files" ∷ codes "2" ∷ [])
+unfolding clap_on_literals
+options_of_show_are_wrong program = (λ e. cc, refl)
+
+-- ---- what is printed of the small device
+
+small_is_formatted : formatted_line small ≡ codes "formatted 8840" ++ 10 ∷ []
+unfolding image_size digits
+small_is_formatted = refl
+
+abbrev just_made : Shown
+just_made = record { geometry = small; area = 0; records = 0; summary = Summary 0 0 0; version = 2 }
+
+small_is_shown : shown_lines just_made ≡ (codes "geometry 1 1 2 1 2 4 2 4" ++ 10 ∷ []) ++ (codes "area 0" ++ 10 ∷ []) ++ (codes "records 0" ++ 10 ∷ []) ++ (codes "summary 0 0 0" ++ 10 ∷ []) ++ (codes "image 2" ++ 10 ∷ [])
+unfolding digits
+small_is_shown = refl

@@ -1,10 +1,11 @@
 -- The options of a command, and the numbers that they give.
-use Rattle.std.proofs.Common.{◌≡◌, ◌∙◌, ◌||◌, ◌&&◌, ap₂, refl, ℕ, Bool, true, false, List, [], ◌∷◌, length, Option, Some, None, nat_lt, ltb-true, lt-ltb}
-use Rattle.std.specs.Prelude.{Result, Ok, Err, option_and_then}
+use Rattle.std.proofs.Common.{◌≡◌, ◌∙◌, ◌&&◌, refl, ℕ, Bool, true, false, not, List, [], ◌∷◌, length, Option, Some, None, nat_lt, ltb-true, lt-ltb}
+use Rattle.std.specs.Prelude.{Result, Ok, Err, option_and_then, option_map, unwrap_or}
+use Rattle.std.specs.Borrow.{Bor}
 use Rattle.std.specs.Char.{digit_value}
 use Rattle.std.specs.List.{list_all}
 use Rattle.std.specs.Str.Parse.{AllDigits, ParsesUnsigned, digits_value, without_leading_plus}
-use Rattle.std.proofs.lemmas.Bool.{and_parts}
+use Rattle.std.proofs.lemmas.Bool.{and_parts, not-true}
 use Rattle.affinity.specs.declared.geometry.Geometry.{Geometry}
 use Rattle.affinity.specs.Geometry.{numbers_of}
 use Rattle.affinity.specs.Limits.{AreInRange}
@@ -12,9 +13,14 @@ use Rattle.clap.specs.Words.{Text}
 use Rattle.clap.specs.Matches.{ReadsOne}
 use Rattle.waffd.specs.Words.{number_of}
 
--- a flag that comes from two others is off where both are
-pub none_or_none : {both one other : Bool} → one ≡ false → other ≡ false → both ≡ (one || other) → both ≡ false
-none_or_none p q e = e ∙ ap₂ (λ a b. a || b) p q
+-- a command that is plain has no argument for the commands below it
+pub no_globals : (groups external globals rest : Bool) → (groups && (external && (not globals && rest))) ≡ true → globals ≡ false
+no_globals groups external globals rest plain = not-true _ (and_parts _ _ (and_parts _ _ (and_parts _ _ plain).1).1).0
+
+-- the text that is given, or none
+pub unwrap_or-now : (given : Option (Bor (List ℕ))) (none : Bor (List ℕ)) → none.now ≡ [] → (unwrap_or given none).now ≡ unwrap_or (option_map (λ s. s.now) given) []
+unwrap_or-now None none empty = empty
+unwrap_or-now (Some text) none empty = refl
 
 -- ---- a number as text
 

@@ -8,7 +8,7 @@ use Rattle.clap.specs.declared.error.kind.ErrorKind.TheVariants as kind
 use Rattle.waffd.specs.Words.{Asks, IsReason, IsRequested, findings, waffd, answer_by, answer_of, is_mistake}
 use Rattle.waffd.specs.declared.faults.Fault.TheVariants.{GeometryOutOfRange}
 use Rattle.waffd.specs.declared.words.Request.{Request}
-use Rattle.waffd.specs.declared.words.Request.TheVariants.{Plain}
+use Rattle.waffd.specs.declared.words.Request.TheVariants.{Plain, Format, Show}
 use Rattle.waffd.specs.declared.words.Refusal.TheVariants.{Fault}
 use Rattle.waffd.specs.declared.words.Refusal.{Refusal}
 use Rattle.std.specs.Result.{IfErr, IfOk, MatchResult}
@@ -34,8 +34,10 @@ holds words error h = holds_by words error (kind_of error) refl h
 
 -- and so does what the options ask for, where nothing is wrong with the words
 pub holds_requested : (words : List Text) (r : Result Request Refusal) → findings words ≡ [] → IsRequested (subcommand_of waffd words) r → Holds words r
-holds_requested words (Ok (Plain g)) nothing is = (nothing, is)
-holds_requested words (Err (Fault GeometryOutOfRange)) nothing is = (nothing, is)
+holds_requested words (Ok (Plain g)) nothing is = (nothing, is.0, is.1)
+holds_requested words (Ok (Format path g)) nothing is = (nothing, is.0, is.1, is.2)
+holds_requested words (Ok (Show path)) nothing is = (nothing, is.0, is.1)
+holds_requested words (Err (Fault GeometryOutOfRange)) nothing is = (nothing, is.0, is.1)
 holds_requested words _ nothing is = absurd is
 
 pub if_ok : (words : List Text) (r : Result Request Refusal) → Holds words r → IfOk r (Asks words)

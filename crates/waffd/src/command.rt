@@ -3,16 +3,18 @@ ghost use Rattle.std.specs.Prelude.{◌≡◌, ◌⊎◌, ℕ, List, [], ◌∷�
 ghost use Rattle.std.specs.IoError.{error_kind};
 ghost use Rattle.affinity.specs.Geometry.{standard};
 ghost use Rattle.waffd.specs.Faults.{status_of, status_without_words};
-ghost use Rattle.waffd.specs.Ends.{Ends, EndsHelp, EndsPlain, EndsRefused};
-ghost use Rattle.waffd.specs.Words.{AsksHelp, AsksNoService, AsksPlain, IsRefused};
+ghost use Rattle.waffd.specs.Ends.{Ends, EndsFormat, EndsHelp, EndsPlain, EndsRefused, EndsShow};
+ghost use Rattle.waffd.specs.Words.{AsksFormat, AsksHelp, AsksNoService, AsksPlain, AsksShow, IsRefused};
 ghost use Rattle.affinity.specs.declared.geometry.Geometry.{Geometry};
 
-use crate::commands::answer_input;
+use crate::commands::{answer_input, format_device, show_device};
 use crate::faults::Fault;
 use crate::words::{Refusal, Request, read_words};
 use std::alloc::Global;
+use std::fs::File;
 use std::io;
 use std::io::{ErrorKind, Read, Write};
+use std::rt::Files;
 
 /// The exit status where the words are wrong.
 const WRONG_WORDS: u8 = 2;
@@ -24,13 +26,14 @@ For more information, try '--help'.
 ";
 
 /// Does what was asked for, from `r` to `w`.
-pub fn run<R: Read, W: Write>(
+pub fn run<T: Files<File = File>, R: Read, W: Write>(
+    rt: &T,
     alloc: Global,
-    request: Request,
+    request: Request<'_>,
     r: &mut R,
     w: &mut W,
 ) -> Result<(), Fault>
-    ensures { Ends request result (R.remaining r.old) (R.remaining r.new)
+    ensures { Ends request.entry result (R.remaining r.old) (R.remaining r.new)
         (W.contents w.old) (W.contents w.new) }
 {
     match request {
@@ -39,6 +42,8 @@ pub fn run<R: Read, W: Write>(
             w.flush().map_err(|_| Fault::Write)
         }
         Request::Plain(geometry) => answer_input(alloc, &geometry, r, w),
+        Request::Format(path, geometry) => format_device(rt, alloc, path, geometry, w),
+        Request::Show(path) => show_device(rt, alloc, path, w),
     }
 }
 
@@ -63,8 +68,9 @@ pub fn report_unread_words<E: Write>(error: &io::Error, e: &mut E) -> u8
 }
 
 /// Reads the words, the program's own name first, does what they ask for from `r` to `w`, prints a
-/// fault on `e`, and answers the exit status.
-pub fn command<R: Read, W: Write, E: Write>(
+/// fault on `e`, and answers the exit status. Files are those of `rt`.
+pub fn command<T: Files<File = File>, R: Read, W: Write, E: Write>(
+    rt: &T,
     alloc: Global,
     words: &[String],
     r: &mut R,
@@ -77,6 +83,12 @@ pub fn command<R: Read, W: Write, E: Write>(
     ensures plain { (program : List ℕ) → map string_bytes words.now ≡ program ∷ codes "plain" ∷ []
         → EndsPlain standard result (R.remaining r.old) (R.remaining r.new)
         (W.contents w.old) (W.contents w.new) }
+    ensures formatted { (path : List ℕ) → (g : Geometry) → AsksFormat (map string_bytes words.now) path g
+        → EndsFormat g result (W.contents w.old) (W.contents w.new)
+        × (R.remaining r.new ≡ R.remaining r.old) }
+    ensures shown { (path : List ℕ) → AsksShow (map string_bytes words.now) path
+        → EndsShow result (W.contents w.old) (W.contents w.new)
+        × (R.remaining r.new ≡ R.remaining r.old) }
     ensures help { AsksHelp (map string_bytes words.now)
         → EndsHelp result × (R.remaining r.new ≡ R.remaining r.old) }
     ensures refused { IsRefused (map string_bytes words.now)
@@ -94,7 +106,7 @@ pub fn command<R: Read, W: Write, E: Write>(
             return WRONG_WORDS;
         }
     };
-    match run(alloc, request, r, w) {
+    match run(rt, alloc, request, r, w) {
         Ok(()) => 0,
         Err(fault) => report(fault, e),
     }

@@ -4,6 +4,7 @@
 mod command;
 mod commands;
 mod faults;
+mod lines;
 mod streams;
 #[cfg(test)]
 mod tests;
@@ -24,6 +25,7 @@ fn main(rt: HostRuntime) -> ExitCode {
     let _kept_to_the_end = take_stream_numbers(&rt);
     let status = match called_with(&rt) {
         Ok(words) => command(
+            &rt,
             rt.alloc(),
             words.as_slice(),
             &mut rt.stdin(),

@@ -1,7 +1,7 @@
 //! The words that the program is called with, and what they ask for.
 ghost use Rattle.std.specs.Prelude.{◌≡◌, IfOk, IfErr, false, map, string_bytes};
-ghost use Rattle.clap.specs.Words.{app_of, found_of, new_app, rows_of, rule_of, subcommand_rows_of};
-ghost use Rattle.waffd.specs.Words.{Asks, IsReason, IsRequested, IsSubcommand, answer_of, no_memory, number_in, number_rule, numbers_in, waffd, with_numbers};
+ghost use Rattle.clap.specs.Words.{app_of, found_of, new_app, rows_of, rule_of, subcommand_rows_of, with_rule};
+ghost use Rattle.waffd.specs.Words.{Asks, GivesGeometry, IsReason, IsRequested, answer_of, device_in, device_rule, no_memory, number_in, number_rule, numbers_in, waffd, with_numbers};
 
 use crate::faults::Fault;
 use affinity::{BadGeometry, Geometry};
@@ -9,8 +9,15 @@ use clap::error::ErrorKind;
 use clap::{Arg, ArgMatches, Command, value_parser};
 use std::alloc::{AllocError, Global};
 
-/// What help says of the command `plain`.
+// What help says of the commands.
 const PLAIN: &str = "Answers the messages on standard input, one line each, from an empty state on";
+
+const FORMAT: &str = "Makes a device of an empty state in a file, instead of a file that is there";
+
+const SHOW: &str = "Tells what the device in a file holds, and leaves it as it is";
+
+/// What help says of the file of a device.
+const DEVICE: &str = "The file of the device";
 
 // What help says of the options of a geometry.
 const AGGREGATES: &str = "Aggregates, 1 to 4 [default: 1]";
@@ -31,11 +38,15 @@ const HALF: &str = "Records in each half of the log, 4 to 1024 [default: 256]";
 
 /// What the words ask for.
 #[derive(Drop)]
-pub enum Request {
+pub enum Request<'a> {
     /// Print this text of `clap`.
     Help(clap::Error),
     /// Serve standard input to standard output, without a device.
     Plain(Geometry),
+    /// Make a device of this geometry in the file of this path.
+    Format(&'a str, Geometry),
+    /// Tell what the device in the file of this path holds.
+    Show(&'a str),
 }
 
 /// Why the words give no request.
@@ -56,7 +67,7 @@ impl From<AllocError> for Refusal {
 }
 
 /// What an error of `clap` stands for: help, a mistake in the words, or want of memory.
-fn answered(error: clap::Error) -> Result<Request, Refusal>
+fn answered<'a>(error: clap::Error) -> Result<Request<'a>, Refusal>
     ensures { result ≡ answer_of error }
 {
     if error.kind() == ErrorKind::OutOfMemory {
@@ -80,16 +91,22 @@ fn number<'a>(alloc: Global, name: &'a str, help: &'a str) -> Arg<'a>
         .help(help)
 }
 
-/// A command with the options of a geometry.
-fn with_geometry<'a>(
-    alloc: Global,
-    name: &'a str,
-    about: &'a str,
-) -> Result<Command<'a>, AllocError>
-    ensures { IfOk result (IsSubcommand (with_numbers (new_app name.entry.now)).top) }
+/// The argument that tells the file of a device. It has to be given.
+fn device<'a>(alloc: Global) -> Arg<'a>
+    ensures rule { rule_of result ≡ device_rule }
+    ensures local { result.global ≡ false }
 {
-    Command::new(alloc, name)
-        .about(about)
+    Arg::new(alloc, "device")
+        .value_name("DEVICE")
+        .required(true)
+        .help(DEVICE)
+}
+
+/// The command with the options of a geometry added.
+fn with_geometry<'a>(alloc: Global, command: Command<'a>) -> Result<Command<'a>, AllocError>
+    ensures { IfOk result (λ c. app_of c ≡ with_numbers (app_of command.entry)) }
+{
+    command
         .arg(number(alloc, "aggregates", AGGREGATES))?
         .arg(number(alloc, "volumes", VOLUMES))?
         .arg(number(alloc, "stripes", STRIPES))?
@@ -100,15 +117,27 @@ fn with_geometry<'a>(
         .arg(number(alloc, "half", HALF))
 }
 
+/// A command with the file of a device.
+fn of_device<'a>(alloc: Global, name: &'a str, about: &'a str) -> Result<Command<'a>, AllocError>
+    ensures { IfOk result (λ c. app_of c ≡ with_rule (new_app name.entry.now) device_rule) }
+{
+    Command::new(alloc, name).about(about).arg(device(alloc))
+}
+
 /// The commands of the program, each with its options.
 fn commands<'a>(alloc: Global) -> Result<Command<'a>, AllocError>
     ensures { IfOk result (λ command. app_of command ≡ waffd) }
 {
+    let plain = with_geometry(alloc, Command::new(alloc, "plain").about(PLAIN))?;
+    let format = with_geometry(alloc, of_device(alloc, "format", FORMAT)?)?;
+    let show = of_device(alloc, "show", SHOW)?;
     Command::new(alloc, "waffd")
         .about("A server for messages about files of 512-byte blocks")
         .subcommand_required(true)
         .arg_required_else_help(true)
-        .subcommand(with_geometry(alloc, "plain", PLAIN)?)
+        .subcommand(plain)?
+        .subcommand(format)?
+        .subcommand(show)
 }
 
 /// The number that was given to an option, or the program's own.
@@ -135,22 +164,40 @@ fn numbers_given(options: &ArgMatches<'_>) -> [u16; 8]
     ]
 }
 
-/// What the words ask for, where `clap` found nothing wrong with them.
-fn requested(matches: &ArgMatches<'_>) -> Result<Request, Refusal>
-    ensures { IsRequested (subcommand_rows_of matches.now) result }
+/// The geometry that the options ask for.
+fn geometry_given(options: &ArgMatches<'_>) -> Result<Geometry, Refusal>
+    ensures { GivesGeometry (numbers_in (rows_of (found_of options.now))) result }
 {
-    let numbers = match matches.subcommand() {
-        Some((_plain, options)) => numbers_given(options),
-        None => Geometry::default().numbers(),
-    };
-    match Geometry::new(numbers) {
-        Ok(geometry) => Ok(Request::Plain(geometry)),
+    match Geometry::new(numbers_given(options)) {
+        Ok(geometry) => Ok(geometry),
         Err(BadGeometry) => Err(Refusal::Fault(Fault::GeometryOutOfRange)),
     }
 }
 
+/// The file of the device that was given.
+fn device_given<'a>(options: &ArgMatches<'a>) -> &'a str
+    ensures { result.now ≡ device_in (rows_of (found_of options.now)) }
+{
+    options.get_str("device").unwrap_or("")
+}
+
+/// What the words ask for, where `clap` found nothing wrong with them.
+fn requested<'a>(matches: &ArgMatches<'a>) -> Result<Request<'a>, Refusal>
+    ensures { IsRequested (subcommand_rows_of matches.now) result }
+{
+    match matches.subcommand() {
+        Some(("format", options)) => Ok(Request::Format(
+            device_given(options),
+            geometry_given(options)?,
+        )),
+        Some(("show", options)) => Ok(Request::Show(device_given(options))),
+        Some((_plain, options)) => Ok(Request::Plain(geometry_given(options)?)),
+        None => Ok(Request::Plain(Geometry::default())),
+    }
+}
+
 /// What the words ask for, the program's own name first.
-pub fn read_words(alloc: Global, words: &[String]) -> Result<Request, Refusal>
+pub fn read_words<'a>(alloc: Global, words: &'a [String]) -> Result<Request<'a>, Refusal>
     ensures ok { IfOk result (Asks (map string_bytes words.now)) }
     ensures err { IfErr result (IsReason (map string_bytes words.now)) }
 {

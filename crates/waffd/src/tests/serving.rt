@@ -1,6 +1,5 @@
 //! Calls of the command `plain` on messages.
-use super::{Ended, call, call_to, expect};
-use std::alloc::{AllocError, Global};
+use super::{call, call_to, expect};
 use std::cell::Cell;
 use std::io;
 use std::io::{Read, Write};
@@ -38,42 +37,46 @@ impl Read for Failing<'_> {
     }
 }
 
-const PLAIN: [&str; 2] = ["waffd", "plain"];
+const PLAIN: &str = "waffd plain";
 
-fn serve(alloc: Global, input: &[u8]) -> Result<Ended, AllocError> {
-    call(alloc, PLAIN.as_slice(), input)
-}
-
-const MADE: &[u8] = b"makevol 0 0\ncreate 0 0 0\nwrite 0 0 0 0 6162\nread 0 0 0 0\n";
-
-#[test]
-fn answers_each_line_with_a_line(rt: HostRuntime) -> Result<(), Fail> {
-    let rows = [
-        (b"".as_slice(), ""),
-        (MADE, "done\ndone\ndone\nblock 6162\n"),
-        (
-            b"makevol 0 0\ncreate 0 0 0\nwrite 0 0 0 0 00\nread 0 0 0 0\n".as_slice(),
-            "done\ndone\ndone\nblock 00\n",
-        ),
-        (b"makevol 0 4\n".as_slice(), "error range\n"),
-        (b"write 0 0 0 0 61\n".as_slice(), "error volume\n"),
-        (
-            b"makevol 0 0\ncreate 0 0 0\nread 0 0 0 63\nread 0 0 0 64\n".as_slice(),
-            "done\ndone\nhole\nerror range\n",
-        ),
-        (
-            b"makevol 0 0\nmakevol 0 0".as_slice(),
-            "done\nerror exists\n",
-        ),
-    ];
-    for (input, want) in rows {
-        let ended = serve(rt.alloc(), input)?;
-        expect("lines", &ended, 0, want, "")?;
+/// That each of these words on this input ends well with this output.
+fn expect_rows(rt: &HostRuntime, rows: &[(&str, &str, &str)]) -> Result<(), Fail> {
+    for (words, input, output) in rows {
+        let ended = call(rt, words, input.as_bytes())?;
+        expect(words, &ended, 0, output, "")?;
     }
     Ok(())
 }
 
-const EACH_KIND: &[u8] = b"makevol 0 0
+const MADE: &str = "makevol 0 0\ncreate 0 0 0\nwrite 0 0 0 0 6162\nread 0 0 0 0\n";
+
+const MADE_REPLY: &str = "done\ndone\ndone\nblock 6162\n";
+
+#[test]
+fn answers_each_line_with_a_line(rt: HostRuntime) -> Result<(), Fail> {
+    expect_rows(
+        &rt,
+        &[
+            (PLAIN, "", ""),
+            (PLAIN, MADE, MADE_REPLY),
+            (
+                PLAIN,
+                "makevol 0 0\ncreate 0 0 0\nwrite 0 0 0 0 00\nread 0 0 0 0\n",
+                "done\ndone\ndone\nblock 00\n",
+            ),
+            (PLAIN, "makevol 0 4\n", "error range\n"),
+            (PLAIN, "write 0 0 0 0 61\n", "error volume\n"),
+            (
+                PLAIN,
+                "makevol 0 0\ncreate 0 0 0\nread 0 0 0 63\nread 0 0 0 64\n",
+                "done\ndone\nhole\nerror range\n",
+            ),
+            (PLAIN, "makevol 0 0\nmakevol 0 0", "done\nerror exists\n"),
+        ],
+    )
+}
+
+const EACH_KIND: &str = "makevol 0 0
 create 0 0 0
 create 0 0 1
 write 0 0 0 0 6162
@@ -118,107 +121,105 @@ summary 0 0 0
 
 #[test]
 fn answers_each_kind(rt: HostRuntime) -> Result<(), Fail> {
-    let ended = serve(rt.alloc(), EACH_KIND)?;
-    expect("each kind", &ended, 0, EACH_REPLY, "")
+    expect_rows(&rt, &[(PLAIN, EACH_KIND, EACH_REPLY)])
 }
 
 #[test]
 fn the_options_give_the_ranges(rt: HostRuntime) -> Result<(), Fail> {
-    let rows = [
-        (
-            ["--aggregates", "2"],
-            "makevol 1 0\nmakevol 2 0\n",
-            "done\nerror range\n",
-        ),
-        (
-            ["--volumes", "5"],
-            "makevol 0 4\nmakevol 0 5\n",
-            "done\nerror range\n",
-        ),
-        (
-            ["--files", "2"],
-            "makevol 0 0\ncreate 0 0 2\n",
-            "done\nerror range\n",
-        ),
-        (
-            ["--blocks", "256"],
-            "makevol 0 0\ncreate 0 0 0\nread 0 0 0 255\nread 0 0 0 256\n",
-            "done\ndone\nhole\nerror range\n",
-        ),
-        (
-            ["--quota", "1"],
-            "makevol 0 0\ncreate 0 0 0\nwrite 0 0 0 0 61\nwrite 0 0 0 1 61\nwrite 0 0 0 4 61\n",
-            "done\ndone\ndone\nerror space\ndone\n",
-        ),
-    ];
-    for ([option, number], input, want) in rows {
-        let words = ["waffd", "plain", option, number];
-        let ended = call(rt.alloc(), words.as_slice(), input.as_bytes())?;
-        expect(option, &ended, 0, want, "")?;
-    }
-    Ok(())
-}
-
-#[test]
-fn the_ends_of_the_ranges_are_taken(rt: HostRuntime) -> Result<(), Fail> {
-    let least = ["1", "1", "1", "1", "1", "1", "1", "4"];
-    let most = ["4", "8", "8", "64", "64", "256", "64", "1024"];
-    for [a, v, s, w, f, b, q, h] in [least, most] {
-        let words = [
-            "waffd",
-            "plain",
-            "--aggregates",
-            a,
-            "--volumes",
-            v,
-            "--stripes",
-            s,
-            "--width",
-            w,
-            "--files",
-            f,
-            "--blocks",
-            b,
-            "--quota",
-            q,
-            "--half",
-            h,
-        ];
-        let ended = call(rt.alloc(), words.as_slice(), b"".as_slice())?;
-        expect("ends of the ranges", &ended, 0, "", "")?;
-    }
-    Ok(())
-}
-
-#[test]
-fn long_lines_are_one_line(rt: HostRuntime) -> Result<(), Fail> {
-    let alloc = rt.alloc();
-    for length in [1100, 1101, 3000] {
-        let mut input = vec![in alloc; b'a'; length]?;
-        input.extend_from_slice(b"\nmakevol 0 0\n")?;
-        let ended = serve(alloc, input.as_slice())?;
-        expect("long line", &ended, 0, "error line\ndone\n", "")?;
-    }
-    Ok(())
-}
-
-#[test]
-fn reads_of_one_byte_change_nothing(rt: HostRuntime) -> Result<(), Fail> {
-    let ended = call(rt.alloc(), PLAIN.as_slice(), ByteByByte { left: MADE })?;
-    expect(
-        "byte by byte",
-        &ended,
-        0,
-        "done\ndone\ndone\nblock 6162\n",
-        "",
+    expect_rows(
+        &rt,
+        &[
+            (
+                "waffd plain --aggregates 2",
+                "makevol 1 0\nmakevol 2 0\n",
+                "done\nerror range\n",
+            ),
+            (
+                "waffd plain --volumes 5",
+                "makevol 0 4\nmakevol 0 5\n",
+                "done\nerror range\n",
+            ),
+            (
+                "waffd plain --files 2",
+                "makevol 0 0\ncreate 0 0 2\n",
+                "done\nerror range\n",
+            ),
+            (
+                "waffd plain --blocks 256",
+                "makevol 0 0\ncreate 0 0 0\nread 0 0 0 255\nread 0 0 0 256\n",
+                "done\ndone\nhole\nerror range\n",
+            ),
+            (
+                "waffd plain --quota 1",
+                "makevol 0 0\ncreate 0 0 0\nwrite 0 0 0 0 61\nwrite 0 0 0 1 61\nwrite 0 0 0 4 61\n",
+                "done\ndone\ndone\nerror space\ndone\n",
+            ),
+        ],
     )
 }
 
 #[test]
+fn the_ends_of_the_ranges_are_taken(rt: HostRuntime) -> Result<(), Fail> {
+    expect_rows(
+        &rt,
+        &[
+            (
+                "waffd plain --aggregates 1 --volumes 1 --stripes 1 --width 1 --files 1 --blocks 1 --quota 1 --half 4",
+                "",
+                "",
+            ),
+            (
+                "waffd plain --aggregates 4 --volumes 8 --stripes 8 --width 64 --files 64 --blocks 256 --quota 64 --half 1024",
+                "",
+                "",
+            ),
+        ],
+    )
+}
+
+/// That a line of so many bytes, with one behind it, is answered by one line.
+fn expect_long(rt: &HostRuntime, length: usize) -> Result<(), Fail> {
+    let mut input = vec![in rt.alloc(); b'a'; length]?;
+    input.extend_from_slice(b"\nmakevol 0 0\n")?;
+    let ended = call(rt, PLAIN, input.as_slice())?;
+    expect("long line", &ended, 0, "error line\ndone\n", "")
+}
+
+#[test]
+fn long_lines_are_one_line(rt: HostRuntime) -> Result<(), Fail> {
+    expect_long(&rt, 1100)?;
+    expect_long(&rt, 1101)?;
+    expect_long(&rt, 3000)
+}
+
+/// That this reader's input ends so.
+fn expect_from<R: Read>(
+    rt: &HostRuntime,
+    input: R,
+    status: u8,
+    output: &str,
+    faults: &str,
+) -> Result<(), Fail>
+where
+    R: Drop,
+{
+    expect("reader", &call(rt, PLAIN, input)?, status, output, faults)
+}
+
+#[test]
+fn reads_of_one_byte_change_nothing(rt: HostRuntime) -> Result<(), Fail> {
+    let input = ByteByByte {
+        left: MADE.as_bytes(),
+    };
+    expect_from(&rt, input, 0, MADE_REPLY, "")
+}
+
+#[test]
 fn a_read_that_fails_leaves_the_answers_to_whole_lines(rt: HostRuntime) -> Result<(), Fail> {
-    let input = b"makevol 0 0\ncreate 0 0 0\nread 0 0 0 0".as_slice();
-    let ended = call(rt.alloc(), PLAIN.as_slice(), Failing { left: input })?;
-    expect("failing", &ended, 1, "done\ndone\n", "waffd: read fault\n")
+    let input = Failing {
+        left: b"makevol 0 0\ncreate 0 0 0\nread 0 0 0 0",
+    };
+    expect_from(&rt, input, 1, "done\ndone\n", "waffd: read fault\n")
 }
 
 /// A client that gives one line at a time, and fails where it has no reply to each line before.
@@ -270,13 +271,13 @@ impl Write for Counting<'_> {
 fn each_reply_is_written_before_the_next_read(rt: HostRuntime) -> Result<(), Fail> {
     let answered = Cell::new(0);
     let client = Client {
-        left: MADE,
+        left: MADE.as_bytes(),
         sent: 0,
         answered: &answered,
     };
     let mut writer = Counting {
         answered: &answered,
     };
-    let ended = call_to(rt.alloc(), PLAIN.as_slice(), client, &mut writer)?;
+    let ended = call_to(&rt, PLAIN, client, &mut writer)?;
     expect("client", &ended, 0, "", "")
 }

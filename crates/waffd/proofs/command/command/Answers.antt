@@ -1,5 +1,5 @@
 use Rattle.std.proofs.Common.{map, string_bytes, subst, inl, inr, refl, Ok, Err}
-use Rattle.waffd.proofs.Ending.{ask_for_nothing, helped, is_told, no_mistake, refused_by, served, served_nothing}
+use Rattle.waffd.proofs.Ending.{ask_for_nothing, formatted, formatted_nothing, helped, is_told, no_mistake, refused_by, served, served_nothing, shown, shown_nothing}
 use Rattle.waffd.proofs.Examples.{asks_alone}
 use Rattle.affinity.specs.Geometry.{standard}
 use Rattle.waffd.specs.Words.{IsReason}
@@ -23,6 +23,62 @@ returns-in-Err-clause-served g c = λ geometry asks.
     let words = map string_bytes c.args.words.now in
     rw c.report-in-Err.ensures
     (served words c.in-Ok.request geometry (Err c.in-Err.fault) (g.R.Read.remaining c.args.r.now) (g.R.Read.remaining c.run.new.r) (g.W.Write.contents c.args.w.now) (g.W.Write.contents c.run.new.w) c.in-Ok.ensures.ok asks c.in-Err.ensures)
+
+-- a device is made
+
+pub returns-in-Err-Fault-clause-formatted : goal.returns-in-Err-Fault-clause-formatted
+returns-in-Err-Fault-clause-formatted g c = λ path geometry asks.
+    let words = map string_bytes c.args.words.now in
+    let P : Refusal → Type 0 = λ refusal. IsReason words refusal in
+    let reason = subst P c.in-Err-Fault.field-0-is c.in-Err-Fault.ensures.err in
+    rw (c.report.ensures, c.in-Err-Fault.fault-is) (formatted_nothing words path geometry c.in-Err-Fault.fault (g.W.Write.contents c.args.w.now) asks reason, refl)
+
+pub returns-in-Ok-run-clause-formatted : goal.returns-in-Ok-run-clause-formatted
+returns-in-Ok-run-clause-formatted g c = λ path geometry asks.
+    let words = map string_bytes c.args.words.now in
+    formatted words c.in-Ok.request path geometry (Ok c.in-Ok-run.field-0) (g.R.Read.remaining c.args.r.now) (g.R.Read.remaining c.run.new.r) (g.W.Write.contents c.args.w.now) (g.W.Write.contents c.run.new.w) c.in-Ok.ensures.ok asks c.in-Ok-run.ensures
+
+pub returns-in-Err-clause-formatted : goal.returns-in-Err-clause-formatted
+returns-in-Err-clause-formatted g c = λ path geometry asks.
+    let words = map string_bytes c.args.words.now in
+    rw c.report-in-Err.ensures
+    (formatted words c.in-Ok.request path geometry (Err c.in-Err.fault) (g.R.Read.remaining c.args.r.now) (g.R.Read.remaining c.run.new.r) (g.W.Write.contents c.args.w.now) (g.W.Write.contents c.run.new.w) c.in-Ok.ensures.ok asks c.in-Err.ensures)
+
+pub returns-in-Err-Words-clause-formatted : goal.returns-in-Err-Words-clause-formatted
+returns-in-Err-Words-clause-formatted g c = λ path geometry asks.
+    let words = map string_bytes c.args.words.now in
+    let P : Refusal → Type 0 = λ refusal. IsReason words refusal in
+    let reason = subst P c.in-Err-Words.field-0-is c.in-Err-Words.ensures.err in
+    absurd (no_mistake words c.in-Err-Words.error asks.0 reason)
+
+-- a device is shown
+
+pub returns-in-Err-Fault-clause-shown : goal.returns-in-Err-Fault-clause-shown
+returns-in-Err-Fault-clause-shown g c = λ path asks.
+    let words = map string_bytes c.args.words.now in
+    let P : Refusal → Type 0 = λ refusal. IsReason words refusal in
+    let reason = subst P c.in-Err-Fault.field-0-is c.in-Err-Fault.ensures.err in
+    rw (c.report.ensures, c.in-Err-Fault.fault-is) (shown_nothing words path c.in-Err-Fault.fault (g.W.Write.contents c.args.w.now) asks reason, refl)
+
+pub returns-in-Ok-run-clause-shown : goal.returns-in-Ok-run-clause-shown
+returns-in-Ok-run-clause-shown g c = λ path asks.
+    let words = map string_bytes c.args.words.now in
+    shown words c.in-Ok.request path (Ok c.in-Ok-run.field-0) (g.R.Read.remaining c.args.r.now) (g.R.Read.remaining c.run.new.r) (g.W.Write.contents c.args.w.now) (g.W.Write.contents c.run.new.w) c.in-Ok.ensures.ok asks c.in-Ok-run.ensures
+
+pub returns-in-Err-clause-shown : goal.returns-in-Err-clause-shown
+returns-in-Err-clause-shown g c = λ path asks.
+    let words = map string_bytes c.args.words.now in
+    rw c.report-in-Err.ensures
+    (shown words c.in-Ok.request path (Err c.in-Err.fault) (g.R.Read.remaining c.args.r.now) (g.R.Read.remaining c.run.new.r) (g.W.Write.contents c.args.w.now) (g.W.Write.contents c.run.new.w) c.in-Ok.ensures.ok asks c.in-Err.ensures)
+
+pub returns-in-Err-Words-clause-shown : goal.returns-in-Err-Words-clause-shown
+returns-in-Err-Words-clause-shown g c = λ path asks.
+    let words = map string_bytes c.args.words.now in
+    let P : Refusal → Type 0 = λ refusal. IsReason words refusal in
+    let reason = subst P c.in-Err-Words.field-0-is c.in-Err-Words.ensures.err in
+    absurd (no_mistake words c.in-Err-Words.error asks.0 reason)
+
+-- words that are refused ask for nothing
 
 pub returns-in-Ok-run-clause-refused : goal.returns-in-Ok-run-clause-refused
 returns-in-Ok-run-clause-refused g c = λ wrong. absurd (ask_for_nothing (map string_bytes c.args.words.now) c.in-Ok.request c.in-Ok.ensures.ok wrong)
@@ -66,7 +122,7 @@ returns-in-Err-Words-clause-plain g c = λ program are.
     let words = map string_bytes c.args.words.now in
     let P : Refusal → Type 0 = λ refusal. IsReason words refusal in
     let reason = subst P c.in-Err-Words.field-0-is c.in-Err-Words.ensures.err in
-    absurd (no_mistake words standard c.in-Err-Words.error (asks_alone words program are) reason)
+    absurd (no_mistake words c.in-Err-Words.error (asks_alone words program are).0 reason)
 
 -- a fault has a status of its own
 
