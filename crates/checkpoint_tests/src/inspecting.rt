@@ -62,22 +62,31 @@ fn expect_fault(
     Ok(())
 }
 
-#[test]
-fn a_new_device_is_empty(rt: HostRuntime) -> Result<(), Fail> {
-    let disk = MemDisk::new(rt.alloc(), LEN as u64)?;
-    let Ok(disk) = format(rt.alloc(), disk, Geometry::new(SMALL)?) else {
-        holds(&rt, false);
-        return Ok(());
-    };
+/// The device is told to be empty, by few calls of it.
+fn expect_empty(rt: &impl Abort, alloc: Global, disk: MemDisk) -> Result<(), Fail> {
     let calls = disk.calls();
-    match inspect(rt.alloc(), disk) {
-        Ok((told, disk)) => {
-            holds(&rt, told == shown(0, 0, 0, 2)?);
-            holds(&rt, calls.checked_add(CALLS) == Some(disk.calls()));
+    let want = shown(0, 0, 0, 2)?;
+    match inspect(alloc, disk) {
+        Ok(told) => {
+            holds(rt, told.0 == want);
+            holds(rt, calls.checked_add(CALLS) == Some(told.1.calls()));
         }
-        Err(_) => holds(&rt, false),
+        Err(_) => holds(rt, false),
     }
     Ok(())
+}
+
+#[test]
+fn a_new_device_is_empty(rt: HostRuntime) -> Result<(), Fail> {
+    let g = Geometry::new(SMALL)?;
+    let disk = MemDisk::new(rt.alloc(), LEN as u64)?;
+    match format(rt.alloc(), disk, g) {
+        Ok(disk) => expect_empty(&rt, rt.alloc(), disk),
+        Err(_) => {
+            holds(&rt, false);
+            Ok(())
+        }
+    }
 }
 
 #[test]
