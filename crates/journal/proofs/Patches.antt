@@ -1,0 +1,121 @@
+-- How the marked stretches of an image are written, one run after another.
+use Rattle.std.proofs.Common.{◌≡◌, ℕ, zero, suc, ◌+◌, ◌-◌, ◌<◌, ◌≤◌, Bool, true, false, List, [], ◌∷◌, ◌++◌, length, take, drop, get_or, refl, sym, ◌∙◌, ap, subst, arith, length-drop}
+use Rattle.std.proofs.lemmas.List.{drop-drop, take_all, length-take-le}
+use Rattle.std.proofs.Math.Seq.{take-add}
+use Rattle.affinity.specs.declared.geometry.Geometry.{Geometry}
+use Rattle.disk.specs.Device.{Medium, IsSynced, overlaid, synced}
+use Rattle.disk.proofs.Calls.{after_sync}
+use Rattle.disk.proofs.Overlays.{take-overlaid, drop-overlaid, range-overlaid}
+use Rattle.image.specs.Pieces.{piece_count}
+use Rattle.journal.specs.Stretches.{AgreeUnmarked, Imaged, image_in, stretch_at, stretch_size}
+use Rattle.journal.proofs.Places.{stretch_next, stretch_inside}
+use Rattle.journal.proofs.Runs.{part_begun, part_then, run_long}
+use Rattle.oplog.specs.Changes.{ChangesOnly, IsSameBut}
+use Rattle.oplog.specs.Layout.{slice, layout_of, image, image_size, part_at, part_size, device_size}
+use Rattle.oplog.proofs.Slices.{same_but_both, same_but_none, image_sized, part_inside}
+
+-- ---- rows of bytes
+
+-- the first of them are written, and the others are as they were
+pub record UpTo (from : ℕ) (bytes old new : List ℕ) : Type 0 where
+  pub done : take from new ≡ take from bytes
+  pub rest : drop from new ≡ drop from old
+
+run_up : (from d : ℕ) (bytes old now new : List ℕ) → from + d ≤ length bytes → from + d ≤ length now → UpTo from bytes old now → new ≡ overlaid now from (take d (drop from bytes)) → UpTo (from + d) bytes old new
+run_up from d bytes old now new few inside so_far is =
+    let items : List ℕ = take d (drop from bytes) in
+    let long : length items ≡ d = length-take-le d (drop from bytes) (omega (arith, length-drop from bytes, few)) in
+    let front : take from new ≡ take from bytes = ap (λ (l : List ℕ). take from l) is ∙ take-overlaid now from items ∙ so_far.done in
+    let middle : take d (drop from new) ≡ items =
+    ap (λ (l : List ℕ). take d (drop from l)) is ∙ ap (λ (k : ℕ). take k (drop from (overlaid now from items))) (sym long) ∙ range-overlaid now from items (omega (arith, long, inside)) in
+    let behind : drop (from + d) new ≡ drop (from + d) now =
+    ap (λ (l : List ℕ). drop (from + d) l) is ∙ subst (λ (k : ℕ). drop (from + k) (overlaid now from items) ≡ drop (from + k) now) long (drop-overlaid now from items) in
+    record {
+      done = take-add from d new ∙ (λ i. front i ++ middle i) ∙ sym (take-add from d bytes);
+      rest = behind ∙ sym (drop-drop d from now) ∙ ap (λ (l : List ℕ). drop d l) so_far.rest ∙ drop-drop d from old;
+    }
+
+pub run_done : (from at : ℕ) (bytes old now new : List ℕ) → from ≤ at → at ≤ length bytes → at ≤ length now → UpTo from bytes old now → new ≡ overlaid now from (slice bytes from (at - from)) → UpTo at bytes old new
+run_done from at bytes old now new order few inside so_far is =
+    let end : from + (at - from) ≡ at = omega (arith, order) in
+    subst (λ (k : ℕ). UpTo k bytes old new) end (run_up from (at - from) bytes old now new (omega (arith, order, few)) (omega (arith, order, inside)) so_far is)
+
+-- n bytes that are there already
+pub there_already : (at n end : ℕ) (bytes old new : List ℕ) → end ≡ at + n → UpTo at bytes old new → slice old at n ≡ slice bytes at n → UpTo end bytes old new
+there_already at n end bytes old new ends so_far same =
+    let by : UpTo (at + n) bytes old new = record {
+      done =
+          take-add at n new ∙ (λ i. so_far.done i ++ (ap (λ (l : List ℕ). take n l) so_far.rest ∙ same) i)
+          ∙ sym (take-add at n bytes);
+      rest = sym (drop-drop n at new) ∙ ap (λ (l : List ℕ). drop n l) so_far.rest ∙ drop-drop n at old;
+    } in
+    subst (λ (k : ℕ). UpTo k bytes old new) (sym ends) by
+
+pub none_yet : (bytes old : List ℕ) → UpTo 0 bytes old old
+none_yet bytes old = record { done = refl; rest = refl }
+
+pub all_done : (n : ℕ) (bytes old new : List ℕ) → length bytes ≡ n → length new ≡ n → UpTo n bytes old new → new ≡ bytes
+all_done n bytes old new long long' so_far = sym (take_all n new (omega (arith, long'))) ∙ so_far.done ∙ take_all n bytes (omega (arith, long))
+
+-- ---- a device
+
+-- how long an image is
+pub image_long : (g : Geometry) (area : ℕ) (m : Medium) → area < 2 → device_size (layout_of g) ≤ length m.now → length (image_in g area m) ≡ image_size g
+image_long g area m is_area whole =
+    let sized = image_sized (layout_of g) area is_area in
+    let inside = part_inside (layout_of g) (image area) (omega (arith, is_area)) in
+    length-take-le (part_size (layout_of g) (image area)) (drop (part_at (layout_of g) (image area)) m.now)
+    (omega (arith, inside, whole, length-drop (part_at (layout_of g) (image area)) m.now)) ∙ sized
+
+-- So many bytes of the image are written, and nothing else has changed.
+pub record IsPatched (g : Geometry) (area from : ℕ) (bytes : List ℕ) (old new : Medium) : Type 0 where
+  pub moments : ChangesOnly old new (IsSameBut (layout_of g) (image area))
+  pub same : IsSameBut (layout_of g) (image area) old.now new.now
+  pub up_to : UpTo from bytes (image_in g area old) (image_in g area new)
+
+pub patch_begun : (g : Geometry) (area : ℕ) (bytes : List ℕ) (m : Medium) → IsPatched g area 0 bytes m m
+patch_begun g area bytes m = record {
+  moments = part_begun (layout_of g) (image area) m;
+  same = same_but_none (layout_of g) (image area) m.now;
+  up_to = none_yet bytes (image_in g area m);
+}
+
+module _ (g : Geometry) (area from at : ℕ) (bytes : List ℕ) (w0 w w1 : Medium) (is_area : area < 2) (size : length bytes ≡ image_size g) (whole : device_size (layout_of g) ≤ length w0.now) (so_far : IsPatched g area from bytes w0 w)
+    (moments : ChangesOnly w w1 (IsSameBut (layout_of g) (image area))) where
+  pub patch_moments : ChangesOnly w0 w1 (IsSameBut (layout_of g) (image area))
+  patch_moments = part_then (layout_of g) (image area) w0 w w1 so_far.moments moments
+
+  module _ (order : from ≤ at) (inside : at ≤ image_size g) (same : IsSameBut (layout_of g) (image area) w.now w1.now) (written : image_in g area w1 ≡ overlaid (image_in g area w) from (slice bytes from (at - from))) where
+    pub patched : IsPatched g area at bytes w0 w1
+    patched =
+        let long = image_long g area w is_area (omega (arith, whole, so_far.same.size)) in
+        record {
+          moments = patch_moments;
+          same = same_but_both (layout_of g) (image area) w0.now w.now w1.now so_far.same same;
+          up_to = run_done from at bytes (image_in g area w0) (image_in g area w) (image_in g area w1) order (omega (arith, inside, size)) (omega (arith, inside, long)) so_far.up_to written;
+        }
+
+-- one stretch more, that is there already
+pub patch_passed : (g : Geometry) (area n at end : ℕ) (bytes : List ℕ) (marks : List Bool) (w0 w : Medium) → AgreeUnmarked g marks (image_in g area w0) bytes → n < piece_count g → get_or marks n true ≡ false → at ≡ stretch_at g n → end ≡ at + stretch_size g n
+    → IsPatched g area at bytes w0 w → IsPatched g area end bytes w0 w
+patch_passed g area n at end bytes marks w0 w agree few unmarked is ends so_far =
+    record {
+      moments = so_far.moments;
+      same = so_far.same;
+      up_to = there_already at (stretch_size g n) end bytes (image_in g area w0) (image_in g area w) ends so_far.up_to
+          (subst (λ (a : ℕ). slice (image_in g area w0) a (stretch_size g n) ≡ slice bytes a (stretch_size g n)) (sym is) (agree n few unmarked));
+    }
+
+-- all of it, and a sync
+pub patch_synced : (g : Geometry) (area : ℕ) (bytes : List ℕ) (w0 w w1 : Medium) → area < 2 → length bytes ≡ image_size g → device_size (layout_of g) ≤ length w0.now → IsPatched g area (image_size g) bytes w0 w → w1 ≡ synced w → Imaged g area bytes w0 w1
+patch_synced g area bytes w0 w w1 is_area size whole so_far syncs =
+    subst (λ (m : Medium). Imaged g area bytes w0 m) (sym syncs)
+    (record {
+      same = so_far.same;
+      is = all_done (image_size g) bytes (image_in g area w0) (image_in g area w) size (image_long g area w is_area (omega (arith, whole, so_far.same.size))) so_far.up_to;
+      calm = refl;
+    })
+
+pub along_patch : (g : Geometry) (area from from' : ℕ) (bytes : List ℕ) (w0 w w' : Medium) → from' ≡ from → w' ≡ w → IsPatched g area from bytes w0 w → IsPatched g area from' bytes w0 w'
+along_patch g area from from' bytes w0 w w' same still so_far =
+    subst (λ (m : Medium). IsPatched g area from' bytes w0 m) (sym still) (subst (λ (n : ℕ). IsPatched g area n bytes w0 w) (sym same) so_far)

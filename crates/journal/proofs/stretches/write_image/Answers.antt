@@ -1,0 +1,99 @@
+use Rattle.std.proofs.Common.{◌≡◌, ◌+◌, ◌≤◌, ℕ, true, false, length, get_or, refl, sym, ◌∙◌, ap, arith}
+use Rattle.std.proofs.lemmas.Grind.{common_steps}
+use Rattle.disk.proofs.Calls.{after_sync}
+use Rattle.disk.specs.Device.{Medium}
+use Rattle.image.specs.Pieces.{piece_count}
+use Rattle.journal.specs.Stretches.{stretch_at, stretch_size}
+use Rattle.journal.proofs.Patches.{IsPatched, along_patch, patch_begun, patch_moments, patch_passed, patch_synced, patched}
+use Rattle.journal.proofs.Places.{stretch_end, stretch_inside, stretch_next}
+use Rattle.oplog.specs.Layout.{image_size}
+use Rattle.journal.proofs.stretches.write_image.Goals as goal
+use Rattle.journal.proofs.stretches.write_image.Goals.{then-not-is_marked+in_ok-write_run, else-not-is_marked}
+
+pub loop-n-init : goal.loop-n-init
+loop-n-init g c = record {
+  place = refl;
+  order = omega arith;
+  len = refl;
+  faults = refl;
+  so_far = λ k. patch_begun c.args.g.now c.args.area c.args.bytes.now (g.D.Disk.medium c.args.disk.now);
+}
+
+pub overflow_add-end : goal.overflow_add-end
+overflow_add-end g c =
+    let few : c.loop-n.n < piece_count c.args.g.now = grind (arith, common_steps) in
+    let inside = stretch_inside c.args.g.now c.loop-n.n few in
+    omega (arith, inside, c.requires.size, c.type_inv.bytes, c.loop-n.invariant.place, c.stretch_size.ensures.size)
+
+pub write_run-requires-clause-inside : goal.write_run-requires-clause-inside
+write_run-requires-clause-inside g c =
+    let few : c.loop-n.n < piece_count c.args.g.now = grind (arith, common_steps) in
+    let inside = stretch_inside c.args.g.now c.loop-n.n few in
+    omega (arith, inside, c.requires.size, c.loop-n.invariant.place)
+
+pub returns-in_err-write_run-clause-any_moment : goal.returns-in_err-write_run-clause-any_moment
+returns-in_err-write_run-clause-any_moment g c = λ k.
+    patch_moments c.args.g.now c.args.area c.loop-n.from c.loop-n.at c.args.bytes.now (g.D.Disk.medium c.args.disk.now) (g.D.Disk.medium c.loop-n.disk) (g.D.Disk.medium c.write_run.new.disk) c.requires.area c.requires.size c.requires.whole (c.loop-n.invariant.so_far k) (c.write_run.ensures.any_moment k)
+
+pub loop-n-preserved : goal.loop-n-preserved
+loop-n-preserved g c =
+    let few : c.loop-n.n < piece_count c.args.g.now = grind (arith, common_steps) in
+    let inside = stretch_inside c.args.g.now c.loop-n.n few in
+    let next = stretch_next c.args.g.now c.loop-n.n in
+    let place : c.loop-n.at + c.stretch_size.result ≡ stretch_at c.args.g.now (c.loop-n.n + 1) = omega (arith, next, c.loop-n.invariant.place, c.stretch_size.ensures.size) in
+    elim c.if-not-is_marked.branch [
+      | then-not-is_marked+in_ok-write_run w ↦
+          let unmarked : get_or c.args.marks.now c.loop-n.n true ≡ false = grind (arith, common_steps) in
+          record {
+            place = w.at-is ∙ place;
+            order = omega (arith, w.at-is, w.from-is);
+            len = ap (λ d. length (g.D.Disk.medium d).now) w.disk-is ∙ w.write_run.ensures.len ∙ c.loop-n.invariant.len;
+            faults = ap (λ d. (g.D.Disk.medium d).faults) w.disk-is ∙ w.in_ok-write_run.ensures.counts ∙ c.loop-n.invariant.faults;
+            so_far = λ k.
+                along_patch c.args.g.now c.args.area (c.loop-n.at + c.stretch_size.result) c.if-not-is_marked.from c.args.bytes.now (g.D.Disk.medium c.args.disk.now) (g.D.Disk.medium w.write_run.new.disk) (g.D.Disk.medium c.if-not-is_marked.disk) w.from-is (ap (λ d. g.D.Disk.medium d) w.disk-is)
+                (patch_passed c.args.g.now c.args.area c.loop-n.n c.loop-n.at (c.loop-n.at + c.stretch_size.result) c.args.bytes.now c.args.marks.now (g.D.Disk.medium c.args.disk.now) (g.D.Disk.medium w.write_run.new.disk) (c.requires.unmarked k) few unmarked c.loop-n.invariant.place (omega (arith, c.stretch_size.ensures.size))
+                (patched c.args.g.now c.args.area c.loop-n.from c.loop-n.at c.args.bytes.now (g.D.Disk.medium c.args.disk.now) (g.D.Disk.medium c.loop-n.disk) (g.D.Disk.medium w.write_run.new.disk) c.requires.area c.requires.size c.requires.whole (c.loop-n.invariant.so_far k) (w.write_run.ensures.any_moment k)
+                c.loop-n.invariant.order (omega (arith, inside, c.loop-n.invariant.place)) (w.write_run.ensures.same k) (w.in_ok-write_run.ensures.written k)));
+          }
+      | else-not-is_marked w ↦
+          record {
+            place = w.at-is ∙ place;
+            order = omega (arith, w.at-is, w.from-is, c.loop-n.invariant.order);
+            len = ap (λ d. length (g.D.Disk.medium d).now) w.disk-is ∙ c.loop-n.invariant.len;
+            faults = ap (λ d. (g.D.Disk.medium d).faults) w.disk-is ∙ c.loop-n.invariant.faults;
+            so_far = λ k.
+                along_patch c.args.g.now c.args.area c.loop-n.from c.if-not-is_marked.from c.args.bytes.now (g.D.Disk.medium c.args.disk.now) (g.D.Disk.medium c.loop-n.disk) (g.D.Disk.medium c.if-not-is_marked.disk) w.from-is (ap (λ d. g.D.Disk.medium d) w.disk-is) (c.loop-n.invariant.so_far k);
+          }
+    ]
+
+pub write_run-requires-2-clause-inside : goal.write_run-requires-2-clause-inside
+write_run-requires-2-clause-inside g c =
+    let all : c.loop-n.n ≡ piece_count c.args.g.now = grind (arith, common_steps) in
+    let end = ap (stretch_at c.args.g.now) all ∙ stretch_end c.args.g.now in
+    omega (arith, end, c.requires.size, c.loop-n.invariant.place)
+
+pub returns-in_err-write_run-2-clause-any_moment : goal.returns-in_err-write_run-2-clause-any_moment
+returns-in_err-write_run-2-clause-any_moment g c = λ k.
+    patch_moments c.args.g.now c.args.area c.loop-n.from c.loop-n.at c.args.bytes.now (g.D.Disk.medium c.args.disk.now) (g.D.Disk.medium c.loop-n.disk) (g.D.Disk.medium c.write_run-2.new.disk) c.requires.area c.requires.size c.requires.whole (c.loop-n.invariant.so_far k) (c.write_run-2.ensures.any_moment k)
+
+pub returns-in_err-sync-clause-any_moment : goal.returns-in_err-sync-clause-any_moment
+returns-in_err-sync-clause-any_moment g c = λ k.
+    after_sync _ _ _ _
+    (patch_moments c.args.g.now c.args.area c.loop-n.from c.loop-n.at c.args.bytes.now (g.D.Disk.medium c.args.disk.now) (g.D.Disk.medium c.loop-n.disk) (g.D.Disk.medium c.write_run-2.new.disk) c.requires.area c.requires.size c.requires.whole (c.loop-n.invariant.so_far k) (c.write_run-2.ensures.any_moment k))
+    c.sync.result (c.sync.ensures.syncs k)
+
+pub returns-clause-any_moment : goal.returns-clause-any_moment
+returns-clause-any_moment g c = λ k.
+    after_sync _ _ _ _
+    (patch_moments c.args.g.now c.args.area c.loop-n.from c.loop-n.at c.args.bytes.now (g.D.Disk.medium c.args.disk.now) (g.D.Disk.medium c.loop-n.disk) (g.D.Disk.medium c.write_run-2.new.disk) c.requires.area c.requires.size c.requires.whole (c.loop-n.invariant.so_far k) (c.write_run-2.ensures.any_moment k))
+    c.sync.result (c.sync.ensures.syncs k)
+
+pub returns-clause-written : goal.returns-clause-written
+returns-clause-written g c = λ k.
+    let all : c.loop-n.n ≡ piece_count c.args.g.now = grind (arith, common_steps) in
+    let end : c.loop-n.at ≡ image_size c.args.g.now = c.loop-n.invariant.place ∙ ap (stretch_at c.args.g.now) all ∙ stretch_end c.args.g.now in
+    patch_synced c.args.g.now c.args.area c.args.bytes.now (g.D.Disk.medium c.args.disk.now) (g.D.Disk.medium c.write_run-2.new.disk) (g.D.Disk.medium c.sync.new.self) c.requires.area c.requires.size c.requires.whole
+    (along_patch c.args.g.now c.args.area c.loop-n.at (image_size c.args.g.now) c.args.bytes.now (g.D.Disk.medium c.args.disk.now) (g.D.Disk.medium c.write_run-2.new.disk) (g.D.Disk.medium c.write_run-2.new.disk) (sym end) refl
+    (patched c.args.g.now c.args.area c.loop-n.from c.loop-n.at c.args.bytes.now (g.D.Disk.medium c.args.disk.now) (g.D.Disk.medium c.loop-n.disk) (g.D.Disk.medium c.write_run-2.new.disk) c.requires.area c.requires.size c.requires.whole (c.loop-n.invariant.so_far k) (c.write_run-2.ensures.any_moment k)
+    c.loop-n.invariant.order (omega (arith, end)) (c.write_run-2.ensures.same k) (c.in_ok-write_run-2.ensures.written k)))
+    ((c.in_ok-sync.ensures.syncs k).ok)

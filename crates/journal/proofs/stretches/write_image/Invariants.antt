@@ -1,0 +1,13 @@
+use Rattle.std.proofs.Common.{◌≡◌, ◌≤◌, length}
+use Rattle.journal.specs.Stretches.{stretch_at}
+use Rattle.journal.proofs.Patches.{IsPatched}
+use Rattle.journal.proofs.stretches.write_image.Given as goal
+
+abbrev pub invariant-loop-n : goal.invariant-loop-n
+invariant-loop-n g l = record {
+  place : l.at ≡ stretch_at l.g l.n;
+  order : l.from ≤ l.at;
+  len : length (g.D.Disk.medium l.disk).now ≡ length (g.D.Disk.medium l.initial.disk).now;
+  faults : (g.D.Disk.medium l.disk).faults ≡ (g.D.Disk.medium l.initial.disk).faults;
+  so_far : g.D.Disk.keeps → IsPatched l.g l.area l.from l.bytes (g.D.Disk.medium l.initial.disk) (g.D.Disk.medium l.disk);
+}

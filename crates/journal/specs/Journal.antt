@@ -1,0 +1,51 @@
+-- A journal as contracts see it, and what its calls leave.
+use Rattle.std.specs.Prelude.{◌≡◌, ◌≤◌, ℕ, Bool, true, List, [], ◌∷◌, length, take, Option, Some, None, is_some, Result, Ok, Err}
+use Rattle.affinity.specs.declared.geometry.Geometry.{Geometry}
+use Rattle.checkpoint.specs.Recovery.{holds}
+use Rattle.disk.specs.Device.{Medium, Leaves}
+use Rattle.message.specs.declared.Msg.{Msg}
+use Rattle.message.specs.Messages.{IsMessage}
+use Rattle.oplog.specs.Layout.{layout_of}
+use Rattle.oplog.specs.Logged.{IsLogged}
+use Rattle.oplog.specs.Stands.{in_force, named_area}
+use Rattle.plain.specs.Serial.{fold, is_loggable, next_state, reply_to}
+use Rattle.plain.specs.State.{State}
+
+pub record Held : Type 0 where
+  pub geometry : Geometry
+  -- how many records can still be logged before a point is due
+  pub room : ℕ
+  -- how many pieces of a cut are still to be written, while one is in progress
+  pub left : Option ℕ
+  -- whether the device has failed in a call
+  pub failed : Bool
+  pub medium : Medium
+
+-- what the device stands for
+abbrev pub settled : Held → Option State
+settled j = holds j.geometry j.medium.now
+
+-- the records in force
+abbrev pub records : Held → List (List ℕ)
+records j = let g = layout_of j.geometry in in_force g (named_area g j.medium.now) j.medium.now
+
+-- It stands for a state, and so does whatever a crash leaves now.
+pub record IsSettled (j : Held) : Type 0 where
+  pub some : is_some (settled j) ≡ true
+  pub each : (c : List ℕ) → Leaves j.medium c → holds j.geometry c ≡ settled j
+
+-- Each of the messages is logged where they run from x on, one after the other: it is changing, in range, and done.
+abbrev pub AreCarriedOut : Geometry → State → List Msg → Type 0
+AreCarriedOut g x [] = Unit {0}
+AreCarriedOut g x (m ∷ ms) = IsMessage m × IsLogged g m × (is_loggable m (reply_to g x m) ≡ true) × AreCarriedOut g (next_state g x m) ms
+
+-- These bytes stand for x with the first so many of these messages run on it.
+pub record HoldsSome (g : Geometry) (x : State) (ms : List Msg) (c : List ℕ) : Type 0 where
+  pub added : ℕ
+  pub at_most : added ≤ length ms
+  pub is : holds g c ≡ Some (fold g x (take added ms))
+
+-- after a call with this answer: at `Ok` as given, and else failed
+abbrev pub after_call : {T E : Type 0} → Result T E → Held → Held → Held
+after_call (Ok _) done old = done
+after_call (Err _) done old = record old { failed = true; medium = done.medium }

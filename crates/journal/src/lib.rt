@@ -1,0 +1,5 @@
+//! The durable half of a server: what was carried out is logged on a device, and points keep the log short. A crash at
+//! any moment leaves a device that stands for what was logged.
+#![tactic(auto)]
+
+mod stretches;

@@ -1,0 +1,114 @@
+//! An image as the stretches in which it is written: its head with the first piece, then each other piece.
+ghost use Rattle.std.specs.Prelude.{◌≡◌, ◌+◌, ◌-◌, ◌<◌, ◌≤◌, ℕ, length, OnOk, IsErrOf};
+ghost use Rattle.disk.specs.Device.{CountsFault, overlaid};
+ghost use Rattle.image.specs.Pieces.{piece_count, piece_size};
+ghost use Rattle.journal.specs.Stretches.{AgreeUnmarked, Imaged, image_in, stretch_size};
+ghost use Rattle.oplog.specs.Changes.{ChangesOnly, IsReady, IsSameBut};
+ghost use Rattle.oplog.specs.Layout.{slice, layout_of, device_size, image, image_size};
+
+use affinity::Geometry;
+use disk::{Disk, DiskFault};
+use oplog::layout::{IMAGE_HEAD_SIZE, RECORD_SIZE, VOLUME_PIECE_SIZE, image_at};
+use oplog::store::write;
+
+/// How many pieces an image has.
+pub(crate) fn piece_count(g: &Geometry) -> usize
+    ensures count { result ≡ piece_count g.now }
+    ensures some { 0 < result }
+{
+    usize::from(g.aggregates) * usize::from(g.volumes) * (usize::from(g.stripes) + 1)
+}
+
+/// How many bytes piece `n` of an image has.
+pub(crate) fn piece_size(g: &Geometry, n: usize) -> usize
+    ensures size { result ≡ piece_size g.now n }
+    ensures most { result ≤ 33280 }
+{
+    if n % (usize::from(g.stripes) + 1) == 0 {
+        VOLUME_PIECE_SIZE
+    } else {
+        usize::from(g.quota) * RECORD_SIZE
+    }
+}
+
+/// How many bytes stretch `n` of an image has.
+fn stretch_size(g: &Geometry, n: usize) -> usize
+    ensures size { result ≡ stretch_size g.now n }
+    ensures most { result ≤ 33344 }
+{
+    if n == 0 {
+        IMAGE_HEAD_SIZE + piece_size(g, n)
+    } else {
+        piece_size(g, n)
+    }
+}
+
+/// Writes the bytes from `from` to `end` of an image at their place. Until a sync succeeds, a crash may leave any bytes
+/// there. `Device` exactly where the device failed.
+fn write_run<D: Disk>(
+    disk: &mut D,
+    g: &Geometry,
+    area: usize,
+    bytes: &[u8],
+    from: usize,
+    end: usize,
+) -> Result<(), DiskFault>
+    requires area { area < 2 }
+    requires order { from ≤ end }
+    requires inside { end ≤ length bytes.now }
+    requires size { length bytes.now ≡ image_size g.now }
+    requires whole { device_size (layout_of g.now) ≤ length (D.medium disk.old).now }
+    ensures any_moment { D.keeps → ChangesOnly (D.medium disk.old) (D.medium disk.new)
+        (IsSameBut (layout_of g.now) (image area)) }
+    ensures written { OnOk result (D.keeps → image_in g.now area (D.medium disk.new)
+        ≡ overlaid (image_in g.now area (D.medium disk.old)) from (slice bytes.now from (end - from))) }
+    ensures same { D.keeps → IsSameBut (layout_of g.now) (image area) (D.medium disk.old).now (D.medium disk.new).now }
+    ensures ready { D.keeps → (h k : ℕ) → h < 2 → IsReady (layout_of g.now) h k (D.medium disk.old)
+        → IsReady (layout_of g.now) h k (D.medium disk.new) }
+    ensures inside { IsErrOf result DiskFault.OutOfRange → ⊥ }
+    ensures counts { CountsFault result (D.medium disk.old).faults (D.medium disk.new).faults }
+    ensures len { length (D.medium disk.new).now ≡ length (D.medium disk.old).now }
+{
+    if from < end {
+        write(disk, image_at(g, area) + from as u64, &bytes[from..end])?;
+    }
+    Ok(())
+}
+
+/// Writes the marked stretches of an image, those side by side in one write, and makes them last. All others are on the
+/// device already. `Device` exactly where the device failed.
+pub(crate) fn write_image<D: Disk>(
+    disk: &mut D,
+    g: &Geometry,
+    area: usize,
+    bytes: &[u8],
+    marks: &[bool],
+) -> Result<(), DiskFault>
+    requires area { area < 2 }
+    requires size { length bytes.now ≡ image_size g.now }
+    requires marks { length marks.now ≡ piece_count g.now }
+    requires whole { device_size (layout_of g.now) ≤ length (D.medium disk.old).now }
+    requires unmarked { D.keeps →
+        AgreeUnmarked g.now marks.now (image_in g.now area (D.medium disk.old)) bytes.now }
+    ensures any_moment { D.keeps → ChangesOnly (D.medium disk.old) (D.medium disk.new)
+        (IsSameBut (layout_of g.now) (image area)) }
+    ensures written { OnOk result (D.keeps →
+        Imaged g.now area bytes.now (D.medium disk.old) (D.medium disk.new)) }
+    ensures inside { IsErrOf result DiskFault.OutOfRange → ⊥ }
+    ensures counts { CountsFault result (D.medium disk.old).faults (D.medium disk.new).faults }
+    ensures len { length (D.medium disk.new).now ≡ length (D.medium disk.old).now }
+{
+    let mut from = 0;
+    let mut at = 0;
+    for (n, is_marked) in marks.iter().enumerate() {
+        let end = at + stretch_size(g, n);
+        if !*is_marked {
+            write_run(disk, g, area, bytes, from, at)?;
+            from = end;
+        }
+        at = end;
+    }
+    write_run(disk, g, area, bytes, from, at)?;
+    disk.sync()?;
+    Ok(())
+}
