@@ -1,3 +1,5 @@
 mod Places
 mod Runs
 mod Patches
+mod Standing
+mod Pointing

@@ -12,6 +12,10 @@ pub stretch_next : (g : Geometry) (n : ℕ) → stretch_at g (suc n) ≡ stretch
 stretch_next g zero = omega arith
 stretch_next g (suc n) = omega arith
 
+-- the same where the next number is told by a sum
+pub stretch_after : (g : Geometry) (n : ℕ) → stretch_at g (n + 1) ≡ stretch_at g n + stretch_size g n
+stretch_after g n = let next : n + 1 ≡ suc n = omega arith in ap (stretch_at g) next ∙ stretch_next g n
+
 pub stretch_rises : (g : Geometry) (m n : ℕ) → m ≤ n → stretch_at g m ≤ stretch_at g n
 stretch_rises g zero zero less = omega arith
 stretch_rises g (suc m) zero less = absurd (omega (arith, less))

@@ -1,2 +1,3 @@
 pub mod Journal
 pub mod Stretches
+pub mod Steps

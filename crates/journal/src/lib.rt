@@ -2,4 +2,5 @@
 //! any moment leaves a device that stands for what was logged.
 #![tactic(auto)]
 
+mod steps;
 mod stretches;

@@ -1,11 +1,11 @@
-use Rattle.std.proofs.Common.{◌≡◌, ◌+◌, ◌≤◌, ℕ, true, false, length, get_or, refl, sym, ◌∙◌, ap, arith}
+use Rattle.std.proofs.Common.{◌≡◌, ◌+◌, ◌<◌, ◌≤◌, ℕ, true, false, length, get_or, refl, sym, ◌∙◌, ap, arith}
 use Rattle.std.proofs.lemmas.Grind.{common_steps}
 use Rattle.disk.proofs.Calls.{after_sync}
 use Rattle.disk.specs.Device.{Medium}
 use Rattle.image.specs.Pieces.{piece_count}
 use Rattle.journal.specs.Stretches.{stretch_at, stretch_size}
 use Rattle.journal.proofs.Patches.{IsPatched, along_patch, patch_begun, patch_moments, patch_passed, patch_synced, patched}
-use Rattle.journal.proofs.Places.{stretch_end, stretch_inside, stretch_next}
+use Rattle.journal.proofs.Places.{stretch_end, stretch_after, stretch_inside}
 use Rattle.oplog.specs.Layout.{image_size}
 use Rattle.journal.proofs.stretches.write_image.Goals as goal
 use Rattle.journal.proofs.stretches.write_image.Goals.{then-not-is_marked+in_ok-write_run, else-not-is_marked}
@@ -39,8 +39,8 @@ pub loop-n-preserved : goal.loop-n-preserved
 loop-n-preserved g c =
     let few : c.loop-n.n < piece_count c.args.g.now = grind (arith, common_steps) in
     let inside = stretch_inside c.args.g.now c.loop-n.n few in
-    let next = stretch_next c.args.g.now c.loop-n.n in
-    let place : c.loop-n.at + c.stretch_size.result ≡ stretch_at c.args.g.now (c.loop-n.n + 1) = omega (arith, next, c.loop-n.invariant.place, c.stretch_size.ensures.size) in
+    let next = stretch_after c.args.g.now c.loop-n.n in
+    let place : c.loop-n.at + c.stretch_size.result ≡ stretch_at c.args.g.now (c.loop-n.n + 1) = (λ i. c.loop-n.invariant.place i + c.stretch_size.ensures.size i) ∙ sym next in
     elim c.if-not-is_marked.branch [
       | then-not-is_marked+in_ok-write_run w ↦
           let unmarked : get_or c.args.marks.now c.loop-n.n true ≡ false = grind (arith, common_steps) in

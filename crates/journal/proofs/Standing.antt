@@ -1,0 +1,103 @@
+-- What a device stands for, by the area that it names, and what it would stand for by the other one.
+use Rattle.std.proofs.Common.{◌≡◌, ◌≢◌, ◌<◌, ℕ, zero, suc, Bool, true, false, not, ◌&&◌, cond, eqb, nat_le, ◌+◌, List, [], ◌++◌, length, drop, get_or, Option, Some, None, is_some, refl, sym, ◌∙◌, ap, subst, arith, true≢false}
+use Rattle.std.proofs.lemmas.Bool.{ne_eqb}
+use Rattle.affinity.specs.declared.geometry.Geometry.{Geometry}
+use Rattle.checkpoint.specs.Header.{is_header}
+use Rattle.checkpoint.specs.Recovery.{holds, means}
+use Rattle.disk.specs.Device.{AreBytes, Medium, Leaves}
+use Rattle.disk.specs.Moments.{LeavesOnly}
+use Rattle.disk.proofs.Leaves.{itself}
+use Rattle.disk.proofs.Moments.{weaker}
+use Rattle.image.specs.Image.{read}
+use Rattle.journal.specs.Steps.{IsStanding, run_on}
+use Rattle.oplog.specs.Changes.{IsReady}
+use Rattle.oplog.specs.Crash.{StandsBy}
+use Rattle.oplog.specs.Front.{chain, front, front_in, gates, open_gates, rows}
+use Rattle.oplog.specs.Layout.{Layout, layout_of, part, device_size, header, half, image, other}
+use Rattle.oplog.specs.Stands.{Meaning, current_of, in_force, is_laid_out, named_area, run, stands_as}
+use Rattle.plain.specs.State.{State}
+
+-- ---- by the area that it names
+
+pub holds_by : (g : Geometry) (n h : ℕ) (x : Option State) (c : List ℕ) → StandsBy (means g) (layout_of g) n h x c → holds g c ≡ x
+holds_by g n h x c stood = ap (λ (k : ℕ). stands_as (means g) (layout_of g) k c) stood.named ∙ stood.is
+
+pub holds_moments : (g : Geometry) (n h : ℕ) (x : Option State) (w0 w1 : Medium) → LeavesOnly w0 w1 (StandsBy (means g) (layout_of g) n h x) → LeavesOnly w0 w1 (λ c. holds g c ≡ x)
+holds_moments g n h x w0 w1 moments = weaker w0 w1 _ _ moments (holds_by g n h x)
+
+pub holds_now : (g : Geometry) (n h : ℕ) (x : Option State) (m : Medium) → AreBytes m.now → IsStanding g n h x m → holds g m.now ≡ x
+holds_now g n h x m are stands = holds_by g n h x m.now (stands m.now (itself m.now m.loose are))
+
+-- ---- by the other one
+
+laid_if : (t : Bool) (y x : Option State) → cond t y None ≡ x → is_some x ≡ true → t ≡ true
+laid_if true y x is some = refl
+laid_if false y x is some = absurd (true≢false (sym some ∙ ap is_some (sym is)))
+
+pub laid_by : (g : Geometry) (n : ℕ) (x : Option State) (c : List ℕ) → stands_as (means g) (layout_of g) n c ≡ x → is_some x ≡ true → is_laid_out (means g) (layout_of g) c ≡ true
+laid_by g n x c is some = laid_if (is_laid_out (means g) (layout_of g) c) _ x is some
+
+pub as_other : (g : Geometry) (q : ℕ) (x : Option State) (bytes c : List ℕ) (rs : List (List ℕ)) → is_laid_out (means g) (layout_of g) c ≡ true → part (layout_of g) (image q) c ≡ bytes → in_force (layout_of g) q c ≡ rs → run_on g (read g bytes) rs ≡ x → stands_as (means g) (layout_of g) q c ≡ x
+as_other g q x bytes c rs laid is force leads = (λ i. cond (laid i) (run (means g) (read g (is i)) (force i)) None) ∙ leads
+
+-- ---- chains
+
+pub shut_force : (l : Layout) (q : ℕ) (c : List ℕ) → eqb (chain l q c) 1 ≡ false → in_force l q c ≡ front l q c
+shut_force l q c shut = ap (λ (t : Bool). cond t (front l q c ++ front l (other q) c) (front l q c)) shut
+
+pub shut_current : (l : Layout) (q : ℕ) (c : List ℕ) → eqb (chain l q c) 1 ≡ false → current_of l q c ≡ q
+shut_current l q c shut = ap (λ (t : Bool). cond t (other q) q) shut
+
+open_by : (n : ℕ) (t : Bool) → n < 2 → cond t (other n) n ≡ other n → t ≡ true
+open_by n true is_area is = refl
+open_by n false is_area is = absurd (omega (arith, is, is_area))
+
+not_both : (a b : Bool) → not (a && b) ≡ true → a ≡ true → b ≡ false
+not_both true true none is = absurd (true≢false (sym none))
+not_both true false none is = refl
+not_both false b none is = absurd (true≢false (sym is))
+
+not_both' : (a b : Bool) → not (a && b) ≡ true → b ≡ true → a ≡ false
+not_both' true true none is = absurd (true≢false (sym none))
+not_both' true false none is = absurd (true≢false (sym is))
+not_both' false b none is = refl
+
+and_last : (a b c : Bool) → (a && b && c) ≡ true → c ≡ true
+and_last true true true is = refl
+and_last true true false is = is
+and_last true false c is = absurd (true≢false (sym is))
+and_last false b c is = absurd (true≢false (sym is))
+
+-- where the named half has a chain, the other one has none
+pub chain_other : (g : Geometry) (n : ℕ) (c : List ℕ) → n < 2 → is_laid_out (means g) (layout_of g) c ≡ true → current_of (layout_of g) n c ≡ other n → eqb (chain (layout_of g) (other n) c) 1 ≡ false
+chain_other g n c is_area laid follows =
+    let one : not (eqb (chain (layout_of g) 0 c) 1 && eqb (chain (layout_of g) 1 c) 1) ≡ true = and_last (is_header g (part (layout_of g) header c)) (nat_le (device_size (layout_of g)) (length c)) _ laid in
+    by n is_area one (open_by n (eqb (chain (layout_of g) n c) 1) is_area follows)
+  where
+    by : (n : ℕ) → n < 2 → not (eqb (chain (layout_of g) 0 c) 1 && eqb (chain (layout_of g) 1 c) 1) ≡ true → eqb (chain (layout_of g) n c) 1 ≡ true → eqb (chain (layout_of g) (other n) c) 1 ≡ false
+    by zero is_area one is = not_both (eqb (chain (layout_of g) 0 c) 1) (eqb (chain (layout_of g) 1 c) 1) one is
+    by (suc zero) is_area one is = not_both' (eqb (chain (layout_of g) 0 c) 1) (eqb (chain (layout_of g) 1 c) 1) one is
+    by (suc (suc n)) is_area one is = absurd (omega (arith, is_area))
+
+pub not_one : (n : ℕ) → n ≡ 0 → eqb n 1 ≡ false
+not_one n zero' = ap (λ (m : ℕ). eqb m 1) zero'
+
+-- ---- fronts
+
+-- a half that is ready with no record has none in its front
+pub ready_none : (l : Layout) (h : ℕ) (m : Medium) → IsReady l h 0 m → front l h m.now ≡ []
+ready_none l h m ready = ap (λ (n : ℕ). rows 520 n (drop (64 + l.slots) (part l (half h) m.now))) ready.used
+
+-- what the half holds decides its front and its chain
+pub half_same : (l : Layout) (h : ℕ) (a c : List ℕ) → part l (half h) c ≡ part l (half h) a → (front l h c ≡ front l h a) × (chain l h c ≡ chain l h a)
+half_same l h a c same = (ap (λ (bytes : List ℕ). front_in l.slots bytes) same, ap (λ (bytes : List ℕ). get_or bytes 0 0) same)
+
+pub run_none : (g : Geometry) (x : Option State) → run_on g x [] ≡ x
+run_none g None = refl
+run_none g (Some x) = refl
+
+-- of both areas, as of one and of the other
+pub both_of : (P : ℕ → Type 0) (n : ℕ) → n < 2 → P n → P (other n) → P 0 × P 1
+both_of P zero is_area one another = (one, another)
+both_of P (suc zero) is_area one another = (another, one)
+both_of P (suc (suc n)) is_area one another = absurd (omega (arith, is_area))

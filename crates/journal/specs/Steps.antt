@@ -1,0 +1,74 @@
+-- The steps of a point on a device: what each asks of it, and what stands on it afterwards. No clause of a public function
+-- cites this module.
+use Rattle.std.specs.Prelude.{◌≡◌, ◌<◌, ℕ, true, false, List, [], Option, is_some}
+use Rattle.affinity.specs.declared.geometry.Geometry.{Geometry}
+use Rattle.checkpoint.specs.Recovery.{holds, means}
+use Rattle.disk.specs.Device.{Medium}
+use Rattle.disk.specs.Moments.{LeavesOnly}
+use Rattle.image.specs.Image.{read}
+use Rattle.journal.specs.Stretches.{image_in}
+use Rattle.oplog.specs.Changes.{IsReady}
+use Rattle.oplog.specs.Crash.{StandsByNow}
+use Rattle.oplog.specs.Front.{front}
+use Rattle.oplog.specs.Layout.{layout_of, other}
+use Rattle.oplog.specs.Log.{Log}
+use Rattle.oplog.specs.Stands.{in_force, named_area, run}
+use Rattle.plain.specs.State.{State}
+
+-- A crash at any moment from `old` to `new` leaves a device that stands for what it stood for.
+abbrev pub StandsStill : Geometry → Medium → Medium → Type 0
+StandsStill g old new = LeavesOnly old new (λ c. holds g c ≡ holds g old.now)
+
+-- Whatever a crash leaves now names area n, has half h as its current one, and stands for x.
+abbrev pub IsStanding : Geometry → ℕ → ℕ → Option State → Medium → Type 0
+IsStanding g n h x m = StandsByNow (means g) (layout_of g) n h x m
+
+-- these records run on a state
+abbrev pub run_on : Geometry → Option State → List (List ℕ) → Option State
+run_on g x records = run (means g) x records
+
+-- It stands for a state by the area that is named alone, whatever room there is.
+pub record IsAlone (log : Log) (m : Medium) : Type 0 where
+  pub some : is_some (holds log.geometry m.now) ≡ true
+  pub stands : IsStanding log.geometry log.named log.named (holds log.geometry m.now) m
+
+-- The other area is named, with this image, no record and all its room. The image that was named is as it was.
+pub record IsPointed (log : Log) (bytes : List ℕ) (old new : Medium) : Type 0 where
+  pub stands : IsStanding log.geometry (other log.named) (other log.named) (holds log.geometry old.now) new
+  pub ready : IsReady (layout_of log.geometry) (other log.named) 0 new
+  pub emptied : in_force (layout_of log.geometry) (named_area (layout_of log.geometry) new.now) new.now ≡ []
+  pub is : image_in log.geometry (other log.named) new ≡ bytes
+  pub kept : image_in log.geometry log.named new ≡ image_in log.geometry log.named old
+
+-- The other half is in force behind the named one, with no record and all its room. Both images are as they were.
+pub record IsBegun (log : Log) (old new : Medium) : Type 0 where
+  pub stands : IsStanding log.geometry log.named (other log.named) (holds log.geometry old.now) new
+  pub ready : IsReady (layout_of log.geometry) (other log.named) 0 new
+  pub none : front (layout_of log.geometry) (other log.named) new.now ≡ []
+  pub images : (i : ℕ) → i < 2 → image_in log.geometry i new ≡ image_in log.geometry i old
+
+-- It stands for a state by both halves, and would by the other area alone: these bytes are its image, and the records of
+-- the other half lead from there to what the device stands for.
+pub record IsWritten (log : Log) (bytes : List ℕ) (m : Medium) : Type 0 where
+  pub some : is_some (holds log.geometry m.now) ≡ true
+  pub stands : IsStanding log.geometry log.named (other log.named) (holds log.geometry m.now) m
+  pub ready : IsReady (layout_of log.geometry) (other log.named) log.used m
+  pub is : image_in log.geometry (other log.named) m ≡ bytes
+  pub behind : run_on log.geometry (read log.geometry bytes) (front (layout_of log.geometry) (other log.named) m.now) ≡ holds log.geometry m.now
+
+-- The other area is named, with the records that it had. Both images are as they were.
+pub record IsFlipped (log : Log) (old new : Medium) : Type 0 where
+  pub stands : IsStanding log.geometry (other log.named) (other log.named) (holds log.geometry old.now) new
+  pub ready : IsReady (layout_of log.geometry) (other log.named) log.used new
+  pub images : (i : ℕ) → i < 2 → image_in log.geometry i new ≡ image_in log.geometry i old
+
+-- ---- the log after each
+
+abbrev pub pointed : Log → Log
+pointed log = record log { named = other log.named; current = other log.named; used = 0; cleared = false }
+
+abbrev pub cut_now : Log → Log
+cut_now log = record log { current = other log.named; used = 0; cleared = false }
+
+abbrev pub named_now : Log → Log
+named_now log = record log { named = other log.named; cleared = false }

@@ -1,0 +1,99 @@
+//! The steps of a point on a device. A crash at any moment of one leaves a device that stands for what it stood for.
+ghost use Rattle.std.specs.Prelude.{◌≡◌, false, length, OnOk, OnErr};
+ghost use Rattle.checkpoint.specs.Recovery.{holds};
+ghost use Rattle.image.specs.Image.{read};
+ghost use Rattle.image.specs.Pieces.{piece_count};
+ghost use Rattle.journal.specs.Steps.{IsAlone, IsBegun, IsFlipped, IsPointed, IsWritten, StandsStill, cut_now, named_now, pointed};
+ghost use Rattle.journal.specs.Stretches.{AgreeUnmarked, image_in};
+ghost use Rattle.oplog.specs.Calls.{HasParts};
+ghost use Rattle.oplog.specs.Layout.{image_size, other};
+ghost use Rattle.oplog.specs.Log.{CountsLogFault, IsNotBad};
+
+use crate::stretches::write_image;
+use disk::Disk;
+use oplog::{Halves, LogFault};
+
+/// Makes a point into the area that isn't named, with this image of what the device stands for. Of the image only the
+/// marked stretches are written: all others are on the device already.
+pub(crate) fn point_on<D: Disk>(
+    halves: &mut Halves,
+    disk: &mut D,
+    bytes: &[u8],
+    marks: &[bool],
+) -> Result<(), LogFault>
+    requires sound { halves.old.failed ≡ false }
+    requires size { length bytes.now ≡ image_size halves.old.geometry }
+    requires marks { length marks.now ≡ piece_count halves.old.geometry }
+    requires whole { HasParts halves.old (D.medium disk.old) }
+    requires together { halves.old.current ≡ halves.old.named }
+    requires alone { D.keeps → IsAlone halves.old (D.medium disk.old) }
+    requires image { D.keeps →
+        read halves.old.geometry bytes.now ≡ holds halves.old.geometry (D.medium disk.old).now }
+    requires unmarked { D.keeps → AgreeUnmarked halves.old.geometry marks.now
+        (image_in halves.old.geometry (other halves.old.named) (D.medium disk.old)) bytes.now }
+    ensures any_moment { D.keeps →
+        StandsStill halves.old.geometry (D.medium disk.old) (D.medium disk.new) }
+    ensures pointed { OnOk result (D.keeps →
+        IsPointed halves.old bytes.now (D.medium disk.old) (D.medium disk.new)) }
+    ensures log { OnOk result (halves.new ≡ pointed halves.old) }
+    ensures geometry { halves.new.geometry ≡ halves.old.geometry }
+    ensures used { OnErr result (halves.new.used ≡ halves.old.used) }
+    ensures not_bad { IsNotBad result }
+    ensures counts { CountsLogFault result (D.medium disk.old).faults (D.medium disk.new).faults }
+    ensures len { length (D.medium disk.new).now ≡ length (D.medium disk.old).now }
+{
+    let g = halves.geometry();
+    let area = 1 - halves.named();
+    halves.clear_other(disk)?;
+    if write_image(disk, &g, area, bytes, marks).is_err() {
+        return Err(LogFault::Device);
+    }
+    halves.flip_root(disk)?;
+    Ok(())
+}
+
+/// Begins a cut: the other half is cleared, and put in force behind the named one.
+pub(crate) fn cut_on<D: Disk>(halves: &mut Halves, disk: &mut D) -> Result<(), LogFault>
+    requires sound { halves.old.failed ≡ false }
+    requires whole { HasParts halves.old (D.medium disk.old) }
+    requires together { halves.old.current ≡ halves.old.named }
+    requires alone { D.keeps → IsAlone halves.old (D.medium disk.old) }
+    ensures any_moment { D.keeps →
+        StandsStill halves.old.geometry (D.medium disk.old) (D.medium disk.new) }
+    ensures begun { OnOk result (D.keeps →
+        IsBegun halves.old (D.medium disk.old) (D.medium disk.new)) }
+    ensures log { OnOk result (halves.new ≡ cut_now halves.old) }
+    ensures geometry { halves.new.geometry ≡ halves.old.geometry }
+    ensures used { OnErr result (halves.new.used ≡ halves.old.used) }
+    ensures not_bad { IsNotBad result }
+    ensures counts { CountsLogFault result (D.medium disk.old).faults (D.medium disk.new).faults }
+    ensures len { length (D.medium disk.new).now ≡ length (D.medium disk.old).now }
+{
+    halves.clear_other(disk)?;
+    halves.open_chain(disk)?;
+    Ok(())
+}
+
+/// Ends a cut of which the whole image is written: it is made to last, and named.
+pub(crate) fn flip_on<D: Disk>(halves: &mut Halves, disk: &mut D, bytes: &[u8]) -> Result<(), LogFault>
+    requires sound { halves.old.failed ≡ false }
+    requires whole { HasParts halves.old (D.medium disk.old) }
+    requires apart { halves.old.current ≡ other halves.old.named }
+    requires written { D.keeps → IsWritten halves.old bytes.now (D.medium disk.old) }
+    ensures any_moment { D.keeps →
+        StandsStill halves.old.geometry (D.medium disk.old) (D.medium disk.new) }
+    ensures flipped { OnOk result (D.keeps →
+        IsFlipped halves.old (D.medium disk.old) (D.medium disk.new)) }
+    ensures log { OnOk result (halves.new ≡ named_now halves.old) }
+    ensures geometry { halves.new.geometry ≡ halves.old.geometry }
+    ensures used { OnErr result (halves.new.used ≡ halves.old.used) }
+    ensures not_bad { IsNotBad result }
+    ensures counts { CountsLogFault result (D.medium disk.old).faults (D.medium disk.new).faults }
+    ensures len { length (D.medium disk.new).now ≡ length (D.medium disk.old).now }
+{
+    if disk.sync().is_err() {
+        return Err(LogFault::Device);
+    }
+    halves.flip_root(disk)?;
+    Ok(())
+}
