@@ -3,3 +3,4 @@ mod Runs
 mod Patches
 mod Standing
 mod Pointing
+mod Cutting

@@ -1,0 +1,47 @@
+use Rattle.std.proofs.Common.{◌≡◌, ◌<◌, ℕ, subst}
+use Rattle.journal.proofs.Cutting.{begun_images, begun_none, begun_ready, begun_stands, chain_moments, named_below}
+use Rattle.journal.proofs.Pointing.{clear_moments}
+use Rattle.oplog.specs.Calls.{Chains, HasChained}
+use Rattle.oplog.specs.Log.{Log}
+use Rattle.journal.proofs.steps.cut_on.Goals as goal
+
+pub returns-in_err-clear_other-clause-any_moment : goal.returns-in_err-clear_other-clause-any_moment
+returns-in_err-clear_other-clause-any_moment g c = λ k.
+    let stands = (c.requires.alone k).stands in
+    let is_area = named_below c.args.halves.now.geometry c.args.halves.now.named _ _ (g.D.Disk.medium c.args.disk.now) (g.met.D.Disk.bytes c.args.disk.now) stands in
+    clear_moments c.args.halves.now.geometry c.args.halves.now.named _ is_area _ _ stands (c.clear_other.ensures.any_moment k)
+
+pub returns-in_err-open_chain-clause-any_moment : goal.returns-in_err-open_chain-clause-any_moment
+returns-in_err-open_chain-clause-any_moment g c = λ k.
+    let stands = (c.requires.alone k).stands in
+    let is_area = named_below c.args.halves.now.geometry c.args.halves.now.named _ _ (g.D.Disk.medium c.args.disk.now) (g.met.D.Disk.bytes c.args.disk.now) stands in
+    let chains = subst (λ (log : Log). Chains log (g.D.Disk.medium c.clear_other.new.disk) (g.D.Disk.medium c.open_chain.new.disk)) c.in_ok-clear_other.ensures.log (c.open_chain.ensures.any_moment k) in
+    chain_moments c.args.halves.now.geometry c.args.halves.now.named _ is_area _ _ _ stands (c.clear_other.ensures.any_moment k) (c.in_ok-clear_other.ensures.cleared k) chains
+
+pub returns-clause-any_moment : goal.returns-clause-any_moment
+returns-clause-any_moment g c = λ k.
+    let stands = (c.requires.alone k).stands in
+    let is_area = named_below c.args.halves.now.geometry c.args.halves.now.named _ _ (g.D.Disk.medium c.args.disk.now) (g.met.D.Disk.bytes c.args.disk.now) stands in
+    let chains = subst (λ (log : Log). Chains log (g.D.Disk.medium c.clear_other.new.disk) (g.D.Disk.medium c.open_chain.new.disk)) c.in_ok-clear_other.ensures.log (c.open_chain.ensures.any_moment k) in
+    chain_moments c.args.halves.now.geometry c.args.halves.now.named _ is_area _ _ _ stands (c.clear_other.ensures.any_moment k) (c.in_ok-clear_other.ensures.cleared k) chains
+
+pub returns-clause-begun : goal.returns-clause-begun
+returns-clause-begun g c = λ k.
+    let geometry = c.args.halves.now.geometry in
+    let named = c.args.halves.now.named in
+    let w0 = g.D.Disk.medium c.args.disk.now in
+    let w1 = g.D.Disk.medium c.clear_other.new.disk in
+    let w2 = g.D.Disk.medium c.open_chain.new.disk in
+    let stands = (c.requires.alone k).stands in
+    let is_area = named_below geometry named _ _ w0 (g.met.D.Disk.bytes c.args.disk.now) stands in
+    let clears = c.clear_other.ensures.any_moment k in
+    let cleared = c.in_ok-clear_other.ensures.cleared k in
+    let chains = subst (λ (log : Log). Chains log w1 w2) c.in_ok-clear_other.ensures.log (c.open_chain.ensures.any_moment k) in
+    let chained = subst (λ (log : Log). HasChained log w1 w2) c.in_ok-clear_other.ensures.log (c.in_ok-open_chain.ensures.chained k) in
+    let are = g.met.D.Disk.bytes c.clear_other.new.disk in
+    record {
+      stands = begun_stands geometry named _ is_area w0 w1 w2 stands clears cleared chains are c.requires.whole chained;
+      ready = begun_ready geometry named _ is_area w0 w1 w2 stands clears cleared chains are c.requires.whole chained;
+      none = begun_none geometry named _ is_area w0 w1 w2 stands clears cleared chains are c.requires.whole chained;
+      images = begun_images geometry named _ is_area w0 w1 w2 stands clears cleared chains are c.requires.whole chained;
+    }
