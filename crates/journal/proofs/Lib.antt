@@ -4,3 +4,7 @@ mod Patches
 mod Standing
 mod Pointing
 mod Cutting
+mod Rows
+mod Logging
+mod Flipping
+mod Piecing

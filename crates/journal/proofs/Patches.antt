@@ -1,14 +1,16 @@
 -- How the marked stretches of an image are written, one run after another.
-use Rattle.std.proofs.Common.{◌≡◌, ℕ, zero, suc, ◌+◌, ◌-◌, ◌<◌, ◌≤◌, Bool, true, false, List, [], ◌∷◌, ◌++◌, length, take, drop, get_or, refl, sym, ◌∙◌, ap, subst, arith, length-drop}
+use Rattle.std.proofs.Common.{◌≡◌, ◌≢◌, ⊎_elim, ℕ, zero, suc, ◌+◌, ◌-◌, ◌<◌, ◌≤◌, Bool, true, false, List, [], ◌∷◌, ◌++◌, length, take, drop, get_or, refl, sym, ◌∙◌, ap, subst, arith, length-drop}
+use Rattle.std.proofs.lemmas.Bool.{cases_lt}
 use Rattle.std.proofs.lemmas.List.{drop-drop, take_all, length-take-le}
 use Rattle.std.proofs.Math.Seq.{take-add}
 use Rattle.affinity.specs.declared.geometry.Geometry.{Geometry}
-use Rattle.disk.specs.Device.{Medium, IsSynced, overlaid, synced}
+use Rattle.disk.specs.Device.{Medium, IsSynced, SameOutside, overlaid, synced}
 use Rattle.disk.proofs.Calls.{after_sync}
-use Rattle.disk.proofs.Overlays.{take-overlaid, drop-overlaid, range-overlaid}
+use Rattle.disk.proofs.Overlays.{take-overlaid, drop-overlaid, overlaid_outside, range-overlaid}
+use Rattle.disk.proofs.Outside.{same_before, same_behind}
 use Rattle.image.specs.Pieces.{piece_count}
-use Rattle.journal.specs.Stretches.{AgreeUnmarked, Imaged, image_in, stretch_at, stretch_size}
-use Rattle.journal.proofs.Places.{stretch_next, stretch_inside}
+use Rattle.journal.specs.Stretches.{AgreeUnmarked, Imaged, IsPatchedAt, image_in, stretch_at, stretch_size}
+use Rattle.journal.proofs.Places.{stretch_inside, stretch_next, stretch_rises}
 use Rattle.journal.proofs.Runs.{part_begun, part_then, run_long}
 use Rattle.oplog.specs.Changes.{ChangesOnly, IsSameBut}
 use Rattle.oplog.specs.Layout.{slice, layout_of, image, image_size, part_at, part_size, device_size}
@@ -119,3 +121,34 @@ patch_synced g area bytes w0 w w1 is_area size whole so_far syncs =
 pub along_patch : (g : Geometry) (area from from' : ℕ) (bytes : List ℕ) (w0 w w' : Medium) → from' ≡ from → w' ≡ w → IsPatched g area from bytes w0 w → IsPatched g area from' bytes w0 w'
 along_patch g area from from' bytes w0 w w' same still so_far =
     subst (λ (m : Medium). IsPatched g area from' bytes w0 m) (sym still) (subst (λ (n : ℕ). IsPatched g area n bytes w0 w) (sym same) so_far)
+
+-- ---- one stretch
+
+-- one stretch is written over, and each other one stays
+pub one_patched : (g : Geometry) (n at : ℕ) (bytes old new : List ℕ) → n < piece_count g → length bytes ≡ image_size g → length old ≡ image_size g → at ≡ stretch_at g n → new ≡ overlaid old at (slice bytes at (stretch_size g n)) → IsPatchedAt g n bytes old new
+one_patched g n at bytes old new few size size' place is =
+    let inside = stretch_inside g n few in
+    let items : List ℕ = slice bytes at (stretch_size g n) in
+    let long : length items ≡ stretch_size g n = length-take-le (stretch_size g n) (drop at bytes) (omega (arith, length-drop at bytes, size, place, inside)) in
+    let same : SameOutside at (stretch_size g n) old new =
+    subst (λ (l : List ℕ). SameOutside at (stretch_size g n) old l) (sym is) (subst (λ (k : ℕ). SameOutside at k old (overlaid old at items)) long (overlaid_outside old at items)) in
+    record {
+      is =
+          ap (λ (a : ℕ). slice new a (stretch_size g n)) (sym place) ∙ ap (λ (l : List ℕ). slice l at (stretch_size g n)) is
+          ∙ ap (λ (k : ℕ). slice (overlaid old at items) at k) (sym long) ∙ range-overlaid old at items (omega (arith, long, size', place, inside))
+          ∙ ap (λ (a : ℕ). slice bytes a (stretch_size g n)) place;
+      others = λ i few' differs.
+          ⊎_elim
+          (λ (less : i < n).
+          let before = stretch_rises g (suc i) n (omega (arith, less)) in
+          let next = stretch_next g i in
+          same_before at (stretch_size g n) old new same (stretch_at g i) (stretch_size g i) (omega (arith, before, next, place)))
+          (λ (no_less : n ≤ i).
+          let after = stretch_rises g (suc n) i (apart i n differs no_less) in
+          let next = stretch_next g n in
+          same_behind at (stretch_size g n) old new same (stretch_at g i) (stretch_size g i) (omega (arith, after, next, place)))
+          (cases_lt i n);
+    }
+  where
+    apart : (i n : ℕ) → i ≢ n → n ≤ i → suc n ≤ i
+    apart i n differs no_less = ⊎_elim (λ (more : n < i). omega (arith, more)) (λ (no_more : i ≤ n). absurd (differs (omega (arith, no_less, no_more)))) (cases_lt n i)

@@ -1,3 +1,4 @@
 pub mod Journal
 pub mod Stretches
 pub mod Steps
+pub mod Keeping

@@ -1,5 +1,5 @@
 -- An image as the stretches in which it is written: its head with the first piece, then each other piece.
-use Rattle.std.specs.Prelude.{◌≡◌, ◌<◌, ◌+◌, ℕ, zero, suc, Bool, true, false, List, ◌++◌, get_or}
+use Rattle.std.specs.Prelude.{◌≡◌, ◌≢◌, ◌<◌, ◌+◌, ℕ, zero, suc, Bool, true, false, List, ◌++◌, get_or}
 use Rattle.affinity.specs.declared.geometry.Geometry.{Geometry}
 use Rattle.disk.specs.Device.{Medium, IsSynced}
 use Rattle.image.specs.Image.{head_of}
@@ -39,3 +39,8 @@ pub record Imaged (g : Geometry) (area : ℕ) (bytes : List ℕ) (old new : Medi
   pub same : IsSameBut (layout_of g) (image area) old.now new.now
   pub is : image_in g area new ≡ bytes
   pub calm : IsSynced new
+
+-- Stretch n is now that of these bytes, and each other one is as it was.
+pub record IsPatchedAt (g : Geometry) (n : ℕ) (bytes old new : List ℕ) : Type 0 where
+  pub is : stretch_in g new n ≡ stretch_in g bytes n
+  pub others : (i : ℕ) → i < piece_count g → i ≢ n → stretch_in g new i ≡ stretch_in g old i

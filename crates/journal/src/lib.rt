@@ -2,5 +2,9 @@
 //! any moment leaves a device that stands for what was logged.
 #![tactic(auto)]
 
+mod journal;
+mod marks;
 mod steps;
 mod stretches;
+
+pub use journal::Journal;

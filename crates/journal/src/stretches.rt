@@ -2,7 +2,7 @@
 ghost use Rattle.std.specs.Prelude.{◌≡◌, ◌+◌, ◌-◌, ◌<◌, ◌≤◌, ℕ, length, OnOk, IsErrOf};
 ghost use Rattle.disk.specs.Device.{CountsFault, overlaid};
 ghost use Rattle.image.specs.Pieces.{piece_count, piece_size};
-ghost use Rattle.journal.specs.Stretches.{AgreeUnmarked, Imaged, image_in, stretch_size};
+ghost use Rattle.journal.specs.Stretches.{AgreeUnmarked, Imaged, IsPatchedAt, image_in, stretch_size};
 ghost use Rattle.oplog.specs.Changes.{ChangesOnly, IsReady, IsSameBut};
 ghost use Rattle.oplog.specs.Layout.{slice, layout_of, device_size, image, image_size};
 
@@ -110,5 +110,37 @@ pub(crate) fn write_image<D: Disk>(
     }
     write_run(disk, g, area, bytes, from, at)?;
     disk.sync()?;
+    Ok(())
+}
+
+/// Writes stretch `n` of an image at its place. Until a sync succeeds, a crash may leave any bytes there. `Device` exactly
+/// where the device failed.
+pub(crate) fn write_stretch<D: Disk>(
+    disk: &mut D,
+    g: &Geometry,
+    area: usize,
+    bytes: &[u8],
+    n: usize,
+) -> Result<(), DiskFault>
+    requires area { area < 2 }
+    requires n { n < piece_count g.now }
+    requires size { length bytes.now ≡ image_size g.now }
+    requires whole { device_size (layout_of g.now) ≤ length (D.medium disk.old).now }
+    ensures any_moment { D.keeps → ChangesOnly (D.medium disk.old) (D.medium disk.new)
+        (IsSameBut (layout_of g.now) (image area)) }
+    ensures written { OnOk result (D.keeps → IsPatchedAt g.now n bytes.now
+        (image_in g.now area (D.medium disk.old)) (image_in g.now area (D.medium disk.new))) }
+    ensures same { D.keeps → IsSameBut (layout_of g.now) (image area) (D.medium disk.old).now (D.medium disk.new).now }
+    ensures ready { D.keeps → (h k : ℕ) → h < 2 → IsReady (layout_of g.now) h k (D.medium disk.old)
+        → IsReady (layout_of g.now) h k (D.medium disk.new) }
+    ensures inside { IsErrOf result DiskFault.OutOfRange → ⊥ }
+    ensures counts { CountsFault result (D.medium disk.old).faults (D.medium disk.new).faults }
+    ensures len { length (D.medium disk.new).now ≡ length (D.medium disk.old).now }
+{
+    let mut at = 0;
+    for i in 0..n {
+        at += stretch_size(g, i);
+    }
+    write_run(disk, g, area, bytes, at, at + stretch_size(g, n))?;
     Ok(())
 }

@@ -1,0 +1,64 @@
+-- What the end of a cut asks of a journal, and what the journal keeps after it.
+use Rattle.std.proofs.Common.{◌≡◌, ◌<◌, ℕ, Bool, true, false, List, [], length, Option, Some, None, is_some, refl, sym, ◌∙◌, ap, subst, arith}
+use Rattle.affinity.specs.declared.geometry.Geometry.{Geometry}
+use Rattle.checkpoint.specs.Recovery.{holds}
+use Rattle.disk.specs.Device.{AreBytes, Medium}
+use Rattle.image.specs.Image.{read}
+use Rattle.image.specs.Pieces.{piece_count}
+use Rattle.journal.specs.Keeping.{IsCut, IsFresh, IsPlaced, IsSound}
+use Rattle.journal.specs.Steps.{IsFlipped, IsStanding, IsWritten, named_now}
+use Rattle.journal.specs.Stretches.{AgreeUnmarked, image_in}
+use Rattle.journal.proofs.Cutting.{named_below}
+use Rattle.journal.proofs.Patches.{image_long}
+use Rattle.journal.proofs.Rows.{all_agree, none_marked}
+use Rattle.journal.proofs.Standing.{holds_now}
+use Rattle.oplog.specs.Calls.{HasParts}
+use Rattle.oplog.specs.Changes.{IsReady}
+use Rattle.oplog.specs.Layout.{layout_of, image_size, other}
+use Rattle.oplog.specs.Log.{Log}
+use Rattle.plain.specs.State.{State}
+
+module _ (log : Log) (frozen : List ℕ) (named others due : List Bool) (left : Option ℕ) (w0 : Medium) (none_left : left ≡ Some 0) where
+  pub flip_asks : HasParts log w0 → length frozen ≡ image_size log.geometry → length due ≡ piece_count log.geometry → AreBytes w0.now → IsPlaced log due left → IsSound log frozen named others due left w0 → IsWritten log frozen w0
+  flip_asks whole size size' are placed' sound =
+      let placed = subst (λ (l : Option ℕ). IsPlaced log due l) none_left placed' in
+      let sound' = subst (λ (l : Option ℕ). IsSound log frozen named others due l w0) none_left sound in
+      record {
+        some = sound'.some;
+        stands = subst (λ (h : ℕ). IsStanding log.geometry log.named h (holds log.geometry w0.now) w0) placed.0 sound'.stands;
+        ready = subst (λ (h : ℕ). IsReady (layout_of log.geometry) h log.used w0) placed.0 sound'.ready;
+        is = all_agree log.geometry (image_in log.geometry (other log.named) w0) frozen (λ n few. sound'.by_cut.written n few (none_marked due n placed.1 (omega (arith, few, size'))))
+            (image_long log.geometry (other log.named) w0 (omega arith) whole) size;
+        behind = sound'.by_cut.behind;
+      }
+
+  pub flip_sound : (w1 : Medium) → AreBytes w0.now → AreBytes w1.now → IsPlaced log due left → IsWritten log frozen w0 → IsSound log frozen named others due left w0 → IsFlipped log w0 w1 → IsSound (named_now log) frozen others named due None w1
+  flip_sound w1 are are' placed' written sound flipped =
+      let placed = subst (λ (l : Option ℕ). IsPlaced log due l) none_left placed' in
+      let sound' = subst (λ (l : Option ℕ). IsSound log frozen named others due l w0) none_left sound in
+      let is_area = named_below log.geometry log.named log.current (holds log.geometry w0.now) w0 are sound.stands in
+      let same = holds_now log.geometry (other log.named) (other log.named) (holds log.geometry w0.now) w1 are' flipped.stands in
+      let back : other (other log.named) ≡ log.named = omega (arith, is_area) in
+      record {
+        some = ap is_some same ∙ sound.some;
+        stands =
+            subst (λ (h : ℕ). IsStanding log.geometry (other log.named) h (holds log.geometry w1.now) w1) (sym placed.0)
+            (subst (λ (o : Option State). IsStanding log.geometry (other log.named) (other log.named) o w1) (sym same) flipped.stands);
+        ready = subst (λ (h : ℕ). IsReady (layout_of log.geometry) h log.used w1) (sym placed.0) flipped.ready;
+        named_fresh =
+            subst (λ (o : Option State). IsFresh log.geometry o others (image_in log.geometry (other log.named) w1)) (sym same)
+            (subst (λ (l : List ℕ). IsFresh log.geometry (holds log.geometry w0.now) others l) (sym (flipped.images (other log.named) (omega arith) ∙ written.is)) sound'.others_fresh);
+        others_fresh =
+            subst (λ (o : Option State). IsFresh log.geometry o named (image_in log.geometry (other (other log.named)) w1)) (sym same)
+            (subst (λ (n : ℕ). IsFresh log.geometry (holds log.geometry w0.now) named (image_in log.geometry n w1)) (sym back)
+            (subst (λ (l : List ℕ). IsFresh log.geometry (holds log.geometry w0.now) named l) (sym (flipped.images log.named is_area)) sound.named_fresh));
+        by_cut = tt;
+      }
+
+-- the same of rows that were exchanged
+pub flip_kept : (log new : Log) (frozen : List ℕ) (named others due named' others' : List Bool) (left : Option ℕ) (w0 w1 : Medium) → left ≡ Some 0 → new ≡ named_now log → named' ≡ others → others' ≡ named → AreBytes w0.now → AreBytes w1.now → IsPlaced log due left → IsWritten log frozen w0
+    → IsSound log frozen named others due left w0 → IsFlipped log w0 w1 → IsSound new frozen named' others' due None w1
+flip_kept log new frozen named others due named' others' left w0 w1 none is same same' are are' placed written sound flipped =
+    subst (λ (l : Log). IsSound l frozen named' others' due None w1) (sym is)
+    (subst (λ (row : List Bool). IsSound (named_now log) frozen row others' due None w1) (sym same)
+    (subst (λ (row : List Bool). IsSound (named_now log) frozen others row due None w1) (sym same') (flip_sound log frozen named others due left w0 none w1 are are' placed written sound flipped)))

@@ -1,0 +1,188 @@
+-- What a crash leaves while messages are logged, and what the journal keeps once they are.
+use Rattle.std.proofs.Common.{◌≡◌, ◌≢◌, ℕ, zero, suc, ◌+◌, ◌-◌, ◌<◌, ◌≤◌, Bool, true, false, ◌&&◌, cond, eqb, List, [], ◌∷◌, ◌++◌, length, take, get_or, Option, Some, None, is_some, option_map, unwrap_or, refl, sym, ◌∙◌, ap, subst, arith, true≢false}
+use Rattle.std.proofs.lemmas.List.{length-map, take-map}
+use Rattle.std.proofs.lemmas.Slice.Eq.{bytes_eq-Decides}
+use Rattle.std.specs.Str.{bytes_eq}
+use Rattle.affinity.specs.declared.geometry.Geometry.{Geometry}
+use Rattle.checkpoint.specs.Recovery.{apply, apply_said, holds, means}
+use Rattle.disk.specs.Device.{AreBytes, Leaves, Medium}
+use Rattle.disk.specs.Moments.{LeavesOnly}
+use Rattle.disk.proofs.Leaves.{itself}
+use Rattle.disk.proofs.Moments.{weaker}
+use Rattle.image.specs.Image.{read}
+use Rattle.image.specs.Pieces.{piece_count}
+use Rattle.journal.specs.Journal.{AreCarriedOut, Held, HoldsSome, IsSettled, settled}
+use Rattle.journal.specs.Keeping.{IsCut, IsCutOr, IsFresh, IsPlaced, IsSound, MarksTouched, coming, held_of}
+use Rattle.journal.specs.Steps.{IsStanding, run_on}
+use Rattle.journal.specs.Stretches.{AgreeUnmarked, image_in, stretch_of}
+use Rattle.journal.proofs.Cutting.{named_below}
+use Rattle.journal.proofs.Standing.{holds_by, holds_now}
+use Rattle.message.specs.declared.Msg.{Msg}
+use Rattle.message.specs.Messages.{is_in_range}
+use Rattle.message.specs.Records.{message_in_fields, record_of}
+use Rattle.message.proofs.RecordLemmas.{record_says}
+use Rattle.oplog.specs.Calls.{Grows, HasAdded, IsReadyFor}
+use Rattle.oplog.specs.Changes.{HasAll, IsReady}
+use Rattle.oplog.specs.Crash.{StandsBy}
+use Rattle.oplog.specs.Front.{chain, front}
+use Rattle.oplog.specs.Layout.{layout_of, half, image, other}
+use Rattle.oplog.specs.Log.{Log}
+use Rattle.oplog.specs.Logged.{records_of}
+use Rattle.oplog.specs.Stands.{current_of, run}
+use Rattle.oplog.proofs.AfterCrash.{append_stands, all_by_area}
+use Rattle.oplog.proofs.Kept.{run-append}
+use Rattle.plain.specs.Serial.{fold, is_loggable, next_state, reply_to}
+use Rattle.plain.specs.State.{State}
+
+-- ---- messages and their records
+
+-- the record of a message that is carried out leads to the state after it
+applied : (g : Geometry) (x : State) (m : Msg) → message_in_fields (record_of m) ≡ Some m → is_in_range g m ≡ true → is_loggable m (reply_to g x m) ≡ true → apply g x (record_of m) ≡ Some (next_state g x m)
+applied g x m says in_range loggable =
+    let same : bytes_eq (record_of m) (record_of m) ≡ true = (bytes_eq-Decides (record_of m) (record_of m)).1 refl in
+    ap (apply_said g x (record_of m)) says ∙ (λ i. cond (same i && in_range i && loggable i) (Some (next_state g x m)) None)
+
+pub run_records : (g : Geometry) (x : State) (ms : List Msg) → AreCarriedOut g x ms → run_on g (Some x) (records_of ms) ≡ Some (fold g x ms)
+run_records g x [] out = refl
+run_records g x (m ∷ ms) out =
+    ap (λ (o : Option State). run (means g) o (records_of ms)) (applied g x m (record_says g m out.0 out.1.1) out.1.1 out.2)
+    ∙ run_records g (next_state g x m) ms out.3
+
+pub first_carried : (g : Geometry) (n : ℕ) (x : State) (ms : List Msg) → AreCarriedOut g x ms → AreCarriedOut g x (take n ms)
+first_carried g zero x ms out = tt
+first_carried g (suc n) x [] out = tt
+first_carried g (suc n) x (m ∷ ms) out = (out.0, out.1, out.2, first_carried g n (next_state g x m) ms out.3)
+
+-- ---- what is known of a journal
+
+pub some_value : (o : Option State) → is_some o ≡ true → (x : State) × (o ≡ Some x)
+some_value None some = absurd (true≢false (sym some))
+some_value (Some x) some = (x, refl)
+
+current_below : (n : ℕ) (t : Bool) → n < 2 → cond t (other n) n < 2
+current_below n true is_area = omega arith
+current_below n false is_area = is_area
+
+pub half_below : (g : Geometry) (n h : ℕ) (x : Option State) (m : Medium) → AreBytes m.now → IsStanding g n h x m → h < 2
+half_below g n h x m are stands =
+    let is_area = named_below g n h x m are stands in
+    subst (λ (k : ℕ). k < 2) (stands m.now (itself m.now m.loose are)).current (current_below n (eqb (chain (layout_of g) n m.now) 1) is_area)
+
+pub fresh_more : (g : Geometry) (x : State) (ms : List Msg) (old new : List Bool) (bytes : List ℕ) → AreCarriedOut g x ms → MarksTouched g ms old new → IsFresh g (Some x) old bytes → IsFresh g (Some (fold g x ms)) new bytes
+fresh_more g x ms old new bytes out touched fresh y is n few unmarked =
+    let kept = touched x out n few unmarked in
+    fresh x refl n few kept.0 ∙ sym kept.1 ∙ ap (λ (o : Option State). stretch_of g (unwrap_or o x) n) is
+
+-- the journal's facts, in the words of contracts
+pub settled_of : (log : Log) (frozen : List ℕ) (named others due : List Bool) (left : Option ℕ) (failed : Bool) (m : Medium) → IsSound log frozen named others due left m → IsSettled (held_of log left failed m)
+settled_of log frozen named others due left failed m sound = record {
+  some = sound.some;
+  each = λ c gone. holds_by log.geometry log.named log.current (holds log.geometry m.now) c (sound.stands c gone);
+}
+
+-- how many records there are is no fact of a cut
+cut_used : (log : Log) (used : ℕ) (frozen : List ℕ) (due : List Bool) (left : Option ℕ) (m : Medium) → IsCutOr log frozen due left m → IsCutOr (record log { used = used }) frozen due left m
+cut_used log used frozen due None m cut = tt
+cut_used log used frozen due (Some k) m cut = record { behind = cut.behind; written = cut.written }
+
+coming_used : (log : Log) (used : ℕ) (frozen : List ℕ) (left : Option ℕ) (m : Medium) → coming (record log { used = used }) frozen left m ≡ coming log frozen left m
+coming_used log used frozen None m = refl
+coming_used log used frozen (Some k) m = refl
+
+-- ---- logging
+
+module _ (log : Log) (frozen : List ℕ) (named others due : List Bool) (left : Option ℕ) (ms : List Msg) (w0 w1 : Medium) (are : AreBytes w0.now) (sound : IsSound log frozen named others due left w0) where
+  is_area : log.named < 2
+  is_area = named_below log.geometry log.named log.current (holds log.geometry w0.now) w0 are sound.stands
+
+  is_half : log.current < 2
+  is_half = half_below log.geometry log.named log.current (holds log.geometry w0.now) w0 are sound.stands
+
+  pub log_moments : Grows log ms w0 w1 → (x : State) → holds log.geometry w0.now ≡ Some x → AreCarriedOut log.geometry x ms → LeavesOnly w0 w1 (HoldsSome log.geometry x ms)
+  log_moments grows x is out =
+      weaker w0 w1 _ _ (append_stands (means log.geometry) (layout_of log.geometry) log.named log.current (holds log.geometry w0.now) (records_of ms) w0 w1 is_area is_half sound.stands grows)
+      (λ c some. record {
+        added = some.added;
+        at_most = let most = some.at_most in omega (arith, most, length-map ms record_of);
+        is = holds_by log.geometry log.named log.current (run_on log.geometry (holds log.geometry w0.now) (take some.added (records_of ms))) c some.by
+            ∙ (λ i. run_on log.geometry (is i) (take-map record_of some.added ms i))
+            ∙ run_records log.geometry x (take some.added ms) (first_carried log.geometry some.added x ms out);
+      })
+
+  module _ (x : State) (is : holds log.geometry w0.now ≡ Some x) (out : AreCarriedOut log.geometry x ms) (has : HasAdded log ms w0 w1) (are' : AreBytes w1.now) where
+    leads : run_on log.geometry (holds log.geometry w0.now) (records_of ms) ≡ Some (fold log.geometry x ms)
+    leads = ap (λ (o : Option State). run_on log.geometry o (records_of ms)) is ∙ run_records log.geometry x ms out
+
+    stands : IsStanding log.geometry log.named log.current (Some (fold log.geometry x ms)) w1
+    stands =
+        subst (λ (o : Option State). IsStanding log.geometry log.named log.current o w1) leads
+        (all_by_area (means log.geometry) (layout_of log.geometry) log.named log.current log.used (holds log.geometry w0.now) (records_of ms) w0 w1 is_area is_half sound.stands has)
+
+    pub log_settled : holds log.geometry w1.now ≡ Some (fold log.geometry x ms)
+    log_settled = holds_now log.geometry log.named log.current (Some (fold log.geometry x ms)) w1 are' stands
+
+    images : (i : ℕ) → i < 2 → image_in log.geometry i w1 ≡ image_in log.geometry i w0
+    images i is_image = has.has.same.others (image i) (λ same. omega (arith, same, is_half))
+
+    -- whichever image it is
+    still_coming : (left : Option ℕ) → coming log frozen left w1 ≡ coming log frozen left w0
+    still_coming None = images (other log.named) (omega arith)
+    still_coming (Some k) = refl
+
+    cut_more : (left : Option ℕ) → IsPlaced log due left → IsCutOr log frozen due left w0 → IsCutOr log frozen due left w1
+    cut_more None placed cut = tt
+    cut_more (Some k) placed cut = record {
+      behind =
+          ap (λ (rs : List (List ℕ)). run_on log.geometry (read log.geometry frozen) rs)
+          (subst (λ (h : ℕ). front (layout_of log.geometry) h w1.now ≡ front (layout_of log.geometry) h w0.now ++ records_of ms) placed.0 has.has.front)
+          ∙ run-append (means log.geometry) (read log.geometry frozen) (front (layout_of log.geometry) (other log.named) w0.now) (records_of ms)
+          ∙ ap (λ (o : Option State). run_on log.geometry o (records_of ms)) cut.behind ∙ leads ∙ sym log_settled;
+      written = subst (λ (l : List ℕ). AgreeUnmarked log.geometry due l frozen) (sym (images (other log.named) (omega arith))) cut.written;
+    }
+
+    pub log_sound : (named' others' : List Bool) → IsPlaced log due left → MarksTouched log.geometry ms named named' → MarksTouched log.geometry ms others others'
+        → IsSound (record log { used = log.used + length ms }) frozen named' others' due left w1
+    log_sound named' others' placed touched touched' =
+        let used : log.used + length (records_of ms) ≡ log.used + length ms = ap (λ (n : ℕ). log.used + n) (length-map ms record_of) in
+        record {
+          some = ap is_some log_settled;
+          stands = subst (λ (o : Option State). IsStanding log.geometry log.named log.current o w1) (sym log_settled) stands;
+          ready = subst (λ (n : ℕ). IsReady (layout_of log.geometry) log.current n w1) used has.ready;
+          named_fresh =
+              subst (λ (o : Option State). IsFresh log.geometry o named' (image_in log.geometry log.named w1)) (sym log_settled)
+              (fresh_more log.geometry x ms named named' (image_in log.geometry log.named w1) out touched
+              (subst (λ (l : List ℕ). IsFresh log.geometry (Some x) named l) (sym (images log.named is_area))
+              (subst (λ (o : Option State). IsFresh log.geometry o named (image_in log.geometry log.named w0)) is sound.named_fresh)));
+          others_fresh =
+              subst (λ (l : List ℕ). IsFresh log.geometry (holds log.geometry w1.now) others' l) (sym (coming_used log (log.used + length ms) frozen left w1))
+              (subst (λ (o : Option State). IsFresh log.geometry o others' (coming log frozen left w1)) (sym log_settled)
+              (fresh_more log.geometry x ms others others' (coming log frozen left w1) out touched'
+              (subst (λ (l : List ℕ). IsFresh log.geometry (Some x) others l) (sym (still_coming left))
+              (subst (λ (o : Option State). IsFresh log.geometry o others (coming log frozen left w0)) is sound.others_fresh))));
+          by_cut = cut_used log (log.used + length ms) frozen due left w1 (cut_more left placed sound.by_cut);
+        }
+
+-- ---- the same in the words of the code
+
+pub placed_used : (log : Log) (used : ℕ) (due : List Bool) (left : Option ℕ) → IsPlaced log due left → IsPlaced (record log { used = used }) due left
+placed_used log used due None placed = placed
+placed_used log used due (Some k) placed = placed
+
+pub touched_along : (g g' : Geometry) (ms : List Msg) (old old' new new' : List Bool) → g ≡ g' → old ≡ old' → new' ≡ new → MarksTouched g ms old new → MarksTouched g' ms old' new'
+touched_along g g' ms old old' new new' same was is touched =
+    subst (λ (x : Geometry). MarksTouched x ms old' new') same (subst (λ (l : List Bool). MarksTouched g ms l new') was (subst (λ (l : List Bool). MarksTouched g ms old l) (sym is) touched))
+
+pub log_kept : (log new : Log) (frozen : List ℕ) (named others due named' others' : List Bool) (left : Option ℕ) (ms : List Msg) (w0 w1 : Medium) → new ≡ record log { used = log.used + length ms } → AreBytes w0.now → AreBytes w1.now
+    → IsSound log frozen named others due left w0 → ((x : State) → holds log.geometry w0.now ≡ Some x → AreCarriedOut log.geometry x ms) → HasAdded log ms w0 w1 → IsPlaced log due left
+    → MarksTouched log.geometry ms named named' → MarksTouched log.geometry ms others others' → IsSound new frozen named' others' due left w1
+log_kept log new frozen named others due named' others' left ms w0 w1 is are are' sound out has placed touched touched' =
+    let value = some_value (holds log.geometry w0.now) sound.some in
+    subst (λ (l : Log). IsSound l frozen named' others' due left w1) (sym is)
+    (log_sound log frozen named others due left ms w0 w1 are sound value.0 value.1 (out value.0 value.1) has are' named' others' placed touched touched')
+
+pub log_told : (log : Log) (frozen : List ℕ) (named others due : List Bool) (left : Option ℕ) (ms : List Msg) (w0 w1 : Medium) → AreBytes w0.now → AreBytes w1.now → IsSound log frozen named others due left w0
+    → ((x : State) → holds log.geometry w0.now ≡ Some x → AreCarriedOut log.geometry x ms) → HasAdded log ms w0 w1 → holds log.geometry w1.now ≡ option_map (λ x. fold log.geometry x ms) (holds log.geometry w0.now)
+log_told log frozen named others due left ms w0 w1 are are' sound out has =
+    let value = some_value (holds log.geometry w0.now) sound.some in
+    log_settled log frozen named others due left ms w0 w1 are sound value.0 value.1 (out value.0 value.1) has are'
+    ∙ sym (ap (λ (o : Option State). option_map (λ x. fold log.geometry x ms) o) value.1)

@@ -1,0 +1,100 @@
+-- What a crash leaves while a piece of a cut is written, and what the journal keeps once it is.
+use Rattle.std.proofs.Common.{◌≡◌, ◌≢◌, ◌<◌, ◌-◌, ℕ, suc, Bool, true, false, List, length, get_or, set, Option, Some, None, is_some, option_map, ⊎_elim, refl, sym, ◌∙◌, ap, subst, arith, true≢false}
+use Rattle.std.proofs.lemmas.Bool.{cases_eq}
+use Rattle.std.proofs.lemmas.List.{get_or-set_other}
+use Rattle.affinity.specs.declared.geometry.Geometry.{Geometry}
+use Rattle.checkpoint.specs.Recovery.{holds, means}
+use Rattle.disk.specs.Device.{AreBytes, Medium}
+use Rattle.disk.specs.Moments.{LeavesOnly}
+use Rattle.disk.proofs.Moments.{leaves_now}
+use Rattle.image.specs.Image.{read}
+use Rattle.image.specs.Pieces.{piece_count}
+use Rattle.journal.specs.Keeping.{IsCut, IsFresh, IsPlaced, IsSound, count_marked}
+use Rattle.journal.specs.Steps.{IsStanding, run_on}
+use Rattle.journal.specs.Stretches.{IsPatchedAt, image_in, stretch_in}
+use Rattle.journal.proofs.Cutting.{named_below}
+use Rattle.journal.proofs.Logging.{half_below}
+use Rattle.journal.proofs.Rows.{count_cleared}
+use Rattle.journal.proofs.Standing.{half_same, holds_moments, holds_now}
+use Rattle.oplog.specs.Changes.{ChangesOnly, IsReady, IsSameBut}
+use Rattle.oplog.specs.Crash.{StandsBy}
+use Rattle.oplog.specs.Front.{front}
+use Rattle.oplog.specs.Layout.{layout_of, half, image, other}
+use Rattle.oplog.specs.Log.{Log}
+use Rattle.oplog.proofs.AfterCrash.{image_by_area}
+use Rattle.plain.specs.State.{State}
+
+-- ---- how many are left
+
+pub piece_left : (log : Log) (due : List Bool) (left : Option ℕ) (n count : ℕ) → is_some left ≡ true → IsPlaced log due left → n < length due → get_or due n false ≡ true → count ≡ count_marked (set due n false) → option_map (λ l. l - 1) left ≡ Some count
+piece_left log due None n count some placed few marked is = absurd (true≢false (sym some))
+piece_left log due (Some l) n count some placed few marked is =
+    let fewer = count_cleared due n few marked in
+    let one : l - 1 ≡ count = omega (arith, fewer, is, placed.1) in
+    ap (λ (k : ℕ). Some k) one
+
+pub piece_some : (log : Log) (due : List Bool) (left : Option ℕ) (n : ℕ) → IsPlaced log due left → n < length due → get_or due n false ≡ true → left ≡ Some 0 → ⊥
+piece_some log due left n placed few marked none =
+    let placed' = subst (λ (l : Option ℕ). IsPlaced log due l) none placed in
+    let fewer = count_cleared due n few marked in
+    omega (arith, fewer, placed'.1)
+
+pub piece_none : (log : Log) (due : List Bool) (left : Option ℕ) → is_some left ≡ true → IsPlaced log due left → count_marked due ≡ 0 → left ≡ Some 0
+piece_none log due None some placed none = absurd (true≢false (sym some))
+piece_none log due (Some l) some placed none = ap (λ (k : ℕ). Some k) (sym placed.1 ∙ none)
+
+-- ---- the write of one stretch
+
+pub record IsPieced (g : Geometry) (area n : ℕ) (bytes : List ℕ) (old new : Medium) : Type 0 where
+  pub moments : ChangesOnly old new (IsSameBut (layout_of g) (image area))
+  pub same : IsSameBut (layout_of g) (image area) old.now new.now
+  pub is : IsPatchedAt g n bytes (image_in g area old) (image_in g area new)
+  pub ready : (h k : ℕ) → h < 2 → IsReady (layout_of g) h k old → IsReady (layout_of g) h k new
+
+pub pieced_along : (g g' : Geometry) (a a' n : ℕ) (bytes bytes' : List ℕ) (w0 w1 : Medium) → g ≡ g' → a ≡ a' → bytes ≡ bytes' → IsPieced g (other a) n bytes w0 w1 → IsPieced g' (other a') n bytes' w0 w1
+pieced_along g g' a a' n bytes bytes' w0 w1 same same' are held =
+    subst (λ (l : List ℕ). IsPieced g' (other a') n l w0 w1) are (subst (λ (b : ℕ). IsPieced g' (other b) n bytes w0 w1) same' (subst (λ (x : Geometry). IsPieced x (other a) n bytes w0 w1) same held))
+
+module _ (log : Log) (frozen : List ℕ) (named others due : List Bool) (left : Option ℕ) (w0 w1 : Medium) (are : AreBytes w0.now) (sound : IsSound log frozen named others due left w0) where
+  is_area : log.named < 2
+  is_area = named_below log.geometry log.named log.current (holds log.geometry w0.now) w0 are sound.stands
+
+  by_piece : ChangesOnly w0 w1 (IsSameBut (layout_of log.geometry) (image (other log.named))) → LeavesOnly w0 w1 (StandsBy (means log.geometry) (layout_of log.geometry) log.named log.current (holds log.geometry w0.now))
+  by_piece moments = image_by_area (means log.geometry) (layout_of log.geometry) log.named log.current (holds log.geometry w0.now) w0 w1 is_area sound.stands moments
+
+  pub piece_moments : ChangesOnly w0 w1 (IsSameBut (layout_of log.geometry) (image (other log.named))) → LeavesOnly w0 w1 (λ c. holds log.geometry c ≡ holds log.geometry w0.now)
+  piece_moments moments = holds_moments log.geometry log.named log.current (holds log.geometry w0.now) w0 w1 (by_piece moments)
+
+  module _ (are' : AreBytes w1.now) where
+    stands : ChangesOnly w0 w1 (IsSameBut (layout_of log.geometry) (image (other log.named))) → IsStanding log.geometry log.named log.current (holds log.geometry w0.now) w1
+    stands moments = leaves_now w0 w1 _ (by_piece moments)
+
+    pub piece_same : ChangesOnly w0 w1 (IsSameBut (layout_of log.geometry) (image (other log.named))) → holds log.geometry w1.now ≡ holds log.geometry w0.now
+    piece_same moments = holds_now log.geometry log.named log.current (holds log.geometry w0.now) w1 are' (stands moments)
+
+    pub piece_sound : (n l count : ℕ) → left ≡ Some l → n < length due → IsPieced log.geometry (other log.named) n frozen w0 w1 → IsSound log frozen named others (set due n false) (Some count) w1
+    piece_sound n l count is_left few pieced =
+        let same = piece_same pieced.moments in
+        let sound' = subst (λ (o : Option ℕ). IsSound log frozen named others due o w0) is_left sound in
+        let other_half = half_same (layout_of log.geometry) (other log.named) w0.now w1.now (pieced.same.others (half (other log.named)) (λ is. omega (arith, is))) in
+        record {
+          some = ap is_some same ∙ sound.some;
+          stands = subst (λ (o : Option State). IsStanding log.geometry log.named log.current o w1) (sym same) (stands pieced.moments);
+          ready = pieced.ready log.current log.used (half_below log.geometry log.named log.current (holds log.geometry w0.now) w0 are sound.stands) sound.ready;
+          named_fresh =
+              subst (λ (o : Option State). IsFresh log.geometry o named (image_in log.geometry log.named w1)) (sym same)
+              (subst (λ (l : List ℕ). IsFresh log.geometry (holds log.geometry w0.now) named l) (sym (pieced.same.others (image log.named) (λ is. omega (arith, is, is_area)))) sound.named_fresh);
+          others_fresh = subst (λ (o : Option State). IsFresh log.geometry o others frozen) (sym same) sound'.others_fresh;
+          by_cut = record {
+            behind = ap (λ (rs : List (List ℕ)). run_on log.geometry (read log.geometry frozen) rs) other_half.0 ∙ sound'.by_cut.behind ∙ sym same;
+            written = λ i few' unmarked.
+                ⊎_elim
+                (λ (here : i ≡ n). ap (λ (j : ℕ). stretch_in log.geometry (image_in log.geometry (other log.named) w1) j) here ∙ pieced.is.is ∙ sym (ap (λ (j : ℕ). stretch_in log.geometry frozen j) here))
+                (λ (elsewhere : i ≢ n). pieced.is.others i few' elsewhere ∙ sound'.by_cut.written i few' (sym (get_or-set_other due n i false true elsewhere) ∙ unmarked))
+                (cases_eq i n);
+          };
+        }
+
+pub some_left : (o : Option ℕ) → is_some o ≡ true → (l : ℕ) × (o ≡ Some l)
+some_left None some = absurd (true≢false (sym some))
+some_left (Some l) some = (l, refl)

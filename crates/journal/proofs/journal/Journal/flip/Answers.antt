@@ -1,0 +1,71 @@
+use Rattle.std.proofs.Common.{◌≡◌, ◌≤◌, false, Option, Some, None, ℕ, Bool, List, length, refl, sym, ◌∙◌, ap, subst, arith}
+use Rattle.checkpoint.specs.Recovery.{holds}
+use Rattle.disk.specs.Device.{Medium}
+use Rattle.disk.specs.Moments.{LeavesOnly}
+use Rattle.journal.specs.Journal.{Held, IsSettled, settled}
+use Rattle.journal.specs.Keeping.{IsPlaced, IsSound}
+use Rattle.journal.specs.Steps.{IsWritten, StandsStill, named_now}
+use Rattle.journal.proofs.Flipping.{flip_asks, flip_kept}
+use Rattle.journal.proofs.Logging.{settled_of}
+use Rattle.journal.proofs.Standing.{holds_now}
+use Rattle.image.specs.Pieces.{piece_count}
+use Rattle.oplog.specs.Layout.{device_size, image_size}
+use Rattle.oplog.specs.Log.{Log, layout}
+use Rattle.journal.proofs.journal.Journal.flip.Goals as goal
+
+pub flip_on-requires-clause-written : goal.flip_on-requires-clause-written
+flip_on-requires-clause-written g c = λ k.
+    let fine : c.self.inside.failed ≡ false = ap (λ (h : Held). h.failed) c.self.view_is ∙ c.requires.sound in
+    let none : c.self.inside.left ≡ Some 0 = ap (λ (h : Held). h.left) c.self.view_is ∙ c.requires.written in
+    subst (λ (l : List ℕ). IsWritten c.self.inside.halves l (g.D.Disk.medium c.self.inside.disk)) (sym c.deref.ensures.value)
+    (flip_asks c.self.inside.halves c.self.inside.frozen.items c.self.inside.named_marks.items c.self.inside.other_marks.items c.self.inside.due.items c.self.inside.left (g.D.Disk.medium c.self.inside.disk) none
+    c.self.invariant.0 c.self.invariant.2 c.self.invariant.5 (g.met.D.Disk.bytes c.self.inside.disk) (c.self.invariant.6 fine).1 (c.self.invariant.7 fine k))
+
+pub returns-in-Err-clause-any_moment : goal.returns-in-Err-clause-any_moment
+returns-in-Err-clause-any_moment g c = λ k.
+    subst (λ (h : Held). LeavesOnly h.medium (g.D.Disk.medium c.flip_on.new.disk) (λ c'. holds h.geometry c' ≡ settled h)) c.self.view_is (c.flip_on.ensures.any_moment k)
+
+pub returns-clause-any_moment : goal.returns-clause-any_moment
+returns-clause-any_moment g c = λ k.
+    subst (λ (h : Held). LeavesOnly h.medium (g.D.Disk.medium c.flip_on.new.disk) (λ c'. holds h.geometry c' ≡ settled h)) c.self.view_is (c.flip_on.ensures.any_moment k)
+
+pub returns-clause-settled : goal.returns-clause-settled
+returns-clause-settled g c = λ k.
+    subst (λ (h : Held). holds c.flip_on.new.halves.geometry (g.D.Disk.medium c.flip_on.new.disk).now ≡ settled h) c.self.view_is
+    (ap (λ (x : _). holds x (g.D.Disk.medium c.flip_on.new.disk).now) c.flip_on.ensures.geometry
+    ∙ holds_now c.self.inside.halves.geometry _ _ (holds c.self.inside.halves.geometry (g.D.Disk.medium c.self.inside.disk).now) (g.D.Disk.medium c.flip_on.new.disk) (g.met.D.Disk.bytes c.flip_on.new.disk) (c.in_default.ensures.flipped k).stands)
+
+pub returns-clause-sound : goal.returns-clause-sound
+returns-clause-sound g c = λ k.
+    let fine : c.self.inside.failed ≡ false = ap (λ (h : Held). h.failed) c.self.view_is ∙ c.requires.sound in
+    let none : c.self.inside.left ≡ Some 0 = ap (λ (h : Held). h.left) c.self.view_is ∙ c.requires.written in
+    let sound = c.self.invariant.7 fine k in
+    let placed = (c.self.invariant.6 fine).1 in
+    let written = flip_asks c.self.inside.halves c.self.inside.frozen.items c.self.inside.named_marks.items c.self.inside.other_marks.items c.self.inside.due.items c.self.inside.left (g.D.Disk.medium c.self.inside.disk) none
+    c.self.invariant.0 c.self.invariant.2 c.self.invariant.5 (g.met.D.Disk.bytes c.self.inside.disk) placed sound in
+    settled_of c.flip_on.new.halves c.self.inside.frozen.items c.swap.new.x.items c.swap.new.y.items c.self.inside.due.items None c.self.inside.failed (g.D.Disk.medium c.flip_on.new.disk)
+    (flip_kept c.self.inside.halves c.flip_on.new.halves c.self.inside.frozen.items c.self.inside.named_marks.items c.self.inside.other_marks.items c.self.inside.due.items c.swap.new.x.items c.swap.new.y.items c.self.inside.left (g.D.Disk.medium c.self.inside.disk) (g.D.Disk.medium c.flip_on.new.disk) none
+    c.in_default.ensures.log (ap (λ v. v.items) c.swap.ensures.x_after) (ap (λ v. v.items) c.swap.ensures.y_after)
+    (g.met.D.Disk.bytes c.self.inside.disk) (g.met.D.Disk.bytes c.flip_on.new.disk) placed written sound (c.in_default.ensures.flipped k))
+
+pub invariant_of-self-2 : goal.invariant_of-self-2
+invariant_of-self-2 g c =
+    let none : c.self.inside.left ≡ Some 0 = ap (λ (h : Held). h.left) c.self.view_is ∙ c.requires.written in
+    let log = c.in_default.ensures.log in
+    (omega (arith, c.self.invariant.0, c.flip_on.ensures.len, ap (λ (l : Log). device_size (layout l)) log),
+    omega (arith, c.self.invariant.1, ap (λ (l : Log). l.used) log, ap (λ (l : Log). l.geometry.half) log),
+    c.self.invariant.2 ∙ sym (ap image_size c.flip_on.ensures.geometry),
+    ap (λ v. length v.items) c.swap.ensures.x_after ∙ c.self.invariant.4 ∙ sym (ap piece_count c.flip_on.ensures.geometry),
+    ap (λ v. length v.items) c.swap.ensures.y_after ∙ c.self.invariant.3 ∙ sym (ap piece_count c.flip_on.ensures.geometry),
+    c.self.invariant.5 ∙ sym (ap piece_count c.flip_on.ensures.geometry),
+    (λ fine.
+    let placed = subst (λ (l : Option ℕ). IsPlaced c.self.inside.halves c.self.inside.due.items l) none (c.self.invariant.6 fine).1 in
+    (ap (λ (l : Log). l.failed) log ∙ (c.self.invariant.6 fine).0, ap (λ (l : Log). l.current) log ∙ placed.0 ∙ sym (ap (λ (l : Log). l.named) log))),
+    (λ fine k.
+    let sound = c.self.invariant.7 fine k in
+    let placed = (c.self.invariant.6 fine).1 in
+    let written = flip_asks c.self.inside.halves c.self.inside.frozen.items c.self.inside.named_marks.items c.self.inside.other_marks.items c.self.inside.due.items c.self.inside.left (g.D.Disk.medium c.self.inside.disk) none
+    c.self.invariant.0 c.self.invariant.2 c.self.invariant.5 (g.met.D.Disk.bytes c.self.inside.disk) placed sound in
+    flip_kept c.self.inside.halves c.flip_on.new.halves c.self.inside.frozen.items c.self.inside.named_marks.items c.self.inside.other_marks.items c.self.inside.due.items c.swap.new.x.items c.swap.new.y.items c.self.inside.left (g.D.Disk.medium c.self.inside.disk) (g.D.Disk.medium c.flip_on.new.disk) none
+    log (ap (λ v. v.items) c.swap.ensures.x_after) (ap (λ v. v.items) c.swap.ensures.y_after)
+    (g.met.D.Disk.bytes c.self.inside.disk) (g.met.D.Disk.bytes c.flip_on.new.disk) placed written sound (c.in_default.ensures.flipped k)))

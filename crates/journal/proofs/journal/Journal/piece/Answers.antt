@@ -1,0 +1,125 @@
+use Rattle.std.proofs.Common.{◌≡◌, ◌<◌, ◌-◌, ◌≤◌, ℕ, Bool, true, false, List, length, get_or, set, Option, Some, None, is_some, option_map, refl, sym, ◌∙◌, ap, subst, arith}
+use Rattle.std.proofs.lemmas.List.{length-set}
+use Rattle.affinity.specs.declared.geometry.Geometry.{Geometry}
+use Rattle.checkpoint.specs.Recovery.{holds}
+use Rattle.disk.proofs.Moments.{started}
+use Rattle.disk.specs.Moments.{LeavesOnly}
+use Rattle.image.specs.Pieces.{piece_count}
+use Rattle.journal.specs.Journal.{Held, IsSettled, settled}
+use Rattle.journal.specs.Keeping.{IsPlaced, count_marked}
+use Rattle.journal.proofs.Logging.{settled_of}
+use Rattle.journal.proofs.Piecing.{IsPieced, piece_left, piece_moments, piece_none, piece_same, piece_some, piece_sound, pieced_along, some_left}
+use Rattle.oplog.specs.Changes.{ChangesOnly, IsSameBut}
+use Rattle.oplog.specs.Layout.{layout_of, image, other}
+use Rattle.oplog.proofs.Answered.{on_ok}
+use Rattle.journal.proofs.journal.Journal.piece.Goals as goal
+
+pub returns-in_default-clause-sound : goal.returns-in_default-clause-sound
+returns-in_default-clause-sound g c = λ k.
+    let fine : c.self.inside.failed ≡ false = ap (λ (h : Held). h.failed) c.self.view_is ∙ c.requires.sound in
+    subst (λ (h : Held). IsSettled h) c.self.view_is
+    (settled_of c.self.inside.halves c.self.inside.frozen.items c.self.inside.named_marks.items c.self.inside.other_marks.items c.self.inside.due.items c.self.inside.left c.self.inside.failed (g.D.Disk.medium c.self.inside.disk) (c.self.invariant.7 fine k))
+
+pub returns-in_default-clause-any_moment : goal.returns-in_default-clause-any_moment
+returns-in_default-clause-any_moment g c = λ k.
+    let fine : c.self.inside.failed ≡ false = ap (λ (h : Held). h.failed) c.self.view_is ∙ c.requires.sound in
+    let still : IsSettled c.args.self.now = subst (λ (h : Held). IsSettled h) c.self.view_is
+    (settled_of c.self.inside.halves c.self.inside.frozen.items c.self.inside.named_marks.items c.self.inside.other_marks.items c.self.inside.due.items c.self.inside.left c.self.inside.failed (g.D.Disk.medium c.self.inside.disk) (c.self.invariant.7 fine k)) in
+    started c.args.self.now.medium _ still.each
+
+pub returns-then-is_err-clause-any_moment : goal.returns-then-is_err-clause-any_moment
+returns-then-is_err-clause-any_moment g c = λ k.
+    let fine : c.self.inside.failed ≡ false = ap (λ (h : Held). h.failed) c.self.view_is ∙ c.requires.sound in
+    let w0 = g.D.Disk.medium c.self.inside.disk in
+    let w1 = g.D.Disk.medium c.write_stretch.new.disk in
+    let moments = subst (λ (n : ℕ). ChangesOnly w0 w1 (IsSameBut (layout_of c.self.inside.halves.geometry) (image (other n)))) c.named-area.ensures.named
+    (subst (λ (x : Geometry). ChangesOnly w0 w1 (IsSameBut (layout_of x) (image (other c.named-area.result)))) c.geometry-g.ensures (c.write_stretch.ensures.any_moment k)) in
+    subst (λ (h : Held). LeavesOnly h.medium w1 (λ c'. holds h.geometry c' ≡ settled h)) c.self.view_is
+    (piece_moments c.self.inside.halves c.self.inside.frozen.items c.self.inside.named_marks.items c.self.inside.other_marks.items c.self.inside.due.items c.self.inside.left w0 w1 (g.met.D.Disk.bytes c.self.inside.disk) (c.self.invariant.7 fine k) moments)
+
+pub returns-then-is_err-clause-none : goal.returns-then-is_err-clause-none
+returns-then-is_err-clause-none g c = λ none.
+    let fine : c.self.inside.failed ≡ false = ap (λ (h : Held). h.failed) c.self.view_is ∙ c.requires.sound in
+    let few = subst (λ (l : List Bool). c.in-Some.n < length l) c.deref.ensures.value c.in-Some.ensures.inside in
+    let marked = subst (λ (l : List Bool). get_or l c.in-Some.n false ≡ true) c.deref.ensures.value c.in-Some.ensures.marked in
+    absurd (piece_some c.self.inside.halves c.self.inside.due.items c.self.inside.left c.in-Some.n (c.self.invariant.6 fine).1 few marked (ap (λ (h : Held). h.left) c.self.view_is ∙ none))
+
+pub returns-clause-none : goal.returns-clause-none
+returns-clause-none g c = λ none.
+    let fine : c.self.inside.failed ≡ false = ap (λ (h : Held). h.failed) c.self.view_is ∙ c.requires.sound in
+    let few = subst (λ (l : List Bool). c.in-Some.n < length l) c.deref.ensures.value c.in-Some.ensures.inside in
+    let marked = subst (λ (l : List Bool). get_or l c.in-Some.n false ≡ true) c.deref.ensures.value c.in-Some.ensures.marked in
+    absurd (piece_some c.self.inside.halves c.self.inside.due.items c.self.inside.left c.in-Some.n (c.self.invariant.6 fine).1 few marked (ap (λ (h : Held). h.left) c.self.view_is ∙ none))
+
+pub returns-clause-any_moment : goal.returns-clause-any_moment
+returns-clause-any_moment g c = λ k.
+    let fine : c.self.inside.failed ≡ false = ap (λ (h : Held). h.failed) c.self.view_is ∙ c.requires.sound in
+    let w0 = g.D.Disk.medium c.self.inside.disk in
+    let w1 = g.D.Disk.medium c.write_stretch.new.disk in
+    let moments = subst (λ (n : ℕ). ChangesOnly w0 w1 (IsSameBut (layout_of c.self.inside.halves.geometry) (image (other n)))) c.named-area.ensures.named
+    (subst (λ (x : Geometry). ChangesOnly w0 w1 (IsSameBut (layout_of x) (image (other c.named-area.result)))) c.geometry-g.ensures (c.write_stretch.ensures.any_moment k)) in
+    subst (λ (h : Held). LeavesOnly h.medium w1 (λ c'. holds h.geometry c' ≡ settled h)) c.self.view_is
+    (piece_moments c.self.inside.halves c.self.inside.frozen.items c.self.inside.named_marks.items c.self.inside.other_marks.items c.self.inside.due.items c.self.inside.left w0 w1 (g.met.D.Disk.bytes c.self.inside.disk) (c.self.invariant.7 fine k) moments)
+
+pub returns-clause-settled : goal.returns-clause-settled
+returns-clause-settled g c = λ k.
+    let fine : c.self.inside.failed ≡ false = ap (λ (h : Held). h.failed) c.self.view_is ∙ c.requires.sound in
+    let w0 = g.D.Disk.medium c.self.inside.disk in
+    let w1 = g.D.Disk.medium c.write_stretch.new.disk in
+    let moments = subst (λ (n : ℕ). ChangesOnly w0 w1 (IsSameBut (layout_of c.self.inside.halves.geometry) (image (other n)))) c.named-area.ensures.named
+    (subst (λ (x : Geometry). ChangesOnly w0 w1 (IsSameBut (layout_of x) (image (other c.named-area.result)))) c.geometry-g.ensures (c.write_stretch.ensures.any_moment k)) in
+    piece_same c.self.inside.halves c.self.inside.frozen.items c.self.inside.named_marks.items c.self.inside.other_marks.items c.self.inside.due.items c.self.inside.left w0 w1 (g.met.D.Disk.bytes c.self.inside.disk) (c.self.invariant.7 fine k) (g.met.D.Disk.bytes c.write_stretch.new.disk) moments
+    ∙ ap settled c.self.view_is
+
+pub returns-clause-sound : goal.returns-clause-sound
+returns-clause-sound g c = λ k.
+    let fine : c.self.inside.failed ≡ false = ap (λ (h : Held). h.failed) c.self.view_is ∙ c.requires.sound in
+    let w0 = g.D.Disk.medium c.self.inside.disk in
+    let w1 = g.D.Disk.medium c.write_stretch.new.disk in
+    let few = subst (λ (l : List Bool). c.in-Some.n < length l) c.deref.ensures.value c.in-Some.ensures.inside in
+    let left = some_left c.self.inside.left (ap (λ (h : Held). is_some h.left) c.self.view_is ∙ c.requires.running) in
+    let written = on_ok c.write_stretch.result _ (sym c.is_err.ensures.value ∙ c.if-is_err.false) c.write_stretch.ensures.written k in
+    let pieced = pieced_along c.geometry-g.result c.self.inside.halves.geometry c.named-area.result c.self.inside.halves.named c.in-Some.n c.deref-2.result.now c.self.inside.frozen.items w0 w1 c.geometry-g.ensures c.named-area.ensures.named c.deref-2.ensures.value
+    (record { moments = c.write_stretch.ensures.any_moment k; same = c.write_stretch.ensures.same k; is = written; ready = c.write_stretch.ensures.ready k }) in
+    settled_of c.self.inside.halves c.self.inside.frozen.items c.self.inside.named_marks.items c.self.inside.other_marks.items (set c.self.inside.due.items c.in-Some.n false) (Some c.count_marked-left.result) c.self.inside.failed w1
+    (piece_sound c.self.inside.halves c.self.inside.frozen.items c.self.inside.named_marks.items c.self.inside.other_marks.items c.self.inside.due.items c.self.inside.left w0 w1 (g.met.D.Disk.bytes c.self.inside.disk) (c.self.invariant.7 fine k) (g.met.D.Disk.bytes c.write_stretch.new.disk)
+    c.in-Some.n left.0 c.count_marked-left.result left.1 few pieced)
+
+pub returns-clause-left : goal.returns-clause-left
+returns-clause-left g c =
+    let fine : c.self.inside.failed ≡ false = ap (λ (h : Held). h.failed) c.self.view_is ∙ c.requires.sound in
+    let few = subst (λ (l : List Bool). c.in-Some.n < length l) c.deref.ensures.value c.in-Some.ensures.inside in
+    let marked = subst (λ (l : List Bool). get_or l c.in-Some.n false ≡ true) c.deref.ensures.value c.in-Some.ensures.marked in
+    sym (ap (λ (h : Held). option_map (λ (l : ℕ). l - 1) h.left) c.self.view_is)
+    ∙ piece_left c.self.inside.halves c.self.inside.due.items c.self.inside.left c.in-Some.n c.count_marked-left.result (ap (λ (h : Held). is_some h.left) c.self.view_is ∙ c.requires.running) (c.self.invariant.6 fine).1 few marked
+    (c.count_marked-left.ensures ∙ ap count_marked c.deref-3.ensures.value)
+
+pub returns-clause-after : goal.returns-clause-after
+returns-clause-after g c =
+    let fine : c.self.inside.failed ≡ false = ap (λ (h : Held). h.failed) c.self.view_is ∙ c.requires.sound in
+    let few = subst (λ (l : List Bool). c.in-Some.n < length l) c.deref.ensures.value c.in-Some.ensures.inside in
+    let marked = subst (λ (l : List Bool). get_or l c.in-Some.n false ≡ true) c.deref.ensures.value c.in-Some.ensures.marked in
+    let left = piece_left c.self.inside.halves c.self.inside.due.items c.self.inside.left c.in-Some.n c.count_marked-left.result (ap (λ (h : Held). is_some h.left) c.self.view_is ∙ c.requires.running) (c.self.invariant.6 fine).1 few marked
+    (c.count_marked-left.ensures ∙ ap count_marked c.deref-3.ensures.value) in
+    ap (λ (h : Held). record h { left = Some c.count_marked-left.result; medium = g.D.Disk.medium c.write_stretch.new.disk }) c.self.view_is
+    ∙ ap (λ (l : Option ℕ). record c.args.self.now { left = l; medium = g.D.Disk.medium c.write_stretch.new.disk }) (sym left ∙ ap (λ (h : Held). option_map (λ (l : ℕ). l - 1) h.left) c.self.view_is)
+
+pub invariant_of-self-2 : goal.invariant_of-self-2
+invariant_of-self-2 g c =
+    let few = subst (λ (l : List Bool). c.in-Some.n < length l) c.deref.ensures.value c.in-Some.ensures.inside in
+    (omega (arith, c.self.invariant.0, c.write_stretch.ensures.len),
+    c.self.invariant.1, c.self.invariant.2, c.self.invariant.3, c.self.invariant.4,
+    length-set c.self.inside.due.items c.in-Some.n false ∙ c.self.invariant.5,
+    (λ fine.
+    let left = some_left c.self.inside.left (ap (λ (h : Held). is_some h.left) c.self.view_is ∙ c.requires.running) in
+    let placed = subst (λ (l : Option ℕ). IsPlaced c.self.inside.halves c.self.inside.due.items l) left.1 (c.self.invariant.6 fine).1 in
+    ((c.self.invariant.6 fine).0, (placed.0, sym (c.count_marked-left.ensures ∙ ap count_marked c.deref-3.ensures.value)))),
+    (λ fine k.
+    let w0 = g.D.Disk.medium c.self.inside.disk in
+    let w1 = g.D.Disk.medium c.write_stretch.new.disk in
+    let left = some_left c.self.inside.left (ap (λ (h : Held). is_some h.left) c.self.view_is ∙ c.requires.running) in
+    let written = on_ok c.write_stretch.result _ (sym c.is_err.ensures.value ∙ c.if-is_err.false) c.write_stretch.ensures.written k in
+    let pieced = pieced_along c.geometry-g.result c.self.inside.halves.geometry c.named-area.result c.self.inside.halves.named c.in-Some.n c.deref-2.result.now c.self.inside.frozen.items w0 w1 c.geometry-g.ensures c.named-area.ensures.named c.deref-2.ensures.value
+    (record { moments = c.write_stretch.ensures.any_moment k; same = c.write_stretch.ensures.same k; is = written; ready = c.write_stretch.ensures.ready k }) in
+    piece_sound c.self.inside.halves c.self.inside.frozen.items c.self.inside.named_marks.items c.self.inside.other_marks.items c.self.inside.due.items c.self.inside.left w0 w1 (g.met.D.Disk.bytes c.self.inside.disk) (c.self.invariant.7 fine k) (g.met.D.Disk.bytes c.write_stretch.new.disk)
+    c.in-Some.n left.0 c.count_marked-left.result left.1 few pieced))

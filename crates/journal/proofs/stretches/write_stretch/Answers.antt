@@ -1,0 +1,42 @@
+use Rattle.std.proofs.Common.{◌≡◌, ◌+◌, ◌-◌, ◌≤◌, ℕ, List, refl, sym, ◌∙◌, ap, arith}
+use Rattle.std.proofs.lemmas.Grind.{common_steps}
+use Rattle.disk.specs.Device.{overlaid}
+use Rattle.journal.specs.Stretches.{image_in, stretch_at, stretch_size}
+use Rattle.journal.proofs.Patches.{image_long, one_patched}
+use Rattle.journal.proofs.Places.{stretch_after, stretch_inside, stretch_rises}
+use Rattle.oplog.specs.Layout.{slice, image_size}
+use Rattle.journal.proofs.stretches.write_stretch.Goals as goal
+
+pub loop-i-preserved : goal.loop-i-preserved
+loop-i-preserved g c = (λ j. c.loop-i.invariant j + c.stretch_size-at.ensures.size j) ∙ sym (stretch_after c.args.g.now c.loop-i.i)
+
+pub overflow_add-at : goal.overflow_add-at
+overflow_add-at g c =
+    let next = stretch_after c.args.g.now c.loop-i.i in
+    let rises = stretch_rises c.args.g.now (c.loop-i.i + 1) c.args.n (omega arith) in
+    let inside = stretch_inside c.args.g.now c.args.n c.requires.n in
+    omega (arith, next, rises, inside, c.requires.size, c.type_inv.bytes, c.loop-i.invariant, c.stretch_size-at.ensures.size)
+
+pub overflow_add-at-2 : goal.overflow_add-at-2
+overflow_add-at-2 g c =
+    let last : c.loop-i.i ≡ c.args.n = omega arith in
+    let place : c.loop-i.at ≡ stretch_at c.args.g.now c.args.n = c.loop-i.invariant ∙ ap (stretch_at c.args.g.now) last in
+    let inside = stretch_inside c.args.g.now c.args.n c.requires.n in
+    omega (arith, place, inside, c.requires.size, c.type_inv.bytes, c.stretch_size.ensures.size)
+
+pub write_run-requires-clause-inside : goal.write_run-requires-clause-inside
+write_run-requires-clause-inside g c =
+    let last : c.loop-i.i ≡ c.args.n = omega arith in
+    let place : c.loop-i.at ≡ stretch_at c.args.g.now c.args.n = c.loop-i.invariant ∙ ap (stretch_at c.args.g.now) last in
+    let inside = stretch_inside c.args.g.now c.args.n c.requires.n in
+    omega (arith, place, inside, c.requires.size, c.stretch_size.ensures.size)
+
+pub returns-clause-written : goal.returns-clause-written
+returns-clause-written g c = λ k.
+    let last : c.loop-i.i ≡ c.args.n = omega arith in
+    let place : c.loop-i.at ≡ stretch_at c.args.g.now c.args.n = c.loop-i.invariant ∙ ap (stretch_at c.args.g.now) last in
+    let count : c.loop-i.at + c.stretch_size.result - c.loop-i.at ≡ stretch_size c.args.g.now c.args.n = omega (arith, c.stretch_size.ensures.size) in
+    let old : List ℕ = image_in c.args.g.now c.args.area (g.D.Disk.medium c.args.disk.now) in
+    one_patched c.args.g.now c.args.n c.loop-i.at c.args.bytes.now old (image_in c.args.g.now c.args.area (g.D.Disk.medium c.write_run.new.disk)) c.requires.n c.requires.size
+    (image_long c.args.g.now c.args.area (g.D.Disk.medium c.args.disk.now) c.requires.area c.requires.whole) place
+    (c.in_ok-write_run.ensures.written k ∙ ap (λ (m : ℕ). overlaid old c.loop-i.at (slice c.args.bytes.now c.loop-i.at m)) count)

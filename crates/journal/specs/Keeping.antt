@@ -1,0 +1,72 @@
+-- What a journal keeps true of its device between calls. No clause of a public function cites this module.
+use Rattle.std.specs.Prelude.{◌≡◌, ◌<◌, ◌-◌, ℕ, suc, Bool, true, false, List, [], ◌∷◌, get_or, Option, Some, None, is_some}
+use Rattle.affinity.specs.declared.geometry.Geometry.{Geometry}
+use Rattle.checkpoint.specs.Recovery.{holds}
+use Rattle.disk.specs.Device.{Medium}
+use Rattle.image.specs.Image.{read}
+use Rattle.image.specs.Pieces.{piece_count}
+use Rattle.journal.specs.Journal.{AreCarriedOut, Held}
+use Rattle.journal.specs.Steps.{IsStanding, run_on}
+use Rattle.journal.specs.Stretches.{AgreeUnmarked, image_in, stretch_in, stretch_of}
+use Rattle.message.specs.declared.Msg.{Msg}
+use Rattle.oplog.specs.Calls.{IsReadyFor}
+use Rattle.oplog.specs.Front.{front}
+use Rattle.oplog.specs.Layout.{layout_of, other}
+use Rattle.oplog.specs.Log.{Log}
+use Rattle.plain.specs.Serial.{fold}
+use Rattle.plain.specs.State.{State}
+
+-- ---- marks
+
+-- how many are marked
+abbrev pub count_marked : List Bool → ℕ
+count_marked [] = 0
+count_marked (true ∷ marks) = suc (count_marked marks)
+count_marked (false ∷ marks) = count_marked marks
+
+-- Each stretch that isn't marked is the one of a state, where there is one.
+abbrev pub IsFresh : Geometry → Option State → List Bool → List ℕ → Type 0
+IsFresh g x marks bytes = (y : State) → x ≡ Some y → (n : ℕ) → n < piece_count g → get_or marks n true ≡ false → stretch_in g bytes n ≡ stretch_of g y n
+
+-- Marks after these messages: what isn't marked wasn't before, and none of the messages changes it where they are carried
+-- out one after the other.
+abbrev pub MarksTouched : Geometry → List Msg → List Bool → List Bool → Type 0
+MarksTouched g ms old new = (x : State) → AreCarriedOut g x ms → (n : ℕ) → n < piece_count g → get_or new n true ≡ false
+    → (get_or old n true ≡ false) × (stretch_of g (fold g x ms) n ≡ stretch_of g x n)
+
+-- ---- a cut
+
+-- A cut is in progress: its image, with the records of the other half behind it, leads to what the device stands for, and
+-- each of its stretches that isn't due is on the device.
+pub record IsCut (log : Log) (frozen : List ℕ) (due : List Bool) (m : Medium) : Type 0 where
+  pub behind : run_on log.geometry (read log.geometry frozen) (front (layout_of log.geometry) (other log.named) m.now) ≡ holds log.geometry m.now
+  pub written : AgreeUnmarked log.geometry due (image_in log.geometry (other log.named) m) frozen
+
+abbrev pub IsCutOr : Log → List ℕ → List Bool → Option ℕ → Medium → Type 0
+IsCutOr log frozen due None m = Unit {0}
+IsCutOr log frozen due (Some left) m = IsCut log frozen due m
+
+-- which half is current, and how many stretches are due
+abbrev pub IsPlaced : Log → List Bool → Option ℕ → Type 0
+IsPlaced log due None = log.current ≡ log.named
+IsPlaced log due (Some left) = (log.current ≡ other log.named) × (count_marked due ≡ left)
+
+-- the image that the area that isn't named has, or will have once the cut is written
+abbrev pub coming : Log → List ℕ → Option ℕ → Medium → List ℕ
+coming log frozen None m = image_in log.geometry (other log.named) m
+coming log frozen (Some left) m = frozen
+
+-- ---- the journal
+
+-- Of a journal whose device has not failed and keeps its bytes: here are the marks of the named area, those of the other
+-- one, and those of what is due.
+pub record IsSound (log : Log) (frozen : List ℕ) (named others due : List Bool) (left : Option ℕ) (m : Medium) : Type 0 where
+  pub some : is_some (holds log.geometry m.now) ≡ true
+  pub stands : IsStanding log.geometry log.named log.current (holds log.geometry m.now) m
+  pub ready : IsReadyFor log m
+  pub named_fresh : IsFresh log.geometry (holds log.geometry m.now) named (image_in log.geometry log.named m)
+  pub others_fresh : IsFresh log.geometry (holds log.geometry m.now) others (coming log frozen left m)
+  pub by_cut : IsCutOr log frozen due left m
+
+abbrev pub held_of : Log → Option ℕ → Bool → Medium → Held
+held_of log left failed m = record { geometry = log.geometry; room = log.geometry.half - log.used; left = left; failed = failed; medium = m }

@@ -1,0 +1,187 @@
+//! The journal of a server: what was carried out, on a device that a crash may tear at any moment.
+ghost use Rattle.std.specs.Prelude.{◌≡◌, ◌-◌, ◌≤◌, ◌+◌, ℕ, true, false, Some, None, [], length, is_some, option_map, OnOk, OnErr, IfOk};
+ghost use Rattle.checkpoint.specs.Recovery.{holds};
+ghost use Rattle.disk.specs.Moments.{LeavesOnly};
+ghost use Rattle.image.specs.Pieces.{piece_count};
+ghost use Rattle.journal.specs.Journal.{Held, AreCarriedOut, HoldsSome, IsSettled, after_call, records, settled};
+ghost use Rattle.oplog.specs.Log.{CountsLogFault, IsNotBad};
+ghost use Rattle.oplog.specs.Logged.{AreLogged};
+ghost use Rattle.plain.specs.Serial.{fold};
+ghost use Rattle.plain.specs.State.{State};
+
+use crate::marks::{count_marked, first_marked, mark_touched};
+use crate::steps::flip_on;
+use crate::stretches::write_stretch;
+use affinity::Geometry;
+use disk::Disk;
+use message::Msg;
+use oplog::{Halves, LogFault};
+use std::marker::Model;
+use std::mem;
+
+/// The log of a server and the images that keep it short, on a device that it owns.
+///
+/// No call takes memory. After a fault of the device it has failed, and only calls that ask for no device go on.
+#[derive(Drop)]
+pub struct Journal<D: Disk> {
+    disk: D,
+    halves: Halves,
+
+    /// The image of the state that the last point or cut was made of.
+    frozen: Vec<u8>,
+
+    /// Which pieces of the named image may be others than those of what is settled.
+    named_marks: Vec<bool>,
+
+    /// The same of the other image, as it is or will be once a cut is written.
+    other_marks: Vec<bool>,
+
+    /// Which pieces of a cut are still to be written.
+    due: Vec<bool>,
+
+    /// How many these are, while a cut is in progress.
+    left: Option<usize>,
+    failed: bool,
+}
+
+impl<D: Disk> Model for Journal<D> {
+    ghost use Rattle.std.specs.Prelude.{◌≡◌, ◌≤◌, ◌*◌, false, length};
+    ghost use Rattle.image.specs.Pieces.{piece_count};
+    ghost use Rattle.journal.specs.Journal.{Held};
+    ghost use Rattle.journal.specs.Keeping.{IsPlaced, IsSound, held_of};
+    ghost use Rattle.oplog.specs.Calls.{HasParts};
+    ghost use Rattle.oplog.specs.Layout.{image_size};
+
+    ghost Value = { Held };
+
+    ghost view = { λ j. held_of j.halves j.left j.failed (D.medium j.disk) };
+
+    ghost invariant = { λ j. HasParts j.halves (D.medium j.disk)
+        × (j.halves.used ≤ j.halves.geometry.half)
+        × (length j.frozen.items ≡ image_size j.halves.geometry)
+        × (length j.named_marks.items ≡ piece_count j.halves.geometry)
+        × (length j.other_marks.items ≡ piece_count j.halves.geometry)
+        × (length j.due.items ≡ piece_count j.halves.geometry)
+        × (j.failed ≡ false → (j.halves.failed ≡ false) × IsPlaced j.halves j.due.items j.left)
+        × (j.failed ≡ false → D.keeps →
+            IsSound j.halves j.frozen.items j.named_marks.items j.other_marks.items j.due.items j.left (D.medium j.disk)) };
+}
+
+impl<D: Disk> Journal<D> {
+    /// Logs these messages, in order, each of which was carried out in its turn from what is settled.
+    pub fn log(&mut self, messages: &[Msg]) -> Result<(), LogFault>
+        requires sound { self.old.failed ≡ false }
+        requires room { length messages.now ≤ self.old.room }
+        requires logged { AreLogged self.old.geometry messages.now }
+        requires carried_out { D.keeps → (x : State) → settled self.old ≡ Some x → AreCarriedOut self.old.geometry x messages.now }
+
+        // A crash at any moment of the call leaves a device that stands for what was settled, with the first so many of
+        // the messages run on it.
+        ensures any_moment { D.keeps → (x : State) → settled self.old ≡ Some x →
+            LeavesOnly self.old.medium self.new.medium (HoldsSome self.old.geometry x messages.now) }
+        ensures settled { OnOk result (D.keeps →
+            settled self.new ≡ option_map (λ x. fold self.old.geometry x messages.now) (settled self.old)) }
+        ensures sound { OnOk result (D.keeps → IsSettled self.new) }
+        ensures none { length messages.now ≡ 0 → self.new ≡ self.old }
+        ensures after { self.new ≡ after_call result
+            (record self.old { room = self.old.room - length messages.now; medium = self.new.medium }) self.old }
+        ensures not_bad { IsNotBad result }
+        ensures counts { CountsLogFault result self.old.medium.faults self.new.medium.faults }
+    {
+        if let Err(fault) = self.halves.append(&mut self.disk, messages) {
+            self.failed = true;
+            return Err(fault);
+        }
+        let g = self.halves.geometry();
+        mark_touched(&g, messages, &mut self.named_marks);
+        mark_touched(&g, messages, &mut self.other_marks);
+        Ok(())
+    }
+
+    /// Writes the next piece of the state of the cut, and tells how many are left. With none left it touches nothing.
+    pub fn piece(&mut self) -> Result<usize, LogFault>
+        requires sound { self.old.failed ≡ false }
+        requires running { is_some self.old.left ≡ true }
+        ensures any_moment { D.keeps → LeavesOnly self.old.medium self.new.medium
+            (λ c. holds self.old.geometry c ≡ settled self.old) }
+        ensures settled { OnOk result (D.keeps → settled self.new ≡ settled self.old) }
+        ensures sound { OnOk result (D.keeps → IsSettled self.new) }
+        ensures left { IfOk result (λ n. option_map (λ l. l - 1) self.old.left ≡ Some n) }
+        ensures none { self.old.left ≡ Some 0 → self.new ≡ self.old }
+        ensures after { self.new ≡ after_call result
+            (record self.old { left = option_map (λ l. l - 1) self.old.left; medium = self.new.medium }) self.old }
+        ensures not_bad { IsNotBad result }
+        ensures counts { CountsLogFault result self.old.medium.faults self.new.medium.faults }
+    {
+        let Some(n) = first_marked(&self.due) else {
+            return Ok(0);
+        };
+        let g = self.halves.geometry();
+        let area = 1 - self.halves.named();
+        if write_stretch(&mut self.disk, &g, area, &self.frozen, n).is_err() {
+            self.failed = true;
+            return Err(LogFault::Device);
+        }
+        self.due[n] = false;
+        let left = count_marked(&self.due);
+        self.left = Some(left);
+        Ok(left)
+    }
+
+    /// Ends the point of a cut of which every piece is written: the image becomes the named one.
+    pub fn flip(&mut self) -> Result<(), LogFault>
+        requires sound { self.old.failed ≡ false }
+        requires written { self.old.left ≡ Some 0 }
+        ensures any_moment { D.keeps → LeavesOnly self.old.medium self.new.medium
+            (λ c. holds self.old.geometry c ≡ settled self.old) }
+        ensures settled { OnOk result (D.keeps → settled self.new ≡ settled self.old) }
+        ensures sound { OnOk result (D.keeps → IsSettled self.new) }
+        ensures after { self.new ≡ after_call result (record self.old { left = None; medium = self.new.medium }) self.old }
+        ensures not_bad { IsNotBad result }
+        ensures counts { CountsLogFault result self.old.medium.faults self.new.medium.faults }
+    {
+        if let Err(fault) = flip_on(&mut self.halves, &mut self.disk, &self.frozen) {
+            self.failed = true;
+            return Err(fault);
+        }
+        mem::swap(&mut self.named_marks, &mut self.other_marks);
+        self.left = None;
+        Ok(())
+    }
+
+    /// How many records can still be logged before a point is due.
+    pub fn room(&self) -> usize
+        ensures room { result ≡ self.now.room }
+        ensures sound { self.now.failed ≡ false → D.keeps → IsSettled self.now }
+    {
+        self.halves.room()
+    }
+
+    /// How many pieces of a cut are still to be written, while one is in progress.
+    pub fn left(&self) -> Option<usize>
+        ensures { result ≡ self.now.left }
+    {
+        self.left
+    }
+
+    /// The numbers of the server.
+    pub fn geometry(&self) -> Geometry
+        ensures { result ≡ self.now.geometry }
+    {
+        self.halves.geometry()
+    }
+
+    /// Whether the device has failed in a call.
+    pub fn failed(&self) -> bool
+        ensures { result ≡ self.now.failed }
+    {
+        self.failed
+    }
+
+    /// The device.
+    pub fn into_disk(self) -> D
+        ensures { D.medium result ≡ self.medium }
+    {
+        self.disk
+    }
+}

@@ -1,0 +1,43 @@
+//! Rows of marks, one for each piece of an image.
+ghost use Rattle.std.specs.Prelude.{◌≡◌, ◌<◌, true, false, get_or, length, IfSome, IsNone};
+ghost use Rattle.image.specs.Pieces.{piece_count};
+ghost use Rattle.journal.specs.Keeping.{MarksTouched, count_marked};
+
+use affinity::Geometry;
+use message::Msg;
+
+/// How many are marked.
+pub(crate) fn count_marked(marks: &[bool]) -> usize
+    ensures { result ≡ count_marked marks.now }
+{
+    let mut count = 0;
+    for is_marked in marks {
+        if *is_marked {
+            count += 1;
+        }
+    }
+    count
+}
+
+/// The first one that is marked.
+pub(crate) fn first_marked(marks: &[bool]) -> Option<usize>
+    ensures inside { IfSome result (λ n. n < length marks.now) }
+    ensures marked { IfSome result (λ n. get_or marks.now n false ≡ true) }
+    ensures none { IsNone result → count_marked marks.now ≡ 0 }
+{
+    for (n, is_marked) in marks.iter().enumerate() {
+        if *is_marked {
+            return Some(n);
+        }
+    }
+    None
+}
+
+/// Marks what these messages touch. So far that is every piece.
+pub(crate) fn mark_touched(g: &Geometry, messages: &[Msg], marks: &mut [bool])
+    requires size { length marks.old ≡ piece_count g.now }
+    ensures size { length marks.new ≡ length marks.old }
+    ensures touched { MarksTouched g.now messages.now marks.old marks.new }
+{
+    marks.fill(true);
+}
