@@ -8,3 +8,5 @@ mod Rows
 mod Logging
 mod Flipping
 mod Piecing
+mod FrozenBytes
+mod Saving

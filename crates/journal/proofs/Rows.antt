@@ -61,6 +61,9 @@ module _ (g : Geometry) (xs ys : List ℕ) (agree : (n : ℕ) → n < piece_coun
       ∙ take_all (stretch_at g (piece_count g)) ys (omega (arith, long', end))
 
 -- what is left of a row that is written over whole
+abbrev pub whole_items : {X : Type 0} → ℕ → List X → List X → List X
+whole_items len new old = take len (new ++ drop (length new) old)
+
 pub whole_put : {X : Type 0} (len : ℕ) (new old : List X) → length new ≡ length old → length new ≡ len → take len (new ++ drop (length new) old) ≡ new
 whole_put len new old size size' =
     ap (λ l. take len (new ++ l)) (drop_all (length new) old (omega (arith, size))) ∙ ap (take len) (append-nil new) ∙ take_all len new (omega (arith, size'))

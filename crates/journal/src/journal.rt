@@ -6,16 +6,19 @@ ghost use Rattle.image.specs.Pieces.{piece_count};
 ghost use Rattle.journal.specs.Journal.{Held, AreCarriedOut, HoldsSome, IsSettled, after_call, records, settled};
 ghost use Rattle.oplog.specs.Log.{CountsLogFault, IsNotBad};
 ghost use Rattle.oplog.specs.Logged.{AreLogged};
+ghost use Rattle.parcel.specs.Tree.{IsWholeTree, state_in};
 ghost use Rattle.plain.specs.Serial.{fold};
 ghost use Rattle.plain.specs.State.{State};
 
-use crate::marks::{count_marked, first_marked, mark_touched};
-use crate::steps::flip_on;
+use crate::freezing::freeze;
+use crate::marks::{clear_marks, count_marked, first_marked, mark_touched};
+use crate::steps::{cut_on, flip_on, point_on};
 use crate::stretches::write_stretch;
 use affinity::Geometry;
 use disk::Disk;
 use message::Msg;
 use oplog::{Halves, LogFault};
+use parcel::Tree;
 use std::marker::Model;
 use std::mem;
 
@@ -95,6 +98,64 @@ impl<D: Disk> Journal<D> {
         let g = self.halves.geometry();
         mark_touched(&g, messages, &mut self.named_marks);
         mark_touched(&g, messages, &mut self.other_marks);
+        Ok(())
+    }
+
+    /// Writes an image of what is settled, which a whole tree holds, and begins a new log.
+    pub fn point(&mut self, tree: &Tree) -> Result<(), LogFault>
+        requires sound { self.old.failed ≡ false }
+        requires alone { self.old.left ≡ None }
+        requires geometry { tree.now.geometry ≡ self.old.geometry }
+        requires whole { IsWholeTree tree.now }
+        requires state { D.keeps → settled self.old ≡ Some (state_in tree.now) }
+
+        // A crash at any moment of the call leaves a device that stands for what was settled.
+        ensures any_moment { D.keeps → LeavesOnly self.old.medium self.new.medium
+            (λ c. holds self.old.geometry c ≡ settled self.old) }
+        ensures settled { OnOk result (D.keeps → settled self.new ≡ settled self.old) }
+        ensures sound { OnOk result (D.keeps → IsSettled self.new) }
+        ensures emptied { OnOk result (D.keeps → records self.new ≡ []) }
+        ensures after { self.new ≡ after_call result
+            (record self.old { room = self.old.geometry.half; medium = self.new.medium }) self.old }
+        ensures not_bad { IsNotBad result }
+        ensures counts { CountsLogFault result self.old.medium.faults self.new.medium.faults }
+    {
+        freeze(tree, &mut self.frozen);
+        if let Err(fault) = point_on(&mut self.halves, &mut self.disk, &self.frozen, &self.other_marks) {
+            self.failed = true;
+            return Err(fault);
+        }
+        clear_marks(&mut self.other_marks);
+        mem::swap(&mut self.named_marks, &mut self.other_marks);
+        Ok(())
+    }
+
+    /// Begins a point: what is settled, which a whole tree holds, is kept as the state of the cut, and records go to the
+    /// other half from now on.
+    pub fn cut(&mut self, tree: &Tree) -> Result<(), LogFault>
+        requires sound { self.old.failed ≡ false }
+        requires alone { self.old.left ≡ None }
+        requires geometry { tree.now.geometry ≡ self.old.geometry }
+        requires whole { IsWholeTree tree.now }
+        requires state { D.keeps → settled self.old ≡ Some (state_in tree.now) }
+        ensures any_moment { D.keeps → LeavesOnly self.old.medium self.new.medium
+            (λ c. holds self.old.geometry c ≡ settled self.old) }
+        ensures settled { OnOk result (D.keeps → settled self.new ≡ settled self.old) }
+        ensures sound { OnOk result (D.keeps → IsSettled self.new) }
+        ensures begun { OnOk result ((n : ℕ) × (n ≤ piece_count self.old.geometry)
+            × (self.new ≡ record self.old { room = self.old.geometry.half; left = Some n; medium = self.new.medium })) }
+        ensures broken { OnErr result (self.new ≡ record self.old { failed = true; medium = self.new.medium }) }
+        ensures not_bad { IsNotBad result }
+        ensures counts { CountsLogFault result self.old.medium.faults self.new.medium.faults }
+    {
+        freeze(tree, &mut self.frozen);
+        if let Err(fault) = cut_on(&mut self.halves, &mut self.disk) {
+            self.failed = true;
+            return Err(fault);
+        }
+        mem::swap(&mut self.due, &mut self.other_marks);
+        clear_marks(&mut self.other_marks);
+        self.left = Some(count_marked(&self.due));
         Ok(())
     }
 

@@ -2,6 +2,7 @@
 //! any moment leaves a device that stands for what was logged.
 #![tactic(auto)]
 
+mod freezing;
 mod journal;
 mod marks;
 mod steps;

@@ -1,5 +1,5 @@
 //! Rows of marks, one for each piece of an image.
-ghost use Rattle.std.specs.Prelude.{◌≡◌, ◌<◌, true, false, get_or, length, IfSome, IsNone};
+ghost use Rattle.std.specs.Prelude.{◌≡◌, ◌<◌, true, false, get_or, length, replicate, IfSome, IsNone};
 ghost use Rattle.image.specs.Pieces.{piece_count};
 ghost use Rattle.journal.specs.Keeping.{MarksTouched, count_marked};
 
@@ -31,6 +31,13 @@ pub(crate) fn first_marked(marks: &[bool]) -> Option<usize>
         }
     }
     None
+}
+
+/// Clears all marks.
+pub(crate) fn clear_marks(marks: &mut [bool])
+    ensures { marks.new ≡ replicate (length marks.old) false }
+{
+    marks.fill(false);
 }
 
 /// Marks what these messages touch. So far that is every piece.

@@ -1,0 +1,110 @@
+-- What a point and the beginning of a cut ask of a journal, and what the journal keeps after them.
+use Rattle.std.proofs.Common.{◌≡◌, ◌<◌, ◌+◌, ℕ, zero, suc, Bool, true, false, List, [], ◌++◌, length, take, drop, Option, Some, None, is_some, unwrap_or, refl, sym, ◌∙◌, ap, subst, arith}
+use Rattle.std.proofs.lemmas.List.{take_at}
+use Rattle.std.proofs.Math.Seq.{take-add}
+use Rattle.affinity.specs.declared.geometry.Geometry.{Geometry}
+use Rattle.checkpoint.specs.Recovery.{holds}
+use Rattle.disk.specs.Device.{AreBytes, Medium}
+use Rattle.image.specs.Image.{head_of, image_of, read}
+use Rattle.image.specs.Pieces.{joined_below, piece_count, piece_of, piece_size}
+use Rattle.image.proofs.Cuts.{piece_again}
+use Rattle.image.proofs.Measures.{state_is_measured}
+use Rattle.image.proofs.Reading.{read_again}
+use Rattle.journal.specs.Keeping.{IsFresh, IsPlaced, IsSound}
+use Rattle.journal.specs.Steps.{IsAlone, IsBegun, IsPointed, IsStanding, cut_now, pointed, run_on}
+use Rattle.journal.specs.Stretches.{AgreeUnmarked, image_in, stretch_in, stretch_of}
+use Rattle.journal.proofs.Cutting.{named_below}
+use Rattle.journal.proofs.Standing.{holds_now, run_none}
+use Rattle.oplog.specs.Layout.{layout_of, other}
+use Rattle.oplog.specs.Log.{Log}
+use Rattle.plain.specs.State.{State, IsState}
+
+-- ---- the image of a state
+
+pub frozen_is : (g : Geometry) (y : State) → IsState g y → (n : ℕ) → n < piece_count g → stretch_in g (image_of 2 g y) n ≡ stretch_of g y n
+frozen_is g y is zero few =
+    take-add 64 (piece_size g 0) (image_of 2 g y)
+    ∙ (λ i. take_at (head_of 2) (joined_below (piece_count g) (piece_of 2 g y)) 64 refl i ++ piece_again 2 g y (state_is_measured g y is) 0 few i)
+frozen_is g y is (suc n) few = piece_again 2 g y (state_is_measured g y is) (suc n) few
+
+module _ (g : Geometry) (x : Option State) (y : State) (frozen : List ℕ) (is : x ≡ Some y) (is_state : IsState g y) (spelled : frozen ≡ image_of 2 g y) where
+  pub frozen_reads : read g frozen ≡ x
+  frozen_reads = ap (read g) spelled ∙ read_again g y is_state ∙ sym is
+
+  pub frozen_fresh : (marks : List Bool) → IsFresh g x marks frozen
+  frozen_fresh marks z is' n few unmarked =
+      let same : y ≡ z = ap (λ (o : Option State). unwrap_or o y) (sym is ∙ is') in
+      ap (λ (l : List ℕ). stretch_in g l n) spelled ∙ frozen_is g y is_state n few ∙ ap (λ (s : State). stretch_of g s n) same
+
+  pub frozen_agrees : (marks : List Bool) (bytes : List ℕ) → IsFresh g x marks bytes → AgreeUnmarked g marks bytes frozen
+  frozen_agrees marks bytes fresh n few unmarked = fresh y is n few unmarked ∙ sym (frozen_is g y is_state n few) ∙ sym (ap (λ (l : List ℕ). stretch_in g l n) spelled)
+
+-- ---- of a journal with no cut in progress
+
+module _ (log : Log) (frozen frozen' : List ℕ) (named others due : List Bool) (left : Option ℕ) (w0 : Medium) (y : State) (alone : left ≡ None) (placed' : IsPlaced log due left) (sound' : IsSound log frozen named others due left w0)
+    (is : holds log.geometry w0.now ≡ Some y) (is_state : IsState log.geometry y) (spelled : frozen' ≡ image_of 2 log.geometry y) (are : AreBytes w0.now) where
+  pub together : log.current ≡ log.named
+  together = subst (λ (l : Option ℕ). IsPlaced log due l) alone placed'
+
+  sound : IsSound log frozen named others due None w0
+  sound = subst (λ (l : Option ℕ). IsSound log frozen named others due l w0) alone sound'
+
+  is_area : log.named < 2
+  is_area = named_below log.geometry log.named log.current (holds log.geometry w0.now) w0 are sound.stands
+
+  pub is_alone : IsAlone log w0
+  is_alone = record {
+    some = sound.some;
+    stands = subst (λ (h : ℕ). IsStanding log.geometry log.named h (holds log.geometry w0.now) w0) together sound.stands;
+  }
+
+  pub reads : read log.geometry frozen' ≡ holds log.geometry w0.now
+  reads = frozen_reads log.geometry (holds log.geometry w0.now) y frozen' is is_state spelled
+
+  pub agrees : AgreeUnmarked log.geometry others (image_in log.geometry (other log.named) w0) frozen'
+  agrees = frozen_agrees log.geometry (holds log.geometry w0.now) y frozen' is is_state spelled others (image_in log.geometry (other log.named) w0) sound.others_fresh
+
+  module _ (w1 : Medium) (are' : AreBytes w1.now) where
+    pub point_settled : IsPointed log frozen' w0 w1 → holds log.geometry w1.now ≡ holds log.geometry w0.now
+    point_settled made = holds_now log.geometry (other log.named) (other log.named) (holds log.geometry w0.now) w1 are' made.stands
+
+    pub point_sound : (named' others' : List Bool) → others' ≡ named → IsPointed log frozen' w0 w1 → IsSound (pointed log) frozen' named' others' due None w1
+    point_sound named' others' same_marks made =
+        let same = point_settled made in
+        let back : other (other log.named) ≡ log.named = omega (arith, is_area) in
+        record {
+          some = ap is_some same ∙ sound.some;
+          stands = subst (λ (o : Option State). IsStanding log.geometry (other log.named) (other log.named) o w1) (sym same) made.stands;
+          ready = made.ready;
+          named_fresh =
+              subst (λ (o : Option State). IsFresh log.geometry o named' (image_in log.geometry (other log.named) w1)) (sym same)
+              (subst (λ (l : List ℕ). IsFresh log.geometry (holds log.geometry w0.now) named' l) (sym made.is) (frozen_fresh log.geometry (holds log.geometry w0.now) y frozen' is is_state spelled named'));
+          others_fresh =
+              subst (λ (o : Option State). IsFresh log.geometry o others' (image_in log.geometry (other (other log.named)) w1)) (sym same)
+              (subst (λ (n : ℕ). IsFresh log.geometry (holds log.geometry w0.now) others' (image_in log.geometry n w1)) (sym back)
+              (subst (λ (l : List ℕ). IsFresh log.geometry (holds log.geometry w0.now) others' l) (sym made.kept)
+              (subst (λ (row : List Bool). IsFresh log.geometry (holds log.geometry w0.now) row (image_in log.geometry log.named w0)) (sym same_marks) sound.named_fresh)));
+          by_cut = tt;
+        }
+
+    pub cut_settled : IsBegun log w0 w1 → holds log.geometry w1.now ≡ holds log.geometry w0.now
+    cut_settled begun = holds_now log.geometry log.named (other log.named) (holds log.geometry w0.now) w1 are' begun.stands
+
+    pub cut_sound : (others' due' : List Bool) (count : ℕ) → due' ≡ others → IsBegun log w0 w1 → IsSound (cut_now log) frozen' named others' due' (Some count) w1
+    cut_sound others' due' count same_marks begun =
+        let same = cut_settled begun in
+        record {
+          some = ap is_some same ∙ sound.some;
+          stands = subst (λ (o : Option State). IsStanding log.geometry log.named (other log.named) o w1) (sym same) begun.stands;
+          ready = begun.ready;
+          named_fresh =
+              subst (λ (o : Option State). IsFresh log.geometry o named (image_in log.geometry log.named w1)) (sym same)
+              (subst (λ (l : List ℕ). IsFresh log.geometry (holds log.geometry w0.now) named l) (sym (begun.images log.named is_area)) sound.named_fresh);
+          others_fresh = subst (λ (o : Option State). IsFresh log.geometry o others' frozen') (sym same) (frozen_fresh log.geometry (holds log.geometry w0.now) y frozen' is is_state spelled others');
+          by_cut = record {
+            behind = ap (λ (rs : List (List ℕ)). run_on log.geometry (read log.geometry frozen') rs) begun.none ∙ run_none log.geometry (read log.geometry frozen') ∙ reads ∙ sym same;
+            written =
+                subst (λ (row : List Bool). AgreeUnmarked log.geometry row (image_in log.geometry (other log.named) w1) frozen') (sym same_marks)
+                (subst (λ (l : List ℕ). AgreeUnmarked log.geometry others l frozen') (sym (begun.images (other log.named) (omega arith))) agrees);
+          };
+        }
