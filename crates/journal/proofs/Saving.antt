@@ -1,5 +1,5 @@
 -- What a point and the beginning of a cut ask of a journal, and what the journal keeps after them.
-use Rattle.std.proofs.Common.{◌≡◌, ◌<◌, ◌+◌, ℕ, zero, suc, Bool, true, false, List, [], ◌++◌, length, take, drop, Option, Some, None, is_some, unwrap_or, refl, sym, ◌∙◌, ap, subst, arith}
+use Rattle.std.proofs.Common.{◌≡◌, ◌<◌, ◌+◌, ℕ, zero, suc, Bool, true, false, List, [], ◌++◌, length, take, drop, Option, Some, None, is_some, get_or, unwrap_or, refl, sym, ◌∙◌, ap, subst, arith, true≢false}
 use Rattle.std.proofs.lemmas.List.{take_at}
 use Rattle.std.proofs.Math.Seq.{take-add}
 use Rattle.affinity.specs.declared.geometry.Geometry.{Geometry}
@@ -108,3 +108,21 @@ module _ (log : Log) (frozen frozen' : List ℕ) (named others due : List Bool) 
                 (subst (λ (l : List ℕ). AgreeUnmarked log.geometry others l frozen') (sym (begun.images (other log.named) (omega arith))) agrees);
           };
         }
+
+-- ---- of a device that is opened
+
+-- The last point of an opening wrote the whole image; nothing is known of the other one, whose pieces are all marked.
+pub opened_sound : (log : Log) (frozen : List ℕ) (named others due : List Bool) (w0 w1 : Medium) (y : State) → IsAlone log w0 → holds log.geometry w0.now ≡ Some y → IsState log.geometry y → frozen ≡ image_of 2 log.geometry y
+    → ((n : ℕ) → n < piece_count log.geometry → get_or others n true ≡ true) → AreBytes w1.now → IsPointed log frozen w0 w1 → IsSound (pointed log) frozen named others due None w1
+opened_sound log frozen named others due w0 w1 y alone is is_state spelled all are made =
+    let same = holds_now log.geometry (other log.named) (other log.named) (holds log.geometry w0.now) w1 are made.stands in
+    record {
+      some = ap is_some same ∙ alone.some;
+      stands = subst (λ (o : Option State). IsStanding log.geometry (other log.named) (other log.named) o w1) (sym same) made.stands;
+      ready = made.ready;
+      named_fresh =
+          subst (λ (o : Option State). IsFresh log.geometry o named (image_in log.geometry (other log.named) w1)) (sym same)
+          (subst (λ (l : List ℕ). IsFresh log.geometry (holds log.geometry w0.now) named l) (sym made.is) (frozen_fresh log.geometry (holds log.geometry w0.now) y frozen is is_state spelled named));
+      others_fresh = λ z is' n few unmarked. absurd (true≢false (sym (all n few) ∙ unmarked));
+      by_cut = tt;
+    }

@@ -71,6 +71,42 @@ impl<D: Disk> Model for Journal<D> {
 }
 
 impl<D: Disk> Journal<D> {
+    ghost use Rattle.journal.specs.Keeping.{IsSound, held_of};
+    ghost use Rattle.oplog.specs.Calls.{HasParts};
+    ghost use Rattle.oplog.specs.Layout.{image_size};
+
+    /// A journal with no cut in progress. `frozen` has an image's size, and each row of marks one mark a piece.
+    pub(crate) fn new(
+        disk: D,
+        halves: Halves,
+        frozen: Vec<u8>,
+        named_marks: Vec<bool>,
+        other_marks: Vec<bool>,
+        due: Vec<bool>,
+    ) -> Journal<D>
+        requires fine { halves.failed ≡ false }
+        requires together { halves.current ≡ halves.named }
+        requires used { halves.used ≤ halves.geometry.half }
+        requires whole { HasParts halves (D.medium disk) }
+        requires frozen { length frozen.items ≡ image_size halves.geometry }
+        requires named_marks { length named_marks.items ≡ piece_count halves.geometry }
+        requires other_marks { length other_marks.items ≡ piece_count halves.geometry }
+        requires due { length due.items ≡ piece_count halves.geometry }
+        requires sound { D.keeps → IsSound halves frozen.items named_marks.items other_marks.items due.items None (D.medium disk) }
+        ensures { result ≡ held_of halves None false (D.medium disk) }
+    {
+        Journal {
+            disk,
+            halves,
+            frozen,
+            named_marks,
+            other_marks,
+            due,
+            left: None,
+            failed: false,
+        }
+    }
+
     /// Logs these messages, in order, each of which was carried out in its turn from what is settled.
     pub fn log(&mut self, messages: &[Msg]) -> Result<(), LogFault>
         requires sound { self.old.failed ≡ false }

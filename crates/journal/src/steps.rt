@@ -69,7 +69,7 @@ pub(crate) fn cut_on<D: Disk>(halves: &mut Halves, disk: &mut D) -> Result<(), L
     ensures counts { CountsLogFault result (D.medium disk.old).faults (D.medium disk.new).faults }
     ensures len { length (D.medium disk.new).now ≡ length (D.medium disk.old).now }
 {
-    halves.clear_other(disk)?;
+    halves.clear_other(disk)?; // before it is in force
     halves.open_chain(disk)?;
     Ok(())
 }
