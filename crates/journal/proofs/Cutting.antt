@@ -7,7 +7,7 @@ use Rattle.disk.specs.Device.{AreBytes, Leaves, Medium, Syncs, synced}
 use Rattle.disk.specs.Moments.{LeavesOnly}
 use Rattle.disk.proofs.Calls.{after_sync}
 use Rattle.disk.proofs.Leaves.{calm_left, itself}
-use Rattle.disk.proofs.Moments.{leaves_now, started, then, weaker}
+use Rattle.disk.proofs.Moments.{started, then, weaker}
 use Rattle.image.specs.Image.{read}
 use Rattle.journal.specs.Steps.{IsStanding, run_on}
 use Rattle.journal.specs.Stretches.{image_in}
@@ -17,7 +17,7 @@ use Rattle.oplog.specs.Changes.{ChangesOnly, Chained, Cleared, Flipped, IsReady,
 use Rattle.oplog.specs.Crash.{StandsBy, StandsEitherWay}
 use Rattle.oplog.specs.Front.{chain, front}
 use Rattle.oplog.specs.Layout.{layout_of, device_size, part, half, image, root, other}
-use Rattle.oplog.specs.Stands.{current_of, named_area, stands_as}
+use Rattle.oplog.specs.Stands.{stands_as}
 use Rattle.oplog.proofs.AfterCrash.{chain_by_area, chained_by_area, flip_by_area, torn_root_stands}
 use Rattle.oplog.proofs.Kept.{named_area-below}
 use Rattle.oplog.proofs.Ready.{ready_kept}
@@ -34,9 +34,10 @@ module _ (g : Geometry) (n : ℕ) (x : Option State) (is_area : n < 2) (w0 w1 w2
     (chains : ChangesOnly w1 w2 (IsSameButChain (layout_of g) n)) where
   empty : (c : List ℕ) → Leaves w1 c → (front (layout_of g) (other n) c ≡ []) × (chain (layout_of g) (other n) c ≢ 1)
   empty c left =
-      let is : c ≡ w1.now = calm_left w1 c cleared.calm left in
-      (ap (λ (l : List ℕ). front (layout_of g) (other n) l) is ∙ ready_none (layout_of g) (other n) w1 cleared.ready,
-      λ one. let shut : chain (layout_of g) (other n) c ≡ 0 = ap (λ (l : List ℕ). chain (layout_of g) (other n) l) is ∙ cleared.chain in absurd (omega (arith, one, shut)))
+      let is : c ≡ w1.now = calm_left w1 c cleared.calm left in (
+        ap (λ (l : List ℕ). front (layout_of g) (other n) l) is ∙ ready_none (layout_of g) (other n) w1 cleared.ready,
+        λ one. let shut : chain (layout_of g) (other n) c ≡ 0 = ap (λ (l : List ℕ). chain (layout_of g) (other n) l) is ∙ cleared.chain in absurd (omega (arith, one, shut)),
+      )
 
   pub chain_moments : LeavesOnly w0 w2 (λ c. holds g c ≡ x)
   chain_moments =
@@ -79,9 +80,11 @@ module _ (g : Geometry) (n used : ℕ) (x : Option State) (bytes : List ℕ) (w0
     own_stands : (c : List ℕ) → c ≡ w0.now → StandsBy (means g) (layout_of g) n (other n) x c → (stands_as (means g) (layout_of g) (other n) c ≡ x) × (eqb (chain (layout_of g) (other n) c) 1 ≡ false)
     own_stands c same stood =
         let laid = laid_by g n x c stood.is some in
-        let shut = chain_other g n c is_area laid stood.current in
-        (as_other g (other n) x bytes c (front (layout_of g) (other n) w0.now) laid (ap (λ (l : List ℕ). part (layout_of g) (image (other n)) l) same ∙ is)
-        (shut_force (layout_of g) (other n) c shut ∙ ap (λ (l : List ℕ). front (layout_of g) (other n) l) same) behind, shut)
+        let shut = chain_other g n c is_area laid stood.current in (
+          as_other g (other n) x bytes c (front (layout_of g) (other n) w0.now) laid (ap (λ (l : List ℕ). part (layout_of g) (image (other n)) l) same ∙ is)
+              (shut_force (layout_of g) (other n) c shut ∙ ap (λ (l : List ℕ). front (layout_of g) (other n) l) same) behind,
+          shut,
+        )
 
     still_left : (c : List ℕ) → Leaves (synced w0) c → c ≡ w0.now
     still_left c left = calm_left (synced w0) c refl left

@@ -1,13 +1,11 @@
 -- What the end of a cut asks of a journal, and what the journal keeps after it.
-use Rattle.std.proofs.Common.{◌≡◌, ◌<◌, ℕ, Bool, true, false, List, [], length, Option, Some, None, is_some, refl, sym, ◌∙◌, ap, subst, arith}
-use Rattle.affinity.specs.declared.geometry.Geometry.{Geometry}
+use Rattle.std.proofs.Common.{◌≡◌, ℕ, Bool, List, length, Option, Some, None, is_some, sym, ◌∙◌, ap, subst, arith}
 use Rattle.checkpoint.specs.Recovery.{holds}
 use Rattle.disk.specs.Device.{AreBytes, Medium}
-use Rattle.image.specs.Image.{read}
 use Rattle.image.specs.Pieces.{piece_count}
-use Rattle.journal.specs.Keeping.{IsCut, IsFresh, IsPlaced, IsSound}
+use Rattle.journal.specs.Keeping.{IsFresh, IsPlaced, IsSound}
 use Rattle.journal.specs.Steps.{IsFlipped, IsStanding, IsWritten, named_now}
-use Rattle.journal.specs.Stretches.{AgreeUnmarked, image_in}
+use Rattle.journal.specs.Stretches.{image_in}
 use Rattle.journal.proofs.Cutting.{named_below}
 use Rattle.journal.proofs.Patches.{image_long}
 use Rattle.journal.proofs.Rows.{all_agree, none_marked}

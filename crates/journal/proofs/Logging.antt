@@ -1,18 +1,17 @@
 -- What a crash leaves while messages are logged, and what the journal keeps once they are.
-use Rattle.std.proofs.Common.{◌≡◌, ◌≢◌, ℕ, zero, suc, ◌+◌, ◌-◌, ◌<◌, ◌≤◌, Bool, true, false, ◌&&◌, cond, eqb, List, [], ◌∷◌, ◌++◌, length, take, get_or, Option, Some, None, is_some, option_map, unwrap_or, refl, sym, ◌∙◌, ap, subst, arith, true≢false}
+use Rattle.std.proofs.Common.{◌≡◌, ℕ, zero, suc, ◌+◌, ◌<◌, Bool, true, false, ◌&&◌, cond, eqb, List, [], ◌∷◌, ◌++◌, length, take, Option, Some, None, is_some, option_map, unwrap_or, refl, sym, ◌∙◌, ap, subst, arith, true≢false}
 use Rattle.std.proofs.lemmas.List.{length-map, take-map}
 use Rattle.std.proofs.lemmas.Slice.Eq.{bytes_eq-Decides}
 use Rattle.std.specs.Str.{bytes_eq}
 use Rattle.affinity.specs.declared.geometry.Geometry.{Geometry}
 use Rattle.checkpoint.specs.Recovery.{apply, apply_said, holds, means}
-use Rattle.disk.specs.Device.{AreBytes, Leaves, Medium}
+use Rattle.disk.specs.Device.{AreBytes, Medium}
 use Rattle.disk.specs.Moments.{LeavesOnly}
 use Rattle.disk.proofs.Leaves.{itself}
 use Rattle.disk.proofs.Moments.{weaker}
 use Rattle.image.specs.Image.{read}
-use Rattle.image.specs.Pieces.{piece_count}
-use Rattle.journal.specs.Journal.{AreCarriedOut, Held, HoldsSome, IsSettled, settled}
-use Rattle.journal.specs.Keeping.{IsCut, IsCutOr, IsFresh, IsPlaced, IsSound, MarksTouched, coming, held_of}
+use Rattle.journal.specs.Journal.{AreCarriedOut, HoldsSome, IsSettled}
+use Rattle.journal.specs.Keeping.{IsCutOr, IsFresh, IsPlaced, IsSound, MarksTouched, coming, held_of}
 use Rattle.journal.specs.Steps.{IsStanding, run_on}
 use Rattle.journal.specs.Stretches.{AgreeUnmarked, image_in, stretch_of}
 use Rattle.journal.proofs.Cutting.{named_below}
@@ -21,14 +20,13 @@ use Rattle.message.specs.declared.Msg.{Msg}
 use Rattle.message.specs.Messages.{is_in_range}
 use Rattle.message.specs.Records.{message_in_fields, record_of}
 use Rattle.message.proofs.RecordLemmas.{record_says}
-use Rattle.oplog.specs.Calls.{Grows, HasAdded, IsReadyFor}
-use Rattle.oplog.specs.Changes.{HasAll, IsReady}
-use Rattle.oplog.specs.Crash.{StandsBy}
+use Rattle.oplog.specs.Calls.{Grows, HasAdded}
+use Rattle.oplog.specs.Changes.{IsReady}
 use Rattle.oplog.specs.Front.{chain, front}
-use Rattle.oplog.specs.Layout.{layout_of, half, image, other}
+use Rattle.oplog.specs.Layout.{layout_of, image, other}
 use Rattle.oplog.specs.Log.{Log}
 use Rattle.oplog.specs.Logged.{records_of}
-use Rattle.oplog.specs.Stands.{current_of, run}
+use Rattle.oplog.specs.Stands.{run}
 use Rattle.oplog.proofs.AfterCrash.{append_stands, all_by_area}
 use Rattle.oplog.proofs.Kept.{run-append}
 use Rattle.plain.specs.Serial.{fold, is_loggable, next_state, reply_to}

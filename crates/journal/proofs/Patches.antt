@@ -1,17 +1,16 @@
 -- How the marked stretches of an image are written, one run after another.
-use Rattle.std.proofs.Common.{◌≡◌, ◌≢◌, ⊎_elim, ℕ, zero, suc, ◌+◌, ◌-◌, ◌<◌, ◌≤◌, Bool, true, false, List, [], ◌∷◌, ◌++◌, length, take, drop, get_or, refl, sym, ◌∙◌, ap, subst, arith, length-drop}
+use Rattle.std.proofs.Common.{◌≡◌, ◌≢◌, ⊎_elim, ℕ, suc, ◌+◌, ◌-◌, ◌<◌, ◌≤◌, Bool, true, false, List, ◌++◌, length, take, drop, get_or, refl, sym, ◌∙◌, ap, subst, arith, length-drop}
 use Rattle.std.proofs.lemmas.Bool.{cases_lt}
 use Rattle.std.proofs.lemmas.List.{drop-drop, take_all, length-take-le}
 use Rattle.std.proofs.Math.Seq.{take-add}
 use Rattle.affinity.specs.declared.geometry.Geometry.{Geometry}
-use Rattle.disk.specs.Device.{Medium, IsSynced, SameOutside, overlaid, synced}
-use Rattle.disk.proofs.Calls.{after_sync}
+use Rattle.disk.specs.Device.{Medium, SameOutside, overlaid, synced}
 use Rattle.disk.proofs.Overlays.{take-overlaid, drop-overlaid, overlaid_outside, range-overlaid}
 use Rattle.disk.proofs.Outside.{same_before, same_behind}
 use Rattle.image.specs.Pieces.{piece_count}
 use Rattle.journal.specs.Stretches.{AgreeUnmarked, Imaged, IsPatchedAt, image_in, stretch_at, stretch_size}
 use Rattle.journal.proofs.Places.{stretch_inside, stretch_next, stretch_rises}
-use Rattle.journal.proofs.Runs.{part_begun, part_then, run_long}
+use Rattle.journal.proofs.Runs.{part_begun, part_then}
 use Rattle.oplog.specs.Changes.{ChangesOnly, IsSameBut}
 use Rattle.oplog.specs.Layout.{slice, layout_of, image, image_size, part_at, part_size, device_size}
 use Rattle.oplog.proofs.Slices.{same_but_both, same_but_none, image_sized, part_inside}

@@ -1,5 +1,5 @@
 -- What a crash leaves while a piece of a cut is written, and what the journal keeps once it is.
-use Rattle.std.proofs.Common.{◌≡◌, ◌≢◌, ◌<◌, ◌-◌, ℕ, suc, Bool, true, false, List, length, get_or, set, Option, Some, None, is_some, option_map, ⊎_elim, refl, sym, ◌∙◌, ap, subst, arith, true≢false}
+use Rattle.std.proofs.Common.{◌≡◌, ◌≢◌, ◌<◌, ◌-◌, ℕ, Bool, true, false, List, length, get_or, set, Option, Some, None, is_some, option_map, ⊎_elim, refl, sym, ◌∙◌, ap, subst, arith, true≢false}
 use Rattle.std.proofs.lemmas.Bool.{cases_eq}
 use Rattle.std.proofs.lemmas.List.{get_or-set_other}
 use Rattle.affinity.specs.declared.geometry.Geometry.{Geometry}
@@ -8,8 +8,7 @@ use Rattle.disk.specs.Device.{AreBytes, Medium}
 use Rattle.disk.specs.Moments.{LeavesOnly}
 use Rattle.disk.proofs.Moments.{leaves_now}
 use Rattle.image.specs.Image.{read}
-use Rattle.image.specs.Pieces.{piece_count}
-use Rattle.journal.specs.Keeping.{IsCut, IsFresh, IsPlaced, IsSound, count_marked}
+use Rattle.journal.specs.Keeping.{IsFresh, IsPlaced, IsSound, count_marked}
 use Rattle.journal.specs.Steps.{IsStanding, run_on}
 use Rattle.journal.specs.Stretches.{IsPatchedAt, image_in, stretch_in}
 use Rattle.journal.proofs.Cutting.{named_below}
@@ -18,7 +17,6 @@ use Rattle.journal.proofs.Rows.{count_cleared}
 use Rattle.journal.proofs.Standing.{half_same, holds_moments, holds_now}
 use Rattle.oplog.specs.Changes.{ChangesOnly, IsReady, IsSameBut}
 use Rattle.oplog.specs.Crash.{StandsBy}
-use Rattle.oplog.specs.Front.{front}
 use Rattle.oplog.specs.Layout.{layout_of, half, image, other}
 use Rattle.oplog.specs.Log.{Log}
 use Rattle.oplog.proofs.AfterCrash.{image_by_area}

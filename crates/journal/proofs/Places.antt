@@ -2,7 +2,7 @@
 use Rattle.std.proofs.Common.{◌≡◌, ℕ, zero, suc, ◌+◌, ◌*◌, ◌<◌, ◌≤◌, ⊎_elim, refl, sym, ◌∙◌, ap, subst, arith}
 use Rattle.std.proofs.lemmas.Bool.{cases_lt}
 use Rattle.affinity.specs.declared.geometry.Geometry.{Geometry}
-use Rattle.image.specs.Pieces.{pieces_of_volume, piece_at, piece_count, part_size, piece_size}
+use Rattle.image.specs.Pieces.{pieces_of_volume, piece_at, piece_count}
 use Rattle.image.proofs.Joining.{length-pieces}
 use Rattle.journal.specs.Stretches.{stretch_at, stretch_size}
 use Rattle.oplog.specs.Layout.{image_size}

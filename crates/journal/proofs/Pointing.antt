@@ -1,5 +1,5 @@
 -- What a crash leaves at each moment of a point, and what stands at its end.
-use Rattle.std.proofs.Common.{◌≡◌, ◌≢◌, ◌<◌, ◌≤◌, ℕ, Bool, true, false, eqb, List, [], length, Option, is_some, refl, sym, ◌∙◌, ap, subst, arith}
+use Rattle.std.proofs.Common.{◌≡◌, ◌<◌, ◌≤◌, ℕ, Bool, true, false, eqb, List, [], length, Option, is_some, refl, sym, ◌∙◌, ap, subst, arith}
 use Rattle.affinity.specs.declared.geometry.Geometry.{Geometry}
 use Rattle.checkpoint.specs.Recovery.{holds, means}
 use Rattle.disk.specs.Device.{AreBytes, Medium}
@@ -7,7 +7,7 @@ use Rattle.disk.specs.Moments.{LeavesOnly}
 use Rattle.disk.proofs.Leaves.{calm_left, itself}
 use Rattle.disk.proofs.Moments.{leaves_now, then, weaker}
 use Rattle.image.specs.Image.{read}
-use Rattle.journal.specs.Steps.{IsStanding, IsPointed}
+use Rattle.journal.specs.Steps.{IsStanding}
 use Rattle.journal.specs.Stretches.{AgreeUnmarked, Imaged, image_in}
 use Rattle.journal.proofs.Standing.{as_other, both_of, half_same, holds_by, holds_moments, laid_by, not_one, ready_none, run_none, shut_current, shut_force}
 use Rattle.oplog.specs.Changes.{ChangesOnly, Cleared, Flipped, IsReady, IsSameBut, IsSameButGates, IsSameButRoot}

@@ -1,12 +1,12 @@
 -- Rows of marks, and what is known of an image by them.
-use Rattle.std.proofs.Common.{◌≡◌, ◌≢◌, ℕ, zero, suc, ◌+◌, ◌<◌, ◌≤◌, Bool, true, false, List, [], ◌∷◌, ◌++◌, length, take, drop, get_or, set, replicate, refl, sym, ◌∙◌, ap, subst, arith, true≢false}
+use Rattle.std.proofs.Common.{◌≡◌, ℕ, zero, suc, ◌+◌, ◌<◌, ◌≤◌, Bool, true, false, List, [], ◌∷◌, ◌++◌, length, take, drop, get_or, set, refl, sym, ◌∙◌, ap, arith, true≢false}
 use Rattle.std.proofs.lemmas.List.{append-nil, drop_all, take_all}
 use Rattle.std.proofs.Math.Seq.{take-add}
 use Rattle.affinity.specs.declared.geometry.Geometry.{Geometry}
 use Rattle.image.specs.Pieces.{piece_count}
 use Rattle.plain.specs.State.{one_if}
 use Rattle.journal.specs.Keeping.{count_marked}
-use Rattle.journal.specs.Stretches.{AgreeUnmarked, stretch_at, stretch_in, stretch_size}
+use Rattle.journal.specs.Stretches.{stretch_at, stretch_in, stretch_size}
 use Rattle.journal.proofs.Places.{stretch_end, stretch_next}
 use Rattle.oplog.specs.Layout.{image_size}
 

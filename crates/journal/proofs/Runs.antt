@@ -1,12 +1,12 @@
 -- What a write of a run of an image leaves.
-use Rattle.std.proofs.Common.{◌≡◌, ◌≢◌, ℕ, ◌+◌, ◌-◌, ◌<◌, ◌≤◌, zero, suc, List, [], ◌∷◌, length, take, drop, refl, sym, ◌∙◌, ap, subst, arith, length-drop}
+use Rattle.std.proofs.Common.{◌≡◌, ℕ, ◌+◌, ◌-◌, ◌<◌, ◌≤◌, zero, suc, List, [], ◌∷◌, length, drop, refl, sym, ◌∙◌, ap, subst, arith, length-drop}
 use Rattle.std.proofs.lemmas.List.{length-take-le}
 use Rattle.affinity.specs.declared.geometry.Geometry.{Geometry}
 use Rattle.disk.specs.Device.{Medium, SameOutside, overlaid}
 use Rattle.disk.proofs.Moments.{leaves_now, started, then, weaker}
 use Rattle.journal.specs.Stretches.{image_in}
 use Rattle.oplog.specs.Changes.{ChangesOnly, IsReady, IsSameBut}
-use Rattle.oplog.specs.Layout.{Layout, slice, layout_of, part, part_at, image, half, device_size, image_size}
+use Rattle.oplog.specs.Layout.{Layout, slice, layout_of, part, part_at, image, device_size, image_size}
 use Rattle.oplog.specs.Store.{Touched}
 use Rattle.oplog.proofs.Ready.{ready_beside}
 use Rattle.oplog.proofs.Slices.{same_but, same_but_both, same_but_none, image_sized, part_overlaid}

@@ -1,5 +1,5 @@
 -- What a point and the beginning of a cut ask of a journal, and what the journal keeps after them.
-use Rattle.std.proofs.Common.{◌≡◌, ◌<◌, ◌+◌, ℕ, zero, suc, Bool, true, false, List, [], ◌++◌, length, take, drop, Option, Some, None, is_some, get_or, unwrap_or, refl, sym, ◌∙◌, ap, subst, arith, true≢false}
+use Rattle.std.proofs.Common.{◌≡◌, ◌<◌, ℕ, zero, suc, Bool, true, List, ◌++◌, Option, Some, None, is_some, get_or, unwrap_or, refl, sym, ◌∙◌, ap, subst, arith, true≢false}
 use Rattle.std.proofs.lemmas.List.{take_at}
 use Rattle.std.proofs.Math.Seq.{take-add}
 use Rattle.affinity.specs.declared.geometry.Geometry.{Geometry}
@@ -15,7 +15,7 @@ use Rattle.journal.specs.Steps.{IsAlone, IsBegun, IsPointed, IsStanding, cut_now
 use Rattle.journal.specs.Stretches.{AgreeUnmarked, image_in, stretch_in, stretch_of}
 use Rattle.journal.proofs.Cutting.{named_below}
 use Rattle.journal.proofs.Standing.{holds_now, run_none}
-use Rattle.oplog.specs.Layout.{layout_of, other}
+use Rattle.oplog.specs.Layout.{other}
 use Rattle.oplog.specs.Log.{Log}
 use Rattle.plain.specs.State.{State, IsState}
 

@@ -1,10 +1,9 @@
 -- What a device stands for, by the area that it names, and what it would stand for by the other one.
-use Rattle.std.proofs.Common.{◌≡◌, ◌≢◌, ◌<◌, ℕ, zero, suc, Bool, true, false, not, ◌&&◌, cond, eqb, nat_le, ◌+◌, List, [], ◌++◌, length, drop, get_or, Option, Some, None, is_some, refl, sym, ◌∙◌, ap, subst, arith, true≢false}
-use Rattle.std.proofs.lemmas.Bool.{ne_eqb}
+use Rattle.std.proofs.Common.{◌≡◌, ◌<◌, ℕ, zero, suc, Bool, true, false, not, ◌&&◌, cond, eqb, nat_le, ◌+◌, List, [], ◌++◌, length, drop, get_or, Option, Some, None, is_some, refl, sym, ◌∙◌, ap, arith, true≢false}
 use Rattle.affinity.specs.declared.geometry.Geometry.{Geometry}
 use Rattle.checkpoint.specs.Header.{is_header}
 use Rattle.checkpoint.specs.Recovery.{holds, means}
-use Rattle.disk.specs.Device.{AreBytes, Medium, Leaves}
+use Rattle.disk.specs.Device.{AreBytes, Medium}
 use Rattle.disk.specs.Moments.{LeavesOnly}
 use Rattle.disk.proofs.Leaves.{itself}
 use Rattle.disk.proofs.Moments.{weaker}
@@ -12,9 +11,9 @@ use Rattle.image.specs.Image.{read}
 use Rattle.journal.specs.Steps.{IsStanding, run_on}
 use Rattle.oplog.specs.Changes.{IsReady}
 use Rattle.oplog.specs.Crash.{StandsBy}
-use Rattle.oplog.specs.Front.{chain, front, front_in, gates, open_gates, rows}
+use Rattle.oplog.specs.Front.{chain, front, front_in, rows}
 use Rattle.oplog.specs.Layout.{Layout, layout_of, part, device_size, header, half, image, other}
-use Rattle.oplog.specs.Stands.{Meaning, current_of, in_force, is_laid_out, named_area, run, stands_as}
+use Rattle.oplog.specs.Stands.{current_of, in_force, is_laid_out, run, stands_as}
 use Rattle.plain.specs.State.{State}
 
 -- ---- by the area that it names

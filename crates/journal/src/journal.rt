@@ -67,7 +67,7 @@ impl<D: Disk> Model for Journal<D> {
         × (length j.due.items ≡ piece_count j.halves.geometry)
         × (j.failed ≡ false → (j.halves.failed ≡ false) × IsPlaced j.halves j.due.items j.left)
         × (j.failed ≡ false → D.keeps →
-            IsSound j.halves j.frozen.items j.named_marks.items j.other_marks.items j.due.items j.left (D.medium j.disk)) };
+        IsSound j.halves j.frozen.items j.named_marks.items j.other_marks.items j.due.items j.left (D.medium j.disk)) };
 }
 
 impl<D: Disk> Journal<D> {
@@ -157,7 +157,12 @@ impl<D: Disk> Journal<D> {
         ensures counts { CountsLogFault result self.old.medium.faults self.new.medium.faults }
     {
         freeze(tree, &mut self.frozen);
-        if let Err(fault) = point_on(&mut self.halves, &mut self.disk, &self.frozen, &self.other_marks) {
+        if let Err(fault) = point_on(
+            &mut self.halves,
+            &mut self.disk,
+            &self.frozen,
+            &self.other_marks,
+        ) {
             self.failed = true;
             return Err(fault);
         }

@@ -75,7 +75,11 @@ pub(crate) fn cut_on<D: Disk>(halves: &mut Halves, disk: &mut D) -> Result<(), L
 }
 
 /// Ends a cut of which the whole image is written: it is made to last, and named.
-pub(crate) fn flip_on<D: Disk>(halves: &mut Halves, disk: &mut D, bytes: &[u8]) -> Result<(), LogFault>
+pub(crate) fn flip_on<D: Disk>(
+    halves: &mut Halves,
+    disk: &mut D,
+    bytes: &[u8],
+) -> Result<(), LogFault>
     requires sound { halves.old.failed ≡ false }
     requires whole { HasParts halves.old (D.medium disk.old) }
     requires apart { halves.old.current ≡ other halves.old.named }

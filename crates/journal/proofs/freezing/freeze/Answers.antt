@@ -1,9 +1,9 @@
-use Rattle.std.proofs.Common.{◌≡◌, ◌+◌, ◌-◌, ◌<◌, ◌≤◌, ℕ, List, ◌++◌, length, take, drop, rules, refl, sym, ◌∙◌, ap, subst, arith}
+use Rattle.std.proofs.Common.{◌≡◌, ◌+◌, ◌-◌, ◌<◌, ◌≤◌, ℕ, ◌++◌, length, take, drop, rules, sym, ◌∙◌, ap, subst, arith}
 use Rattle.image.specs.Image.{image_of}
 use Rattle.image.proofs.Measures.{length-piece, state_is_measured}
 use Rattle.plain.specs.State.{IsState}
-use Rattle.image.specs.Pieces.{piece_at, piece_count, piece_of, piece_size}
-use Rattle.journal.proofs.FrozenBytes.{all_put, first_pieces, none_behind, one_more, piece_after, piece_end, piece_inside, piece_put, put_long}
+use Rattle.image.specs.Pieces.{piece_count, piece_of}
+use Rattle.journal.proofs.FrozenBytes.{all_put, first_pieces, one_more, piece_after, piece_end, piece_inside, piece_put, put_long}
 use Rattle.affinity.specs.declared.geometry.Geometry.{Geometry}
 use Rattle.oplog.specs.Layout.{image_size}
 use Rattle.parcel.specs.Tree.{state_in}

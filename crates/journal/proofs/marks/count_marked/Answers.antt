@@ -1,4 +1,4 @@
-use Rattle.std.proofs.Common.{◌≡◌, ◌+◌, ◌∙◌, arith, true, false, get_or}
+use Rattle.std.proofs.Common.{◌≡◌, arith, true, false, get_or}
 use Rattle.std.proofs.lemmas.Grind.{common_steps}
 use Rattle.journal.proofs.Rows.{count_after}
 use Rattle.journal.proofs.marks.count_marked.Goals as goal

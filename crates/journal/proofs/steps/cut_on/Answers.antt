@@ -1,4 +1,4 @@
-use Rattle.std.proofs.Common.{◌≡◌, ◌<◌, ℕ, subst}
+use Rattle.std.proofs.Common.{subst}
 use Rattle.journal.proofs.Cutting.{begun_images, begun_none, begun_ready, begun_stands, chain_moments, named_below}
 use Rattle.journal.proofs.Pointing.{clear_moments}
 use Rattle.oplog.specs.Calls.{Chains, HasChained}

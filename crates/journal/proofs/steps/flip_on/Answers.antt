@@ -1,11 +1,10 @@
-use Rattle.std.proofs.Common.{◌≡◌, ◌<◌, ℕ, sym, ◌∙◌, subst}
+use Rattle.std.proofs.Common.{◌≡◌, sym, ◌∙◌, subst}
 use Rattle.checkpoint.specs.Recovery.{holds}
-use Rattle.disk.specs.Device.{Medium, synced}
+use Rattle.disk.specs.Device.{Medium}
 use Rattle.disk.specs.Moments.{LeavesOnly}
 use Rattle.journal.proofs.Cutting.{name_moments, named_below, named_images, named_ready, named_stands, sync_moments}
 use Rattle.oplog.proofs.Answered.{on_ok}
 use Rattle.oplog.specs.Calls.{Flips, HasFlipped}
-use Rattle.oplog.specs.Log.{Log}
 use Rattle.journal.proofs.steps.flip_on.Goals as goal
 
 pub returns-then-is_err-clause-any_moment : goal.returns-then-is_err-clause-any_moment

@@ -1,6 +1,5 @@
-use Rattle.std.proofs.Common.{◌≡◌, ◌<◌, ℕ, refl, sym, ◌∙◌, ap, subst, arith}
+use Rattle.std.proofs.Common.{◌≡◌, ◌<◌, ℕ, sym, ◌∙◌, subst, arith}
 use Rattle.affinity.specs.declared.geometry.Geometry.{Geometry}
-use Rattle.checkpoint.specs.Recovery.{holds}
 use Rattle.journal.specs.Stretches.{AgreeUnmarked, Imaged, image_in}
 use Rattle.journal.proofs.Pointing.{clear_moments, flip_moments, image_moments, now_emptied, now_is, now_kept, now_ready, now_stands, still_unmarked}
 use Rattle.oplog.proofs.Answered.{on_ok}

@@ -1,10 +1,9 @@
-use Rattle.std.proofs.Common.{◌≡◌, ◌+◌, ◌<◌, ◌≤◌, ℕ, true, false, length, get_or, refl, sym, ◌∙◌, ap, arith}
+use Rattle.std.proofs.Common.{◌≡◌, ◌+◌, ◌<◌, true, false, length, get_or, refl, sym, ◌∙◌, ap, arith}
 use Rattle.std.proofs.lemmas.Grind.{common_steps}
 use Rattle.disk.proofs.Calls.{after_sync}
-use Rattle.disk.specs.Device.{Medium}
 use Rattle.image.specs.Pieces.{piece_count}
-use Rattle.journal.specs.Stretches.{stretch_at, stretch_size}
-use Rattle.journal.proofs.Patches.{IsPatched, along_patch, patch_begun, patch_moments, patch_passed, patch_synced, patched}
+use Rattle.journal.specs.Stretches.{stretch_at}
+use Rattle.journal.proofs.Patches.{along_patch, patch_begun, patch_moments, patch_passed, patch_synced, patched}
 use Rattle.journal.proofs.Places.{stretch_end, stretch_after, stretch_inside}
 use Rattle.oplog.specs.Layout.{image_size}
 use Rattle.journal.proofs.stretches.write_image.Goals as goal

@@ -1,10 +1,9 @@
-use Rattle.std.proofs.Common.{◌≡◌, ◌+◌, ◌-◌, ◌≤◌, ℕ, List, refl, sym, ◌∙◌, ap, arith}
-use Rattle.std.proofs.lemmas.Grind.{common_steps}
+use Rattle.std.proofs.Common.{◌≡◌, ◌+◌, ◌-◌, ℕ, List, sym, ◌∙◌, ap, arith}
 use Rattle.disk.specs.Device.{overlaid}
 use Rattle.journal.specs.Stretches.{image_in, stretch_at, stretch_size}
 use Rattle.journal.proofs.Patches.{image_long, one_patched}
 use Rattle.journal.proofs.Places.{stretch_after, stretch_inside, stretch_rises}
-use Rattle.oplog.specs.Layout.{slice, image_size}
+use Rattle.oplog.specs.Layout.{slice}
 use Rattle.journal.proofs.stretches.write_stretch.Goals as goal
 
 pub loop-i-preserved : goal.loop-i-preserved

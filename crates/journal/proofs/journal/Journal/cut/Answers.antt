@@ -1,22 +1,19 @@
-use Rattle.std.proofs.Common.{◌≡◌, ◌≤◌, ◌-◌, false, Option, Some, None, ℕ, Bool, List, [], length, refl, sym, ◌∙◌, ap, subst, arith}
+use Rattle.std.proofs.Common.{◌≡◌, ◌-◌, false, Option, Some, None, ℕ, List, length, sym, ◌∙◌, ap, subst, arith}
 use Rattle.std.proofs.lemmas.List.{length-replicate}
 use Rattle.affinity.specs.declared.geometry.Geometry.{Geometry}
 use Rattle.checkpoint.specs.Recovery.{holds}
 use Rattle.disk.specs.Moments.{LeavesOnly}
-use Rattle.image.specs.Image.{image_of, read}
+use Rattle.image.specs.Image.{image_of}
 use Rattle.image.specs.Pieces.{piece_count}
 use Rattle.journal.specs.Journal.{Held, settled}
 use Rattle.journal.specs.Keeping.{IsPlaced, IsSound, count_marked, held_of}
-use Rattle.journal.specs.Steps.{IsBegun, IsPointed, cut_now, pointed}
-use Rattle.journal.specs.Stretches.{AgreeUnmarked, image_in}
 use Rattle.journal.proofs.Logging.{settled_of}
 use Rattle.journal.proofs.Rows.{count_most, whole_items, whole_put}
-use Rattle.journal.proofs.Saving.{agrees, cut_settled, cut_sound, is_alone, point_settled, point_sound, reads}
-use Rattle.oplog.specs.Layout.{layout_of, device_size, image_size, other}
+use Rattle.journal.proofs.Saving.{cut_settled, cut_sound}
+use Rattle.oplog.specs.Layout.{device_size, image_size, other}
 use Rattle.oplog.specs.Log.{Log, layout}
-use Rattle.oplog.specs.Stands.{in_force, named_area}
 use Rattle.parcel.specs.Tree.{state_in}
-use Rattle.plain.specs.State.{State, IsState}
+use Rattle.plain.specs.State.{IsState}
 use Rattle.journal.proofs.journal.Journal.cut.Goals as goal
 
 pub returns-in-Err-clause-any_moment : goal.returns-in-Err-clause-any_moment
@@ -59,19 +56,21 @@ returns-clause-sound g c = λ k.
     (cut_sound c.self.inside.halves c.self.inside.frozen.items c.freeze.new.bytes c.self.inside.named_marks.items c.self.inside.other_marks.items c.self.inside.due.items c.self.inside.left w0 (state_in c.args.tree.now) alone (c.self.invariant.6 fine).1 (c.self.invariant.7 fine k) is is_state spelled (g.met.D.Disk.bytes c.self.inside.disk) w1 (g.met.D.Disk.bytes c.cut_on.new.disk) (whole_items c.swap.new.y.len c.clear_marks.new.marks c.swap.new.y.items) c.swap.new.x.items c.count_marked.result (ap (λ v. v.items) c.swap.ensures.x_after) begun)))
 
 pub returns-clause-begun : goal.returns-clause-begun
-returns-clause-begun g c = 
+returns-clause-begun g c =
     let w1 = g.D.Disk.medium c.cut_on.new.disk in
     let most = count_most c.swap.new.x.items in
     let count = c.count_marked.ensures ∙ ap count_marked c.deref.ensures.value in
     let long : length c.swap.new.x.items ≡ piece_count c.args.self.now.geometry = ap (λ v. length v.items) c.swap.ensures.x_after ∙ c.self.invariant.4 ∙ ap (λ (h : Held). piece_count h.geometry) c.self.view_is in
-    let all : c.self.inside.halves.geometry.half - 0 ≡ c.self.inside.halves.geometry.half = omega arith in
-    (c.count_marked.result, omega (arith, most, count, long),
-    ap (λ (l : Log). held_of l (Some c.count_marked.result) c.self.inside.failed w1) c.in_default.ensures.log
-    ∙ ap (λ (n : ℕ). record (held_of c.self.inside.halves (Some c.count_marked.result) c.self.inside.failed w1) { room = n }) all
-    ∙ ap (λ (h : Held). record h { room = h.geometry.half; left = Some c.count_marked.result; medium = w1 }) c.self.view_is)
+    let all : c.self.inside.halves.geometry.half - 0 ≡ c.self.inside.halves.geometry.half = omega arith in (
+      c.count_marked.result,
+      omega (arith, most, count, long),
+      ap (λ (l : Log). held_of l (Some c.count_marked.result) c.self.inside.failed w1) c.in_default.ensures.log
+          ∙ ap (λ (n : ℕ). record (held_of c.self.inside.halves (Some c.count_marked.result) c.self.inside.failed w1) { room = n }) all
+          ∙ ap (λ (h : Held). record h { room = h.geometry.half; left = Some c.count_marked.result; medium = w1 }) c.self.view_is,
+    )
 
 pub invariant_of-self-2 : goal.invariant_of-self-2
-invariant_of-self-2 g c = 
+invariant_of-self-2 g c =
     let fine : c.self.inside.failed ≡ false = ap (λ (h : Held). h.failed) c.self.view_is ∙ c.requires.sound in
     let alone : c.self.inside.left ≡ None = ap (λ (h : Held). h.left) c.self.view_is ∙ c.requires.alone in
     let geometry : c.args.tree.now.geometry ≡ c.self.inside.halves.geometry = c.requires.geometry ∙ sym (ap (λ (h : Held). h.geometry) c.self.view_is) in
@@ -80,22 +79,24 @@ invariant_of-self-2 g c =
     let frozen = whole_put c.self.inside.frozen.len c.freeze.new.bytes c.self.inside.frozen.items (c.freeze.ensures.size ∙ ap length c.deref_mut.ensures.value) (c.freeze.ensures.size ∙ c.deref_mut.ensures.len) in
     let log = c.in_default.ensures.log in
     let same = c.cut_on.ensures.geometry in
-    let cleared = whole_put c.swap.new.y.len c.clear_marks.new.marks c.swap.new.y.items (ap length c.clear_marks.ensures ∙ length-replicate _ false ∙ ap length c.deref_mut-2.ensures.value) (ap length c.clear_marks.ensures ∙ length-replicate _ false ∙ c.deref_mut-2.ensures.len) in
-    (omega (arith, c.self.invariant.0, c.cut_on.ensures.len, ap (λ (l : Log). device_size (layout l)) log),
-    omega (arith, ap (λ (l : Log). l.used) log),
-    ap length frozen ∙ c.freeze.ensures.size ∙ ap length c.deref_mut.ensures.value ∙ c.self.invariant.2 ∙ sym (ap image_size same),
-    c.self.invariant.3 ∙ sym (ap piece_count same),
-    ap length cleared ∙ ap length c.clear_marks.ensures ∙ length-replicate _ false ∙ ap length c.deref_mut-2.ensures.value ∙ ap (λ v. length v.items) c.swap.ensures.y_after ∙ c.self.invariant.5 ∙ sym (ap piece_count same),
-    ap (λ v. length v.items) c.swap.ensures.x_after ∙ c.self.invariant.4 ∙ sym (ap piece_count same),
-    (λ fine.
-    let placed = subst (λ (o : Option ℕ). IsPlaced c.self.inside.halves c.self.inside.due.items o) alone (c.self.invariant.6 fine).1 in
-    (ap (λ (l : Log). l.failed) log ∙ (c.self.invariant.6 fine).0,
-    (ap (λ (l : Log). l.current) log ∙ sym (ap (λ (l : Log). other l.named) log), sym (c.count_marked.ensures ∙ ap count_marked c.deref.ensures.value)))),
-    (λ fine k.
-    let w0 = g.D.Disk.medium c.self.inside.disk in
-    let is : holds c.self.inside.halves.geometry w0.now ≡ Some (state_in c.args.tree.now) = ap settled c.self.view_is ∙ c.requires.state k in
-    let w1 = g.D.Disk.medium c.cut_on.new.disk in
-    let begun = c.in_default.ensures.begun k in
-    subst (λ (l : List ℕ). IsSound c.cut_on.new.halves l c.self.inside.named_marks.items (whole_items c.swap.new.y.len c.clear_marks.new.marks c.swap.new.y.items) c.swap.new.x.items (Some c.count_marked.result) w1) (sym frozen)
-    (subst (λ (l : Log). IsSound l c.freeze.new.bytes c.self.inside.named_marks.items (whole_items c.swap.new.y.len c.clear_marks.new.marks c.swap.new.y.items) c.swap.new.x.items (Some c.count_marked.result) w1) (sym c.in_default.ensures.log)
-    (cut_sound c.self.inside.halves c.self.inside.frozen.items c.freeze.new.bytes c.self.inside.named_marks.items c.self.inside.other_marks.items c.self.inside.due.items c.self.inside.left w0 (state_in c.args.tree.now) alone (c.self.invariant.6 fine).1 (c.self.invariant.7 fine k) is is_state spelled (g.met.D.Disk.bytes c.self.inside.disk) w1 (g.met.D.Disk.bytes c.cut_on.new.disk) (whole_items c.swap.new.y.len c.clear_marks.new.marks c.swap.new.y.items) c.swap.new.x.items c.count_marked.result (ap (λ v. v.items) c.swap.ensures.x_after) begun))))
+    let cleared = whole_put c.swap.new.y.len c.clear_marks.new.marks c.swap.new.y.items (ap length c.clear_marks.ensures ∙ length-replicate _ false ∙ ap length c.deref_mut-2.ensures.value) (ap length c.clear_marks.ensures ∙ length-replicate _ false ∙ c.deref_mut-2.ensures.len) in (
+      omega (arith, c.self.invariant.0, c.cut_on.ensures.len, ap (λ (l : Log). device_size (layout l)) log),
+      omega (arith, ap (λ (l : Log). l.used) log),
+      ap length frozen ∙ c.freeze.ensures.size ∙ ap length c.deref_mut.ensures.value ∙ c.self.invariant.2 ∙ sym (ap image_size same),
+      c.self.invariant.3 ∙ sym (ap piece_count same),
+      ap length cleared ∙ ap length c.clear_marks.ensures ∙ length-replicate _ false ∙ ap length c.deref_mut-2.ensures.value ∙ ap (λ v. length v.items) c.swap.ensures.y_after ∙ c.self.invariant.5 ∙ sym (ap piece_count same),
+      ap (λ v. length v.items) c.swap.ensures.x_after ∙ c.self.invariant.4 ∙ sym (ap piece_count same),
+      (λ fine.
+          let placed = subst (λ (o : Option ℕ). IsPlaced c.self.inside.halves c.self.inside.due.items o) alone (c.self.invariant.6 fine).1 in (
+            ap (λ (l : Log). l.failed) log ∙ (c.self.invariant.6 fine).0,
+            (ap (λ (l : Log). l.current) log ∙ sym (ap (λ (l : Log). other l.named) log), sym (c.count_marked.ensures ∙ ap count_marked c.deref.ensures.value)),
+          )),
+      (λ fine k.
+          let w0 = g.D.Disk.medium c.self.inside.disk in
+          let is : holds c.self.inside.halves.geometry w0.now ≡ Some (state_in c.args.tree.now) = ap settled c.self.view_is ∙ c.requires.state k in
+          let w1 = g.D.Disk.medium c.cut_on.new.disk in
+          let begun = c.in_default.ensures.begun k in
+          subst (λ (l : List ℕ). IsSound c.cut_on.new.halves l c.self.inside.named_marks.items (whole_items c.swap.new.y.len c.clear_marks.new.marks c.swap.new.y.items) c.swap.new.x.items (Some c.count_marked.result) w1) (sym frozen)
+          (subst (λ (l : Log). IsSound l c.freeze.new.bytes c.self.inside.named_marks.items (whole_items c.swap.new.y.len c.clear_marks.new.marks c.swap.new.y.items) c.swap.new.x.items (Some c.count_marked.result) w1) (sym c.in_default.ensures.log)
+          (cut_sound c.self.inside.halves c.self.inside.frozen.items c.freeze.new.bytes c.self.inside.named_marks.items c.self.inside.other_marks.items c.self.inside.due.items c.self.inside.left w0 (state_in c.args.tree.now) alone (c.self.invariant.6 fine).1 (c.self.invariant.7 fine k) is is_state spelled (g.met.D.Disk.bytes c.self.inside.disk) w1 (g.met.D.Disk.bytes c.cut_on.new.disk) (whole_items c.swap.new.y.len c.clear_marks.new.marks c.swap.new.y.items) c.swap.new.x.items c.count_marked.result (ap (λ v. v.items) c.swap.ensures.x_after) begun))),
+    )

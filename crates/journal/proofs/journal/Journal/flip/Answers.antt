@@ -1,10 +1,9 @@
-use Rattle.std.proofs.Common.{◌≡◌, ◌≤◌, false, Option, Some, None, ℕ, Bool, List, length, refl, sym, ◌∙◌, ap, subst, arith}
+use Rattle.std.proofs.Common.{◌≡◌, false, Option, Some, None, ℕ, List, length, sym, ◌∙◌, ap, subst, arith}
 use Rattle.checkpoint.specs.Recovery.{holds}
-use Rattle.disk.specs.Device.{Medium}
 use Rattle.disk.specs.Moments.{LeavesOnly}
-use Rattle.journal.specs.Journal.{Held, IsSettled, settled}
-use Rattle.journal.specs.Keeping.{IsPlaced, IsSound}
-use Rattle.journal.specs.Steps.{IsWritten, StandsStill, named_now}
+use Rattle.journal.specs.Journal.{Held, settled}
+use Rattle.journal.specs.Keeping.{IsPlaced}
+use Rattle.journal.specs.Steps.{IsWritten}
 use Rattle.journal.proofs.Flipping.{flip_asks, flip_kept}
 use Rattle.journal.proofs.Logging.{settled_of}
 use Rattle.journal.proofs.Standing.{holds_now}
@@ -51,21 +50,22 @@ returns-clause-sound g c = λ k.
 pub invariant_of-self-2 : goal.invariant_of-self-2
 invariant_of-self-2 g c =
     let none : c.self.inside.left ≡ Some 0 = ap (λ (h : Held). h.left) c.self.view_is ∙ c.requires.written in
-    let log = c.in_default.ensures.log in
-    (omega (arith, c.self.invariant.0, c.flip_on.ensures.len, ap (λ (l : Log). device_size (layout l)) log),
-    omega (arith, c.self.invariant.1, ap (λ (l : Log). l.used) log, ap (λ (l : Log). l.geometry.half) log),
-    c.self.invariant.2 ∙ sym (ap image_size c.flip_on.ensures.geometry),
-    ap (λ v. length v.items) c.swap.ensures.x_after ∙ c.self.invariant.4 ∙ sym (ap piece_count c.flip_on.ensures.geometry),
-    ap (λ v. length v.items) c.swap.ensures.y_after ∙ c.self.invariant.3 ∙ sym (ap piece_count c.flip_on.ensures.geometry),
-    c.self.invariant.5 ∙ sym (ap piece_count c.flip_on.ensures.geometry),
-    (λ fine.
-    let placed = subst (λ (l : Option ℕ). IsPlaced c.self.inside.halves c.self.inside.due.items l) none (c.self.invariant.6 fine).1 in
-    (ap (λ (l : Log). l.failed) log ∙ (c.self.invariant.6 fine).0, ap (λ (l : Log). l.current) log ∙ placed.0 ∙ sym (ap (λ (l : Log). l.named) log))),
-    (λ fine k.
-    let sound = c.self.invariant.7 fine k in
-    let placed = (c.self.invariant.6 fine).1 in
-    let written = flip_asks c.self.inside.halves c.self.inside.frozen.items c.self.inside.named_marks.items c.self.inside.other_marks.items c.self.inside.due.items c.self.inside.left (g.D.Disk.medium c.self.inside.disk) none
-    c.self.invariant.0 c.self.invariant.2 c.self.invariant.5 (g.met.D.Disk.bytes c.self.inside.disk) placed sound in
-    flip_kept c.self.inside.halves c.flip_on.new.halves c.self.inside.frozen.items c.self.inside.named_marks.items c.self.inside.other_marks.items c.self.inside.due.items c.swap.new.x.items c.swap.new.y.items c.self.inside.left (g.D.Disk.medium c.self.inside.disk) (g.D.Disk.medium c.flip_on.new.disk) none
-    log (ap (λ v. v.items) c.swap.ensures.x_after) (ap (λ v. v.items) c.swap.ensures.y_after)
-    (g.met.D.Disk.bytes c.self.inside.disk) (g.met.D.Disk.bytes c.flip_on.new.disk) placed written sound (c.in_default.ensures.flipped k)))
+    let log = c.in_default.ensures.log in (
+      omega (arith, c.self.invariant.0, c.flip_on.ensures.len, ap (λ (l : Log). device_size (layout l)) log),
+      omega (arith, c.self.invariant.1, ap (λ (l : Log). l.used) log, ap (λ (l : Log). l.geometry.half) log),
+      c.self.invariant.2 ∙ sym (ap image_size c.flip_on.ensures.geometry),
+      ap (λ v. length v.items) c.swap.ensures.x_after ∙ c.self.invariant.4 ∙ sym (ap piece_count c.flip_on.ensures.geometry),
+      ap (λ v. length v.items) c.swap.ensures.y_after ∙ c.self.invariant.3 ∙ sym (ap piece_count c.flip_on.ensures.geometry),
+      c.self.invariant.5 ∙ sym (ap piece_count c.flip_on.ensures.geometry),
+      (λ fine.
+          let placed = subst (λ (l : Option ℕ). IsPlaced c.self.inside.halves c.self.inside.due.items l) none (c.self.invariant.6 fine).1 in
+          (ap (λ (l : Log). l.failed) log ∙ (c.self.invariant.6 fine).0, ap (λ (l : Log). l.current) log ∙ placed.0 ∙ sym (ap (λ (l : Log). l.named) log))),
+      (λ fine k.
+          let sound = c.self.invariant.7 fine k in
+          let placed = (c.self.invariant.6 fine).1 in
+          let written = flip_asks c.self.inside.halves c.self.inside.frozen.items c.self.inside.named_marks.items c.self.inside.other_marks.items c.self.inside.due.items c.self.inside.left (g.D.Disk.medium c.self.inside.disk) none
+          c.self.invariant.0 c.self.invariant.2 c.self.invariant.5 (g.met.D.Disk.bytes c.self.inside.disk) placed sound in
+          flip_kept c.self.inside.halves c.flip_on.new.halves c.self.inside.frozen.items c.self.inside.named_marks.items c.self.inside.other_marks.items c.self.inside.due.items c.swap.new.x.items c.swap.new.y.items c.self.inside.left (g.D.Disk.medium c.self.inside.disk) (g.D.Disk.medium c.flip_on.new.disk) none
+          log (ap (λ v. v.items) c.swap.ensures.x_after) (ap (λ v. v.items) c.swap.ensures.y_after)
+          (g.met.D.Disk.bytes c.self.inside.disk) (g.met.D.Disk.bytes c.flip_on.new.disk) placed written sound (c.in_default.ensures.flipped k)),
+    )

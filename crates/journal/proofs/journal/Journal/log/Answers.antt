@@ -1,4 +1,4 @@
-use Rattle.std.proofs.Common.{◌≡◌, ◌≤◌, ◌+◌, false, Option, Some, None, ℕ, Bool, List, length, option_map, refl, sym, ◌∙◌, ap, subst, arith}
+use Rattle.std.proofs.Common.{◌≡◌, ◌+◌, false, Some, length, option_map, refl, sym, ◌∙◌, ap, subst, arith}
 use Rattle.affinity.specs.declared.geometry.Geometry.{Geometry}
 use Rattle.checkpoint.specs.Recovery.{holds}
 use Rattle.disk.specs.Moments.{LeavesOnly}
@@ -57,20 +57,22 @@ invariant_of-self-2 g c =
     let geometry = ap (λ (l : Log). l.geometry) log in
     let same : c.geometry-g.result ≡ c.self.inside.halves.geometry = c.geometry-g.ensures ∙ geometry in
     let first = whole_put c.self.inside.named_marks.len c.mark_touched.new.marks c.self.inside.named_marks.items (c.mark_touched.ensures.size ∙ ap length c.deref_mut.ensures.value) (c.mark_touched.ensures.size ∙ c.deref_mut.ensures.len) in
-    let second = whole_put c.self.inside.other_marks.len c.mark_touched-2.new.marks c.self.inside.other_marks.items (c.mark_touched-2.ensures.size ∙ ap length c.deref_mut-2.ensures.value) (c.mark_touched-2.ensures.size ∙ c.deref_mut-2.ensures.len) in
-    (omega (arith, c.self.invariant.0, c.append.ensures.len, ap (λ (l : Log). device_size (layout l)) log),
-    omega (arith, c.self.invariant.1, ap (λ (l : Log). l.used) log, ap (λ (g : Geometry). g.half) geometry, ap (λ (h : Held). h.room) c.self.view_is, c.requires.room),
-    c.self.invariant.2 ∙ sym (ap image_size geometry),
-    ap length first ∙ c.mark_touched.ensures.size ∙ ap length c.deref_mut.ensures.value ∙ c.self.invariant.3 ∙ sym (ap piece_count geometry),
-    ap length second ∙ c.mark_touched-2.ensures.size ∙ ap length c.deref_mut-2.ensures.value ∙ c.self.invariant.4 ∙ sym (ap piece_count geometry),
-    c.self.invariant.5 ∙ sym (ap piece_count geometry),
-    (λ fine.
-    (ap (λ (l : Log). l.failed) log ∙ (c.self.invariant.6 fine).0,
-    subst (λ (l : Log). IsPlaced l c.self.inside.due.items c.self.inside.left) (sym log) (placed_used c.self.inside.halves (c.self.inside.halves.used + length c.args.messages.now) c.self.inside.due.items c.self.inside.left (c.self.invariant.6 fine).1))),
-    (λ fine k.
-    let out : (x : State) → holds c.self.inside.halves.geometry (g.D.Disk.medium c.self.inside.disk).now ≡ Some x → AreCarriedOut c.self.inside.halves.geometry x c.args.messages.now =
-    λ x is. subst (λ (h : Held). AreCarriedOut h.geometry x c.args.messages.now) (sym c.self.view_is) (c.requires.carried_out k x (sym (ap settled c.self.view_is) ∙ is)) in
-    log_kept c.self.inside.halves c.append.new.self c.self.inside.frozen.items c.self.inside.named_marks.items c.self.inside.other_marks.items c.self.inside.due.items _ _ c.self.inside.left c.args.messages.now
-    (g.D.Disk.medium c.self.inside.disk) (g.D.Disk.medium c.append.new.disk) log (g.met.D.Disk.bytes c.self.inside.disk) (g.met.D.Disk.bytes c.append.new.disk) (c.self.invariant.7 fine k) out (c.in_default.ensures.added k) (c.self.invariant.6 fine).1
-    (touched_along _ _ c.args.messages.now _ _ _ _ same c.deref_mut.ensures.value first c.mark_touched.ensures.touched)
-    (touched_along _ _ c.args.messages.now _ _ _ _ same c.deref_mut-2.ensures.value second c.mark_touched-2.ensures.touched)))
+    let second = whole_put c.self.inside.other_marks.len c.mark_touched-2.new.marks c.self.inside.other_marks.items (c.mark_touched-2.ensures.size ∙ ap length c.deref_mut-2.ensures.value) (c.mark_touched-2.ensures.size ∙ c.deref_mut-2.ensures.len) in (
+      omega (arith, c.self.invariant.0, c.append.ensures.len, ap (λ (l : Log). device_size (layout l)) log),
+      omega (arith, c.self.invariant.1, ap (λ (l : Log). l.used) log, ap (λ (g : Geometry). g.half) geometry, ap (λ (h : Held). h.room) c.self.view_is, c.requires.room),
+      c.self.invariant.2 ∙ sym (ap image_size geometry),
+      ap length first ∙ c.mark_touched.ensures.size ∙ ap length c.deref_mut.ensures.value ∙ c.self.invariant.3 ∙ sym (ap piece_count geometry),
+      ap length second ∙ c.mark_touched-2.ensures.size ∙ ap length c.deref_mut-2.ensures.value ∙ c.self.invariant.4 ∙ sym (ap piece_count geometry),
+      c.self.invariant.5 ∙ sym (ap piece_count geometry),
+      (λ fine. (
+        ap (λ (l : Log). l.failed) log ∙ (c.self.invariant.6 fine).0,
+        subst (λ (l : Log). IsPlaced l c.self.inside.due.items c.self.inside.left) (sym log) (placed_used c.self.inside.halves (c.self.inside.halves.used + length c.args.messages.now) c.self.inside.due.items c.self.inside.left (c.self.invariant.6 fine).1),
+      )),
+      (λ fine k.
+          let out : (x : State) → holds c.self.inside.halves.geometry (g.D.Disk.medium c.self.inside.disk).now ≡ Some x → AreCarriedOut c.self.inside.halves.geometry x c.args.messages.now =
+          λ x is. subst (λ (h : Held). AreCarriedOut h.geometry x c.args.messages.now) (sym c.self.view_is) (c.requires.carried_out k x (sym (ap settled c.self.view_is) ∙ is)) in
+          log_kept c.self.inside.halves c.append.new.self c.self.inside.frozen.items c.self.inside.named_marks.items c.self.inside.other_marks.items c.self.inside.due.items _ _ c.self.inside.left c.args.messages.now
+          (g.D.Disk.medium c.self.inside.disk) (g.D.Disk.medium c.append.new.disk) log (g.met.D.Disk.bytes c.self.inside.disk) (g.met.D.Disk.bytes c.append.new.disk) (c.self.invariant.7 fine k) out (c.in_default.ensures.added k) (c.self.invariant.6 fine).1
+          (touched_along _ _ c.args.messages.now _ _ _ _ same c.deref_mut.ensures.value first c.mark_touched.ensures.touched)
+          (touched_along _ _ c.args.messages.now _ _ _ _ same c.deref_mut-2.ensures.value second c.mark_touched-2.ensures.touched)),
+    )

@@ -1,14 +1,13 @@
-use Rattle.std.proofs.Common.{◌≡◌, ◌<◌, ◌-◌, ◌≤◌, ℕ, Bool, true, false, List, length, get_or, set, Option, Some, None, is_some, option_map, refl, sym, ◌∙◌, ap, subst, arith}
+use Rattle.std.proofs.Common.{◌≡◌, ◌<◌, ◌-◌, ℕ, Bool, true, false, List, length, get_or, set, Option, Some, is_some, option_map, sym, ◌∙◌, ap, subst, arith}
 use Rattle.std.proofs.lemmas.List.{length-set}
 use Rattle.affinity.specs.declared.geometry.Geometry.{Geometry}
 use Rattle.checkpoint.specs.Recovery.{holds}
 use Rattle.disk.proofs.Moments.{started}
 use Rattle.disk.specs.Moments.{LeavesOnly}
-use Rattle.image.specs.Pieces.{piece_count}
 use Rattle.journal.specs.Journal.{Held, IsSettled, settled}
 use Rattle.journal.specs.Keeping.{IsPlaced, count_marked}
 use Rattle.journal.proofs.Logging.{settled_of}
-use Rattle.journal.proofs.Piecing.{IsPieced, piece_left, piece_moments, piece_none, piece_same, piece_some, piece_sound, pieced_along, some_left}
+use Rattle.journal.proofs.Piecing.{piece_left, piece_moments, piece_same, piece_some, piece_sound, pieced_along, some_left}
 use Rattle.oplog.specs.Changes.{ChangesOnly, IsSameBut}
 use Rattle.oplog.specs.Layout.{layout_of, image, other}
 use Rattle.oplog.proofs.Answered.{on_ok}
@@ -106,20 +105,24 @@ returns-clause-after g c =
 
 pub invariant_of-self-2 : goal.invariant_of-self-2
 invariant_of-self-2 g c =
-    let few = subst (λ (l : List Bool). c.in-Some.n < length l) c.deref.ensures.value c.in-Some.ensures.inside in
-    (omega (arith, c.self.invariant.0, c.write_stretch.ensures.len),
-    c.self.invariant.1, c.self.invariant.2, c.self.invariant.3, c.self.invariant.4,
-    length-set c.self.inside.due.items c.in-Some.n false ∙ c.self.invariant.5,
-    (λ fine.
-    let left = some_left c.self.inside.left (ap (λ (h : Held). is_some h.left) c.self.view_is ∙ c.requires.running) in
-    let placed = subst (λ (l : Option ℕ). IsPlaced c.self.inside.halves c.self.inside.due.items l) left.1 (c.self.invariant.6 fine).1 in
-    ((c.self.invariant.6 fine).0, (placed.0, sym (c.count_marked-left.ensures ∙ ap count_marked c.deref-3.ensures.value)))),
-    (λ fine k.
-    let w0 = g.D.Disk.medium c.self.inside.disk in
-    let w1 = g.D.Disk.medium c.write_stretch.new.disk in
-    let left = some_left c.self.inside.left (ap (λ (h : Held). is_some h.left) c.self.view_is ∙ c.requires.running) in
-    let written = on_ok c.write_stretch.result _ (sym c.is_err.ensures.value ∙ c.if-is_err.false) c.write_stretch.ensures.written k in
-    let pieced = pieced_along c.geometry-g.result c.self.inside.halves.geometry c.named-area.result c.self.inside.halves.named c.in-Some.n c.deref-2.result.now c.self.inside.frozen.items w0 w1 c.geometry-g.ensures c.named-area.ensures.named c.deref-2.ensures.value
-    (record { moments = c.write_stretch.ensures.any_moment k; same = c.write_stretch.ensures.same k; is = written; ready = c.write_stretch.ensures.ready k }) in
-    piece_sound c.self.inside.halves c.self.inside.frozen.items c.self.inside.named_marks.items c.self.inside.other_marks.items c.self.inside.due.items c.self.inside.left w0 w1 (g.met.D.Disk.bytes c.self.inside.disk) (c.self.invariant.7 fine k) (g.met.D.Disk.bytes c.write_stretch.new.disk)
-    c.in-Some.n left.0 c.count_marked-left.result left.1 few pieced))
+    let few = subst (λ (l : List Bool). c.in-Some.n < length l) c.deref.ensures.value c.in-Some.ensures.inside in (
+      omega (arith, c.self.invariant.0, c.write_stretch.ensures.len),
+      c.self.invariant.1,
+      c.self.invariant.2,
+      c.self.invariant.3,
+      c.self.invariant.4,
+      length-set c.self.inside.due.items c.in-Some.n false ∙ c.self.invariant.5,
+      (λ fine.
+          let left = some_left c.self.inside.left (ap (λ (h : Held). is_some h.left) c.self.view_is ∙ c.requires.running) in
+          let placed = subst (λ (l : Option ℕ). IsPlaced c.self.inside.halves c.self.inside.due.items l) left.1 (c.self.invariant.6 fine).1 in
+          ((c.self.invariant.6 fine).0, (placed.0, sym (c.count_marked-left.ensures ∙ ap count_marked c.deref-3.ensures.value)))),
+      (λ fine k.
+          let w0 = g.D.Disk.medium c.self.inside.disk in
+          let w1 = g.D.Disk.medium c.write_stretch.new.disk in
+          let left = some_left c.self.inside.left (ap (λ (h : Held). is_some h.left) c.self.view_is ∙ c.requires.running) in
+          let written = on_ok c.write_stretch.result _ (sym c.is_err.ensures.value ∙ c.if-is_err.false) c.write_stretch.ensures.written k in
+          let pieced = pieced_along c.geometry-g.result c.self.inside.halves.geometry c.named-area.result c.self.inside.halves.named c.in-Some.n c.deref-2.result.now c.self.inside.frozen.items w0 w1 c.geometry-g.ensures c.named-area.ensures.named c.deref-2.ensures.value
+          (record { moments = c.write_stretch.ensures.any_moment k; same = c.write_stretch.ensures.same k; is = written; ready = c.write_stretch.ensures.ready k }) in
+          piece_sound c.self.inside.halves c.self.inside.frozen.items c.self.inside.named_marks.items c.self.inside.other_marks.items c.self.inside.due.items c.self.inside.left w0 w1 (g.met.D.Disk.bytes c.self.inside.disk) (c.self.invariant.7 fine k) (g.met.D.Disk.bytes c.write_stretch.new.disk)
+          c.in-Some.n left.0 c.count_marked-left.result left.1 few pieced),
+    )

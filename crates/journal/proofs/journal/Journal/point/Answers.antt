@@ -1,4 +1,4 @@
-use Rattle.std.proofs.Common.{◌≡◌, ◌≤◌, ◌-◌, false, Option, Some, None, ℕ, Bool, List, [], length, refl, sym, ◌∙◌, ap, subst, arith}
+use Rattle.std.proofs.Common.{◌≡◌, false, Option, Some, None, ℕ, Bool, List, length, sym, ◌∙◌, ap, subst, arith}
 use Rattle.std.proofs.lemmas.List.{length-replicate}
 use Rattle.affinity.specs.declared.geometry.Geometry.{Geometry}
 use Rattle.checkpoint.specs.Recovery.{holds}
@@ -6,17 +6,17 @@ use Rattle.disk.specs.Moments.{LeavesOnly}
 use Rattle.image.specs.Image.{image_of, read}
 use Rattle.image.specs.Pieces.{piece_count}
 use Rattle.journal.specs.Journal.{Held, settled}
-use Rattle.journal.specs.Keeping.{IsPlaced, IsSound, count_marked, held_of}
-use Rattle.journal.specs.Steps.{IsBegun, IsPointed, cut_now, pointed}
+use Rattle.journal.specs.Keeping.{IsPlaced, IsSound}
+use Rattle.journal.specs.Steps.{IsPointed}
 use Rattle.journal.specs.Stretches.{AgreeUnmarked, image_in}
 use Rattle.journal.proofs.Logging.{settled_of}
-use Rattle.journal.proofs.Rows.{count_most, whole_items, whole_put}
-use Rattle.journal.proofs.Saving.{agrees, cut_settled, cut_sound, is_alone, point_settled, point_sound, reads}
+use Rattle.journal.proofs.Rows.{whole_items, whole_put}
+use Rattle.journal.proofs.Saving.{agrees, is_alone, point_settled, point_sound, reads}
 use Rattle.oplog.specs.Layout.{layout_of, device_size, image_size, other}
 use Rattle.oplog.specs.Log.{Log, layout}
 use Rattle.oplog.specs.Stands.{in_force, named_area}
 use Rattle.parcel.specs.Tree.{state_in}
-use Rattle.plain.specs.State.{State, IsState}
+use Rattle.plain.specs.State.{IsState}
 use Rattle.journal.proofs.journal.Journal.point.Goals as goal
 
 pub point_on-requires-clause-alone : goal.point_on-requires-clause-alone
@@ -111,7 +111,7 @@ returns-clause-sound g c = λ k.
     (point_sound c.self.inside.halves c.self.inside.frozen.items c.freeze.new.bytes c.self.inside.named_marks.items c.self.inside.other_marks.items c.self.inside.due.items c.self.inside.left w0 (state_in c.args.tree.now) alone (c.self.invariant.6 fine).1 (c.self.invariant.7 fine k) is is_state spelled (g.met.D.Disk.bytes c.self.inside.disk) w1 (g.met.D.Disk.bytes c.point_on.new.disk) c.swap.new.x.items c.swap.new.y.items (ap (λ v. v.items) c.swap.ensures.y_after) made))))
 
 pub invariant_of-self-2 : goal.invariant_of-self-2
-invariant_of-self-2 g c = 
+invariant_of-self-2 g c =
     let fine : c.self.inside.failed ≡ false = ap (λ (h : Held). h.failed) c.self.view_is ∙ c.requires.sound in
     let alone : c.self.inside.left ≡ None = ap (λ (h : Held). h.left) c.self.view_is ∙ c.requires.alone in
     let geometry : c.args.tree.now.geometry ≡ c.self.inside.halves.geometry = c.requires.geometry ∙ sym (ap (λ (h : Held). h.geometry) c.self.view_is) in
@@ -120,22 +120,24 @@ invariant_of-self-2 g c =
     let frozen = whole_put c.self.inside.frozen.len c.freeze.new.bytes c.self.inside.frozen.items (c.freeze.ensures.size ∙ ap length c.deref_mut.ensures.value) (c.freeze.ensures.size ∙ c.deref_mut.ensures.len) in
     let log = c.in_default.ensures.log in
     let same = c.point_on.ensures.geometry in
-    let cleared = whole_put c.self.inside.other_marks.len c.clear_marks.new.marks c.self.inside.other_marks.items (ap length c.clear_marks.ensures ∙ length-replicate _ false ∙ ap length c.deref_mut-2.ensures.value) (ap length c.clear_marks.ensures ∙ length-replicate _ false ∙ c.deref_mut-2.ensures.len) in
-    (omega (arith, c.self.invariant.0, c.point_on.ensures.len, ap (λ (l : Log). device_size (layout l)) log),
-    omega (arith, ap (λ (l : Log). l.used) log),
-    ap length frozen ∙ c.freeze.ensures.size ∙ ap length c.deref_mut.ensures.value ∙ c.self.invariant.2 ∙ sym (ap image_size same),
-    ap (λ v. length v.items) c.swap.ensures.x_after ∙ ap length cleared ∙ ap length c.clear_marks.ensures ∙ length-replicate _ false ∙ ap length c.deref_mut-2.ensures.value ∙ c.self.invariant.4 ∙ sym (ap piece_count same),
-    ap (λ v. length v.items) c.swap.ensures.y_after ∙ c.self.invariant.3 ∙ sym (ap piece_count same),
-    c.self.invariant.5 ∙ sym (ap piece_count same),
-    (λ fine.
-    (ap (λ (l : Log). l.failed) log ∙ (c.self.invariant.6 fine).0,
-    subst (λ (o : Option ℕ). IsPlaced c.point_on.new.halves c.self.inside.due.items o) (sym alone) (ap (λ (l : Log). l.current) log ∙ sym (ap (λ (l : Log). l.named) log)))),
-    (λ fine k.
-    let w0 = g.D.Disk.medium c.self.inside.disk in
-    let is : holds c.self.inside.halves.geometry w0.now ≡ Some (state_in c.args.tree.now) = ap settled c.self.view_is ∙ c.requires.state k in
-    let w1 = g.D.Disk.medium c.point_on.new.disk in
-    let made = subst (λ (l : List ℕ). IsPointed c.self.inside.halves l w0 w1) (c.deref.ensures.value ∙ frozen) (c.in_default.ensures.pointed k) in
-    subst (λ (o : Option ℕ). IsSound c.point_on.new.halves (whole_items c.self.inside.frozen.len c.freeze.new.bytes c.self.inside.frozen.items) c.swap.new.x.items c.swap.new.y.items c.self.inside.due.items o w1) (sym alone)
-    (subst (λ (l : List ℕ). IsSound c.point_on.new.halves l c.swap.new.x.items c.swap.new.y.items c.self.inside.due.items None w1) (sym frozen)
-    (subst (λ (l : Log). IsSound l c.freeze.new.bytes c.swap.new.x.items c.swap.new.y.items c.self.inside.due.items None w1) (sym c.in_default.ensures.log)
-    (point_sound c.self.inside.halves c.self.inside.frozen.items c.freeze.new.bytes c.self.inside.named_marks.items c.self.inside.other_marks.items c.self.inside.due.items c.self.inside.left w0 (state_in c.args.tree.now) alone (c.self.invariant.6 fine).1 (c.self.invariant.7 fine k) is is_state spelled (g.met.D.Disk.bytes c.self.inside.disk) w1 (g.met.D.Disk.bytes c.point_on.new.disk) c.swap.new.x.items c.swap.new.y.items (ap (λ v. v.items) c.swap.ensures.y_after) made)))))
+    let cleared = whole_put c.self.inside.other_marks.len c.clear_marks.new.marks c.self.inside.other_marks.items (ap length c.clear_marks.ensures ∙ length-replicate _ false ∙ ap length c.deref_mut-2.ensures.value) (ap length c.clear_marks.ensures ∙ length-replicate _ false ∙ c.deref_mut-2.ensures.len) in (
+      omega (arith, c.self.invariant.0, c.point_on.ensures.len, ap (λ (l : Log). device_size (layout l)) log),
+      omega (arith, ap (λ (l : Log). l.used) log),
+      ap length frozen ∙ c.freeze.ensures.size ∙ ap length c.deref_mut.ensures.value ∙ c.self.invariant.2 ∙ sym (ap image_size same),
+      ap (λ v. length v.items) c.swap.ensures.x_after ∙ ap length cleared ∙ ap length c.clear_marks.ensures ∙ length-replicate _ false ∙ ap length c.deref_mut-2.ensures.value ∙ c.self.invariant.4 ∙ sym (ap piece_count same),
+      ap (λ v. length v.items) c.swap.ensures.y_after ∙ c.self.invariant.3 ∙ sym (ap piece_count same),
+      c.self.invariant.5 ∙ sym (ap piece_count same),
+      (λ fine. (
+        ap (λ (l : Log). l.failed) log ∙ (c.self.invariant.6 fine).0,
+        subst (λ (o : Option ℕ). IsPlaced c.point_on.new.halves c.self.inside.due.items o) (sym alone) (ap (λ (l : Log). l.current) log ∙ sym (ap (λ (l : Log). l.named) log)),
+      )),
+      (λ fine k.
+          let w0 = g.D.Disk.medium c.self.inside.disk in
+          let is : holds c.self.inside.halves.geometry w0.now ≡ Some (state_in c.args.tree.now) = ap settled c.self.view_is ∙ c.requires.state k in
+          let w1 = g.D.Disk.medium c.point_on.new.disk in
+          let made = subst (λ (l : List ℕ). IsPointed c.self.inside.halves l w0 w1) (c.deref.ensures.value ∙ frozen) (c.in_default.ensures.pointed k) in
+          subst (λ (o : Option ℕ). IsSound c.point_on.new.halves (whole_items c.self.inside.frozen.len c.freeze.new.bytes c.self.inside.frozen.items) c.swap.new.x.items c.swap.new.y.items c.self.inside.due.items o w1) (sym alone)
+          (subst (λ (l : List ℕ). IsSound c.point_on.new.halves l c.swap.new.x.items c.swap.new.y.items c.self.inside.due.items None w1) (sym frozen)
+          (subst (λ (l : Log). IsSound l c.freeze.new.bytes c.swap.new.x.items c.swap.new.y.items c.self.inside.due.items None w1) (sym c.in_default.ensures.log)
+          (point_sound c.self.inside.halves c.self.inside.frozen.items c.freeze.new.bytes c.self.inside.named_marks.items c.self.inside.other_marks.items c.self.inside.due.items c.self.inside.left w0 (state_in c.args.tree.now) alone (c.self.invariant.6 fine).1 (c.self.invariant.7 fine k) is is_state spelled (g.met.D.Disk.bytes c.self.inside.disk) w1 (g.met.D.Disk.bytes c.point_on.new.disk) c.swap.new.x.items c.swap.new.y.items (ap (λ v. v.items) c.swap.ensures.y_after) made)))),
+    )

@@ -1,4 +1,4 @@
-use Rattle.std.proofs.Common.{◌≡◌, ◌∙◌, ap, subst}
+use Rattle.std.proofs.Common.{◌∙◌, ap, subst}
 use Rattle.journal.specs.Journal.{Held, IsSettled}
 use Rattle.journal.proofs.Logging.{settled_of}
 use Rattle.journal.proofs.journal.Journal.room.Goals as goal
