@@ -45,21 +45,34 @@ fn same(rt: &impl Abort, got: &[u8], want: &[u8]) {
     assert_eq!(rt; str::from_utf8(got), str::from_utf8(want));
 }
 
-// A new tree answers the lines so, and the serial server too.
-fn expect_lines(rt: &impl Abort, alloc: Global, rows: &[(&str, &str)]) -> Result<(), Fail> {
-    let g = Geometry::new(SMALL)?;
-    let mut tree = Tree::new(alloc, g)?;
+/// A tree answers the lines so. Gives the replies.
+pub(crate) fn expect_told(
+    rt: &impl Abort,
+    alloc: Global,
+    tree: &mut Tree,
+    rows: &[(&str, &str)],
+) -> Result<Vec<u8>, AllocError> {
     let mut told = Vec::new(alloc);
-    let mut input = Vec::new(alloc);
     let mut replies = Vec::new(alloc);
     for (line, reply) in rows {
-        tell(rt, &mut tree, line, &mut told)?;
-        input.extend_from_slice(line.as_bytes())?;
-        input.push(b'\n')?;
+        tell(rt, tree, line, &mut told)?;
         replies.extend_from_slice(reply.as_bytes())?;
         replies.push(b'\n')?;
     }
     same(rt, told.as_slice(), replies.as_slice());
+    Ok(replies)
+}
+
+// A new tree answers the lines so, and the serial server too.
+fn expect_lines(rt: &impl Abort, alloc: Global, rows: &[(&str, &str)]) -> Result<(), Fail> {
+    let g = Geometry::new(SMALL)?;
+    let mut tree = Tree::new(alloc, g)?;
+    let replies = expect_told(rt, alloc, &mut tree, rows)?;
+    let mut input = Vec::new(alloc);
+    for (line, _) in rows {
+        input.extend_from_slice(line.as_bytes())?;
+        input.push(b'\n')?;
+    }
     // With room for all that is written, so that no write takes memory.
     let mut output = Vec::with_capacity(alloc, 4096)?;
     let end = serve_plain(alloc, &g, input.as_slice(), &mut output);
