@@ -1,0 +1,6 @@
+-- ---- for the crates above: what each event does to the core, and what every world keeps
+pub mod Lists
+pub mod Apart
+pub mod Moves
+-- ---- this crate's own
+mod Examples

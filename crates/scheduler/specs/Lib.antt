@@ -1,0 +1,6 @@
+pub mod World
+pub mod Eligible
+pub mod Events
+pub mod Runs
+pub mod Crash
+pub mod Laws

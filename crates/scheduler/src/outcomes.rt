@@ -1,0 +1,106 @@
+//! The steps of a machine, what comes of each, and why one is refused.
+
+use message::{Msg, Reply};
+
+/// What a machine is to do. Hands are told by their number, from 0 on.
+#[derive(Clone, Copy, Debug, PartialEq, Eq)]
+pub enum Step {
+    /// A message arrives.
+    Arrive(Msg),
+    /// The eligible message with the least ticket goes to the first empty hand.
+    Grant,
+    /// The job in this hand runs.
+    Run(usize),
+    /// The result in this hand is given back.
+    Back(usize),
+    /// So many of the messages that ran are logged, or all where fewer did.
+    Log(usize),
+    /// The message that was logged first is answered.
+    Answer,
+    /// A consistency point is made at once.
+    Point,
+    /// A consistency point begins.
+    Cut,
+    /// A piece of the consistency point in progress is written.
+    Piece,
+    /// The consistency point in progress ends.
+    Flip,
+}
+
+/// What came of a step.
+#[derive(Clone, Copy, Debug, PartialEq, Eq)]
+pub enum Outcome {
+    /// The message that arrived has this ticket.
+    Ticket(u64),
+    /// The message may not arrive.
+    ArriveRefused(ArriveRefusal),
+    /// This hand has the job of the message with this ticket.
+    Granted(usize, u64),
+    /// No message is eligible, and none lacks room alone.
+    NoneEligible,
+    /// No message is eligible, and some message lacks room in the log alone.
+    NoRoom,
+    /// Nothing is granted, since the device has failed.
+    Failed,
+    /// The job ran.
+    Ran,
+    /// The message with this ticket was given back.
+    Back(u64),
+    /// So many messages were logged.
+    Logged(usize),
+    /// No message was logged.
+    LogFault(CoreFault),
+    /// The message with this ticket has this reply, and is gone.
+    Answered(u64, Reply),
+    /// A consistency point was made.
+    Pointed,
+    /// A consistency point has begun.
+    Cut,
+    /// So many pieces are left to write.
+    Left(usize),
+    /// The consistency point has ended.
+    Flipped,
+    /// The step of a consistency point may not be made, or failed.
+    PointRefused(PointRefusal),
+    /// There was nothing to do, and nothing changed.
+    Idle,
+}
+
+/// Why a message may not arrive.
+#[derive(Clone, Copy, Debug, PartialEq, Eq)]
+pub enum ArriveRefusal {
+    /// No slot is free.
+    Full,
+    /// A number of the message is out of range.
+    Range,
+    /// There is no ticket left.
+    Exhausted,
+    /// The device has failed.
+    Failed,
+}
+
+/// Why no message was logged.
+#[derive(Clone, Copy, Debug, PartialEq, Eq)]
+pub enum CoreFault {
+    /// The device failed during the call.
+    Device,
+    /// The device has failed before.
+    Failed,
+}
+
+/// Why a step of a consistency point was not made.
+#[derive(Clone, Copy, Debug, PartialEq, Eq)]
+pub enum PointRefusal {
+    /// Some message is held.
+    Held,
+    /// The device failed during the call.
+    Device,
+    /// The device has failed before.
+    Failed,
+    /// A consistency point is in progress already.
+    Running,
+    /// No consistency point is in progress.
+    NotRunning,
+    /// Pieces are left to write.
+    Unfinished,
+}
