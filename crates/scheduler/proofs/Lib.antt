@@ -2,5 +2,8 @@
 pub mod Lists
 pub mod Apart
 pub mod Moves
+pub mod Told
+pub mod Room
+pub mod Sound
 -- ---- this crate's own
 mod Examples
