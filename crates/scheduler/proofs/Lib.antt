@@ -5,5 +5,8 @@ pub mod Moves
 pub mod Told
 pub mod Room
 pub mod Sound
+pub mod Idle
+pub mod Runs
+pub mod Joining
 -- ---- this crate's own
 mod Examples
