@@ -8,5 +8,8 @@ pub mod Sound
 pub mod Idle
 pub mod Runs
 pub mod Joining
+pub mod Arrivals
+pub mod Elements
+pub mod Crashes
 -- ---- this crate's own
 mod Examples

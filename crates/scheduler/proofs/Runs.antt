@@ -1,15 +1,16 @@
 -- The replies in a legal run, in log order, and the state that it settles.
 use Rattle.std.proofs.Common.{◌≡◌, ℕ, Bool, true, false, List, [], ◌∷◌, ◌++◌, refl, ap, sym, ◌∙◌, subst, append_assoc, take}
-use Rattle.std.specs.Prelude.{◌||◌, if◌then◌else◌}
-use Rattle.std.proofs.lemmas.List.{append-nil}
+use Rattle.std.specs.Prelude.{◌||◌, if◌then◌else◌, map, filter}
+use Rattle.std.proofs.lemmas.List.{append-nil, map-append}
+use Rattle.std.proofs.lemmas.List.Elements.{filter-append}
 use Rattle.affinity.specs.declared.geometry.Geometry.{Geometry}
 use Rattle.message.specs.declared.Reply.{Reply}
-use Rattle.plain.specs.Serial.{fold}
+use Rattle.plain.specs.Serial.{fold, is_loggable}
 use Rattle.plain.specs.Order.{told, messages}
 use Rattle.scheduler.specs.declared.outcomes.Step.{Step}
 use Rattle.scheduler.specs.declared.outcomes.Step.TheVariants as steps
 use Rattle.scheduler.specs.World.{Replied, World, entries}
-use Rattle.scheduler.specs.Events.{Hands, Event, IsAllowed, batch}
+use Rattle.scheduler.specs.Events.{Hands, Event, IsAllowed, batch, loggable}
 use Rattle.scheduler.specs.Runs.{IsLegal, last, goes, appended, answers, went, journal, answered}
 use Rattle.scheduler.specs.Laws.{IsSound, said}
 use Rattle.scheduler.proofs.Apart.{entries-append}
@@ -105,3 +106,25 @@ run_journal g old (event ∷ events) legal h =
     run_journal g event.world events legal.1 (event_sound g old event legal.0 h)
     ∙ ap (λ x. fold g x (journal event.world events)) ((event_follows g old event legal.0 h).settled ∙ sym (appends g old.core event.step event.rose h))
     ∙ sym (fold-joined g old.core.settled (appended old.core event.step event.rose) (journal event.world events))
+
+appends_loggable : (w : World) (s : Step) (rose : Bool) → appended w s rose ≡ loggable (goes w s rose)
+appends_loggable w (steps.Arrive m) rose = refl
+appends_loggable w steps.Grant rose = refl
+appends_loggable w (steps.Run i) rose = refl
+appends_loggable w (steps.Back i) rose = refl
+appends_loggable w (steps.Log k) rose = elim (rose || w.failed) as (λ b. (if b then [] else batch w k) ≡ loggable (if b then [] else take k w.ran)) [ true ↦ refl | false ↦ refl ]
+appends_loggable w steps.Answer rose = refl
+appends_loggable w steps.Point rose = refl
+appends_loggable w steps.Cut rose = refl
+appends_loggable w steps.Piece rose = refl
+appends_loggable w steps.Flip rose = refl
+
+-- The journal is what is loggable of what a run logs.
+pub journal_is_loggable : (old : Hands) (events : List Event) → journal old events ≡ loggable (went old events)
+journal_is_loggable old [] = refl
+journal_is_loggable old (event ∷ events) =
+    let gone = goes old.core event.step event.rose in
+    let later = went event.world events in
+    (λ i. appends_loggable old.core event.step event.rose i ++ journal_is_loggable event.world events i)
+    ∙ sym (map-append (λ (a : Replied). a.1) (filter (λ (a : Replied). is_loggable a.1 a.2) gone) (filter (λ (a : Replied). is_loggable a.1 a.2) later))
+    ∙ ap (map (λ (a : Replied). a.1)) (sym (filter-append (λ (a : Replied). is_loggable a.1 a.2) gone later))

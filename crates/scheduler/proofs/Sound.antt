@@ -9,7 +9,7 @@ use Rattle.scheduler.specs.World.{Entry, Replied, World, entries, held}
 use Rattle.scheduler.specs.Eligible.{is_eligible, in_flight, next_eligible}
 use Rattle.scheduler.specs.Events.{Hands, Event, IsAllowed, grant, give_back, out_with, log}
 use Rattle.scheduler.specs.Runs.{IsLegal}
-use Rattle.scheduler.specs.Laws.{EachBefore, AreApart, AreReplied, AreAscending, AreOnce, IsSound, IsIdle}
+use Rattle.scheduler.specs.Laws.{EachBefore, AreApart, AreReplied, AreAscending, AreOnce, HasRoom, IsSound}
 use Rattle.scheduler.proofs.Lists.{all_join, all_front, all_back, all_weaker, all_moved, all_without, before_push, before_back, before_front, before_without, before_moved, picked}
 use Rattle.scheduler.proofs.Apart.{grant_apart, back_apart, log_held, held_grant, length_held}
 use Rattle.scheduler.proofs.Moves.{Passed, Move, Stays, Arrives, Grants, Backs, Logs, Answers, moves}
@@ -141,3 +141,25 @@ module _ (g : Geometry) where
   run_sound old (event ∷ events) legal h =
       let k = event_sound old event legal.0 h in
       (k, run_sound event.world events legal.1 k)
+
+-- ---- the number of slots
+
+move_slots : (g : Geometry) (old new : World) (p : Passed) → Move g old new p → new.slots ≡ old.slots
+move_slots g old new p (Stays s e) = s.slots
+move_slots g old new p (Arrives m fits is e) = ap (λ w. w.slots) is
+move_slots g old new p (Grants found first is e) = ap (λ w. w.slots) is
+move_slots g old new p (Backs ticket found one_out is e) = ap (λ w. w.slots) is
+move_slots g old new p (Logs n is e) = ap (λ w. w.slots) is
+move_slots g old new p (Answers a rest front is e) = ap (λ w. w.slots) is
+
+pub event_slots : (g : Geometry) (old : Hands) (event : Event) → IsAllowed g old event → event.world.core.slots ≡ old.core.slots
+event_slots g old event allowed = move_slots g old.core event.world.core _ (moves g old event allowed)
+
+-- Whatever a run of events does, what is out and what ran has room, and each message has a slot of those that there were.
+pub run_fits : (g : Geometry) (old : Hands) (events : List Event) → IsLegal g old events → IsSound g old.core → AllByRecursion (λ event. HasRoom old.core.slots event.world.core) events
+run_fits g old [] legal h = tt
+run_fits g old (event ∷ events) legal h =
+    let k = event_sound g old event legal.0 h in
+    let same = event_slots g old event legal.0 in
+    ((k.room, subst (λ n. length event.world.core.waiting + length (held event.world.core) ≤ n) same k.fits),
+    subst (λ n. AllByRecursion (λ event. HasRoom n event.world.core) events) same (run_fits g event.world events legal.1 k))

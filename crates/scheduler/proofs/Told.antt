@@ -12,6 +12,7 @@ use Rattle.plain.specs.Order.{told, messages}
 use Rattle.plain.proofs.Frame.{commute, same_reply}
 use Rattle.plain.proofs.Unchanged.{unlogged_changes_nothing}
 use Rattle.scheduler.specs.World.{Entry, Replied, entry, entries, touches}
+use Rattle.scheduler.specs.Events.{loggable}
 use Rattle.scheduler.specs.Laws.{AreApart, AreReplied, said}
 use Rattle.scheduler.proofs.Apart.{apart_turned}
 
@@ -34,9 +35,6 @@ said-append [] bs = refl
 said-append (a ∷ as') bs = ap (λ l. (a.0, a.2) ∷ l) (said-append as' bs)
 
 -- ---- messages in a row
-
-abbrev pub loggable : List Replied → List Msg
-loggable as' = map (λ a. a.1) (filter (λ a. is_loggable a.1 a.2) as')
 
 module _ (g : Geometry) where
   still_replied : (x : State) (a : Replied) (as' : List Replied) → AllByRecursion (λ d. touches g (entry a) d ≡ false) (entries as') → AreReplied g x as' → AreReplied g (next_state g x a.1) as'

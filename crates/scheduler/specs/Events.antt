@@ -44,9 +44,13 @@ out_with w ticket = pick (λ e. e.0 == ticket) w.out
 abbrev pub give_back : Geometry → World → Entry × List Entry → World
 give_back g w found = record w { out = found.1; ran = w.ran ++ (found.0.0, found.0.1, reply_to g w.settled found.0.1) ∷ [] }
 
+-- those of the messages that the log keeps: the changes that were carried out
+abbrev pub loggable : List Replied → List Msg
+loggable as' = map (λ a. a.1) (filter (λ a. is_loggable a.1 a.2) as')
+
 -- what a log of n appends to the journal
 abbrev pub batch : World → ℕ → List Msg
-batch w n = map (λ a. a.1) (filter (λ a. is_loggable a.1 a.2) (take n w.ran))
+batch w n = loggable (take n w.ran)
 
 -- The first n that ran are logged.
 abbrev pub log : Geometry → World → ℕ → World

@@ -47,6 +47,10 @@ pub record IsSound (g : Geometry) (w : World) : Type 0 where
   -- there is a slot for each message
   pub fits : length w.waiting + length (held w) ≤ w.slots
 
+-- What is out and what ran has room in the log, and each message has one of so many slots.
+abbrev pub HasRoom : ℕ → World → Type 0
+HasRoom slots w = (in_flight w ≤ w.room) × (length w.waiting + length (held w) ≤ slots)
+
 -- Nothing waits, and nothing is held.
 pub record IsIdle (w : World) : Type 0 where
   pub none_waits : w.waiting ≡ []

@@ -1,15 +1,19 @@
 //! What holds of every legal run: laws of the definitions alone. No function here does anything; its
 //! contract is the law.
 
-ghost use Rattle.std.specs.Prelude.{◌≡◌, ◌++◌, ◌≤◌, ℕ, List, length};
-ghost use Rattle.std.specs.List.{AllByRecursion};
+ghost use Rattle.std.specs.Prelude.{◌≡◌, ◌++◌, ◌≤◌, ℕ, List, drop, length, take};
+ghost use Rattle.std.specs.List.{AllByRecursion, Contains};
 ghost use Rattle.affinity.specs.declared.geometry.Geometry.{Geometry};
+ghost use Rattle.message.specs.declared.Msg.{Msg};
+ghost use Rattle.message.specs.declared.Reply.{Reply};
+ghost use Rattle.plain.specs.State.{State};
 ghost use Rattle.plain.specs.Serial.{fold};
-ghost use Rattle.plain.specs.Order.{messages, told};
+ghost use Rattle.plain.specs.Order.{by_ticket, messages, told};
 ghost use Rattle.scheduler.specs.World.{World, entries, held};
-ghost use Rattle.scheduler.specs.Events.{Event, Hands, IsAllowed, batch};
-ghost use Rattle.scheduler.specs.Runs.{IsLegal, answered, journal, last, went};
-ghost use Rattle.scheduler.specs.Laws.{AreApart, IsIdle, IsJoined, IsSound, said};
+ghost use Rattle.scheduler.specs.Events.{Event, Hands, IsAllowed, batch, loggable};
+ghost use Rattle.scheduler.specs.Runs.{IsLegal, answered, arrived, journal, last, went};
+ghost use Rattle.scheduler.specs.Crash.{IsLeftSince, IsLogAfter, in_doubt};
+ghost use Rattle.scheduler.specs.Laws.{AreApart, AreAscending, HasRoom, IsIdle, IsJoined, IsSound, said};
 
 /// A world in which nothing waits and nothing is held is sound, and each event leads from a sound
 /// world to a sound one.
@@ -40,6 +44,7 @@ pub fn settled_is_what_was_logged()
         → (last old events).core.settled ≡ fold g old.core.settled (messages (entries (went old events))) }
     ensures appended { (g : Geometry) (old : Hands) (events : List Event) → IsLegal g old events → IsSound g old.core
         → (last old events).core.settled ≡ fold g old.core.settled (journal old events) }
+    ensures journal { (old : Hands) (events : List Event) → journal old events ≡ loggable (went old events) }
 {}
 
 /// A legal run goes on by every legal run from where it ended: they are one, and what they log, append,
@@ -49,7 +54,39 @@ pub fn legal_runs_join()
         → IsJoined g old events more }
 {}
 
-/// In a sound world the log has room for whatever may be logged.
-pub fn log_has_room()
-    ensures { (g : Geometry) (w : World) (n : ℕ) → IsSound g w → length (batch w n) ≤ w.room }
+/// In each world of a legal run there is room in the log for all that is out and all that ran, and a
+/// slot for each message, of as many as there were in the beginning. So a log always has room for what
+/// it appends.
+pub fn room_and_slots_are_enough()
+    ensures run { (g : Geometry) (old : Hands) (events : List Event) → IsLegal g old events → IsSound g old.core
+        → AllByRecursion (λ event. HasRoom old.core.slots event.world.core) events }
+    ensures log { (g : Geometry) (w : World) (n : ℕ) → IsSound g w → length (batch w n) ≤ w.room }
+{}
+
+/// Where nothing waited and nothing was held in the beginning, each reply to a message that was logged or
+/// answered is the one that the serial server gives where all that arrived come by ticket. Tickets ascend,
+/// so no two have one. Where nothing waits and nothing is held in the end, the settled state is the serial
+/// server's too.
+pub fn replies_are_by_ticket()
+    ensures tickets { (g : Geometry) (old : Hands) (events : List Event) → IsLegal g old events → AreAscending (arrived events) }
+    ensures logged { (g : Geometry) (old : Hands) (events : List Event) → IsLegal g old events → IsIdle old.core
+        → (reply : ℕ × Reply) → Contains (said (went old events)) reply
+        → Contains (told g old.core.settled (by_ticket (arrived events))) reply }
+    ensures answered { (g : Geometry) (old : Hands) (events : List Event) → IsLegal g old events → IsIdle old.core
+        → (reply : ℕ × Reply) → Contains (answered events) reply
+        → Contains (told g old.core.settled (by_ticket (arrived events))) reply }
+    ensures settled { (g : Geometry) (old : Hands) (events : List Event) → IsLegal g old events → IsIdle old.core
+        → IsIdle (last old events).core
+        → (last old events).core.settled ≡ fold g old.core.settled (messages (by_ticket (arrived events))) }
+{}
+
+/// What a crash may leave, if it comes when k events or more have ended, is where all that these appended
+/// leads, with more behind it. If it comes before the next one has ended, it is the state that was settled
+/// then, with the first so many of the messages in doubt.
+pub fn a_crash_leaves_what_was_appended()
+    ensures begins { (g : Geometry) (old : Hands) (events : List Event) (k : ℕ) (x : State) → IsLeftSince g old events k x
+        → (rest : List Msg) × (x ≡ fold g old.core.settled (journal old (take k events) ++ rest)) }
+    ensures settled { (g : Geometry) (old : Hands) (events : List Event) (k : ℕ) (ms : List Msg) → IsLegal g old events
+        → IsSound g old.core → (log : IsLogAfter old events k ms) → fold g old.core.settled ms
+        ≡ fold g (last old (take k events)).core.settled (take log.some (in_doubt (last old (take k events)).core (drop k events))) }
 {}

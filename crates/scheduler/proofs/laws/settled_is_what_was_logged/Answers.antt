@@ -1,5 +1,5 @@
 -- The lemmas on what a run logs and appends.
-use Rattle.scheduler.proofs.Runs.{run_follows, run_journal}
+use Rattle.scheduler.proofs.Runs.{run_follows, run_journal, journal_is_loggable}
 use Rattle.scheduler.proofs.laws.settled_is_what_was_logged.Goals as goal
 
 pub returns-clause-logged : goal.returns-clause-logged
@@ -7,3 +7,6 @@ returns-clause-logged c g old events legal sound = (run_follows g old events leg
 
 pub returns-clause-appended : goal.returns-clause-appended
 returns-clause-appended c = run_journal
+
+pub returns-clause-journal : goal.returns-clause-journal
+returns-clause-journal c = journal_is_loggable
