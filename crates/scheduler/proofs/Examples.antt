@@ -1,6 +1,7 @@
 -- Worked examples, by computing: what a small machine answers to lists of steps, what is logged in them, and what a crash may leave.
-use Rattle.std.proofs.Common.{◌≡◌, ◌≤◌, ℕ, true, false, List, [], ◌∷◌, ◌++◌, refl, lit≤}
-use Rattle.std.specs.Prelude.{None, Some, map, length, MatchBool}
+use Rattle.std.proofs.Common.{◌≡◌, ◌≤◌, ℕ, zero, suc, true, false, List, [], ◌∷◌, ◌++◌, take, refl, ap, sym, ◌∙◌, lit≤}
+use Rattle.std.specs.Prelude.{None}
+use Rattle.std.proofs.lemmas.Bool.{true≢false}
 use Rattle.affinity.specs.Geometry.{small}
 use Rattle.message.specs.declared.Block.{Block}
 use Rattle.message.specs.declared.Msg.{Msg}
@@ -17,9 +18,9 @@ use Rattle.scheduler.specs.declared.outcomes.ArriveRefusal.TheVariants as arriva
 use Rattle.scheduler.specs.declared.outcomes.CoreFault.TheVariants as faults
 use Rattle.scheduler.specs.declared.outcomes.PointRefusal.TheVariants as points
 use Rattle.scheduler.specs.World.{Entry, World}
-use Rattle.scheduler.specs.Events.{Hands, Empty, Event, happens, fault, touches_device}
-use Rattle.scheduler.specs.Runs.{outcomes_of, journal, went, last}
-use Rattle.scheduler.specs.Crash.{in_doubt}
+use Rattle.scheduler.specs.Events.{Hands, Empty, Event, IsAllowed, happens, fault, touches_device}
+use Rattle.scheduler.specs.Runs.{IsLegal, outcomes_of, journal, last}
+use Rattle.scheduler.specs.Crash.{IsLeftSince, IsLogAfter, in_doubt}
 
 -- a core just opened
 abbrev opened : ℕ → State → World
@@ -142,3 +143,47 @@ a_change_touches_the_device = refl
 
 a_point_with_nothing_to_write_touches_no_device : touches_device (after (one_hand 1 empty) (steps.Cut ∷ steps.Piece ∷ steps.Piece ∷ steps.Piece ∷ [])).core steps.Piece ≡ false
 a_point_with_nothing_to_write_touches_no_device = refl
+
+-- ---- legal runs, and what a crash of one may leave
+
+-- the event in which the device failed
+abbrev failed_log : Event
+failed_log = record { step = steps.Log 1; outcome = outcomes.LogFault faults.Device; rose = true; world = failed_one }
+
+failing_is_legal : IsLegal small ran_one (failed_log ∷ [])
+failing_is_legal = (record { touched = refl; core = refl; hands = refl }, tt)
+
+-- the same told of the log of a question
+abbrev false_alarm : Event
+false_alarm = record { step = steps.Log 1; outcome = outcomes.LogFault faults.Device; rose = true; world = failed_one }
+
+a_log_that_touches_no_device_doesnt_fail : IsAllowed small (after (one_hand 1 empty) (steps.Arrive AskSummary ∷ steps.Grant ∷ steps.Run 0 ∷ steps.Back 0 ∷ [])) false_alarm → ⊥
+a_log_that_touches_no_device_doesnt_fail h = true≢false (sym h.touched)
+
+-- an outcome that tells of a failure where none was
+abbrev invented : Event
+invented = record { step = steps.Log 1; outcome = outcomes.LogFault faults.Device; rose = false; world = failed_one }
+
+logged_or_failed : outcomes.Logged 1 ≡ outcomes.LogFault faults.Device → ⊥
+logged_or_failed e = cc
+
+a_failure_is_not_invented : IsAllowed small ran_one invented → ⊥
+a_failure_is_not_invented h = logged_or_failed (ap (λ x. x.0) h.does)
+
+-- The volume may be there after a crash, or not; it may be while it is logged and when that has failed.
+nothing_was_written : IsLeftSince small ran_one (failed_log ∷ []) 0 empty
+nothing_was_written = record { after = 0; since = lit≤ tt; within = lit≤ tt; log = []; is_log = record { some = 0; at_most = lit≤ tt; is = refl }; state = refl }
+
+the_volume_was_written : IsLeftSince small ran_one (failed_log ∷ []) 1 (next_state small empty (MakeVol 0 0))
+the_volume_was_written = record { after = 1; since = lit≤ tt; within = lit≤ tt; log = MakeVol 0 0 ∷ []; is_log = record { some = 1; at_most = lit≤ tt; is = refl }; state = refl }
+
+-- What was logged and answered during a consistency point is in the log too.
+abbrev cut_run : List Event
+cut_run = events_of (one_hand 1 empty) (whole (MakeVol 0 0) ++ (steps.Cut ∷ whole (Create 0 0 0)))
+
+none_more : (n : ℕ) → take {A = Msg} n [] ≡ []
+none_more zero = refl
+none_more (suc n) = refl
+
+both_are_left : (ms : List Msg) → IsLogAfter (one_hand 1 empty) cut_run 13 ms → fold small empty ms ≡ with_file
+both_are_left ms log = ap (fold small empty) (log.is ∙ ap (λ l. (MakeVol 0 0 ∷ Create 0 0 0 ∷ []) ++ l) (none_more log.some))

@@ -20,6 +20,7 @@ use Rattle.scheduler.specs.World.{Entry, Replied, World, held}
 use Rattle.scheduler.specs.Eligible.{changes, in_flight, next_eligible}
 use Rattle.scheduler.specs.Events.{Hand, Hands, Empty, Job, Result, Event, IsAllowed, IsFault, IsCarriedOut, arrive, grant, give_back, out_with, log, log_some, answer, point_refusal, piece_refusal, flip_refusal, unless_refused, fewer, in_core, grant_to, run_hand, result_in, back_from, is_empty, happens, fault, fails}
 use Rattle.scheduler.specs.Runs.{goes, arrives, answers}
+use Rattle.scheduler.specs.Laws.{DoubtsOnlyFailed}
 use Rattle.scheduler.proofs.Apart.{length_held}
 
 -- nothing of this has changed
@@ -33,6 +34,8 @@ pub record Same (old new : World) : Type 0 where
   pub slots : new.slots ≡ old.slots
   -- and what is in flight has room still
   pub room : in_flight old ≤ old.room → in_flight old ≤ new.room
+  -- and nothing is in doubt that wasn't, unless the device has failed
+  pub doubt : DoubtsOnlyFailed old → DoubtsOnlyFailed new
 
 -- what passes at an event: the messages that it logs, those that arrive, and the replies that it gives
 pub record Passed : Type 0 where
@@ -56,7 +59,7 @@ pub data Move (g : Geometry) (old new : World) (p : Passed) : Type 0 where
   Answers : (a : Replied) → (rest : List Replied) → (front : old.logged ≡ a ∷ rest) → (is : new ≡ record old { logged = rest }) → (passes : p ≡ record { gone = []; come = []; told = (a.0, a.2) ∷ [] }) → Move g old new p
 
 same : (w : World) → Same w w
-same w = record { waiting = refl; out = refl; ran = refl; logged = refl; settled = refl; next = refl; slots = refl; room = λ h. h }
+same w = record { waiting = refl; out = refl; ran = refl; logged = refl; settled = refl; next = refl; slots = refl; room = λ h. h; doubt = λ h. h }
 
 module _ (g : Geometry) (w : World) where
   stays : Move g w w nothing
@@ -114,19 +117,19 @@ module _ (g : Geometry) (w : World) where
   emptied n e h = let z = none_in_flight e in omega (arith, z)
 
   point_moves : (r : Option PointRefusal) → point_refusal w ≡ r → At steps.Point (unless_refused w r (outcomes.Pointed, record w { room = g.half }))
-  point_moves None e = unchanged _ (record { waiting = refl; out = refl; ran = refl; logged = refl; settled = refl; next = refl; slots = refl; room = emptied g.half e })
+  point_moves None e = unchanged _ (record { waiting = refl; out = refl; ran = refl; logged = refl; settled = refl; next = refl; slots = refl; room = emptied g.half e; doubt = λ h. h })
   point_moves (Some why) e = stays
 
   cut_moves : (n : ℕ) (r : Option PointRefusal) → point_refusal w ≡ r → At steps.Cut (unless_refused w r (outcomes.Cut, record w { room = g.half; left = Some n }))
-  cut_moves n None e = unchanged _ (record { waiting = refl; out = refl; ran = refl; logged = refl; settled = refl; next = refl; slots = refl; room = emptied g.half e })
+  cut_moves n None e = unchanged _ (record { waiting = refl; out = refl; ran = refl; logged = refl; settled = refl; next = refl; slots = refl; room = emptied g.half e; doubt = λ h. h })
   cut_moves n (Some why) e = stays
 
   piece_moves : (r : Option PointRefusal) → At steps.Piece (unless_refused w r (outcomes.Left (fewer w.left), record w { left = Some (fewer w.left) }))
-  piece_moves None = unchanged _ (record { waiting = refl; out = refl; ran = refl; logged = refl; settled = refl; next = refl; slots = refl; room = λ h. h })
+  piece_moves None = unchanged _ (record { waiting = refl; out = refl; ran = refl; logged = refl; settled = refl; next = refl; slots = refl; room = λ h. h; doubt = λ h. h })
   piece_moves (Some why) = stays
 
   flip_moves : (r : Option PointRefusal) → At steps.Flip (unless_refused w r (outcomes.Flipped, record w { left = None }))
-  flip_moves None = unchanged _ (record { waiting = refl; out = refl; ran = refl; logged = refl; settled = refl; next = refl; slots = refl; room = λ h. h })
+  flip_moves None = unchanged _ (record { waiting = refl; out = refl; ran = refl; logged = refl; settled = refl; next = refl; slots = refl; room = λ h. h; doubt = λ h. h })
   flip_moves (Some why) = stays
 
   -- ---- with a device that fails
@@ -135,14 +138,14 @@ module _ (g : Geometry) (w : World) where
   Fails s = Move g w (fault w s).1 (passed w s (fault w s).0 true)
 
   failing : Move g w (fails w) nothing
-  failing = unchanged _ (record { waiting = refl; out = refl; ran = refl; logged = refl; settled = refl; next = refl; slots = refl; room = λ h. h })
+  failing = unchanged _ (record { waiting = refl; out = refl; ran = refl; logged = refl; settled = refl; next = refl; slots = refl; room = λ h. h; doubt = λ h e. absurd (true≢false e) })
 
   fault_moves : (s : Step) → Fails s
   fault_moves (steps.Arrive m) = failing
   fault_moves steps.Grant = failing
   fault_moves (steps.Run i) = failing
   fault_moves (steps.Back i) = failing
-  fault_moves (steps.Log k) = unchanged _ (record { waiting = refl; out = refl; ran = refl; logged = refl; settled = refl; next = refl; slots = refl; room = λ h. h })
+  fault_moves (steps.Log k) = unchanged _ (record { waiting = refl; out = refl; ran = refl; logged = refl; settled = refl; next = refl; slots = refl; room = λ h. h; doubt = λ h e. absurd (true≢false e) })
   fault_moves steps.Answer = failing
   fault_moves steps.Point = failing
   fault_moves steps.Cut = failing

@@ -9,7 +9,7 @@ use Rattle.scheduler.specs.World.{Entry, Replied, World, entries, held}
 use Rattle.scheduler.specs.Eligible.{is_eligible, in_flight, next_eligible}
 use Rattle.scheduler.specs.Events.{Hands, Event, IsAllowed, grant, give_back, out_with, log}
 use Rattle.scheduler.specs.Runs.{IsLegal}
-use Rattle.scheduler.specs.Laws.{EachBefore, AreApart, AreReplied, AreAscending, AreOnce, HasRoom, IsSound}
+use Rattle.scheduler.specs.Laws.{EachBefore, AreApart, AreReplied, AreAscending, AreOnce, DoubtsOnlyFailed, HasRoom, IsSound}
 use Rattle.scheduler.proofs.Lists.{all_join, all_front, all_back, all_weaker, all_moved, all_without, before_push, before_back, before_front, before_without, before_moved, picked}
 use Rattle.scheduler.proofs.Apart.{grant_apart, back_apart, log_held, held_grant, length_held}
 use Rattle.scheduler.proofs.Moves.{Passed, Move, Stays, Arrives, Grants, Backs, Logs, Answers, moves}
@@ -163,3 +163,16 @@ run_fits g old (event ∷ events) legal h =
     let same = event_slots g old event legal.0 in
     ((k.room, subst (λ n. length event.world.core.waiting + length (held event.world.core) ≤ n) same k.fits),
     subst (λ n. AllByRecursion (λ event. HasRoom n event.world.core) events) same (run_fits g event.world events legal.1 k))
+
+-- ---- what is in doubt
+
+move_doubts : (g : Geometry) (old new : World) (p : Passed) → Move g old new p → DoubtsOnlyFailed old → DoubtsOnlyFailed new
+move_doubts g old new p (Stays s e) h = s.doubt h
+move_doubts g old new p (Arrives m fits is e) h = subst DoubtsOnlyFailed (sym is) h
+move_doubts g old new p (Grants found first is e) h = subst DoubtsOnlyFailed (sym is) h
+move_doubts g old new p (Backs ticket found one_out is e) h = subst DoubtsOnlyFailed (sym is) h
+move_doubts g old new p (Logs n is e) h = subst DoubtsOnlyFailed (sym is) h
+move_doubts g old new p (Answers a rest front is e) h = subst DoubtsOnlyFailed (sym is) h
+
+pub event_doubts : (g : Geometry) (old : Hands) (event : Event) → IsAllowed g old event → DoubtsOnlyFailed old.core → DoubtsOnlyFailed event.world.core
+event_doubts g old event allowed h = move_doubts g old.core event.world.core _ (moves g old event allowed) h

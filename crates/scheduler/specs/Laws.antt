@@ -47,6 +47,10 @@ pub record IsSound (g : Geometry) (w : World) : Type 0 where
   -- there is a slot for each message
   pub fits : length w.waiting + length (held w) ≤ w.slots
 
+-- Nothing is in doubt, unless the device has failed.
+abbrev pub DoubtsOnlyFailed : World → Type 0
+DoubtsOnlyFailed w = w.failed ≡ false → w.doubt ≡ []
+
 -- What is out and what ran has room in the log, and each message has one of so many slots.
 abbrev pub HasRoom : ℕ → World → Type 0
 HasRoom slots w = (in_flight w ≤ w.room) × (length w.waiting + length (held w) ≤ slots)

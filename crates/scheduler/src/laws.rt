@@ -13,7 +13,7 @@ ghost use Rattle.scheduler.specs.World.{World, entries, held};
 ghost use Rattle.scheduler.specs.Events.{Event, Hands, IsAllowed, batch, loggable};
 ghost use Rattle.scheduler.specs.Runs.{IsLegal, answered, arrived, journal, last, went};
 ghost use Rattle.scheduler.specs.Crash.{IsLeftSince, IsLogAfter, in_doubt};
-ghost use Rattle.scheduler.specs.Laws.{AreApart, AreAscending, HasRoom, IsIdle, IsJoined, IsSound, said};
+ghost use Rattle.scheduler.specs.Laws.{AreApart, AreAscending, DoubtsOnlyFailed, HasRoom, IsIdle, IsJoined, IsSound, said};
 
 /// A world in which nothing waits and nothing is held is sound, and each event leads from a sound
 /// world to a sound one.
@@ -78,6 +78,12 @@ pub fn replies_are_by_ticket()
     ensures settled { (g : Geometry) (old : Hands) (events : List Event) → IsLegal g old events → IsIdle old.core
         → IsIdle (last old events).core
         → (last old events).core.settled ≡ fold g old.core.settled (messages (by_ticket (arrived events))) }
+{}
+
+/// Messages come to be in doubt only where the device fails.
+pub fn only_a_failure_leaves_doubt()
+    ensures { (g : Geometry) (old : Hands) (event : Event) → IsAllowed g old event → DoubtsOnlyFailed old.core
+        → DoubtsOnlyFailed event.world.core }
 {}
 
 /// What a crash may leave, if it comes when k events or more have ended, is where all that these appended
