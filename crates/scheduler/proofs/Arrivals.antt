@@ -1,5 +1,5 @@
 -- The replies in a legal run are those of the serial server to the messages in the order in which they arrived.
-use Rattle.std.proofs.Common.{◌≡◌, ℕ, ◌+◌, ◌<◌, ◌≤◌, Bool, false, List, [], ◌∷◌, ◌++◌, refl, ap, sym, ◌∙◌, subst, append_assoc, take, drop, arith}
+use Rattle.std.proofs.Common.{◌≡◌, ℕ, ◌<◌, ◌≤◌, Bool, false, List, [], ◌∷◌, ◌++◌, refl, ap, sym, ◌∙◌, subst, append_assoc, take, drop, arith}
 use Rattle.std.specs.Prelude.{◌&&◌, ◌||◌, ◌==◌, not, nat_lt}
 use Rattle.std.specs.List.{AllByRecursion, list_any}
 use Rattle.std.proofs.lemmas.List.{append-nil, take-append-drop}
@@ -17,9 +17,9 @@ use Rattle.scheduler.specs.Runs.{IsLegal, last, goes, arrives, went, arrived, an
 use Rattle.scheduler.specs.Laws.{AreApart, AreAscending, IsSound, IsIdle, said}
 use Rattle.scheduler.proofs.Lists.{picked, all_join, all_front, all_none, all_weaker, before_back, before_moved, before_one, before_join}
 use Rattle.scheduler.proofs.Apart.{apart_turned, entries-append}
-use Rattle.scheduler.proofs.Moves.{Passed, Move, Stays, Arrives, Grants, Backs, Logs, Answers, moves, passed, nothing}
+use Rattle.scheduler.proofs.Moves.{Passed, Move, Stays, Arrives, Grants, Backs, Logs, Answers, moves, passed}
 use Rattle.scheduler.proofs.Told.{told-append, IsIn, in_left, IsAsGood, good_itself, good_on, good_push, good_moved}
-use Rattle.scheduler.proofs.Sound.{move_sound, event_sound}
+use Rattle.scheduler.proofs.Sound.{move_sound}
 use Rattle.scheduler.proofs.Idle.{none_out, none_ran, none_logged}
 use Rattle.scheduler.proofs.Runs.{run_follows, run_answers}
 

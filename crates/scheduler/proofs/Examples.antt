@@ -1,5 +1,5 @@
 -- Worked examples, by computing: what a small machine answers to lists of steps, what is logged in them, and what a crash may leave.
-use Rattle.std.proofs.Common.{◌≡◌, ◌≤◌, ℕ, zero, suc, true, false, List, [], ◌∷◌, ◌++◌, take, refl, ap, sym, ◌∙◌, lit≤}
+use Rattle.std.proofs.Common.{◌≡◌, ℕ, zero, suc, true, false, List, [], ◌∷◌, ◌++◌, take, refl, ap, sym, ◌∙◌, lit≤}
 use Rattle.std.specs.Prelude.{None}
 use Rattle.std.proofs.lemmas.Bool.{true≢false}
 use Rattle.affinity.specs.Geometry.{small}
@@ -17,7 +17,7 @@ use Rattle.scheduler.specs.declared.outcomes.Outcome.TheVariants as outcomes
 use Rattle.scheduler.specs.declared.outcomes.ArriveRefusal.TheVariants as arrivals
 use Rattle.scheduler.specs.declared.outcomes.CoreFault.TheVariants as faults
 use Rattle.scheduler.specs.declared.outcomes.PointRefusal.TheVariants as points
-use Rattle.scheduler.specs.World.{Entry, World}
+use Rattle.scheduler.specs.World.{World}
 use Rattle.scheduler.specs.Events.{Hands, Empty, Event, IsAllowed, happens, fault, touches_device}
 use Rattle.scheduler.specs.Runs.{IsLegal, outcomes_of, journal, last}
 use Rattle.scheduler.specs.Crash.{IsLeftSince, IsLogAfter, in_doubt}

@@ -1,8 +1,8 @@
 -- A world in which nothing waits and nothing is held is sound.
-use Rattle.std.proofs.Common.{◌≡◌, ℕ, ◌+◌, ◌<◌, ◌≤◌, List, [], ◌∷◌, ◌++◌, refl, ap, sym, ◌∙◌, subst, length, arith}
+use Rattle.std.proofs.Common.{◌≡◌, ◌<◌, List, [], ◌∷◌, ◌++◌, refl, ap, sym, subst, length, arith}
 use Rattle.std.specs.List.{AllByRecursion}
 use Rattle.affinity.specs.declared.geometry.Geometry.{Geometry}
-use Rattle.scheduler.specs.World.{Entry, Replied, World, entries, held}
+use Rattle.scheduler.specs.World.{Replied, World, entries}
 use Rattle.scheduler.specs.Eligible.{in_flight}
 use Rattle.scheduler.specs.Laws.{AreApart, AreReplied, AreAscending, AreOnce, IsSound, IsIdle}
 

@@ -1,8 +1,8 @@
 -- A legal run goes on by every legal run from where it ended.
-use Rattle.std.proofs.Common.{◌≡◌, List, [], ◌∷◌, ◌++◌, refl, ap, sym, ◌∙◌, append_assoc}
+use Rattle.std.proofs.Common.{List, [], ◌∷◌, ◌++◌, refl, ap, sym, ◌∙◌, append_assoc}
 use Rattle.affinity.specs.declared.geometry.Geometry.{Geometry}
 use Rattle.scheduler.specs.Events.{Hands, Event}
-use Rattle.scheduler.specs.Runs.{IsLegal, last, goes, appended, arrives, answers, went, journal, arrived, answered}
+use Rattle.scheduler.specs.Runs.{IsLegal, last, goes, appended, arrives, answers}
 use Rattle.scheduler.specs.Laws.{IsJoined}
 
 pub runs_join : (g : Geometry) (old : Hands) (events more : List Event) → IsLegal g old events → IsLegal g (last old events) more → IsJoined g old events more

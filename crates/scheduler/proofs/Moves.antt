@@ -1,5 +1,5 @@
 -- Each event is one of six moves of the core.
-use Rattle.std.proofs.Common.{◌≡◌, ℕ, zero, suc, ◌+◌, ◌-◌, ◌^◌, ◌<◌, ◌≤◌, Bool, true, false, List, [], ◌∷◌, ◌++◌, Option, Some, None, refl, ap, sym, ◌∙◌, subst, take, length, arith}
+use Rattle.std.proofs.Common.{◌≡◌, ℕ, ◌+◌, ◌-◌, ◌^◌, ◌<◌, ◌≤◌, Bool, true, false, List, [], ◌∷◌, ◌++◌, Option, Some, None, refl, ap, subst, take, length, arith}
 use Rattle.std.specs.Prelude.{◌&&◌, not, if◌then◌else◌, is_some, nat_lt, nat_le, ◌==◌, MatchBool, slice_get, position}
 use Rattle.std.proofs.lemmas.Bool.{true≢false, ltb-false, leb-false}
 use Rattle.std.proofs.lemmas.List.Sums.{count_by-le-length}
@@ -7,18 +7,16 @@ use Rattle.affinity.specs.declared.geometry.Geometry.{Geometry}
 use Rattle.message.specs.declared.Msg.{Msg}
 use Rattle.message.specs.declared.Reply.{Reply}
 use Rattle.message.specs.Messages.{is_in_range}
-use Rattle.plain.specs.State.{State}
 use Rattle.scheduler.specs.declared.outcomes.Step.{Step}
 use Rattle.scheduler.specs.declared.outcomes.Step.TheVariants as steps
 use Rattle.scheduler.specs.declared.outcomes.Outcome.{Outcome}
 use Rattle.scheduler.specs.declared.outcomes.Outcome.TheVariants as outcomes
-use Rattle.scheduler.specs.declared.outcomes.ArriveRefusal.TheVariants as arrivals
 use Rattle.scheduler.specs.declared.outcomes.CoreFault.TheVariants as faults
 use Rattle.scheduler.specs.declared.outcomes.PointRefusal.{PointRefusal}
 use Rattle.scheduler.specs.declared.outcomes.PointRefusal.TheVariants as points
 use Rattle.scheduler.specs.World.{Entry, Replied, World, held}
 use Rattle.scheduler.specs.Eligible.{changes, in_flight, next_eligible}
-use Rattle.scheduler.specs.Events.{Hand, Hands, Empty, Job, Result, Event, IsAllowed, IsFault, IsCarriedOut, arrive, grant, give_back, out_with, log, log_some, answer, point_refusal, piece_refusal, flip_refusal, unless_refused, fewer, in_core, grant_to, run_hand, result_in, back_from, is_empty, happens, fault, fails}
+use Rattle.scheduler.specs.Events.{Hand, Hands, Empty, Job, Result, Event, IsAllowed, IsFault, IsCarriedOut, arrive, grant, give_back, out_with, log, log_some, answer, point_refusal, piece_refusal, flip_refusal, unless_refused, fewer, grant_to, run_hand, result_in, back_from, is_empty, happens, fault, fails}
 use Rattle.scheduler.specs.Runs.{goes, arrives, answers}
 use Rattle.scheduler.specs.Laws.{DoubtsOnlyFailed}
 use Rattle.scheduler.proofs.Apart.{length_held}

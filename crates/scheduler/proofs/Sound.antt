@@ -1,15 +1,15 @@
 -- Each event leads from a sound world to a sound one.
-use Rattle.std.proofs.Common.{◌≡◌, ℕ, ◌+◌, ◌<◌, ◌≤◌, List, [], ◌∷◌, ◌++◌, Some, refl, ap, sym, ◌∙◌, subst, append_assoc, take, drop, length, arith}
+use Rattle.std.proofs.Common.{◌≡◌, ℕ, ◌+◌, ◌<◌, ◌≤◌, List, [], ◌∷◌, ◌++◌, refl, ap, sym, ◌∙◌, subst, append_assoc, take, drop, length, arith}
 use Rattle.std.specs.Prelude.{◌==◌}
 use Rattle.std.specs.List.{AllByRecursion}
 use Rattle.std.proofs.lemmas.List.{take-append-drop, length-append}
 use Rattle.affinity.specs.declared.geometry.Geometry.{Geometry}
 use Rattle.plain.specs.Serial.{reply_to}
 use Rattle.scheduler.specs.World.{Entry, Replied, World, entries, held}
-use Rattle.scheduler.specs.Eligible.{is_eligible, in_flight, next_eligible}
-use Rattle.scheduler.specs.Events.{Hands, Event, IsAllowed, grant, give_back, out_with, log}
+use Rattle.scheduler.specs.Eligible.{is_eligible}
+use Rattle.scheduler.specs.Events.{Hands, Event, IsAllowed, grant, give_back, log}
 use Rattle.scheduler.specs.Runs.{IsLegal}
-use Rattle.scheduler.specs.Laws.{EachBefore, AreApart, AreReplied, AreAscending, AreOnce, DoubtsOnlyFailed, HasRoom, IsSound}
+use Rattle.scheduler.specs.Laws.{AreApart, AreReplied, AreAscending, AreOnce, DoubtsOnlyFailed, HasRoom, IsSound}
 use Rattle.scheduler.proofs.Lists.{all_join, all_front, all_back, all_weaker, all_moved, all_without, before_push, before_back, before_front, before_without, before_moved, picked}
 use Rattle.scheduler.proofs.Apart.{grant_apart, back_apart, log_held, held_grant, length_held}
 use Rattle.scheduler.proofs.Moves.{Passed, Move, Stays, Arrives, Grants, Backs, Logs, Answers, moves}
@@ -160,9 +160,10 @@ pub run_fits : (g : Geometry) (old : Hands) (events : List Event) → IsLegal g 
 run_fits g old [] legal h = tt
 run_fits g old (event ∷ events) legal h =
     let k = event_sound g old event legal.0 h in
-    let same = event_slots g old event legal.0 in
-    ((k.room, subst (λ n. length event.world.core.waiting + length (held event.world.core) ≤ n) same k.fits),
-    subst (λ n. AllByRecursion (λ event. HasRoom n event.world.core) events) same (run_fits g event.world events legal.1 k))
+    let same = event_slots g old event legal.0 in (
+      (k.room, subst (λ n. length event.world.core.waiting + length (held event.world.core) ≤ n) same k.fits),
+      subst (λ n. AllByRecursion (λ event. HasRoom n event.world.core) events) same (run_fits g event.world events legal.1 k),
+    )
 
 -- ---- what is in doubt
 

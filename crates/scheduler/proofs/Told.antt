@@ -5,7 +5,6 @@ use Rattle.std.specs.List.{AllByRecursion}
 use Rattle.affinity.specs.declared.geometry.Geometry.{Geometry}
 use Rattle.message.specs.declared.Msg.{Msg}
 use Rattle.message.specs.declared.Reply.{Reply}
-use Rattle.message.specs.Messages.{place}
 use Rattle.plain.specs.State.{State}
 use Rattle.plain.specs.Serial.{reply_to, next_state, fold, is_loggable}
 use Rattle.plain.specs.Order.{told, messages}
