@@ -26,7 +26,8 @@ length_held w = length-append (entries w.logged) (entries w.ran ++ w.out)
     ∙ (λ i. length-map w.logged entry i + (length-append (entries w.ran) w.out ∙ ap (λ n. n + length w.out) (length-map w.ran entry)) i)
 
 -- what goes out is at a place unrelated to those of all that are held
-pub granted_is_free : (g : Geometry) (w : World) (found : Entry × List Entry) → next_eligible g w ≡ Some found → AllByRecursion (λ d. touches g found.0 d ≡ false) (held w)
+pub granted_is_free : (g : Geometry) (w : World) (found : Entry × List Entry) → next_eligible g w ≡ Some found
+    → AllByRecursion (λ d. touches g found.0 d ≡ false) (held w)
 granted_is_free g w found h =
     let k = picked (is_eligible g w) w.waiting found h in
     let e = found.0 in
@@ -37,13 +38,15 @@ granted_is_free g w found h =
 pub held_grant : (w : World) (found : Entry × List Entry) → held (grant w found) ≡ held w ++ found.0 ∷ []
 held_grant w found = ap (λ l. entries w.logged ++ l) (sym (append_assoc (entries w.ran) w.out (found.0 ∷ []))) ∙ sym (append_assoc (entries w.logged) (entries w.ran ++ w.out) (found.0 ∷ []))
 
-pub grant_apart : (g : Geometry) (w : World) (found : Entry × List Entry) → next_eligible g w ≡ Some found → AreApart g (held w) → AreApart g (held (grant w found))
+pub grant_apart : (g : Geometry) (w : World) (found : Entry × List Entry) → next_eligible g w ≡ Some found → AreApart g (held w)
+    → AreApart g (held (grant w found))
 grant_apart g w found h apart =
     let e = found.0 in
     subst (AreApart g) (sym (held_grant w found))
     (before_push (λ e d. touches g e d ≡ false) (held w) e apart (all_weaker (λ d. touches g e d ≡ false) (λ d. touches g d e ≡ false) (λ d. apart_turned g e d) (held w) (granted_is_free g w found h)))
 
-pub back_apart : (g : Geometry) (w : World) (ticket : ℕ) (found : Entry × List Entry) → out_with w ticket ≡ Some found → AreApart g (held w) → AreApart g (held (give_back g w found))
+pub back_apart : (g : Geometry) (w : World) (ticket : ℕ) (found : Entry × List Entry) → out_with w ticket ≡ Some found
+    → AreApart g (held w) → AreApart g (held (give_back g w found))
 back_apart g w ticket found h apart =
     let k = picked (λ d. d.0 == ticket) w.out found h in
     let e = found.0 in

@@ -42,19 +42,22 @@ any_front p (u ∷ us) vs h = let k = or_parts (p u) (list_any p (us ++ vs)) h i
 
 module _ (g : Geometry) (x : State) where
   -- where nothing is logged and nothing comes
-  quiet : (new : World) (past : List Replied) (all : List Entry) (gone : List Replied) (come : List Entry) → gone ≡ [] → come ≡ [] → IsAsGood g x all (row new past) → IsAsGood g x (all ++ come) (row new (past ++ gone))
+  quiet : (new : World) (past : List Replied) (all : List Entry) (gone : List Replied) (come : List Entry) → gone ≡ [] → come ≡ []
+      → IsAsGood g x all (row new past) → IsAsGood g x (all ++ come) (row new (past ++ gone))
   quiet new past all gone come e f good =
       subst (λ c. IsAsGood g x (all ++ c) (row new (past ++ gone))) (sym f)
       (subst (λ d. IsAsGood g x (all ++ []) (row new (past ++ d))) (sym e)
       (subst (λ l. IsAsGood g x l (row new (past ++ []))) (sym (append-nil all)) (subst (λ l. IsAsGood g x all (row new l)) (sym (append-nil past)) good)))
 
-  one_more : (w : World) (past : List Replied) (e : Entry) → row w past ++ e ∷ [] ≡ entries past ++ (entries w.ran ++ (w.out ++ (w.waiting ++ e ∷ [])))
+  one_more : (w : World) (past : List Replied) (e : Entry)
+      → row w past ++ e ∷ [] ≡ entries past ++ (entries w.ran ++ (w.out ++ (w.waiting ++ e ∷ [])))
   one_more w past e =
       append_assoc (entries past) _ (e ∷ [])
       ∙ ap (λ l. entries past ++ l) (append_assoc (entries w.ran) _ (e ∷ []) ∙ ap (λ l. entries w.ran ++ l) (append_assoc w.out w.waiting (e ∷ [])))
 
   -- a related one with a smaller ticket doesn't wait
-  clear_of : (w : World) (e : Entry) (us : List Entry) → list_any (λ d. nat_lt d.0 e.0 && touches g e d) us ≡ false → AllByRecursion (λ d. d.0 < e.0) us → AllByRecursion (λ d. touches g e d ≡ false) us
+  clear_of : (w : World) (e : Entry) (us : List Entry) → list_any (λ d. nat_lt d.0 e.0 && touches g e d) us ≡ false
+      → AllByRecursion (λ d. d.0 < e.0) us → AllByRecursion (λ d. touches g e d ≡ false) us
   clear_of w e [] h j = tt
   clear_of w e (u ∷ us) h j =
       let k = all_none (λ d. nat_lt d.0 e.0 && touches g e d) (u ∷ us) h in
@@ -115,7 +118,8 @@ module _ (g : Geometry) (x : State) where
   move_good old new p past all (Answers a rest front is e) h good =
       quiet new past all p.gone p.come (ap (λ p. p.gone) e) (ap (λ p. p.come) e) (subst (λ w. IsAsGood g x all (row w past)) (sym is) good)
 
-  run_good : (old : Hands) (events : List Event) (past : List Replied) (all : List Entry) → IsLegal g old events → IsSound g old.core → IsAsGood g x all (row old.core past)
+  run_good : (old : Hands) (events : List Event) (past : List Replied) (all : List Entry) → IsLegal g old events
+      → IsSound g old.core → IsAsGood g x all (row old.core past)
       → IsAsGood g x (all ++ arrived events) (row (last old events).core (past ++ went old events))
   run_good old [] past all legal h good = quiet old.core past all [] [] refl refl good
   run_good old (event ∷ events) past all legal h good =
@@ -180,7 +184,8 @@ each_less [] h = tt
 each_less (e ∷ es) h = (h.0, each_less es h.1)
 
 -- So they are in order already.
-pub arrived_by_ticket : (g : Geometry) (old : Hands) (events : List Event) → IsLegal g old events → by_ticket (arrived events) ≡ arrived events
+pub arrived_by_ticket : (g : Geometry) (old : Hands) (events : List Event) → IsLegal g old events
+    → by_ticket (arrived events) ≡ arrived events
 arrived_by_ticket g old events legal = by_ticket-ascending (arrived events) (each_less (arrived events) (run_ascending g old events legal))
 
 -- ---- from a world in which nothing waits and nothing is held
@@ -206,7 +211,8 @@ module _ (g : Geometry) (old : Hands) (events : List Event) (legal : IsLegal g o
       logged_by_ticket p (subst (IsIn p) (sym all) (in_left p (answered events) _ is))
 
   -- Where all was answered in the end, the settled state is the serial one too.
-  pub settled_by_ticket : IsIdle (last old events).core → (last old events).core.settled ≡ fold g old.core.settled (messages (by_ticket (arrived events)))
+  pub settled_by_ticket : IsIdle (last old events).core
+      → (last old events).core.settled ≡ fold g old.core.settled (messages (by_ticket (arrived events)))
   settled_by_ticket ends =
       let new = (last old events).core in
       let none : row new (went old events) ≡ entries (went old events) =

@@ -17,7 +17,8 @@ legal_first g old [] (suc k) legal = tt
 legal_first g old (event ∷ events) (suc k) legal = (legal.0, legal_first g event.world events k legal.1)
 
 -- the first events append a beginning of what more of them append
-journal_first : (old : Hands) (events : List Event) (k after : ℕ) → k ≤ after → (rest : List Msg) × (journal old (take after events) ≡ journal old (take k events) ++ rest)
+journal_first : (old : Hands) (events : List Event) (k after : ℕ) → k ≤ after
+    → (rest : List Msg) × (journal old (take after events) ≡ journal old (take k events) ++ rest)
 journal_first old events zero after le = (journal old (take after events), refl)
 journal_first old events (suc k) zero le = absurd (omega (arith, le))
 journal_first old [] (suc k) (suc after) le = ([], refl)
@@ -27,14 +28,16 @@ journal_first old (event ∷ events) (suc k) (suc after) le =
     (j.0, ap (λ l. now ++ l) j.1 ∙ sym (append_assoc now (journal event.world (take k events)) j.0))
 
 -- Whatever is left, the log begins with all that was appended before.
-pub left_begins : (g : Geometry) (old : Hands) (events : List Event) (k : ℕ) (x : State) → IsLeftSince g old events k x → (rest : List Msg) × (x ≡ fold g old.core.settled (journal old (take k events) ++ rest))
+pub left_begins : (g : Geometry) (old : Hands) (events : List Event) (k : ℕ) (x : State) → IsLeftSince g old events k x
+    → (rest : List Msg) × (x ≡ fold g old.core.settled (journal old (take k events) ++ rest))
 left_begins g old events k x left =
     let j = journal_first old events k left.after left.since in
     let rest = take left.is_log.some (in_doubt (last old (take left.after events)).core (drop left.after events)) in
     (j.0 ++ rest, left.state ∙ ap (fold g old.core.settled) (left.is_log.is ∙ ap (λ l. l ++ rest) j.1 ∙ append_assoc (journal old (take k events)) j.0 rest))
 
 -- It is the settled state with the first so many of the messages in doubt.
-pub left_is_settled : (g : Geometry) (old : Hands) (events : List Event) (k : ℕ) (ms : List Msg) → IsLegal g old events → IsSound g old.core → (log : IsLogAfter old events k ms)
+pub left_is_settled : (g : Geometry) (old : Hands) (events : List Event) (k : ℕ) (ms : List Msg) → IsLegal g old events
+    → IsSound g old.core → (log : IsLogAfter old events k ms)
     → fold g old.core.settled ms ≡ fold g (last old (take k events)).core.settled (take log.some (in_doubt (last old (take k events)).core (drop k events)))
 left_is_settled g old events k ms legal h log =
     let rest = take log.some (in_doubt (last old (take k events)).core (drop k events)) in

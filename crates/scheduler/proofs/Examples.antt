@@ -157,7 +157,8 @@ failing_is_legal = (record { touched = refl; core = refl; hands = refl }, tt)
 abbrev false_alarm : Event
 false_alarm = record { step = steps.Log 1; outcome = outcomes.LogFault faults.Device; rose = true; world = failed_one }
 
-a_log_that_touches_no_device_doesnt_fail : IsAllowed small (after (one_hand 1 empty) (steps.Arrive AskSummary ∷ steps.Grant ∷ steps.Run 0 ∷ steps.Back 0 ∷ [])) false_alarm → ⊥
+a_log_that_touches_no_device_doesnt_fail : IsAllowed small (after (one_hand 1 empty) (steps.Arrive AskSummary ∷ steps.Grant ∷ steps.Run 0 ∷ steps.Back 0 ∷ [])) false_alarm
+    → ⊥
 a_log_that_touches_no_device_doesnt_fail h = true≢false (sym h.touched)
 
 -- an outcome that tells of a failure where none was

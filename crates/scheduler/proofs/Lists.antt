@@ -60,19 +60,22 @@ module _ {A : Type 0} (R : A → A → Type 0) where
   before_one [] e vs h = tt
   before_one (u ∷ us) e vs h = ((all_back (R u) us (e ∷ vs) h.0).0, before_one us e vs h.1)
 
-  pub before_join : (xs ys : List A) → EachBefore R xs → EachBefore R ys → AllByRecursion (λ x. AllByRecursion (R x) ys) xs → EachBefore R (xs ++ ys)
+  pub before_join : (xs ys : List A) → EachBefore R xs → EachBefore R ys → AllByRecursion (λ x. AllByRecursion (R x) ys) xs
+      → EachBefore R (xs ++ ys)
   before_join [] ys h j k = j
   before_join (x ∷ xs) ys h j k = (all_join (R x) xs ys h.0 k.0, before_join xs ys h.1 j k.1)
 
   -- where it doesn't matter which of two comes first, one may move to the front
-  pub before_first : ((x y : A) → R x y → R y x) → (us : List A) (e : A) (vs : List A) → EachBefore R (us ++ e ∷ vs) → EachBefore R (e ∷ (us ++ vs))
+  pub before_first : ((x y : A) → R x y → R y x) → (us : List A) (e : A) (vs : List A) → EachBefore R (us ++ e ∷ vs)
+      → EachBefore R (e ∷ (us ++ vs))
   before_first turned [] e vs h = h
   before_first turned (u ∷ us) e vs h =
       let k = before_first turned us e vs h.1 in
       let j = all_moved (R u) us e vs h.0 in
       ((turned u e j.0, k.0), (j.1, k.1))
 
-  pub before_moved : ((x y : A) → R x y → R y x) → (xs us : List A) (e : A) (vs : List A) → EachBefore R (xs ++ (us ++ e ∷ vs)) → EachBefore R (xs ++ e ∷ (us ++ vs))
+  pub before_moved : ((x y : A) → R x y → R y x) → (xs us : List A) (e : A) (vs : List A) → EachBefore R (xs ++ (us ++ e ∷ vs))
+      → EachBefore R (xs ++ e ∷ (us ++ vs))
   before_moved turned [] us e vs h = before_first turned us e vs h
   before_moved turned (x ∷ xs) us e vs h =
       (all_join (R x) xs (e ∷ (us ++ vs)) (all_front (R x) xs (us ++ e ∷ vs) h.0) (all_moved (R x) us e vs (all_back (R x) xs (us ++ e ∷ vs) h.0)), before_moved turned xs us e vs h.1)
@@ -96,7 +99,8 @@ picked {A} p (x ∷ xs) found h =
       | false ↦ λ e h. deeper (pick p xs) (λ f. picked p xs f) h
     ] refl h
   where
-    deeper : (o : Option (A × List A)) → ((f : A × List A) → o ≡ Some f → Picked p xs f) → option_map (λ (f : A × List A). (f.0, x ∷ f.1)) o ≡ Some found → Picked p (x ∷ xs) found
+    deeper : (o : Option (A × List A)) → ((f : A × List A) → o ≡ Some f → Picked p xs f)
+        → option_map (λ (f : A × List A). (f.0, x ∷ f.1)) o ≡ Some found → Picked p (x ∷ xs) found
     deeper None k h = absurd (true≢false (sym (ap is_some h)))
     deeper (Some f) ind h =
         let k = ind f refl in

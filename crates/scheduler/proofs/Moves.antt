@@ -51,8 +51,10 @@ passed w s o rose = record { gone = goes w s rose; come = arrives s o; told = an
 pub data Move (g : Geometry) (old new : World) (p : Passed) : Type 0 where
   Stays : (same : Same old new) → (passes : p ≡ nothing) → Move g old new p
   Arrives : (m : Msg) → (fits : length old.waiting + length (held old) < old.slots) → (is : new ≡ record old { waiting = old.waiting ++ (old.next, m) ∷ []; next = old.next + 1 }) → (passes : p ≡ record { gone = []; come = (old.next, m) ∷ []; told = [] }) → Move g old new p
-  Grants : (found : Entry × List Entry) → (first : next_eligible g old ≡ Some found) → (is : new ≡ grant old found) → (passes : p ≡ nothing) → Move g old new p
-  Backs : (ticket : ℕ) → (found : Entry × List Entry) → (one_out : out_with old ticket ≡ Some found) → (is : new ≡ give_back g old found) → (passes : p ≡ nothing) → Move g old new p
+  Grants : (found : Entry × List Entry) → (first : next_eligible g old ≡ Some found) → (is : new ≡ grant old found)
+      → (passes : p ≡ nothing) → Move g old new p
+  Backs : (ticket : ℕ) → (found : Entry × List Entry) → (one_out : out_with old ticket ≡ Some found)
+      → (is : new ≡ give_back g old found) → (passes : p ≡ nothing) → Move g old new p
   Logs : (n : ℕ) → (is : new ≡ log g old n) → (passes : p ≡ record { gone = take n old.ran; come = []; told = [] }) → Move g old new p
   Answers : (a : Replied) → (rest : List Replied) → (front : old.logged ≡ a ∷ rest) → (is : new ≡ record old { logged = rest }) → (passes : p ≡ record { gone = []; come = []; told = (a.0, a.2) ∷ [] }) → Move g old new p
 
@@ -160,7 +162,8 @@ module _ (g : Geometry) (w : Hands) where
   no_grant_moves true = stays g w.core
   no_grant_moves false = stays g w.core
 
-  grant_moves : (hand : Option ℕ) (found : Option (Entry × List Entry)) → next_eligible g w.core ≡ found → In g w steps.Grant (grant_to g w hand found)
+  grant_moves : (hand : Option ℕ) (found : Option (Entry × List Entry)) → next_eligible g w.core ≡ found
+      → In g w steps.Grant (grant_to g w hand found)
   grant_moves None found e = stays g w.core
   grant_moves (Some hand) None e = no_grant_moves _
   grant_moves (Some hand) (Some found) e = Grants found e refl refl
@@ -171,7 +174,8 @@ module _ (g : Geometry) (w : Hands) where
   run_moves i (Some (Job ticket)) = stays g w.core
   run_moves i (Some (Result ticket)) = stays g w.core
 
-  found_moves : (i ticket : ℕ) (found : Option (Entry × List Entry)) → out_with w.core ticket ≡ found → In g w (steps.Back i) (back_from g w i found)
+  found_moves : (i ticket : ℕ) (found : Option (Entry × List Entry)) → out_with w.core ticket ≡ found
+      → In g w (steps.Back i) (back_from g w i found)
   found_moves i ticket None e = stays g w.core
   found_moves i ticket (Some found) e = Backs ticket found e refl refl
 
@@ -194,9 +198,11 @@ module _ (g : Geometry) (w : Hands) where
   happens_moves n steps.Flip = flip_moves g w.core (flip_refusal w.core)
 
 -- Each allowed event is a move of the core.
-pub moves : (g : Geometry) (old : Hands) (event : Event) → IsAllowed g old event → Move g old.core event.world.core (passed old.core event.step event.outcome event.rose)
+pub moves : (g : Geometry) (old : Hands) (event : Event) → IsAllowed g old event
+    → Move g old.core event.world.core (passed old.core event.step event.outcome event.rose)
 moves g old event h = by event.rose h
   where
-    by : (b : Bool) → MatchBool b (IsFault old event) (IsCarriedOut g old event) → Move g old.core event.world.core (passed old.core event.step event.outcome b)
+    by : (b : Bool) → MatchBool b (IsFault old event) (IsCarriedOut g old event)
+        → Move g old.core event.world.core (passed old.core event.step event.outcome b)
     by true f = subst (λ x. Move g old.core x.1 (passed old.core event.step x.0 true)) f.core (fault_moves g old.core event.step)
     by false d = subst (In g old event.step) d.does (happens_moves g old d.to_write event.step)

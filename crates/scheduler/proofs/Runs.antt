@@ -37,11 +37,13 @@ move_follows g old new p (Logs n is e) h =
     subst (λ p. Follows g old new p.gone) (sym e) (record { told = k.told; settled = ap (λ w. w.settled) is ∙ k.logs })
 move_follows g old new p (Answers a rest front is e) h = quiet g old new p.gone (ap (λ p. p.gone) e) (ap (λ w. w.settled) is)
 
-event_follows : (g : Geometry) (old : Hands) (event : Event) → IsAllowed g old event → IsSound g old.core → Follows g old.core event.world.core (goes old.core event.step event.rose)
+event_follows : (g : Geometry) (old : Hands) (event : Event) → IsAllowed g old event → IsSound g old.core
+    → Follows g old.core event.world.core (goes old.core event.step event.rose)
 event_follows g old event allowed h = move_follows g old.core event.world.core _ (moves g old event allowed) h
 
 -- The messages that a run logs are told, one after the other in log order, what they were replied.
-pub run_follows : (g : Geometry) (old : Hands) (events : List Event) → IsLegal g old events → IsSound g old.core → Follows g old.core (last old events).core (went old events)
+pub run_follows : (g : Geometry) (old : Hands) (events : List Event) → IsLegal g old events → IsSound g old.core
+    → Follows g old.core (last old events).core (went old events)
 run_follows g old [] legal h = record { told = refl; settled = refl }
 run_follows g old (event ∷ events) legal h =
     let x = old.core.settled in
@@ -68,7 +70,8 @@ move_answers g old new p (Answers a rest front is e) =
     ap (λ p. said old.logged ++ said p.gone) e ∙ append-nil (said old.logged) ∙ ap said front ∙ ap (λ w. (a.0, a.2) ∷ said w.logged) (sym is) ∙ ap (λ p. p.told ++ said new.logged) (sym e)
 
 -- What a run answers is what was logged before and in it, in log order, up to what is logged still.
-pub run_answers : (g : Geometry) (old : Hands) (events : List Event) → IsLegal g old events → said old.core.logged ++ said (went old events) ≡ answered events ++ said (last old events).core.logged
+pub run_answers : (g : Geometry) (old : Hands) (events : List Event) → IsLegal g old events
+    → said old.core.logged ++ said (went old events) ≡ answered events ++ said (last old events).core.logged
 run_answers g old [] legal = append-nil (said old.core.logged)
 run_answers g old (event ∷ events) legal =
     let gone = goes old.core event.step event.rose in
@@ -83,7 +86,8 @@ run_answers g old (event ∷ events) legal =
 -- ---- the journal
 
 -- What a step appends leads where the messages that it logs lead.
-appends : (g : Geometry) (w : World) (s : Step) (rose : Bool) → IsSound g w → fold g w.settled (appended w s rose) ≡ fold g w.settled (messages (entries (goes w s rose)))
+appends : (g : Geometry) (w : World) (s : Step) (rose : Bool) → IsSound g w
+    → fold g w.settled (appended w s rose) ≡ fold g w.settled (messages (entries (goes w s rose)))
 appends g w (steps.Arrive m) rose h = refl
 appends g w steps.Grant rose h = refl
 appends g w (steps.Run i) rose h = refl
@@ -99,7 +103,8 @@ appends g w steps.Piece rose h = refl
 appends g w steps.Flip rose h = refl
 
 -- The settled state after a run is what its journal leaves.
-pub run_journal : (g : Geometry) (old : Hands) (events : List Event) → IsLegal g old events → IsSound g old.core → (last old events).core.settled ≡ fold g old.core.settled (journal old events)
+pub run_journal : (g : Geometry) (old : Hands) (events : List Event) → IsLegal g old events → IsSound g old.core
+    → (last old events).core.settled ≡ fold g old.core.settled (journal old events)
 run_journal g old [] legal h = refl
 run_journal g old (event ∷ events) legal h =
     run_journal g event.world events legal.1 (event_sound g old event legal.0 h)

@@ -32,7 +32,9 @@ module _ (g : Geometry) where
       (subst (λ r. AreApart g (entries r)) (sym whole) (before_front _ (entries w.ran) w.out (before_back _ (entries w.logged) _ h.apart)))
       (subst (AreReplied g w.settled) (sym whole) h.replied)
 
-  stays_sound : (old new : World) (p : Passed) → Move g old new p → new.waiting ≡ old.waiting → new.out ≡ old.out → new.ran ≡ old.ran → new.logged ≡ old.logged → new.settled ≡ old.settled → new.next ≡ old.next → new.slots ≡ old.slots → IsSound g old → IsSound g new
+  stays_sound : (old new : World) (p : Passed) → Move g old new p → new.waiting ≡ old.waiting → new.out ≡ old.out
+      → new.ran ≡ old.ran → new.logged ≡ old.logged → new.settled ≡ old.settled → new.next ≡ old.next → new.slots ≡ old.slots
+      → IsSound g old → IsSound g new
   stays_sound old new p move waiting out ran logged settled next slots h =
       let all : new.out ++ new.waiting ≡ old.out ++ old.waiting = λ i. out i ++ waiting i in
       let holds : held new ≡ held old = λ i. entries (logged i) ++ (entries (ran i) ++ out i) in
@@ -86,7 +88,8 @@ module _ (g : Geometry) where
         fits = omega (arith, was, now, holds, fits);
       })
     where
-      moved : (n : ℕ) (xs us : List Entry) (e : Entry) (vs : List Entry) → AllByRecursion (IsGiven n) (xs ++ (us ++ e ∷ vs)) → AllByRecursion (IsGiven n) (xs ++ e ∷ (us ++ vs))
+      moved : (n : ℕ) (xs us : List Entry) (e : Entry) (vs : List Entry) → AllByRecursion (IsGiven n) (xs ++ (us ++ e ∷ vs))
+          → AllByRecursion (IsGiven n) (xs ++ e ∷ (us ++ vs))
       moved n xs us e vs h = all_join (IsGiven n) xs (e ∷ (us ++ vs)) (all_front (IsGiven n) xs _ h) (all_moved (IsGiven n) us e vs (all_back (IsGiven n) xs _ h))
   move_sound old new p (Backs ticket found one_out is e) h =
       let k = picked (λ d. d.0 == ticket) old.out found one_out in
@@ -136,7 +139,8 @@ module _ (g : Geometry) where
   pub event_sound : (old : Hands) (event : Event) → IsAllowed g old event → IsSound g old.core → IsSound g event.world.core
   event_sound old event allowed h = move_sound old.core event.world.core _ (moves g old event allowed) h
 
-  pub run_sound : (old : Hands) (events : List Event) → IsLegal g old events → IsSound g old.core → AllByRecursion (λ event. IsSound g event.world.core) events
+  pub run_sound : (old : Hands) (events : List Event) → IsLegal g old events → IsSound g old.core
+      → AllByRecursion (λ event. IsSound g event.world.core) events
   run_sound old [] legal h = tt
   run_sound old (event ∷ events) legal h =
       let k = event_sound old event legal.0 h in
@@ -156,7 +160,8 @@ pub event_slots : (g : Geometry) (old : Hands) (event : Event) → IsAllowed g o
 event_slots g old event allowed = move_slots g old.core event.world.core _ (moves g old event allowed)
 
 -- Whatever a run of events does, what is out and what ran has room, and each message has a slot of those that there were.
-pub run_fits : (g : Geometry) (old : Hands) (events : List Event) → IsLegal g old events → IsSound g old.core → AllByRecursion (λ event. HasRoom old.core.slots event.world.core) events
+pub run_fits : (g : Geometry) (old : Hands) (events : List Event) → IsLegal g old events → IsSound g old.core
+    → AllByRecursion (λ event. HasRoom old.core.slots event.world.core) events
 run_fits g old [] legal h = tt
 run_fits g old (event ∷ events) legal h =
     let k = event_sound g old event legal.0 h in
@@ -175,5 +180,6 @@ move_doubts g old new p (Backs ticket found one_out is e) h = subst DoubtsOnlyFa
 move_doubts g old new p (Logs n is e) h = subst DoubtsOnlyFailed (sym is) h
 move_doubts g old new p (Answers a rest front is e) h = subst DoubtsOnlyFailed (sym is) h
 
-pub event_doubts : (g : Geometry) (old : Hands) (event : Event) → IsAllowed g old event → DoubtsOnlyFailed old.core → DoubtsOnlyFailed event.world.core
+pub event_doubts : (g : Geometry) (old : Hands) (event : Event) → IsAllowed g old event → DoubtsOnlyFailed old.core
+    → DoubtsOnlyFailed event.world.core
 event_doubts g old event allowed h = move_doubts g old.core event.world.core _ (moves g old event allowed) h

@@ -17,7 +17,8 @@ use Rattle.scheduler.proofs.Apart.{apart_turned}
 
 -- ---- lists after one another
 
-pub fold-append : (g : Geometry) (x : State) (es fs : List Entry) → fold g x (messages (es ++ fs)) ≡ fold g (fold g x (messages es)) (messages fs)
+pub fold-append : (g : Geometry) (x : State) (es fs : List Entry)
+    → fold g x (messages (es ++ fs)) ≡ fold g (fold g x (messages es)) (messages fs)
 fold-append g x [] fs = refl
 fold-append g x (e ∷ es) fs = fold-append g (next_state g x e.1) es fs
 
@@ -36,7 +37,8 @@ said-append (a ∷ as') bs = ap (λ l. (a.0, a.2) ∷ l) (said-append as' bs)
 -- ---- messages in a row
 
 module _ (g : Geometry) where
-  still_replied : (x : State) (a : Replied) (as' : List Replied) → AllByRecursion (λ d. touches g (entry a) d ≡ false) (entries as') → AreReplied g x as' → AreReplied g (next_state g x a.1) as'
+  still_replied : (x : State) (a : Replied) (as' : List Replied) → AllByRecursion (λ d. touches g (entry a) d ≡ false) (entries as')
+      → AreReplied g x as' → AreReplied g (next_state g x a.1) as'
   still_replied x a [] apart h = tt
   still_replied x a (d ∷ as') apart h =
       (h.0 ∙ sym (same_reply g x d.1 a.1 (apart_turned g (entry a) (entry d) apart.0)), still_replied x a as' apart.1 h.1)
@@ -47,7 +49,8 @@ module _ (g : Geometry) where
     pub logs : fold g x (loggable first) ≡ fold g x (messages (entries first))
     pub still : AreReplied g (fold g x (messages (entries first))) rest
 
-  pub in_a_row : (x : State) (first rest : List Replied) → AreApart g (entries (first ++ rest)) → AreReplied g x (first ++ rest) → InARow x first rest
+  pub in_a_row : (x : State) (first rest : List Replied) → AreApart g (entries (first ++ rest)) → AreReplied g x (first ++ rest)
+      → InARow x first rest
   in_a_row x [] rest apart h = record { told = refl; logs = refl; still = h }
   in_a_row x (a ∷ first) rest apart h =
       let k = in_a_row (next_state g x a.1) first rest apart.1 (still_replied x a (first ++ rest) apart.0 h.1) in
@@ -100,7 +103,8 @@ module _ (g : Geometry) where
   }
 
   -- one moves to the front, past unrelated ones
-  good_first : (x : State) (us : List Entry) (e : Entry) (vs : List Entry) → AllByRecursion (λ d. touches g e d ≡ false) us → IsAsGood g x (us ++ e ∷ vs) (e ∷ (us ++ vs))
+  good_first : (x : State) (us : List Entry) (e : Entry) (vs : List Entry) → AllByRecursion (λ d. touches g e d ≡ false) us
+      → IsAsGood g x (us ++ e ∷ vs) (e ∷ (us ++ vs))
   good_first x [] e vs h = good_itself x (e ∷ vs)
   good_first x (u ∷ us) e vs h =
       let k = good_first (next_state g x u.1) us e vs h.1 in
@@ -119,5 +123,6 @@ module _ (g : Geometry) where
       let k = good_after (next_state g x p'.1) ps es fs h in
       record { state = k.state; tells = λ p r. ⊎_elim (λ is. inl is) (λ t. inr (k.tells p t)) r }
 
-  pub good_moved : (x : State) (ps us : List Entry) (e : Entry) (vs : List Entry) → AllByRecursion (λ d. touches g e d ≡ false) us → IsAsGood g x (ps ++ (us ++ e ∷ vs)) (ps ++ e ∷ (us ++ vs))
+  pub good_moved : (x : State) (ps us : List Entry) (e : Entry) (vs : List Entry) → AllByRecursion (λ d. touches g e d ≡ false) us
+      → IsAsGood g x (ps ++ (us ++ e ∷ vs)) (ps ++ e ∷ (us ++ vs))
   good_moved x ps us e vs h = good_after x ps _ _ (λ y. good_first y us e vs h)
