@@ -32,18 +32,21 @@ granted_is_free g w found h =
     let k = picked (is_eligible g w) w.waiting found h in
     let e = found.0 in
     let clear = (and_parts (is_clear g w e) (has_room w e) k.passes).0 in
-    let free = (and_parts (not (list_any (touches g e) (held w))) (not (list_any (λ d. nat_lt d.0 e.0 && touches g e d) w.waiting)) clear).0 in
+    let free = (and_parts (not (list_any (touches g e) (held w))) (not (list_any
+    (λ d. nat_lt d.0 e.0 && touches g e d) w.waiting)) clear).0 in
     all_none (touches g e) (held w) (not-true _ free)
 
 pub held_grant : (w : World) (found : Entry × List Entry) → held (grant w found) ≡ held w ++ found.0 ∷ []
-held_grant w found = ap (λ l. entries w.logged ++ l) (sym (append_assoc (entries w.ran) w.out (found.0 ∷ []))) ∙ sym (append_assoc (entries w.logged) (entries w.ran ++ w.out) (found.0 ∷ []))
+held_grant w found = ap (λ l. entries w.logged ++ l) (sym (append_assoc (entries w.ran) w.out (found.0 ∷ [])))
+    ∙ sym (append_assoc (entries w.logged) (entries w.ran ++ w.out) (found.0 ∷ []))
 
 pub grant_apart : (g : Geometry) (w : World) (found : Entry × List Entry) → next_eligible g w ≡ Some found → AreApart g (held w)
     → AreApart g (held (grant w found))
 grant_apart g w found h apart =
     let e = found.0 in
     subst (AreApart g) (sym (held_grant w found))
-    (before_push (λ e d. touches g e d ≡ false) (held w) e apart (all_weaker (λ d. touches g e d ≡ false) (λ d. touches g d e ≡ false) (λ d. apart_turned g e d) (held w) (granted_is_free g w found h)))
+    (before_push (λ e d. touches g e d ≡ false) (held w) e apart (all_weaker (λ d. touches g e d ≡ false) (λ d. touches g d e ≡ false)
+    (λ d. apart_turned g e d) (held w) (granted_is_free g w found h)))
 
 pub back_apart : (g : Geometry) (w : World) (ticket : ℕ) (found : Entry × List Entry) → out_with w ticket ≡ Some found
     → AreApart g (held w) → AreApart g (held (give_back g w found))
@@ -53,9 +56,11 @@ back_apart g w ticket found h apart =
     let L = entries w.logged in
     let R = entries w.ran in
     let split : held w ≡ (L ++ R) ++ (k.before ++ e ∷ k.behind) = ap (λ o. L ++ (R ++ o)) k.whole ∙ sym (append_assoc L R _) in
-    let moved = before_moved (λ e d. touches g e d ≡ false) (apart_turned g) (L ++ R) k.before e k.behind (subst (AreApart g) split apart) in
+    let moved = before_moved (λ e d. touches g e d ≡ false) (apart_turned g) (L ++ R) k.before e k.behind
+    (subst (AreApart g) split apart) in
     subst (AreApart g)
-    (append_assoc L R _ ∙ ap (λ l. L ++ l) (sym (append_assoc R (e ∷ []) (k.before ++ k.behind)) ∙ (λ i. sym (entries-append w.ran ((e.0, e.1, reply_to g w.settled e.1) ∷ [])) i ++ sym k.rest i)))
+    (append_assoc L R _ ∙ ap (λ l. L ++ l) (sym (append_assoc R (e ∷ []) (k.before ++ k.behind)) ∙
+    (λ i. sym (entries-append w.ran ((e.0, e.1, reply_to g w.settled e.1) ∷ [])) i ++ sym k.rest i)))
     moved
 
 -- A log moves nothing in the row of the held messages.

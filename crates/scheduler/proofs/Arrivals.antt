@@ -47,26 +47,32 @@ module _ (g : Geometry) (x : State) where
   quiet new past all gone come e f good =
       subst (λ c. IsAsGood g x (all ++ c) (row new (past ++ gone))) (sym f)
       (subst (λ d. IsAsGood g x (all ++ []) (row new (past ++ d))) (sym e)
-      (subst (λ l. IsAsGood g x l (row new (past ++ []))) (sym (append-nil all)) (subst (λ l. IsAsGood g x all (row new l)) (sym (append-nil past)) good)))
+      (subst (λ l. IsAsGood g x l (row new (past ++ []))) (sym (append-nil all))
+      (subst (λ l. IsAsGood g x all (row new l)) (sym (append-nil past)) good)))
 
   one_more : (w : World) (past : List Replied) (e : Entry)
       → row w past ++ e ∷ [] ≡ entries past ++ (entries w.ran ++ (w.out ++ (w.waiting ++ e ∷ [])))
   one_more w past e =
       append_assoc (entries past) _ (e ∷ [])
-      ∙ ap (λ l. entries past ++ l) (append_assoc (entries w.ran) _ (e ∷ []) ∙ ap (λ l. entries w.ran ++ l) (append_assoc w.out w.waiting (e ∷ [])))
+      ∙ ap (λ l. entries past ++ l) (append_assoc (entries w.ran) _ (e ∷ []) ∙ ap
+      (λ l. entries w.ran ++ l) (append_assoc w.out w.waiting (e ∷ [])))
 
   -- a related one with a smaller ticket doesn't wait
   clear_of : (w : World) (e : Entry) (us : List Entry) → list_any (λ d. nat_lt d.0 e.0 && touches g e d) us ≡ false
       → AllByRecursion (λ d. d.0 < e.0) us → AllByRecursion (λ d. touches g e d ≡ false) us
   clear_of w e [] h j = tt
   clear_of w e (u ∷ us) h j =
-      let k = all_none (λ d. nat_lt d.0 e.0 && touches g e d) (u ∷ us) h in
-      (ap (λ b. b && touches g e u) (sym (lt-ltb u.0 e.0 j.0)) ∙ k.0, clear_of w e us (not_any (λ d. nat_lt d.0 e.0 && touches g e d) us k.1) j.1)
+      let k = all_none (λ d. nat_lt d.0 e.0 && touches g e d) (u ∷ us) h in (
+        ap (λ b. b && touches g e u) (sym (lt-ltb u.0 e.0 j.0))
+            ∙ k.0,
+        clear_of w e us (not_any (λ d. nat_lt d.0 e.0 && touches g e d) us k.1) j.1,
+      )
 
   move_good : (old new : World) (p : Passed) (past : List Replied) (all : List Entry)
       → Move g old new p → IsSound g old → IsAsGood g x all (row old past) → IsAsGood g x (all ++ p.come) (row new (past ++ p.gone))
   move_good old new p past all (Stays s e) h good =
-      quiet new past all p.gone p.come (ap (λ p. p.gone) e) (ap (λ p. p.come) e) (subst (IsAsGood g x all) (λ i. entries past ++ (entries (sym s.ran i) ++ (sym s.out i ++ sym s.waiting i))) good)
+      quiet new past all p.gone p.come (ap (λ p. p.gone) e) (ap (λ p. p.come) e)
+      (subst (IsAsGood g x all) (λ i. entries past ++ (entries (sym s.ran i) ++ (sym s.out i ++ sym s.waiting i))) good)
   move_good old new p past all (Arrives m fits is e) h good =
       let one : Entry = (old.next, m) in
       subst (λ p. IsAsGood g x (all ++ p.come) (row new (past ++ p.gone))) (sym e)
@@ -80,16 +86,21 @@ module _ (g : Geometry) (x : State) where
       let R = entries old.ran in
       let waits_before = λ (d : Entry). nat_lt d.0 one.0 && touches g one d in
       let clear = (and_parts (is_clear g old one) (has_room old one) k.passes).0 in
-      let early = (and_parts (not (list_any (touches g one) (held old))) (not (list_any (λ d. nat_lt d.0 one.0 && touches g one d) old.waiting)) clear).1 in
+      let early = (and_parts (not (list_any (touches g one) (held old))) (not (list_any
+      (λ d. nat_lt d.0 one.0 && touches g one d) old.waiting)) clear).1 in
       let none = any_front waits_before k.before (one ∷ k.behind) (ap (list_any waits_before) (sym k.whole) ∙ not-true _ early) in
-      let free = clear_of old one k.before none (before_one (λ e d. e.0 < d.0) k.before one k.behind (subst AreAscending k.whole h.ascending)) in
+      let free = clear_of old one k.before none (before_one (λ e d. e.0 < d.0) k.before one k.behind
+      (subst AreAscending k.whole h.ascending)) in
       let F = P ++ (R ++ old.out) in
-      let joined : (l : List Entry) → P ++ (R ++ (old.out ++ l)) ≡ F ++ l = λ l. ap (λ m. P ++ m) (sym (append_assoc R old.out l)) ∙ sym (append_assoc P (R ++ old.out) l) in
+      let joined : (l : List Entry) → P ++ (R ++ (old.out ++ l)) ≡ F ++ l = λ l. ap (λ m. P ++ m) (sym (append_assoc R old.out l))
+      ∙ sym (append_assoc P (R ++ old.out) l) in
       let from : row old past ≡ F ++ (k.before ++ one ∷ k.behind) = ap (λ l. P ++ (R ++ (old.out ++ l))) k.whole ∙ joined _ in
       let to : F ++ one ∷ (k.before ++ k.behind) ≡ row (grant old found) past =
-      sym (joined _) ∙ ap (λ l. P ++ (R ++ l)) (sym (append_assoc old.out (one ∷ []) _) ∙ ap (λ l. (old.out ++ one ∷ []) ++ l) (sym k.rest)) in
+      sym (joined _) ∙ ap (λ l. P ++ (R ++ l)) (sym (append_assoc old.out (one ∷ []) _) ∙ ap
+      (λ l. (old.out ++ one ∷ []) ++ l) (sym k.rest)) in
       quiet new past all p.gone p.come (ap (λ p. p.gone) e) (ap (λ p. p.come) e) (subst (λ w. IsAsGood g x all (row w past)) (sym is)
-      (subst (IsAsGood g x all) to (good_on g x all _ _ (subst (IsAsGood g x all) from good) (good_moved g x F k.before one k.behind free))))
+      (subst (IsAsGood g x all) to (good_on g x all _ _
+      (subst (IsAsGood g x all) from good) (good_moved g x F k.before one k.behind free))))
   move_good old new p past all (Backs ticket found one_out is e) h good =
       let k = picked (λ d. d.0 == ticket) old.out found one_out in
       let one = found.0 in
@@ -97,19 +108,27 @@ module _ (g : Geometry) (x : State) where
       let R = entries old.ran in
       let L = entries old.logged in
       let whole : held old ≡ (L ++ R) ++ (k.before ++ one ∷ k.behind) = ap (λ o. L ++ (R ++ o)) k.whole ∙ sym (append_assoc L R _) in
-      let free = all_front (λ d. touches g one d ≡ false) k.before k.behind (before_back (λ e d. touches g e d ≡ false) (L ++ R) _ (before_moved (λ e d. touches g e d ≡ false) (apart_turned g) (L ++ R) k.before one k.behind (subst (AreApart g) whole h.apart))).0 in
+      let free = all_front (λ d. touches g one d ≡ false) k.before k.behind (before_back
+      (λ e d. touches g e d ≡ false) (L ++ R) _ (before_moved
+      (λ e d. touches g e d ≡ false) (apart_turned g) (L ++ R) k.before one k.behind (subst (AreApart g) whole h.apart))).0 in
       let from : row old past ≡ (P ++ R) ++ (k.before ++ one ∷ (k.behind ++ old.waiting)) =
-      ap (λ o. P ++ (R ++ (o ++ old.waiting))) k.whole ∙ ap (λ l. P ++ (R ++ l)) (append_assoc k.before (one ∷ k.behind) old.waiting) ∙ sym (append_assoc P R _) in
-      let back : R ++ one ∷ [] ≡ entries (old.ran ++ (one.0, one.1, reply_to g old.settled one.1) ∷ []) = sym (entries-append old.ran ((one.0, one.1, reply_to g old.settled one.1) ∷ [])) in
+      ap (λ o. P ++ (R ++ (o ++ old.waiting))) k.whole ∙ ap (λ l. P ++ (R ++ l)) (append_assoc k.before (one ∷ k.behind) old.waiting)
+      ∙ sym (append_assoc P R _) in
+      let back : R ++ one ∷ [] ≡ entries (old.ran ++ (one.0, one.1, reply_to g old.settled one.1)
+      ∷ []) = sym (entries-append old.ran ((one.0, one.1, reply_to g old.settled one.1) ∷ [])) in
       let to : (P ++ R) ++ one ∷ (k.before ++ (k.behind ++ old.waiting)) ≡ row (give_back g old found) past =
-      append_assoc P R _ ∙ ap (λ l. P ++ l) (sym (append_assoc R (one ∷ []) _) ∙ (λ i. back i ++ (sym (append_assoc k.before k.behind old.waiting) i)) ∙ ap (λ o. entries (old.ran ++ (one.0, one.1, reply_to g old.settled one.1) ∷ []) ++ (o ++ old.waiting)) (sym k.rest)) in
+      append_assoc P R _ ∙ ap (λ l. P ++ l) (sym (append_assoc R (one ∷ []) _) ∙
+      (λ i. back i ++ (sym (append_assoc k.before k.behind old.waiting) i)) ∙ ap
+      (λ o. entries (old.ran ++ (one.0, one.1, reply_to g old.settled one.1) ∷ []) ++ (o ++ old.waiting)) (sym k.rest)) in
       quiet new past all p.gone p.come (ap (λ p. p.gone) e) (ap (λ p. p.come) e) (subst (λ w. IsAsGood g x all (row w past)) (sym is)
-      (subst (IsAsGood g x all) to (good_on g x all _ _ (subst (IsAsGood g x all) from good) (good_moved g x (P ++ R) k.before one (k.behind ++ old.waiting) free))))
+      (subst (IsAsGood g x all) to (good_on g x all _ _
+      (subst (IsAsGood g x all) from good) (good_moved g x (P ++ R) k.before one (k.behind ++ old.waiting) free))))
   move_good old new p past all (Logs n is e) h good =
       let rest = old.out ++ old.waiting in
       let same : row old past ≡ row (log g old n) (past ++ take n old.ran) =
       ap (λ l. entries past ++ (entries l ++ rest)) (sym (take-append-drop n old.ran))
-      ∙ ap (λ l. entries past ++ l) (ap (λ l. l ++ rest) (entries-append (take n old.ran) (drop n old.ran)) ∙ append_assoc (entries (take n old.ran)) (entries (drop n old.ran)) rest)
+      ∙ ap (λ l. entries past ++ l) (ap (λ l. l ++ rest) (entries-append (take n old.ran) (drop n old.ran))
+      ∙ append_assoc (entries (take n old.ran)) (entries (drop n old.ran)) rest)
       ∙ sym (append_assoc (entries past) (entries (take n old.ran)) _)
       ∙ ap (λ l. l ++ (entries (drop n old.ran) ++ rest)) (sym (entries-append past (take n old.ran))) in
       subst (λ p. IsAsGood g x (all ++ p.come) (row new (past ++ p.gone))) (sym e)
@@ -127,9 +146,12 @@ module _ (g : Geometry) (x : State) where
       let p = passed old.core event.step event.outcome event.rose in
       let gone = goes old.core event.step event.rose in
       let come = arrives event.step event.outcome in
-      let k = run_good event.world events (past ++ gone) (all ++ come) legal.1 (move_sound g old.core event.world.core p m h) (move_good old.core event.world.core p past all m h good) in
-      subst (λ l. IsAsGood g x l (row (last event.world events).core (past ++ (gone ++ went event.world events)))) (append_assoc all come (arrived events))
-      (subst (λ l. IsAsGood g x ((all ++ come) ++ arrived events) (row (last event.world events).core l)) (append_assoc past gone (went event.world events)) k)
+      let k = run_good event.world events (past ++ gone) (all
+      ++ come) legal.1 (move_sound g old.core event.world.core p m h) (move_good old.core event.world.core p past all m h good) in
+      subst (λ l. IsAsGood g x l (row (last event.world events).core (past
+      ++ (gone ++ went event.world events)))) (append_assoc all come (arrived events))
+      (subst (λ l. IsAsGood g x ((all ++ come)
+      ++ arrived events) (row (last event.world events).core l)) (append_assoc past gone (went event.world events)) k)
 
 -- ---- tickets are given in order
 
@@ -144,13 +166,15 @@ record GivenFrom (old new : World) (come : List Entry) : Type 0 where
   below : AllByRecursion (λ e. e.0 < new.next) come
 
 none_come : (old new : World) (come : List Entry) → come ≡ [] → new.next ≡ old.next → GivenFrom old new come
-none_come old new come none next = subst (GivenFrom old new) (sym none) (record { grows = omega (arith, next); ascending = tt; from = tt; below = tt })
+none_come old new come none next = subst (GivenFrom old new) (sym none)
+    (record { grows = omega (arith, next); ascending = tt; from = tt; below = tt })
 
 move_given : (g : Geometry) (old new : World) (p : Passed) → Move g old new p → GivenFrom old new p.come
 move_given g old new p (Stays s e) = none_come old new p.come (ap (λ p. p.come) e) s.next
 move_given g old new p (Arrives m fits is e) =
     let next = ap (λ w. w.next) is in
-    subst (λ p. GivenFrom old new p.come) (sym e) (record { grows = omega (arith, next); ascending = (tt, tt); from = (omega arith, tt); below = (omega (arith, next), tt) })
+    subst (λ p. GivenFrom old new p.come) (sym e)
+    (record { grows = omega (arith, next); ascending = (tt, tt); from = (omega arith, tt); below = (omega (arith, next), tt) })
 move_given g old new p (Grants found first is e) = none_come old new p.come (ap (λ p. p.come) e) (ap (λ w. w.next) is)
 move_given g old new p (Backs ticket found one_out is e) = none_come old new p.come (ap (λ p. p.come) e) (ap (λ w. w.next) is)
 move_given g old new p (Logs n is e) = none_come old new p.come (ap (λ p. p.come) e) (ap (λ w. w.next) is)
@@ -170,7 +194,8 @@ run_given g old (event ∷ events) legal =
     record {
       ascending = before_join (λ e d. e.0 < d.0) come (arrived events) k.ascending j.ascending
           (all_weaker (λ e. e.0 < event.world.core.next) (λ e. AllByRecursion (λ d. e.0 < d.0) (arrived events))
-          (λ e lt. all_weaker (IsFrom event.world.core.next) (λ d. e.0 < d.0) (λ d from. omega (arith, lt, from)) (arrived events) j.from) come k.below);
+          (λ e lt. all_weaker (IsFrom event.world.core.next) (λ d. e.0 < d.0)
+          (λ d from. omega (arith, lt, from)) (arrived events) j.from) come k.below);
       from = all_join (IsFrom old.core.next) come (arrived events) k.from
           (all_weaker (IsFrom event.world.core.next) (IsFrom old.core.next) (λ d from. omega (arith, grows, from)) (arrived events) j.from);
     }
@@ -195,13 +220,15 @@ module _ (g : Geometry) (old : Hands) (events : List Event) (legal : IsLegal g o
   good =
       let none : row old.core [] ≡ [] = λ i. entries (none_ran old.core idle i) ++ (none_out old.core idle i ++ idle.none_waits i) in
       subst (λ l. IsAsGood g old.core.settled l (row (last old events).core (went old events))) (sym (arrived_by_ticket g old events legal))
-      (run_good g old.core.settled old events [] [] legal h (subst (IsAsGood g old.core.settled []) (sym none) (good_itself g old.core.settled [])))
+      (run_good g old.core.settled old events [] [] legal h
+      (subst (IsAsGood g old.core.settled []) (sym none) (good_itself g old.core.settled [])))
 
   -- Each reply to a message that the run logs is that of the serial server to the messages by ticket.
   pub logged_by_ticket : (p : ℕ × Reply) → IsIn p (said (went old events)) → IsIn p (told g old.core.settled (by_ticket (arrived events)))
   logged_by_ticket p is =
       let x = old.core.settled in
-      good.tells p (subst (IsIn p) (sym (told-append g x (entries (went old events)) _)) (in_left p _ _ (subst (IsIn p) (sym (run_follows g old events legal h).told) is)))
+      good.tells p (subst (IsIn p) (sym (told-append g x (entries (went old events)) _)) (in_left p _ _
+      (subst (IsIn p) (sym (run_follows g old events legal h).told) is)))
 
   -- So is each reply that it gives.
   pub answered_by_ticket : (p : ℕ × Reply) → IsIn p (answered events) → IsIn p (told g old.core.settled (by_ticket (arrived events)))
@@ -216,5 +243,6 @@ module _ (g : Geometry) (old : Hands) (events : List Event) (legal : IsLegal g o
   settled_by_ticket ends =
       let new = (last old events).core in
       let none : row new (went old events) ≡ entries (went old events) =
-      (λ i. entries (went old events) ++ (entries (none_ran new ends i) ++ (none_out new ends i ++ ends.none_waits i))) ∙ append-nil (entries (went old events)) in
+      (λ i. entries (went old events) ++ (entries (none_ran new ends i) ++ (none_out new ends i ++ ends.none_waits i)))
+      ∙ append-nil (entries (went old events)) in
       (run_follows g old events legal h).settled ∙ ap (λ l. fold g old.core.settled (messages l)) (sym none) ∙ sym good.state

@@ -32,13 +32,17 @@ pub left_begins : (g : Geometry) (old : Hands) (events : List Event) (k : ℕ) (
     → (rest : List Msg) × (x ≡ fold g old.core.settled (journal old (take k events) ++ rest))
 left_begins g old events k x left =
     let j = journal_first old events k left.after left.since in
-    let rest = take left.is_log.some (in_doubt (last old (take left.after events)).core (drop left.after events)) in
-    (j.0 ++ rest, left.state ∙ ap (fold g old.core.settled) (left.is_log.is ∙ ap (λ l. l ++ rest) j.1 ∙ append_assoc (journal old (take k events)) j.0 rest))
+    let rest = take left.is_log.some (in_doubt (last old (take left.after events)).core (drop left.after events)) in (
+      j.0 ++ rest,
+      left.state ∙ ap (fold g old.core.settled) (left.is_log.is ∙ ap (λ l. l ++ rest) j.1
+          ∙ append_assoc (journal old (take k events)) j.0 rest),
+    )
 
 -- It is the settled state with the first so many of the messages in doubt.
 pub left_is_settled : (g : Geometry) (old : Hands) (events : List Event) (k : ℕ) (ms : List Msg) → IsLegal g old events
     → IsSound g old.core → (log : IsLogAfter old events k ms)
-    → fold g old.core.settled ms ≡ fold g (last old (take k events)).core.settled (take log.some (in_doubt (last old (take k events)).core (drop k events)))
+    → fold g old.core.settled ms
+    ≡ fold g (last old (take k events)).core.settled (take log.some (in_doubt (last old (take k events)).core (drop k events)))
 left_is_settled g old events k ms legal h log =
     let rest = take log.some (in_doubt (last old (take k events)).core (drop k events)) in
     ap (fold g old.core.settled) log.is ∙ fold-joined g old.core.settled (journal old (take k events)) rest

@@ -14,7 +14,8 @@ runs_join g old (event ∷ events) more legal on =
       legal = (legal.0, k.legal);
       last_is = k.last_is;
       went_is = ap (λ l. goes old.core event.step event.rose ++ l) k.went_is ∙ sym (append_assoc (goes old.core event.step event.rose) _ _);
-      journal_is = ap (λ l. appended old.core event.step event.rose ++ l) k.journal_is ∙ sym (append_assoc (appended old.core event.step event.rose) _ _);
+      journal_is = ap (λ l. appended old.core event.step event.rose ++ l) k.journal_is
+          ∙ sym (append_assoc (appended old.core event.step event.rose) _ _);
       arrived_is = ap (λ l. arrives event.step event.outcome ++ l) k.arrived_is ∙ sym (append_assoc (arrives event.step event.outcome) _ _);
       answered_is = ap (λ l. answers event.outcome ++ l) k.answered_is ∙ sym (append_assoc (answers event.outcome) _ _);
     }

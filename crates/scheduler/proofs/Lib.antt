@@ -11,5 +11,6 @@ pub mod Joining
 pub mod Arrivals
 pub mod Elements
 pub mod Crashes
+pub mod Clearing
 -- ---- this crate's own
 mod Examples

@@ -77,8 +77,11 @@ module _ {A : Type 0} (R : A → A → Type 0) where
   pub before_moved : ((x y : A) → R x y → R y x) → (xs us : List A) (e : A) (vs : List A) → EachBefore R (xs ++ (us ++ e ∷ vs))
       → EachBefore R (xs ++ e ∷ (us ++ vs))
   before_moved turned [] us e vs h = before_first turned us e vs h
-  before_moved turned (x ∷ xs) us e vs h =
-      (all_join (R x) xs (e ∷ (us ++ vs)) (all_front (R x) xs (us ++ e ∷ vs) h.0) (all_moved (R x) us e vs (all_back (R x) xs (us ++ e ∷ vs) h.0)), before_moved turned xs us e vs h.1)
+  before_moved turned (x ∷ xs) us e vs h = (
+    all_join (R x) xs (e ∷ (us ++ vs)) (all_front (R x) xs (us ++ e
+        ∷ vs) h.0) (all_moved (R x) us e vs (all_back (R x) xs (us ++ e ∷ vs) h.0)),
+    before_moved turned xs us e vs h.1,
+  )
 
 -- ---- what `pick` finds
 
@@ -93,9 +96,17 @@ pub record Picked {A : Type 0} (p : A → Bool) (xs : List A) (found : A × List
 pub picked : {A : Type 0} (p : A → Bool) (xs : List A) (found : A × List A) → pick p xs ≡ Some found → Picked p xs found
 picked p [] found h = absurd (true≢false (sym (ap is_some h)))
 picked {A} p (x ∷ xs) found h =
-    elim (p x) as (λ b. p x ≡ b → (if b then Some (x, xs) else option_map (λ (f : A × List A). (f.0, x ∷ f.1)) (pick p xs)) ≡ Some found → Picked p (x ∷ xs) found) [
+    elim (p x) as (λ b. p x ≡ b → (if b then Some (x, xs) else option_map (λ (f : A × List A). (f.0, x ∷ f.1)) (pick p xs)) ≡ Some found
+    → Picked p (x ∷ xs) found) [
       | true ↦ λ e h. let same : (x, xs) ≡ found = cc in
-          record { before = []; behind = xs; whole = ap (λ f. f.0 ∷ xs) same; rest = sym (ap (λ f. f.1) same); passes = subst (λ f. p f.0 ≡ true) same e }
+          record {
+            before = [];
+            behind = xs;
+            whole = ap (λ f. f.0 ∷ xs) same;
+            rest = sym (ap (λ f. f.1) same);
+            passes = subst
+                (λ f. p f.0 ≡ true) same e;
+          }
       | false ↦ λ e h. deeper (pick p xs) (λ f. picked p xs f) h
     ] refl h
   where
@@ -105,4 +116,11 @@ picked {A} p (x ∷ xs) found h =
     deeper (Some f) ind h =
         let k = ind f refl in
         let same : (f.0, x ∷ f.1) ≡ found = cc in
-        subst (Picked p (x ∷ xs)) same (record { before = x ∷ k.before; behind = k.behind; whole = ap (λ l. x ∷ l) k.whole; rest = ap (λ l. x ∷ l) k.rest; passes = k.passes })
+        subst (Picked p (x ∷ xs)) same (record {
+          before = x ∷ k.before;
+          behind = k.behind;
+          whole = ap (λ l. x ∷ l) k.whole;
+          rest = ap
+              (λ l. x ∷ l) k.rest;
+          passes = k.passes;
+        })

@@ -16,7 +16,7 @@ use Rattle.scheduler.specs.declared.outcomes.PointRefusal.{PointRefusal}
 use Rattle.scheduler.specs.declared.outcomes.PointRefusal.TheVariants as points
 use Rattle.scheduler.specs.World.{Entry, Replied, World, held}
 use Rattle.scheduler.specs.Eligible.{changes, in_flight, next_eligible}
-use Rattle.scheduler.specs.Events.{Hand, Hands, Empty, Job, Result, Event, IsAllowed, IsFault, IsCarriedOut, arrive, grant, give_back, out_with, log, log_some, answer, point_refusal, piece_refusal, flip_refusal, unless_refused, fewer, grant_to, run_hand, result_in, back_from, is_empty, happens, fault, fails}
+use Rattle.scheduler.specs.Events.{Hand, Hands, Empty, Job, Result, Event, IsAllowed, IsFault, IsCarriedOut, arrive, grant, give_back, out_with, batch, log, log_some, answer, point_refusal, piece_refusal, flip_refusal, unless_refused, fewer, grant_to, run_hand, result_in, back_from, is_empty, happens, fault}
 use Rattle.scheduler.specs.Runs.{goes, arrives, answers}
 use Rattle.scheduler.specs.Laws.{DoubtsOnlyFailed}
 use Rattle.scheduler.proofs.Apart.{length_held}
@@ -50,23 +50,29 @@ passed w s o rose = record { gone = goes w s rose; come = arrives s o; told = an
 -- what an event does to the core
 pub data Move (g : Geometry) (old new : World) (p : Passed) : Type 0 where
   Stays : (same : Same old new) → (passes : p ≡ nothing) → Move g old new p
-  Arrives : (m : Msg) → (fits : length old.waiting + length (held old) < old.slots) → (is : new ≡ record old { waiting = old.waiting ++ (old.next, m) ∷ []; next = old.next + 1 }) → (passes : p ≡ record { gone = []; come = (old.next, m) ∷ []; told = [] }) → Move g old new p
+  Arrives : (m : Msg) → (fits : length old.waiting + length (held old) < old.slots)
+      → (is : new ≡ record old { waiting = old.waiting ++ (old.next, m) ∷ []; next = old.next + 1 })
+      → (passes : p ≡ record { gone = []; come = (old.next, m) ∷ []; told = [] }) → Move g old new p
   Grants : (found : Entry × List Entry) → (first : next_eligible g old ≡ Some found) → (is : new ≡ grant old found)
       → (passes : p ≡ nothing) → Move g old new p
   Backs : (ticket : ℕ) → (found : Entry × List Entry) → (one_out : out_with old ticket ≡ Some found)
       → (is : new ≡ give_back g old found) → (passes : p ≡ nothing) → Move g old new p
   Logs : (n : ℕ) → (is : new ≡ log g old n) → (passes : p ≡ record { gone = take n old.ran; come = []; told = [] }) → Move g old new p
-  Answers : (a : Replied) → (rest : List Replied) → (front : old.logged ≡ a ∷ rest) → (is : new ≡ record old { logged = rest }) → (passes : p ≡ record { gone = []; come = []; told = (a.0, a.2) ∷ [] }) → Move g old new p
-
-same : (w : World) → Same w w
-same w = record { waiting = refl; out = refl; ran = refl; logged = refl; settled = refl; next = refl; slots = refl; room = λ h. h; doubt = λ h. h }
+  Answers : (a : Replied) → (rest : List Replied) → (front : old.logged ≡ a ∷ rest) → (is : new ≡ record old { logged = rest })
+      → (passes : p ≡ record { gone = []; come = []; told = (a.0, a.2) ∷ [] }) → Move g old new p
 
 module _ (g : Geometry) (w : World) where
-  stays : Move g w w nothing
-  stays = Stays (same w) refl
+  -- the room and the pieces that are left alone
+  repoints : (room : ℕ) (left : Option ℕ) → (in_flight w ≤ w.room → in_flight w ≤ room) → Move g w
+      (record w { room = room; left = left }) nothing
+  repoints room left fits = Stays kept refl
+    where
+      kept : Same w (record w { room = room; left = left })
+      kept = record { waiting = refl; out = refl; ran = refl; logged = refl; settled = refl; next = refl; slots = refl; room = fits; doubt = λ h. h }
 
-  unchanged : (new : World) → Same w new → Move g w new nothing
-  unchanged new s = Stays s refl
+  -- nothing at all
+  stays : Move g w w nothing
+  stays = repoints w.room w.left (λ h. h)
 
   either : {A : Type 0} (P : A → Type 0) (b : Bool) (x y : A) → (b ≡ true → P x) → (b ≡ false → P y) → P (if b then x else y)
   either P true x y h j = h refl
@@ -87,10 +93,11 @@ module _ (g : Geometry) (w : World) where
   logs k b = if b then (outcomes.LogFault faults.Failed, w) else (outcomes.Logged (length (take k w.ran)), log g w k)
 
   log_moves : (k : ℕ) → At (steps.Log k) (log_some g w k)
-  log_moves k = elim w.failed as (λ b. Move g w (logs k b).1 (record { gone = if b then [] else take k w.ran; come = []; told = answers (logs k b).0 })) [
-    | true ↦ stays
-    | false ↦ Logs k refl refl
-  ]
+  log_moves k = elim w.failed as (λ b. Move g w (logs k b).1
+      (record { gone = if b then [] else take k w.ran; come = []; told = answers (logs k b).0 })) [
+        | true ↦ stays
+        | false ↦ Logs k refl refl
+      ]
 
   answer_moves : (as' : List Replied) → w.logged ≡ as' → At steps.Answer (answer w as')
   answer_moves [] e = stays
@@ -116,41 +123,54 @@ module _ (g : Geometry) (w : World) where
   emptied : (n : ℕ) → point_refusal w ≡ None → in_flight w ≤ w.room → in_flight w ≤ n
   emptied n e h = let z = none_in_flight e in omega (arith, z)
 
-  point_moves : (r : Option PointRefusal) → point_refusal w ≡ r → At steps.Point (unless_refused w r (outcomes.Pointed, record w { room = g.half }))
-  point_moves None e = unchanged _ (record { waiting = refl; out = refl; ran = refl; logged = refl; settled = refl; next = refl; slots = refl; room = emptied g.half e; doubt = λ h. h })
+  point_moves : (r : Option PointRefusal) → point_refusal w ≡ r
+      → At steps.Point (unless_refused w r (outcomes.Pointed, record w { room = g.half }))
+  point_moves None e = repoints g.half w.left (emptied g.half e)
   point_moves (Some why) e = stays
 
-  cut_moves : (n : ℕ) (r : Option PointRefusal) → point_refusal w ≡ r → At steps.Cut (unless_refused w r (outcomes.Cut, record w { room = g.half; left = Some n }))
-  cut_moves n None e = unchanged _ (record { waiting = refl; out = refl; ran = refl; logged = refl; settled = refl; next = refl; slots = refl; room = emptied g.half e; doubt = λ h. h })
+  cut_moves : (n : ℕ) (r : Option PointRefusal) → point_refusal w ≡ r
+      → At steps.Cut (unless_refused w r (outcomes.Cut, record w { room = g.half; left = Some n }))
+  cut_moves n None e = repoints g.half (Some n) (emptied g.half e)
   cut_moves n (Some why) e = stays
 
-  piece_moves : (r : Option PointRefusal) → At steps.Piece (unless_refused w r (outcomes.Left (fewer w.left), record w { left = Some (fewer w.left) }))
-  piece_moves None = unchanged _ (record { waiting = refl; out = refl; ran = refl; logged = refl; settled = refl; next = refl; slots = refl; room = λ h. h; doubt = λ h. h })
+  piece_moves : (r : Option PointRefusal)
+      → At steps.Piece (unless_refused w r (outcomes.Left (fewer w.left), record w { left = Some (fewer w.left) }))
+  piece_moves None = repoints w.room (Some (fewer w.left)) (λ h. h)
   piece_moves (Some why) = stays
 
   flip_moves : (r : Option PointRefusal) → At steps.Flip (unless_refused w r (outcomes.Flipped, record w { left = None }))
-  flip_moves None = unchanged _ (record { waiting = refl; out = refl; ran = refl; logged = refl; settled = refl; next = refl; slots = refl; room = λ h. h; doubt = λ h. h })
+  flip_moves None = repoints w.room None (λ h. h)
   flip_moves (Some why) = stays
 
   -- ---- with a device that fails
 
-  abbrev Fails : Step → Type 0
-  Fails s = Move g w (fault w s).1 (passed w s (fault w s).0 true)
+  failing : (doubt : List Msg) → Move g w (record w { failed = true; doubt = doubt }) nothing
+  failing doubt = Stays kept refl
+    where
+      kept : Same w (record w { failed = true; doubt = doubt })
+      kept = record {
+        waiting = refl;
+        out = refl;
+        ran = refl;
+        logged = refl;
+        settled = refl;
+        next = refl;
+        slots = refl;
+        room = λ h. h;
+        doubt = λ h e. absurd (true≢false e);
+      }
 
-  failing : Move g w (fails w) nothing
-  failing = unchanged _ (record { waiting = refl; out = refl; ran = refl; logged = refl; settled = refl; next = refl; slots = refl; room = λ h. h; doubt = λ h e. absurd (true≢false e) })
-
-  fault_moves : (s : Step) → Fails s
-  fault_moves (steps.Arrive m) = failing
-  fault_moves steps.Grant = failing
-  fault_moves (steps.Run i) = failing
-  fault_moves (steps.Back i) = failing
-  fault_moves (steps.Log k) = unchanged _ (record { waiting = refl; out = refl; ran = refl; logged = refl; settled = refl; next = refl; slots = refl; room = λ h. h; doubt = λ h e. absurd (true≢false e) })
-  fault_moves steps.Answer = failing
-  fault_moves steps.Point = failing
-  fault_moves steps.Cut = failing
-  fault_moves steps.Piece = failing
-  fault_moves steps.Flip = failing
+  fault_moves : (s : Step) → Move g w (fault w s).1 (passed w s (fault w s).0 true)
+  fault_moves (steps.Arrive m) = failing w.doubt
+  fault_moves steps.Grant = failing w.doubt
+  fault_moves (steps.Run i) = failing w.doubt
+  fault_moves (steps.Back i) = failing w.doubt
+  fault_moves (steps.Log k) = failing (batch w k)
+  fault_moves steps.Answer = failing w.doubt
+  fault_moves steps.Point = failing w.doubt
+  fault_moves steps.Cut = failing w.doubt
+  fault_moves steps.Piece = failing w.doubt
+  fault_moves steps.Flip = failing w.doubt
 
 -- ---- with the hands
 
@@ -187,7 +207,8 @@ module _ (g : Geometry) (w : Hands) where
 
   happens_moves : (n : ℕ) (s : Step) → In g w s (happens g n w s)
   happens_moves n (steps.Arrive m) = arrive_moves g w.core m
-  happens_moves n steps.Grant = either g w.core (In g w steps.Grant) (w.core.failed && is_some (position is_empty w.hands)) _ _ (λ e. stays g w.core) (λ e. grant_moves (position is_empty w.hands) (next_eligible g w.core) refl)
+  happens_moves n steps.Grant = either g w.core (In g w steps.Grant) (w.core.failed && is_some (position is_empty w.hands)) _ _
+      (λ e. stays g w.core) (λ e. grant_moves (position is_empty w.hands) (next_eligible g w.core) refl)
   happens_moves n (steps.Run i) = run_moves i (slice_get w.hands i)
   happens_moves n (steps.Back i) = back_moves i (slice_get w.hands i)
   happens_moves n (steps.Log k) = log_moves g w.core k

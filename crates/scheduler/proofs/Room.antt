@@ -27,7 +27,8 @@ logged_few : (as' : List Replied) → count_by (λ a. is_loggable a.1 a.2) as' �
 logged_few [] = omega arith
 logged_few (a ∷ as') =
     let rest = logged_few as' in
-    let here : cond (is_loggable a.1 a.2) 1 0 ≤ one a.1 = elim (changes a.1) as (λ b. cond (b && is_done a.2) 1 0 ≤ cond b 1 0) [ true ↦ small (is_done a.2) | false ↦ omega arith ] in
+    let here : cond (is_loggable a.1 a.2) 1 0 ≤ one a.1 = elim (changes a.1) as
+    (λ b. cond (b && is_done a.2) 1 0 ≤ cond b 1 0) [ true ↦ small (is_done a.2) | false ↦ omega arith ] in
     let l = sum_by-cons (λ (a : Replied). cond (is_loggable a.1 a.2) 1 0) a as' in
     let r = sum_by-cons (λ (a : Replied). cond (changes a.1) 1 0) a as' in
     omega (arith, rest, here, l, r)
@@ -38,7 +39,8 @@ logged_few (a ∷ as') =
 
 pub batch_few : (w : World) (n : ℕ) → length (batch w n) ≤ ran_count (take n w.ran)
 batch_few w n =
-    let l : length (batch w n) ≡ count_by (λ a. is_loggable a.1 a.2) (take n w.ran) = length-map _ _ ∙ length-filter (λ a. is_loggable a.1 a.2) (take n w.ran) in
+    let l : length (batch w n) ≡ count_by (λ a. is_loggable a.1 a.2) (take n w.ran) = length-map _ _ ∙ length-filter
+    (λ a. is_loggable a.1 a.2) (take n w.ran) in
     omega (arith, l, logged_few (take n w.ran))
 
 ran_split : (w : World) (n : ℕ) → ran_count (take n w.ran) + ran_count (drop n w.ran) ≡ ran_count w.ran
@@ -67,7 +69,8 @@ move_room g old new p (Grants found first is e) h =
     enough false n room h r = omega arith
 move_room g old new p (Backs ticket found one_out is e) h =
     let k = picked (λ d. d.0 == ticket) old.out found one_out in
-    let was : out_count old.out ≡ out_count k.before + out_count (found.0 ∷ k.behind) = ap out_count k.whole ∙ sum_by-append _ k.before (found.0 ∷ k.behind) in
+    let was : out_count old.out ≡ out_count k.before + out_count (found.0 ∷ k.behind) = ap out_count k.whole
+    ∙ sum_by-append _ k.before (found.0 ∷ k.behind) in
     let one_was = sum_by-cons (λ (e : Entry). cond (changes e.1) 1 0) found.0 k.behind in
     let now : out_count found.1 ≡ out_count k.before + out_count k.behind = ap out_count k.rest ∙ sum_by-append _ k.before k.behind in
     let a : Replied = (found.0.0, found.0.1, reply_to g old.settled found.0.1) in

@@ -61,13 +61,19 @@ run_follows g old (event ∷ events) legal h =
 -- ---- what is answered
 
 move_answers : (g : Geometry) (old new : World) (p : Passed) → Move g old new p → said old.logged ++ said p.gone ≡ p.told ++ said new.logged
-move_answers g old new p (Stays s e) = ap (λ p. said old.logged ++ said p.gone) e ∙ append-nil (said old.logged) ∙ ap said (sym s.logged) ∙ ap (λ p. p.told ++ said new.logged) (sym e)
-move_answers g old new p (Arrives m fits is e) = ap (λ p. said old.logged ++ said p.gone) e ∙ append-nil (said old.logged) ∙ ap (λ w. said w.logged) (sym is) ∙ ap (λ p. p.told ++ said new.logged) (sym e)
-move_answers g old new p (Grants found first is e) = ap (λ p. said old.logged ++ said p.gone) e ∙ append-nil (said old.logged) ∙ ap (λ w. said w.logged) (sym is) ∙ ap (λ p. p.told ++ said new.logged) (sym e)
-move_answers g old new p (Backs ticket found one_out is e) = ap (λ p. said old.logged ++ said p.gone) e ∙ append-nil (said old.logged) ∙ ap (λ w. said w.logged) (sym is) ∙ ap (λ p. p.told ++ said new.logged) (sym e)
-move_answers g old new p (Logs n is e) = ap (λ p. said old.logged ++ said p.gone) e ∙ sym (said-append old.logged (take n old.ran)) ∙ ap (λ w. said w.logged) (sym is) ∙ ap (λ p. p.told ++ said new.logged) (sym e)
+move_answers g old new p (Stays s e) = ap (λ p. said old.logged ++ said p.gone) e ∙ append-nil (said old.logged)
+    ∙ ap said (sym s.logged) ∙ ap (λ p. p.told ++ said new.logged) (sym e)
+move_answers g old new p (Arrives m fits is e) = ap (λ p. said old.logged ++ said p.gone) e ∙ append-nil (said old.logged) ∙ ap
+    (λ w. said w.logged) (sym is) ∙ ap (λ p. p.told ++ said new.logged) (sym e)
+move_answers g old new p (Grants found first is e) = ap (λ p. said old.logged ++ said p.gone) e ∙ append-nil (said old.logged) ∙ ap
+    (λ w. said w.logged) (sym is) ∙ ap (λ p. p.told ++ said new.logged) (sym e)
+move_answers g old new p (Backs ticket found one_out is e) = ap (λ p. said old.logged ++ said p.gone) e ∙ append-nil (said old.logged)
+    ∙ ap (λ w. said w.logged) (sym is) ∙ ap (λ p. p.told ++ said new.logged) (sym e)
+move_answers g old new p (Logs n is e) = ap (λ p. said old.logged ++ said p.gone) e ∙ sym (said-append old.logged (take n old.ran)) ∙ ap
+    (λ w. said w.logged) (sym is) ∙ ap (λ p. p.told ++ said new.logged) (sym e)
 move_answers g old new p (Answers a rest front is e) =
-    ap (λ p. said old.logged ++ said p.gone) e ∙ append-nil (said old.logged) ∙ ap said front ∙ ap (λ w. (a.0, a.2) ∷ said w.logged) (sym is) ∙ ap (λ p. p.told ++ said new.logged) (sym e)
+    ap (λ p. said old.logged ++ said p.gone) e ∙ append-nil (said old.logged) ∙ ap said front ∙ ap
+    (λ w. (a.0, a.2) ∷ said w.logged) (sym is) ∙ ap (λ p. p.told ++ said new.logged) (sym e)
 
 -- What a run answers is what was logged before and in it, in log order, up to what is logged still.
 pub run_answers : (g : Geometry) (old : Hands) (events : List Event) → IsLegal g old events
@@ -92,10 +98,11 @@ appends g w (steps.Arrive m) rose h = refl
 appends g w steps.Grant rose h = refl
 appends g w (steps.Run i) rose h = refl
 appends g w (steps.Back i) rose h = refl
-appends g w (steps.Log k) rose h = elim (rose || w.failed) as (λ b. fold g w.settled (if b then [] else batch w k) ≡ fold g w.settled (messages (entries (if b then [] else take k w.ran)))) [
-  | true ↦ refl
-  | false ↦ (row_of g w k h).logs
-]
+appends g w (steps.Log k) rose h = elim (rose || w.failed) as
+    (λ b. fold g w.settled (if b then [] else batch w k) ≡ fold g w.settled (messages (entries (if b then [] else take k w.ran)))) [
+      | true ↦ refl
+      | false ↦ (row_of g w k h).logs
+    ]
 appends g w steps.Answer rose h = refl
 appends g w steps.Point rose h = refl
 appends g w steps.Cut rose h = refl
@@ -108,7 +115,8 @@ pub run_journal : (g : Geometry) (old : Hands) (events : List Event) → IsLegal
 run_journal g old [] legal h = refl
 run_journal g old (event ∷ events) legal h =
     run_journal g event.world events legal.1 (event_sound g old event legal.0 h)
-    ∙ ap (λ x. fold g x (journal event.world events)) ((event_follows g old event legal.0 h).settled ∙ sym (appends g old.core event.step event.rose h))
+    ∙ ap (λ x. fold g x (journal event.world events)) ((event_follows g old event legal.0 h).settled
+    ∙ sym (appends g old.core event.step event.rose h))
     ∙ sym (fold-joined g old.core.settled (appended old.core event.step event.rose) (journal event.world events))
 
 appends_loggable : (w : World) (s : Step) (rose : Bool) → appended w s rose ≡ loggable (goes w s rose)
@@ -116,7 +124,8 @@ appends_loggable w (steps.Arrive m) rose = refl
 appends_loggable w steps.Grant rose = refl
 appends_loggable w (steps.Run i) rose = refl
 appends_loggable w (steps.Back i) rose = refl
-appends_loggable w (steps.Log k) rose = elim (rose || w.failed) as (λ b. (if b then [] else batch w k) ≡ loggable (if b then [] else take k w.ran)) [ true ↦ refl | false ↦ refl ]
+appends_loggable w (steps.Log k) rose = elim (rose || w.failed) as
+    (λ b. (if b then [] else batch w k) ≡ loggable (if b then [] else take k w.ran)) [ true ↦ refl | false ↦ refl ]
 appends_loggable w steps.Answer rose = refl
 appends_loggable w steps.Point rose = refl
 appends_loggable w steps.Cut rose = refl
@@ -130,5 +139,6 @@ journal_is_loggable old (event ∷ events) =
     let gone = goes old.core event.step event.rose in
     let later = went event.world events in
     (λ i. appends_loggable old.core event.step event.rose i ++ journal_is_loggable event.world events i)
-    ∙ sym (map-append (λ (a : Replied). a.1) (filter (λ (a : Replied). is_loggable a.1 a.2) gone) (filter (λ (a : Replied). is_loggable a.1 a.2) later))
+    ∙ sym (map-append (λ (a : Replied). a.1) (filter (λ (a : Replied). is_loggable a.1 a.2) gone) (filter
+    (λ (a : Replied). is_loggable a.1 a.2) later))
     ∙ ap (map (λ (a : Replied). a.1)) (sym (filter-append (λ (a : Replied). is_loggable a.1 a.2) gone later))

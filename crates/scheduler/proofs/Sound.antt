@@ -43,9 +43,12 @@ module _ (g : Geometry) where
         replied = subst (AreReplied g new.settled) (sym ran) (subst (λ x. AreReplied g x old.ran) (sym settled) h.replied);
         ascending = subst AreAscending (sym waiting) h.ascending;
         once = subst AreOnce (sym all) h.once;
-        given = subst (λ n. AllByRecursion (IsGiven n) (new.out ++ new.waiting)) (sym next) (subst (AllByRecursion (IsGiven old.next)) (sym all) h.given);
+        given = subst (λ n. AllByRecursion (IsGiven n) (new.out ++ new.waiting)) (sym next)
+            (subst (AllByRecursion (IsGiven old.next)) (sym all) h.given);
         room = move_room g old new p move h.room;
-        fits = subst (λ n. length new.waiting + length (held new) ≤ n) (sym slots) (subst (λ l. length new.waiting + length l ≤ old.slots) (sym holds) (subst (λ l. length l + length (held old) ≤ old.slots) (sym waiting) h.fits));
+        fits = subst (λ n. length new.waiting + length (held new) ≤ n) (sym slots)
+            (subst (λ l. length new.waiting + length l ≤ old.slots) (sym holds)
+            (subst (λ l. length l + length (held old) ≤ old.slots) (sym waiting) h.fits));
       }
 
   pub move_sound : (old new : World) (p : Passed) → Move g old new p → IsSound g old → IsSound g new
@@ -59,9 +62,12 @@ module _ (g : Geometry) where
         apart = h.apart;
         replied = h.replied;
         ascending = before_push (λ e d. e.0 < d.0) old.waiting one h.ascending (waits_given old h);
-        once = subst AreOnce (sym same) (before_push (λ e d. e.0 ≡ d.0 → ⊥) (old.out ++ old.waiting) one h.once (all_weaker (IsGiven old.next) (λ e. e.0 ≡ old.next → ⊥) (λ e lt is. omega (arith, lt, is)) _ h.given));
+        once = subst AreOnce (sym same) (before_push
+            (λ e d. e.0 ≡ d.0 → ⊥) (old.out ++ old.waiting) one h.once (all_weaker (IsGiven old.next) (λ e. e.0 ≡ old.next → ⊥)
+            (λ e lt is. omega (arith, lt, is)) _ h.given));
         given = subst (AllByRecursion (IsGiven (old.next + 1))) (sym same)
-            (all_join (IsGiven (old.next + 1)) (old.out ++ old.waiting) (one ∷ []) (all_weaker (IsGiven old.next) (IsGiven (old.next + 1)) (λ e lt. omega (arith, lt)) _ h.given) (omega arith, tt));
+            (all_join (IsGiven (old.next + 1)) (old.out ++ old.waiting) (one
+            ∷ []) (all_weaker (IsGiven old.next) (IsGiven (old.next + 1)) (λ e lt. omega (arith, lt)) _ h.given) (omega arith, tt));
         room = h.room;
         fits = omega (arith, l, fits);
       })
@@ -72,7 +78,8 @@ module _ (g : Geometry) where
       let k = picked (is_eligible g old) old.waiting found first in
       let one = found.0 in
       let from : old.out ++ old.waiting ≡ old.out ++ (k.before ++ one ∷ k.behind) = ap (λ l. old.out ++ l) k.whole in
-      let to : old.out ++ one ∷ (k.before ++ k.behind) ≡ (old.out ++ one ∷ []) ++ found.1 = sym (append_assoc old.out (one ∷ []) _) ∙ ap (λ l. (old.out ++ one ∷ []) ++ l) (sym k.rest) in
+      let to : old.out ++ one ∷ (k.before ++ k.behind) ≡ (old.out ++ one ∷ []) ++ found.1 = sym (append_assoc old.out (one ∷ []) _) ∙ ap
+      (λ l. (old.out ++ one ∷ []) ++ l) (sym k.rest) in
       let room = move_room g old (grant old found) p (Grants found first refl e) h.room in
       let was = ap length k.whole ∙ length-append k.before (one ∷ k.behind) in
       let now = ap length k.rest ∙ length-append k.before k.behind in
@@ -83,20 +90,24 @@ module _ (g : Geometry) where
         replied = h.replied;
         ascending = subst AreAscending (sym k.rest) (before_without _ k.before one k.behind (subst AreAscending k.whole h.ascending));
         once = subst AreOnce to (before_moved _ once_turned old.out k.before one k.behind (subst AreOnce from h.once));
-        given = subst (AllByRecursion (IsGiven old.next)) to (moved old.next old.out k.before one k.behind (subst (AllByRecursion (IsGiven old.next)) from h.given));
+        given = subst (AllByRecursion (IsGiven old.next)) to (moved old.next old.out k.before one k.behind
+            (subst (AllByRecursion (IsGiven old.next)) from h.given));
         room = room;
         fits = omega (arith, was, now, holds, fits);
       })
     where
       moved : (n : ℕ) (xs us : List Entry) (e : Entry) (vs : List Entry) → AllByRecursion (IsGiven n) (xs ++ (us ++ e ∷ vs))
           → AllByRecursion (IsGiven n) (xs ++ e ∷ (us ++ vs))
-      moved n xs us e vs h = all_join (IsGiven n) xs (e ∷ (us ++ vs)) (all_front (IsGiven n) xs _ h) (all_moved (IsGiven n) us e vs (all_back (IsGiven n) xs _ h))
+      moved n xs us e vs h = all_join (IsGiven n) xs (e
+          ∷ (us ++ vs)) (all_front (IsGiven n) xs _ h) (all_moved (IsGiven n) us e vs (all_back (IsGiven n) xs _ h))
   move_sound old new p (Backs ticket found one_out is e) h =
       let k = picked (λ d. d.0 == ticket) old.out found one_out in
       let one = found.0 in
       let a : Replied = (one.0, one.1, reply_to g old.settled one.1) in
-      let from : old.out ++ old.waiting ≡ k.before ++ one ∷ (k.behind ++ old.waiting) = ap (λ l. l ++ old.waiting) k.whole ∙ append_assoc k.before (one ∷ k.behind) old.waiting in
-      let to : k.before ++ (k.behind ++ old.waiting) ≡ found.1 ++ old.waiting = sym (append_assoc k.before k.behind old.waiting) ∙ ap (λ l. l ++ old.waiting) (sym k.rest) in
+      let from : old.out ++ old.waiting ≡ k.before ++ one ∷ (k.behind ++ old.waiting) = ap (λ l. l ++ old.waiting) k.whole
+      ∙ append_assoc k.before (one ∷ k.behind) old.waiting in
+      let to : k.before ++ (k.behind ++ old.waiting) ≡ found.1 ++ old.waiting = sym (append_assoc k.before k.behind old.waiting) ∙ ap
+      (λ l. l ++ old.waiting) (sym k.rest) in
       let room = move_room g old (give_back g old found) p (Backs ticket found one_out refl e) h.room in
       let was = ap length k.whole ∙ length-append k.before (one ∷ k.behind) in
       let now = ap length k.rest ∙ length-append k.before k.behind in
@@ -109,7 +120,8 @@ module _ (g : Geometry) where
         replied = all_join (λ a. a.2 ≡ reply_to g old.settled a.1) old.ran _ h.replied (refl, tt);
         ascending = h.ascending;
         once = subst AreOnce to (before_without _ k.before one (k.behind ++ old.waiting) (subst AreOnce from h.once));
-        given = subst (AllByRecursion (IsGiven old.next)) to (all_without (IsGiven old.next) k.before one (k.behind ++ old.waiting) (subst (AllByRecursion (IsGiven old.next)) from h.given));
+        given = subst (AllByRecursion (IsGiven old.next)) to (all_without (IsGiven old.next) k.before one (k.behind ++ old.waiting)
+            (subst (AllByRecursion (IsGiven old.next)) from h.given));
         room = room;
         fits = omega (arith, was, now, more, held_was, held_now, fits);
       })

@@ -56,10 +56,14 @@ module _ (g : Geometry) where
       let k = in_a_row (next_state g x a.1) first rest apart.1 (still_replied x a (first ++ rest) apart.0 h.1) in
       record {
         told = λ i. (a.0, sym h.0 i) ∷ k.told i;
-        logs = elim (is_loggable a.1 a.2) as (λ b. is_loggable a.1 a.2 ≡ b → fold g x (map (λ (a : Replied). a.1) (cond b (a ∷ filter (λ a. is_loggable a.1 a.2) first) (filter (λ a. is_loggable a.1 a.2) first))) ≡ fold g (next_state g x a.1) (messages (entries first))) [
-          | true ↦ λ e. k.logs
-          | false ↦ λ e. ap (λ y. fold g y (loggable first)) (sym (unlogged_changes_nothing g x a.1 (ap (is_loggable a.1) (sym h.0) ∙ e))) ∙ k.logs
-        ] refl;
+        logs = elim (is_loggable a.1 a.2) as
+            (λ b. is_loggable a.1 a.2 ≡ b → fold g x (map
+            (λ (a : Replied). a.1) (cond b (a ∷ filter (λ a. is_loggable a.1 a.2) first) (filter (λ a. is_loggable a.1 a.2) first)))
+            ≡ fold g (next_state g x a.1) (messages (entries first))) [
+              | true ↦ λ e. k.logs
+              | false ↦ λ e. ap (λ y. fold g y (loggable first)) (sym (unlogged_changes_nothing g x a.1 (ap (is_loggable a.1) (sym h.0)
+                  ∙ e))) ∙ k.logs
+            ] refl;
         still = k.still;
       }
 
@@ -98,7 +102,8 @@ module _ (g : Geometry) where
   good_push x es fs e h = record {
     state = fold-append g x es (e ∷ []) ∙ ap (λ y. next_state g y e.1) h.state ∙ sym (fold-append g x fs (e ∷ []));
     tells = λ p r. subst (IsIn p) (sym (told-append g x es (e ∷ [])))
-        (⊎_elim (λ l. in_left p (told g x es) _ (h.tells p l)) (λ k. in_right p (told g x es) _ (subst (λ y. IsIn p (told g y (e ∷ []))) (sym h.state) k))
+        (⊎_elim (λ l. in_left p (told g x es) _ (h.tells p l))
+        (λ k. in_right p (told g x es) _ (subst (λ y. IsIn p (told g y (e ∷ []))) (sym h.state) k))
         (in_either p (told g x fs) _ (subst (IsIn p) (told-append g x fs (e ∷ [])) r)));
   }
 
@@ -113,7 +118,8 @@ module _ (g : Geometry) where
         state = k.state ∙ ap (λ y. fold g y (messages (us ++ vs))) (sym c.state);
         tells = λ p r. ⊎_elim
             (λ is. inr (k.tells p (inl (is ∙ ap (λ r. (e.0, r)) (sym c.first)))))
-            (λ r. ⊎_elim (λ is. inl (is ∙ ap (λ r. (u.0, r)) c.second)) (λ t. inr (k.tells p (inr (subst (λ y. IsIn p (told g y (us ++ vs))) c.state t)))) r)
+            (λ r. ⊎_elim (λ is. inl (is ∙ ap (λ r. (u.0, r)) c.second))
+            (λ t. inr (k.tells p (inr (subst (λ y. IsIn p (told g y (us ++ vs))) c.state t)))) r)
             r;
       }
 

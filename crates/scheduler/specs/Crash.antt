@@ -19,11 +19,13 @@ abbrev pub next_batch : World → List Event → List Msg
 next_batch w [] = []
 next_batch w (event ∷ events) = to_append w event.step
 
--- The messages in doubt, in a world from which these events come: in a failed world those that were to be appended when the device failed, and else those that the next event is to append.
+-- The messages in doubt, in a world from which these events come: in a failed world those that were to be
+-- appended when the device failed, and else those that the next event is to append.
 abbrev pub in_doubt : World → List Event → List Msg
 in_doubt w events = if w.failed then w.doubt else next_batch w events
 
--- These messages are in the log, if the crash comes after k events of a run and before the next has ended: all that were appended, and the first so many of those in doubt.
+-- These messages are in the log, if the crash comes after k events of a run and before the next has ended:
+-- all that were appended, and the first so many of those in doubt.
 pub record IsLogAfter (old : Hands) (events : List Event) (k : ℕ) (ms : List Msg) : Type 0 where
   pub some : ℕ
   pub at_most : some ≤ length (in_doubt (last old (take k events)).core (drop k events))

@@ -135,7 +135,8 @@ in_core w x = (x.0, record w { core = x.1 })
 abbrev pub grant_to : Geometry → Hands → Option ℕ → Option (Entry × List Entry) → Outcome × Hands
 grant_to g w None found = (outcomes.Idle, w)
 grant_to g w (Some hand) None = (no_grant g w.core, w)
-grant_to g w (Some hand) (Some found) = (outcomes.Granted hand found.0.0, record { core = grant w.core found; hands = set w.hands hand (Job found.0.0) })
+grant_to g w (Some hand) (Some found) =
+    (outcomes.Granted hand found.0.0, record { core = grant w.core found; hands = set w.hands hand (Job found.0.0) })
 
 -- A failed core grants nothing.
 abbrev pub grant_hand : Geometry → Hands → Option ℕ → Outcome × Hands

@@ -64,6 +64,10 @@ pub record IsIdle (w : World) : Type 0 where
 abbrev pub said : List Replied → List (ℕ × Reply)
 said as' = map (λ a. (a.0, a.2)) as'
 
+-- The message was logged first, and has gone.
+abbrev pub IsAnswered : World → World → Replied → Type 0
+IsAnswered old new a = old.logged ≡ a ∷ new.logged
+
 -- A run, and a run that goes on from where it ended, in one.
 pub record IsJoined (g : Geometry) (old : Hands) (events more : List Event) : Type 0 where
   pub legal : IsLegal g old (events ++ more)

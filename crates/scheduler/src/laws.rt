@@ -1,7 +1,7 @@
 //! What holds of every legal run: laws of the definitions alone. No function here does anything; its
 //! contract is the law.
 
-ghost use Rattle.std.specs.Prelude.{◌≡◌, ◌++◌, ◌≤◌, ℕ, List, drop, length, take};
+ghost use Rattle.std.specs.Prelude.{◌≡◌, ◌++◌, ◌≤◌, ℕ, false, List, drop, length, take};
 ghost use Rattle.std.specs.List.{AllByRecursion, Contains};
 ghost use Rattle.affinity.specs.declared.geometry.Geometry.{Geometry};
 ghost use Rattle.message.specs.declared.Msg.{Msg};
@@ -9,17 +9,19 @@ ghost use Rattle.message.specs.declared.Reply.{Reply};
 ghost use Rattle.plain.specs.State.{State};
 ghost use Rattle.plain.specs.Serial.{fold};
 ghost use Rattle.plain.specs.Order.{by_ticket, messages, told};
-ghost use Rattle.scheduler.specs.World.{World, entries, held};
+ghost use Rattle.scheduler.specs.World.{Entry, Replied, World, entries, entry, held, touches};
+ghost use Rattle.scheduler.specs.Eligible.{is_clear};
 ghost use Rattle.scheduler.specs.Events.{Event, Hands, IsAllowed, batch, loggable};
 ghost use Rattle.scheduler.specs.Runs.{IsLegal, answered, arrived, journal, last, went};
 ghost use Rattle.scheduler.specs.Crash.{IsLeftSince, IsLogAfter, in_doubt};
-ghost use Rattle.scheduler.specs.Laws.{AreApart, AreAscending, DoubtsOnlyFailed, HasRoom, IsIdle, IsJoined, IsSound, said};
+ghost use Rattle.scheduler.specs.Laws.{AreApart, AreAscending, DoubtsOnlyFailed, HasRoom, IsAnswered, IsIdle, IsJoined, IsSound, said};
 
 /// A world in which nothing waits and nothing is held is sound, and each event leads from a sound
 /// world to a sound one.
 pub fn events_keep_worlds_sound()
     ensures idle { (g : Geometry) (w : World) → IsIdle w → IsSound g w }
-    ensures event { (g : Geometry) (old : Hands) (event : Event) → IsAllowed g old event → IsSound g old.core → IsSound g event.world.core }
+    ensures event { (g : Geometry) (old : Hands) (event : Event) → IsAllowed g old event → IsSound g old.core
+        → IsSound g event.world.core }
 {}
 
 /// In each world of a legal run no two of the messages that are held are at related places.
@@ -78,6 +80,15 @@ pub fn replies_are_by_ticket()
     ensures settled { (g : Geometry) (old : Hands) (events : List Event) → IsLegal g old events → IsIdle old.core
         → IsIdle (last old events).core
         → (last old events).core.settled ≡ fold g old.core.settled (messages (by_ticket (arrived events))) }
+{}
+
+/// Only an answer makes a waiting message clear, and only one to a message at a place related to its own:
+/// whatever else comes, a message that waits on stays clear, or stays not clear.
+pub fn only_answers_clear()
+    ensures { (g : Geometry) (old : Hands) (event : Event) (e : Entry) → IsAllowed g old event → IsSound g old.core
+        → Contains old.core.waiting e → Contains event.world.core.waiting e
+        → ((a : Replied) → IsAnswered old.core event.world.core a → touches g e (entry a) ≡ false)
+        → is_clear g event.world.core e ≡ is_clear g old.core e }
 {}
 
 /// Messages come to be in doubt only where the device fails.

@@ -6,4 +6,5 @@ use Rattle.scheduler.proofs.Sound.{run_sound}
 use Rattle.scheduler.proofs.laws.held_messages_are_unrelated.Goals as goal
 
 pub returns : goal.returns
-returns c g old events legal sound = all_weaker (λ event. IsSound g event.world.core) (λ event. AreApart g (held event.world.core)) (λ event k. k.apart) events (run_sound g old events legal sound)
+returns c g old events legal sound = all_weaker (λ event. IsSound g event.world.core) (λ event. AreApart g (held event.world.core))
+    (λ event k. k.apart) events (run_sound g old events legal sound)
