@@ -97,7 +97,8 @@ module _ (g : Geometry) (e : Entry) where
       (λ i. not ((ap (list_any (touches g e)) (held_grant w found)
       ∙ list_any-append (touches g e) (held w) (one ∷ [])) i) && not ((ap (list_any comes_before) k.rest
       ∙ list_any-append comes_before k.before k.behind) i))
-      ∙ moved_over (touches g e one) (nat_lt one.0 e.0) (list_any (touches g e) (held w)) (list_any comes_before k.before) (list_any comes_before k.behind) (goes_first w found h first is)
+      ∙ moved_over (touches g e one) (nat_lt one.0 e.0) (list_any (touches g e) (held w)) (list_any comes_before k.before)
+      (list_any comes_before k.behind) (goes_first w found h first is)
       ∙ ap (λ b. not (list_any (touches g e) (held w)) && not b) (sym (ap (list_any comes_before) k.whole
       ∙ list_any-append comes_before k.before (one ∷ k.behind)))
 

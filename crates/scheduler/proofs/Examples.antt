@@ -1,6 +1,6 @@
 -- Worked examples, by computing: what a small machine answers to lists of steps, what is logged in them, and what a crash may leave.
 use Rattle.std.proofs.Common.{◌≡◌, ℕ, zero, suc, true, false, List, [], ◌∷◌, ◌++◌, take, refl, ap, sym, ◌∙◌, lit≤}
-use Rattle.std.specs.Prelude.{None}
+use Rattle.std.specs.Prelude.{◌-◌, ◌^◌, None}
 use Rattle.std.proofs.lemmas.Bool.{true≢false}
 use Rattle.affinity.specs.Geometry.{small}
 use Rattle.message.specs.declared.Block.{Block}
@@ -116,11 +116,13 @@ two_stripes_side_by_side : (x y : Block) → answers_of (two_hands 3 with_file)
     ∷ outcomes.Logged 1 ∷ outcomes.Answered 0 Done ∷ outcomes.Pointed ∷ []
 two_stripes_side_by_side x y = refl
 
+-- A message is held, and its place taken, until it is answered.
 a_label_beside_a_write : (x : Block) (bytes : List ℕ) → answers_of (two_hands 4 with_file)
     (steps.Arrive (Write 0 0 0 0 x) ∷ steps.Arrive (SetLabel 0 0 bytes) ∷ steps.Arrive (AskLabel 0 0) ∷ steps.Grant ∷ steps.Grant
-    ∷ steps.Grant ∷ steps.Run 1 ∷ steps.Back 1 ∷ steps.Grant ∷ [])
-    ≡ outcomes.Ticket 0 ∷ outcomes.Ticket 1 ∷ outcomes.Ticket 2 ∷ outcomes.Granted 0 0 ∷ outcomes.Granted 1 1 ∷ outcomes.Idle
-    ∷ outcomes.Ran ∷ outcomes.Back 1 ∷ outcomes.NoneEligible ∷ []
+    ∷ steps.Grant ∷ steps.Run 1 ∷ steps.Back 1 ∷ steps.Grant ∷ steps.Log 1 ∷ steps.Grant ∷ steps.Answer ∷ steps.Grant ∷ [])
+    ≡ outcomes.Ticket 0 ∷ outcomes.Ticket 1 ∷ outcomes.Ticket 2 ∷ outcomes.Granted 0 0 ∷ outcomes.Granted 1 1
+    ∷ outcomes.Idle ∷ outcomes.Ran ∷ outcomes.Back 1 ∷ outcomes.NoneEligible ∷ outcomes.Logged 1 ∷ outcomes.NoneEligible
+    ∷ outcomes.Answered 1 Done ∷ outcomes.Granted 1 2 ∷ []
 a_label_beside_a_write x bytes = refl
 
 they_are_logged_as_they_came_back : (x y : Block) → journal_of (two_hands 3 with_file)
@@ -128,6 +130,31 @@ they_are_logged_as_they_came_back : (x y : Block) → journal_of (two_hands 3 wi
     ∷ steps.Run 0 ∷ steps.Back 0 ∷ steps.Log 4 ∷ [])
     ≡ Write 0 0 0 1 y ∷ Write 0 0 0 0 x ∷ []
 they_are_logged_as_they_came_back x y = refl
+
+they_are_answered_as_they_came_back : (x y : Block) → answers_of (after (two_hands 3 with_file)
+    (steps.Arrive (Write 0 0 0 0 x) ∷ steps.Arrive (Write 0 0 0 1 y) ∷ steps.Grant ∷ steps.Grant ∷ steps.Run 1 ∷ steps.Back 1
+    ∷ steps.Run 0 ∷ steps.Back 0 ∷ []))
+    (steps.Log 1 ∷ steps.Answer ∷ steps.Log 0 ∷ steps.Answer ∷ steps.Log 4 ∷ steps.Answer ∷ [])
+    ≡ outcomes.Logged 1 ∷ outcomes.Answered 1 Done ∷ outcomes.Logged 0 ∷ outcomes.Idle ∷ outcomes.Logged 1 ∷ outcomes.Answered 0 Done ∷ []
+they_are_answered_as_they_came_back x y = refl
+
+-- One record is left. What is out and what ran is counted against it, and a question needs none.
+abbrev one_record : Hands
+one_record = record { core = record (opened 4 with_file) { room = 1 }; hands = Empty ∷ Empty ∷ Empty ∷ [] }
+
+room_is_kept_for_what_ran : (x y : Block) → answers_of one_record
+    (steps.Arrive (Write 0 0 0 0 x) ∷ steps.Arrive (Write 0 0 0 1 y) ∷ steps.Arrive (AskLabel 0 0) ∷ steps.Grant ∷ steps.Grant
+    ∷ steps.Grant ∷ steps.Run 0 ∷ steps.Back 0 ∷ steps.Grant ∷ steps.Log 1 ∷ steps.Answer ∷ steps.Grant ∷ steps.Point ∷ [])
+    ≡ outcomes.Ticket 0 ∷ outcomes.Ticket 1 ∷ outcomes.Ticket 2 ∷ outcomes.Granted 0 0 ∷ outcomes.Granted 1 2
+    ∷ outcomes.NoRoom ∷ outcomes.Ran ∷ outcomes.Back 0 ∷ outcomes.NoRoom ∷ outcomes.Logged 1 ∷ outcomes.Answered 0 Done
+    ∷ outcomes.NoRoom ∷ outcomes.PointRefused points.Held ∷ []
+room_is_kept_for_what_ran x y = refl
+
+-- All tickets but one are given, and no slot is there.
+the_last_ticket_is_not_given : answers_of (record { core = record (opened 0 empty) { next = 2 ^ 64 - 1 }; hands = [] })
+    (steps.Arrive AskSummary ∷ steps.Arrive (Read 1 0 0 0) ∷ steps.Grant ∷ [])
+    ≡ outcomes.ArriveRefused arrivals.Exhausted ∷ outcomes.ArriveRefused arrivals.Range ∷ outcomes.Idle ∷ []
+the_last_ticket_is_not_given = refl
 
 -- ---- consistency points in steps
 
@@ -143,6 +170,15 @@ messages_during_a_point : answers_of (one_hand 1 empty) (whole (MakeVol 0 0) ++ 
     ≡ done 0 ++ (outcomes.Cut ∷ done 1)
     ++ (outcomes.PointRefused points.Running ∷ outcomes.Left 2 ∷ outcomes.Left 1 ∷ outcomes.Left 0 ∷ outcomes.Flipped ∷ [])
 messages_during_a_point = refl
+
+a_point_in_progress_is_told_before_what_is_held : answers_of (one_hand 1 empty)
+    (steps.Cut ∷ steps.Arrive AskSummary ∷ steps.Grant ∷ steps.Point ∷ steps.Cut ∷ [])
+    ≡ outcomes.Cut ∷ outcomes.Ticket 0 ∷ outcomes.Granted 0 0 ∷ outcomes.PointRefused points.Running
+    ∷ outcomes.PointRefused points.Running ∷ []
+a_point_in_progress_is_told_before_what_is_held = refl
+
+a_point_frees_all_records : (after (one_hand 1 empty) (whole (MakeVol 0 0) ++ (steps.Point ∷ []))).core.room ≡ 4
+a_point_frees_all_records = refl
 
 -- three records are free again: the half took four, and one came since the point began
 room_after_a_point : (after (one_hand 1 empty) (whole (MakeVol 0 0) ++ (steps.Cut ∷ whole (Create 0 0 0)))).core.room ≡ 3
@@ -167,6 +203,9 @@ a_failed_core_takes_nothing : answers_of failed_one (steps.Grant ∷ steps.Arriv
     ∷ outcomes.PointRefused points.Failed ∷ outcomes.PointRefused points.Failed ∷ outcomes.PointRefused points.Failed
     ∷ outcomes.PointRefused points.Failed ∷ []
 a_failed_core_takes_nothing = refl
+
+no_hand_is_empty : answers_of (record { core = failed_one.core; hands = [] }) (steps.Grant ∷ []) ≡ outcomes.Idle ∷ []
+no_hand_is_empty = refl
 
 what_was_to_be_logged_is_in_doubt : in_doubt failed_one.core [] ≡ MakeVol 0 0 ∷ []
 what_was_to_be_logged_is_in_doubt = refl

@@ -7,7 +7,14 @@ use Rattle.scheduler.specs.Laws.{IsJoined}
 
 pub runs_join : (g : Geometry) (old : Hands) (events more : List Event) → IsLegal g old events → IsLegal g (last old events) more
     → IsJoined g old events more
-runs_join g old [] more legal on = record { legal = on; last_is = refl; went_is = refl; journal_is = refl; arrived_is = refl; answered_is = refl }
+runs_join g old [] more legal on = record {
+  legal = on;
+  last_is = refl;
+  went_is = refl;
+  journal_is = refl;
+  arrived_is = refl;
+  answered_is = refl;
+}
 runs_join g old (event ∷ events) more legal on =
     let k = runs_join g event.world events more legal.1 on in
     record {

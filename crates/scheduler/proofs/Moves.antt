@@ -68,7 +68,17 @@ module _ (g : Geometry) (w : World) where
   repoints room left fits = Stays kept refl
     where
       kept : Same w (record w { room = room; left = left })
-      kept = record { waiting = refl; out = refl; ran = refl; logged = refl; settled = refl; next = refl; slots = refl; room = fits; doubt = λ h. h }
+      kept = record {
+        waiting = refl;
+        out = refl;
+        ran = refl;
+        logged = refl;
+        settled = refl;
+        next = refl;
+        slots = refl;
+        room = fits;
+        doubt = λ h. h;
+      }
 
   -- nothing at all
   stays : Move g w w nothing
