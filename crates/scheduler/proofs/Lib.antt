@@ -12,5 +12,6 @@ pub mod Arrivals
 pub mod Elements
 pub mod Crashes
 pub mod Clearing
+pub mod Failures
 -- ---- this crate's own
 mod Examples

@@ -1,10 +1,14 @@
 -- The words of the laws of legal runs.
-use Rattle.std.specs.Prelude.{◌≡◌, ℕ, ◌+◌, ◌<◌, ◌≤◌, false, List, [], ◌∷◌, ◌++◌, map, length}
+use Rattle.std.specs.Prelude.{◌≡◌, ℕ, ◌+◌, ◌<◌, ◌≤◌, Bool, true, false, List, [], ◌∷◌, ◌++◌, map, length}
 use Rattle.std.specs.List.{AllByRecursion}
 use Rattle.affinity.specs.declared.geometry.Geometry.{Geometry}
 use Rattle.message.specs.declared.Reply.{Reply}
 use Rattle.plain.specs.State.{State}
 use Rattle.plain.specs.Serial.{reply_to}
+use Rattle.scheduler.specs.declared.outcomes.Outcome.{Outcome}
+use Rattle.scheduler.specs.declared.outcomes.Outcome.TheVariants as outcomes
+use Rattle.scheduler.specs.declared.outcomes.CoreFault.TheVariants as faults
+use Rattle.scheduler.specs.declared.outcomes.PointRefusal.TheVariants as points
 use Rattle.scheduler.specs.World.{Entry, Replied, World, held, touches}
 use Rattle.scheduler.specs.Eligible.{in_flight}
 use Rattle.scheduler.specs.Events.{Hands, Event}
@@ -50,6 +54,22 @@ pub record IsSound (g : Geometry) (w : World) : Type 0 where
 -- Nothing is in doubt, unless the device has failed.
 abbrev pub DoubtsOnlyFailed : World → Type 0
 DoubtsOnlyFailed w = w.failed ≡ false → w.doubt ≡ []
+
+-- the outcomes that tell that the device failed during the step
+abbrev pub tells_of_failure : Outcome → Bool
+tells_of_failure (outcomes.LogFault faults.Device) = true
+tells_of_failure (outcomes.PointRefused points.Device) = true
+tells_of_failure _ = false
+
+-- The device has failed: nothing arrives, goes out, is logged or comes to be in doubt, and no consistency point goes on.
+pub record IsStopped (old new : World) : Type 0 where
+  pub failed : new.failed ≡ true
+  pub waiting : new.waiting ≡ old.waiting
+  pub settled : new.settled ≡ old.settled
+  pub doubt : new.doubt ≡ old.doubt
+  pub room : new.room ≡ old.room
+  pub next : new.next ≡ old.next
+  pub left : new.left ≡ old.left
 
 -- What is out and what ran has room in the log, and each message has one of so many slots.
 abbrev pub HasRoom : ℕ → World → Type 0

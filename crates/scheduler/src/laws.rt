@@ -1,7 +1,7 @@
 //! What holds of every legal run: laws of the definitions alone. No function here does anything; its
 //! contract is the law.
 
-ghost use Rattle.std.specs.Prelude.{◌≡◌, ◌++◌, ◌≤◌, ℕ, false, List, drop, length, take};
+ghost use Rattle.std.specs.Prelude.{◌≡◌, ◌++◌, ◌≤◌, ℕ, true, false, List, drop, length, take};
 ghost use Rattle.std.specs.List.{AllByRecursion, Contains};
 ghost use Rattle.affinity.specs.declared.geometry.Geometry.{Geometry};
 ghost use Rattle.message.specs.declared.Msg.{Msg};
@@ -14,7 +14,8 @@ ghost use Rattle.scheduler.specs.Eligible.{is_clear};
 ghost use Rattle.scheduler.specs.Events.{Event, Hands, IsAllowed, batch, loggable};
 ghost use Rattle.scheduler.specs.Runs.{IsLegal, answered, arrived, journal, last, went};
 ghost use Rattle.scheduler.specs.Crash.{IsLeftSince, IsLogAfter, in_doubt};
-ghost use Rattle.scheduler.specs.Laws.{AreApart, AreAscending, DoubtsOnlyFailed, HasRoom, IsAnswered, IsIdle, IsJoined, IsSound, said};
+ghost use Rattle.scheduler.specs.Laws.{AreApart, AreAscending, DoubtsOnlyFailed, HasRoom, IsAnswered, IsIdle, IsJoined, IsSound, IsStopped};
+ghost use Rattle.scheduler.specs.Laws.{said, tells_of_failure};
 
 /// A world in which nothing waits and nothing is held is sound, and each event leads from a sound
 /// world to a sound one.
@@ -89,6 +90,16 @@ pub fn only_answers_clear()
         → Contains old.core.waiting e → Contains event.world.core.waiting e
         → ((a : Replied) → IsAnswered old.core event.world.core a → touches g e (entry a) ≡ false)
         → is_clear g event.world.core e ≡ is_clear g old.core e }
+{}
+
+/// A step tells that the device failed exactly where it failed during the step, and then it has failed for
+/// good: messages that are out still come back, and those that are logged are answered, but nothing else comes.
+pub fn failures_are_told_and_last()
+    ensures told { (g : Geometry) (old : Hands) (event : Event) → IsAllowed g old event → event.rose ≡ tells_of_failure event.outcome }
+    ensures failed { (g : Geometry) (old : Hands) (event : Event) → IsAllowed g old event → event.rose ≡ true
+        → event.world.core.failed ≡ true }
+    ensures lasts { (g : Geometry) (old : Hands) (event : Event) → IsAllowed g old event → old.core.failed ≡ true
+        → IsStopped old.core event.world.core }
 {}
 
 /// Messages come to be in doubt only where the device fails.
