@@ -215,7 +215,8 @@ arrived_by_ticket g old events legal = by_ticket-ascending (arrived events) (eac
 
 -- ---- from a world in which nothing waits and nothing is held
 
-module _ (g : Geometry) (old : Hands) (events : List Event) (legal : IsLegal g old events) (h : IsSound g old.core) (idle : IsIdle old.core) where
+module _ (g : Geometry) (old : Hands) (events : List Event) (legal : IsLegal g old events) (h : IsSound g old.core)
+    (idle : IsIdle old.core) where
   good : IsAsGood g old.core.settled (by_ticket (arrived events)) (row (last old events).core (went old events))
   good =
       let none : row old.core [] ≡ [] = λ i. entries (none_ran old.core idle i) ++ (none_out old.core idle i ++ idle.none_waits i) in

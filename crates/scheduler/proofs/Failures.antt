@@ -79,7 +79,8 @@ module _ (g : Geometry) (w : Hands) where
   happens_quiet : (n : ℕ) (s : Step) → Quiet (happens g n w s)
   happens_quiet n (steps.Arrive m) = arrive_quiet g w.core m
   happens_quiet n steps.Grant =
-      either Quiet (w.core.failed && is_some (position is_empty w.hands)) _ _ refl (grant_quiet (position is_empty w.hands) (next_eligible g w.core))
+      either Quiet (w.core.failed && is_some (position is_empty w.hands)) _ _ refl
+      (grant_quiet (position is_empty w.hands) (next_eligible g w.core))
   happens_quiet n (steps.Run i) = run_quiet i (slice_get w.hands i)
   happens_quiet n (steps.Back i) = back_quiet i (result_in w.core (slice_get w.hands i))
   happens_quiet n (steps.Log k) = either Quiet w.core.failed _ _ refl refl
@@ -201,4 +202,5 @@ failure_lasts g old event h failed = by event.rose h
     by false d =
         let does = ap (λ w. happens g d.to_write (record { core = w; hands = old.hands }) event.step) (sym is_stopped) ∙ d.does in
         subst (λ w. IsStopped w event.world.core) (sym is_stopped)
-        (subst (λ o. IsStopped (record old.core { failed = true }) o.1.core) does (happens_still g d.to_write old.core old.hands event.step))
+        (subst (λ o. IsStopped (record old.core { failed = true }) o.1.core) does
+        (happens_still g d.to_write old.core old.hands event.step))
