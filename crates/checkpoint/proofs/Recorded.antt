@@ -55,11 +55,11 @@ no_record g x bytes size are none = by (message_in_fields bytes) refl
     by (Some m) is =
         ap (λ (b : Bool). if b then Some (next_state g x m) else None)
         (false_from_ne_true (is_record_there g x bytes m)
-         (λ there.
-          let first = and_parts (bytes_eq bytes (record_of m) && is_in_range g m) (is_loggable m (reply_to g x m)) there in
-          let second = and_parts (bytes_eq bytes (record_of m)) (is_in_range g m) first.0 in
-          let third = and_parts (is_changing (kind m)) (is_done (reply_to g x m)) first.1 in
-          no_record_says_none g bytes size are none m is (third.0, second.1) ((bytes_eq-Decides bytes (record_of m)).0 second.0)))
+        (λ there.
+        let first = and_parts (bytes_eq bytes (record_of m) && is_in_range g m) (is_loggable m (reply_to g x m)) there in
+        let second = and_parts (bytes_eq bytes (record_of m)) (is_in_range g m) first.0 in
+        let third = and_parts (is_changing (kind m)) (is_done (reply_to g x m)) first.1 in
+        no_record_says_none g bytes size are none m is (third.0, second.1) ((bytes_eq-Decides bytes (record_of m)).0 second.0)))
 
 -- A record that couldn't be read gives the fault that its bytes give.
 pub read_fault : (g h : Geometry) → h ≡ g → (x : State) (half i : ℕ) (bytes : List ℕ) → length bytes ≡ 520 → AreBytes bytes → (e : LogFault)

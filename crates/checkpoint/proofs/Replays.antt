@@ -1,16 +1,14 @@
 -- Records that are run one after the other, seen from where the run has come to.
-use Rattle.std.proofs.Common.{◌≡◌, ℕ, suc, ◌+◌, ◌<◌, List, [], ◌∷◌, length, drop, get_or, Option, Some, None, is_none, is_some, refl, sym, ◌∙◌, ap, subst, add-one}
+use Rattle.std.proofs.Common.{◌≡◌, ℕ, suc, ◌+◌, ◌<◌, List, [], ◌∷◌, length, drop, Option, Some, None, is_none, is_some, refl, sym, ◌∙◌, ap, subst, add-one}
 use Rattle.std.specs.Prelude.{if◌then◌else◌}
 use Rattle.std.proofs.lemmas.List.{drop_more}
 use Rattle.affinity.specs.declared.geometry.Geometry.{Geometry}
 use Rattle.checkpoint.specs.declared.fault.OpenFault.{OpenFault}
 use Rattle.checkpoint.specs.declared.fault.OpenFault.TheVariants.{Device, TooShort, NotFormatted, BadGeometry, OutOfMemory, BadVersion, BadPiece, BadChain, BadRecord}
-use Rattle.checkpoint.specs.Loading.{IsFault, fault_of_log, record_fault, records_fault}
+use Rattle.checkpoint.specs.Loading.{IsFault, record_fault, records_fault}
 use Rattle.checkpoint.specs.Recovery.{apply, means}
 use Rattle.checkpoint.specs.Refusals.{fault_if, fault_of, first_bad_record}
 use Rattle.disk.specs.Device.{Medium, Moment, moments}
-use Rattle.oplog.specs.declared.fault.LogFault.{LogFault}
-use Rattle.oplog.specs.declared.fault.LogFault.TheVariants as log
 use Rattle.oplog.specs.Front.{front, record_at}
 use Rattle.oplog.specs.Layout.{Layout}
 use Rattle.oplog.specs.Log.{Log, layout}
@@ -84,8 +82,8 @@ module _ (g : Geometry) (l : Layout) (h : ℕ) (c : List ℕ) (x0 : State) where
   bad_at i x few before =
       fault_from _ _
       (λ e is.
-       ap (λ (o : Option ℕ). fault_of (BadRecord h) o None) (before.first ∙ ap (λ (rs : List (List ℕ)). first_bad_record g i (Some x) rs) (next i few))
-       ∙ bad_here g h i x (record_at l h i c) (drop (i + 1) (front l h c)) e is)
+      ap (λ (o : Option ℕ). fault_of (BadRecord h) o None) (before.first ∙ ap (λ (rs : List (List ℕ)). first_bad_record g i (Some x) rs) (next i few))
+      ∙ bad_here g h i x (record_at l h i c) (drop (i + 1) (front l h c)) e is)
 
 -- ---- of a tree, a log and bytes that are the same
 

@@ -1,12 +1,11 @@
 -- A message that is lent its parcels from a whole tree, runs on them, and gives them back.
-use Rattle.std.proofs.Common.{◌≡◌, ℕ, List, [], sym, ◌∙◌, subst}
+use Rattle.std.proofs.Common.{◌≡◌, ℕ, List, [], sym, subst}
 use Rattle.affinity.specs.declared.geometry.Geometry.{Geometry}
 use Rattle.affinity.specs.declared.kinds.Kind.{Kind}
 use Rattle.affinity.specs.Interval.{Interval, IsAffinityOf}
 use Rattle.affinity.specs.Path.{Path}
 use Rattle.affinity.specs.Place.{place as place_of}
 use Rattle.message.specs.declared.Msg.{Msg}
-use Rattle.message.specs.declared.Reply.{Reply}
 use Rattle.message.specs.Messages.{IsMessage, kind, four_numbers, place}
 use Rattle.parcel.specs.Fits.{Fits, IsKindOf}
 use Rattle.parcel.specs.Nodes.{Nodes, tree_state}
@@ -26,7 +25,7 @@ pub placed : (g : Geometry) (m : Msg) (k : Kind) (n : List ℕ) (a : Interval) �
 placed g m k n a k_is n_is there = subst (λ (l : List ℕ). IsAffinityOf g (place_of g (kind m) l) a) n_is (subst (λ (j : Kind). IsAffinityOf g (place_of g j n) a) k_is there)
 
 module _ (g : Geometry) (m : Msg) (s : Standing) (l : Parcels) (job : Asked) (is : job ≡ record { geometry = g; ticket = 0; message = m; standing = s; parcels = l })
-         (a : Interval) (there : IsAffinityOf g (place g m) a) (done : Done) (ran : IsRun job done) (old lent : Nodes) where
+    (a : Interval) (there : IsAffinityOf g (place g m) a) (done : Done) (ran : IsRun job done) (old lent : Nodes) where
   -- what was lent by the tree of a geometry that is the same
   lends : (h : Geometry) → g ≡ h → ((p : Path) → IsAffinityOf h p a → LendsAt h p s l old lent) → LendsJob job old lent
   lends h same took =
@@ -52,7 +51,7 @@ module _ (g : Geometry) (m : Msg) (s : Standing) (l : Parcels) (job : Asked) (is
 
   -- the whole of it
   module _ (new : Nodes) (h : Geometry) (same : g ≡ h) (took : (p : Path) → IsAffinityOf h p a → LendsAt h p s l old lent)
-           (k : Geometry) (alike : g ≡ k) (r : Parcels) (is_done : r ≡ done.parcels) (put : (q : Path) → IsAffinityOf k q a → RestoresAt k q r lent new) where
+      (k : Geometry) (alike : g ≡ k) (r : Parcels) (is_done : r ≡ done.parcels) (put : (q : Path) → IsAffinityOf k q a → RestoresAt k q r lent new) where
     served : LendsRunsRestores job done old lent new
     served = record {
       taken = lends h same took;

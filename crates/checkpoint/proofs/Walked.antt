@@ -29,8 +29,8 @@ sum_grows f n (suc m) few =
     ⊎_elim
     (λ (less : n < suc m). omega (arith, sum_grows f n m (omega (arith, less))))
     (λ (beyond : suc m ≤ n).
-     let same : n ≡ suc m = omega (arith, few, beyond) in
-     omega (arith, ap (λ (k : ℕ). sum_below k f) same))
+    let same : n ≡ suc m = omega (arith, few, beyond) in
+    omega (arith, ap (λ (k : ℕ). sum_below k f) same))
     (cases_lt n (suc m))
 
 pub piece_inside : (g : Geometry) (n : ℕ) → n < piece_count g → piece_at g n + piece_size g n ≤ image_size g
@@ -46,7 +46,7 @@ pub piece_there : (g : Geometry) (number n at : ℕ) (now out : List ℕ) → nu
 piece_there g number n at now out is_image below place is =
     is ∙ ap (λ (a : ℕ). slice now a (piece_size g n)) place
     ∙ sym (slice_slice now (part_at (layout_of g) (image number)) (part_size (layout_of g) (image number)) (piece_at g n) (piece_size g n)
-      (omega (arith, piece_inside g n below, image_sized (layout_of g) number is_image)))
+    (omega (arith, piece_inside g n below, image_sized (layout_of g) number is_image)))
 
 -- ---- volumes of which no piece was taken in have no block
 
@@ -61,11 +61,11 @@ module _ (version : ℕ) (g : Geometry) (n : ℕ) (x : State) (bytes : List ℕ)
   apart m behind part f b =
       false_from_ne_true (is_block_of (aggregate_of g n) (volume_of g n) (aggregate_of g m, volume_of g m, f, b))
       (λ same.
-       let parts = and_parts (aggregate_of g n == aggregate_of g m) (volume_of g n == volume_of g m) same in
-       let a = eqb-true (aggregate_of g n) (aggregate_of g m) parts.0 in
-       let v = eqb-true (volume_of g n) (volume_of g m) parts.1 in
-       let number : volume_piece_number g (aggregate_of g n) (volume_of g n) ≡ volume_piece_number g (aggregate_of g m) (volume_of g m) = λ i. volume_piece_number g (a i) (v i) in
-       absurd (omega (arith, number, number_there g n, number_there g m, part, behind)))
+      let parts = and_parts (aggregate_of g n == aggregate_of g m) (volume_of g n == volume_of g m) same in
+      let a = eqb-true (aggregate_of g n) (aggregate_of g m) parts.0 in
+      let v = eqb-true (volume_of g n) (volume_of g m) parts.1 in
+      let number : volume_piece_number g (aggregate_of g n) (volume_of g n) ≡ volume_piece_number g (aggregate_of g m) (volume_of g m) = λ i. volume_piece_number g (a i) (v i) in
+      absurd (omega (arith, number, number_there g n, number_there g m, part, behind)))
 
   pub free_next : AreFree g (n + 1) (with_piece version g x n bytes)
   free_next = record { blocks = λ m f b behind part. by m f b behind part (part_of g n) }
@@ -79,7 +79,7 @@ module _ (version : ℕ) (g : Geometry) (n : ℕ) (x : State) (bytes : List ℕ)
 -- ---- one piece
 
 module _ (g : Geometry) (bytes : List ℕ) (version n : ℕ) (ver : version ≡ version_in bytes) (below : n < piece_count g)
-         (x : State) (so_far : x ≡ said_before (version_in bytes) g bytes n) (out : List ℕ) (there : out ≡ piece_in g bytes n) where
+    (x : State) (so_far : x ≡ said_before (version_in bytes) g bytes n) (out : List ℕ) (there : out ≡ piece_in g bytes n) where
   pub said_next : with_piece version g x n out ≡ said_before (version_in bytes) g bytes (n + 1)
   said_next = (λ i. with_piece (ver i) g (so_far i) n (there i)) ∙ ap (λ (k : ℕ). said_before (version_in bytes) g bytes k) (sym (add-one n))
 
@@ -105,11 +105,11 @@ bad_at is_fine zero i k behind below fine bad = absurd (omega (arith, behind, be
 bad_at is_fine (suc n) i k behind below fine bad =
     ⊎_elim
     (λ (less : i < k).
-     cond-true (is_fine i) (first_bad is_fine (suc i) n) (Some i) (fine i less)
-     ∙ bad_at is_fine n (suc i) k (omega (arith, less)) (omega (arith, below)) fine bad)
+    cond-true (is_fine i) (first_bad is_fine (suc i) n) (Some i) (fine i less)
+    ∙ bad_at is_fine n (suc i) k (omega (arith, less)) (omega (arith, below)) fine bad)
     (λ (no_less : k ≤ i).
-     let same : i ≡ k = omega (arith, behind, no_less) in
-     cond-false (is_fine i) (first_bad is_fine (suc i) n) (Some i) (ap is_fine same ∙ bad) ∙ ap (λ (j : ℕ). Some j) same)
+    let same : i ≡ k = omega (arith, behind, no_less) in
+    cond-false (is_fine i) (first_bad is_fine (suc i) n) (Some i) (ap is_fine same ∙ bad) ∙ ap (λ (j : ℕ). Some j) same)
     (cases_lt i k)
 
 pub no_bad_piece : (g : Geometry) (bytes : List ℕ) → AreGood g bytes (piece_count g) → first_bad_piece g bytes ≡ None
@@ -128,14 +128,22 @@ good_next g bytes n good here i few =
 -- ---- what a turn of the walk gives, by a tree's own geometry
 
 module _ (g h : Geometry) (same : h ≡ g) (number n at size : ℕ) (buffer : List ℕ) (is_image : number < 2) (below : n < piece_count g)
-         (place : at ≡ part_at (layout_of g) (image number) + piece_at g n) (sized : size ≡ piece_size h n) where
+    (place : at ≡ part_at (layout_of g) (image number) + piece_at g n) (sized : size ≡ piece_size h n) where
   its_size : size ≡ piece_size g n
   its_size = sized ∙ ap (λ (k : Geometry). piece_size k n) same
 
   pub room_left : (len : ℕ) → device_size (layout_of g) ≤ len → at + length (take size buffer) ≤ len
   room_left len long =
-      omega (arith, place, its_size, length-take size buffer, piece_inside g n below, image_sized (layout_of g) number is_image,
-       part_inside (layout_of g) (image number) (omega (arith, is_image)), long)
+      omega (
+        arith,
+        place,
+        its_size,
+        length-take size buffer,
+        piece_inside g n below,
+        image_sized (layout_of g) number is_image,
+        part_inside (layout_of g) (image number) (omega (arith, is_image)),
+        long,
+      )
 
   pub read_there : size ≤ length buffer → (now seen out : List ℕ) → seen ≡ now → out ≡ slice seen at (length (take size buffer))
       → out ≡ piece_in g (part (layout_of g) (image number) now) n
@@ -149,7 +157,7 @@ module _ (g h : Geometry) (same : h ≡ g) (number n at size : ℕ) (buffer : Li
       omega (arith, place, its_size, length-take size buffer, room, is, more)
 
 module _ (g h : Geometry) (same : h ≡ g) (bytes : List ℕ) (version n : ℕ) (ver : version ≡ version_in bytes) (below : n < piece_count g)
-         (x : State) (so_far : x ≡ said_before (version_in bytes) g bytes n) (out : List ℕ) (there : out ≡ piece_in g bytes n) where
+    (x : State) (so_far : x ≡ said_before (version_in bytes) g bytes n) (out : List ℕ) (there : out ≡ piece_in g bytes n) where
   pub good_turn : out ≡ piece_of version h (with_piece version h x n out) n → AreGood g bytes n → AreGood g bytes (n + 1)
   good_turn here good =
       good_next g bytes n good (is_good_here g bytes version n ver below x so_far out there (subst (λ (k : Geometry). out ≡ piece_of version k (with_piece version k x n out) n) same here))
@@ -162,9 +170,9 @@ module _ (g h : Geometry) (same : h ≡ g) (bytes : List ℕ) (version n : ℕ) 
   bad_turn bad good e is =
       subst (λ (f : OpenFault). IsFault (fault_of BadPiece (first_bad_piece g bytes) None) f) (sym is)
       (ap (λ (o : Option ℕ). fault_of BadPiece o None)
-       (bad_piece g bytes n below good
-        (is_bad_here g bytes version n ver below x so_far out there
-         (λ here. false≢true (bad (subst (λ (k : Geometry). out ≡ piece_of version k (with_piece version k x n out) n) (sym same) here))))))
+      (bad_piece g bytes n below good
+      (is_bad_here g bytes version n ver below x so_far out there
+      (λ here. false≢true (bad (subst (λ (k : Geometry). out ≡ piece_of version k (with_piece version k x n out) n) (sym same) here))))))
 
 pub free_turn : (version : ℕ) (g h : Geometry) → h ≡ g → (n : ℕ) (x y : State) (out : List ℕ) → y ≡ with_piece version h x n out → AreFree g n x → AreFree g (n + 1) y
 free_turn version g h same n x y out is before =
@@ -178,7 +186,7 @@ image_bytes g number now is_image long are =
     let at = part_at (layout_of g) (image number) in
     let size = part_size (layout_of g) (image number) in (
       length-take-le size (drop at now) (omega (arith, length-drop at now, long, part_inside (layout_of g) (image number) (omega (arith, is_image))))
-      ∙ image_sized (layout_of g) number is_image ∙ sym (whole_image g),
+          ∙ image_sized (layout_of g) number is_image ∙ sym (whole_image g),
       bytes_by_recursion (part (layout_of g) (image number) now) (bytes-range at size now are),
     )
 

@@ -17,8 +17,7 @@ use crate::{FormatError, FormatFault};
 use affinity::Geometry;
 use disk::{Disk, DiskFault};
 use oplog::layout::{
-    CHAIN_AREA, ROOT_ZONE_AT, ROOT_ZONE_SIZE, device_len, half_at, image_at,
-    image_size,
+    CHAIN_AREA, ROOT_ZONE_AT, ROOT_ZONE_SIZE, device_len, half_at, image_at, image_size,
 };
 use oplog::store::{store, write};
 use std::alloc::{AllocError, Global};

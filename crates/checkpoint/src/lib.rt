@@ -1,8 +1,9 @@
-//! What a device stands for, and how one is made.
+//! What a device stands for, how one is made, and what one holds.
 //!
 //! A device holds the state of its named image with the records in force run on it; `specs/Recovery.antt` says so of
 //! its bytes, and `specs/Refusals.antt` says which devices are refused and why. `format` makes a device that stands
 //! for the empty state, and a crash at any moment of it leaves the old device, one that isn't formatted, or that one.
+//! `inspect` tells what a device holds, or why it is refused, and only reads it.
 #![tactic(auto)]
 
 mod fault;

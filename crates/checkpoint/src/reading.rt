@@ -31,7 +31,11 @@ pub(crate) fn read<D: Disk>(disk: &mut D, at: u64, out: &mut [u8]) -> Result<(),
 }
 
 /// Whether the chain byte of this half is 1.
-pub(crate) fn is_chained<D: Disk>(disk: &mut D, g: &Geometry, half: usize) -> Result<bool, OpenFault>
+pub(crate) fn is_chained<D: Disk>(
+    disk: &mut D,
+    g: &Geometry,
+    half: usize,
+) -> Result<bool, OpenFault>
     requires half { half < 2 }
     requires whole { device_size (layout_of g.now) ≤ length (D.medium disk.old).now }
     ensures chained { IfOk result (λ b. D.keeps →
@@ -73,7 +77,11 @@ fn has_head(head: &[u8; IMAGE_HEAD_SIZE]) -> bool
 }
 
 /// The version of this image. `BadVersion` exactly where it doesn't begin with a version and zeros.
-pub(crate) fn version_of<D: Disk>(disk: &mut D, g: &Geometry, number: usize) -> Result<u8, OpenFault>
+pub(crate) fn version_of<D: Disk>(
+    disk: &mut D,
+    g: &Geometry,
+    number: usize,
+) -> Result<u8, OpenFault>
     requires number { number < 2 }
     requires whole { device_size (layout_of g.now) ≤ length (D.medium disk.old).now }
     ensures version { IfOk result (λ v. D.keeps →

@@ -33,7 +33,7 @@ fn replay_record<D: Disk>(
     requires geometry { log.old.geometry ≡ tree.old.geometry }
     ensures done { OnOk result (D.keeps →
         apply tree.old.geometry (state_in tree.old) (record_at (layout log.old) half i (D.medium disk.old).now)
-            ≡ Some (state_in tree.new)) }
+        ≡ Some (state_in tree.new)) }
     ensures refused { IfErr result (λ e. D.keeps → IsFault (record_fault tree.old.geometry (state_in tree.old)
         half i (record_at (layout log.old) half i (D.medium disk.old).now)) e) }
     ensures whole { OnOk result (IsWholeTree tree.new) }
@@ -67,7 +67,7 @@ fn replay_front<D: Disk>(
     requires geometry { log.old.geometry ≡ tree.old.geometry }
     ensures done { OnOk result (D.keeps →
         run (means tree.old.geometry) (Some (state_in tree.old))
-            (front (layout log.old) half (D.medium disk.old).now) ≡ Some (state_in tree.new)) }
+        (front (layout log.old) half (D.medium disk.old).now) ≡ Some (state_in tree.new)) }
     ensures refused { IfErr result (λ e. D.keeps → IsFault (records_fault tree.old.geometry
         (state_in tree.old) half (front (layout log.old) half (D.medium disk.old).now)) e) }
     ensures whole { OnOk result (IsWholeTree tree.new) }
@@ -100,7 +100,7 @@ pub(crate) fn replay<D: Disk>(
     ensures few { IfOk result (λ n. n ≤ log.old.geometry.half) }
     ensures done { OnOk result (D.keeps →
         run (means tree.old.geometry) (Some (state_in tree.old))
-            (front (layout log.old) half (D.medium disk.old).now) ≡ Some (state_in tree.new)) }
+        (front (layout log.old) half (D.medium disk.old).now) ≡ Some (state_in tree.new)) }
     ensures refused { IfErr result (λ e. D.keeps → IsFault (records_fault tree.old.geometry
         (state_in tree.old) half (front (layout log.old) half (D.medium disk.old).now)) e) }
     ensures whole { OnOk result (IsWholeTree tree.new) }

@@ -1,4 +1,4 @@
-use Rattle.std.proofs.Common.{◌≡◌, ◌<◌, ◌≤◌, not, Some, length, take, inr, sym, ◌∙◌, ap, arith, ℕ, List}
+use Rattle.std.proofs.Common.{not, Some, length, take, inr, sym, ◌∙◌, ap, arith, ℕ, List}
 use Rattle.std.proofs.lemmas.Bool.{cond-true, lt-ltb, not-false, true≢false}
 use Rattle.std.proofs.lemmas.List.{take-take}
 use Rattle.std.proofs.lemmas.Slice.Eq.{bytes_eq-Decides}

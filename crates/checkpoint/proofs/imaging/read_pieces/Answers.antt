@@ -1,4 +1,4 @@
-use Rattle.std.proofs.Common.{◌≡◌, ℕ, ◌+◌, ◌<◌, ◌≤◌, List, length, refl, sym, ◌∙◌, ap, subst, arith}
+use Rattle.std.proofs.Common.{◌≡◌, ℕ, ◌+◌, ◌<◌, ◌≤◌, length, refl, ◌∙◌, ap, arith}
 use Rattle.std.proofs.lemmas.Result.{err_from_is_err_and}
 use Rattle.affinity.specs.declared.geometry.Geometry.{Geometry}
 use Rattle.image.specs.Pieces.{piece_count}
@@ -30,25 +30,29 @@ read-requires g c =
 pub overflow_add-at-in-loop-n : goal.overflow_add-at-in-loop-n
 overflow_add-at-in-loop-n g c =
     let below : c.loop-n.n < piece_count c.args.tree.now.geometry = omega (arith, c.loop-n-test.true, c.piece_count-n-end.ensures.count ∙ ap piece_count c.geometry-g.ensures) in
-    omega (arith, c.read.auto.out, g.met.D.Disk.fits c.args.disk.now,
-     room_left c.args.tree.now.geometry c.geometry-g.result c.geometry-g.ensures c.args.number c.loop-n.n c.loop-n.at c.piece_size.result c.loop-n.buffer c.requires.number below
-     c.loop-n.invariant.at c.piece_size.ensures.size (length (g.D.Disk.medium c.args.disk.now).now) c.requires.parts)
+    omega (
+      arith,
+      c.read.auto.out,
+      g.met.D.Disk.fits c.args.disk.now,
+      room_left c.args.tree.now.geometry c.geometry-g.result c.geometry-g.ensures c.args.number c.loop-n.n c.loop-n.at c.piece_size.result c.loop-n.buffer c.requires.number below
+          c.loop-n.invariant.at c.piece_size.ensures.size (length (g.D.Disk.medium c.args.disk.now).now) c.requires.parts,
+    )
 
 pub returns-in_err-take_piece-clause-refused : goal.returns-in_err-take_piece-clause-refused
 returns-in_err-take_piece-clause-refused g c =
     let p = err_from_is_err_and c.from_residual-in_err-take_piece.result c.from_residual-in_err-take_piece.ensures.1 in
     rw (p.1, p.2)
     (λ k.
-     let now = (g.D.Disk.medium c.args.disk.now).now in
-     let below : c.loop-n.n < piece_count c.args.tree.now.geometry = omega (arith, c.loop-n-test.true, c.piece_count-n-end.ensures.count ∙ ap piece_count c.geometry-g.ensures) in
-     let few : c.piece_size.result ≤ length c.loop-n.buffer =
-     omega (arith, c.piece_size.ensures.most, ap (λ (h : Geometry). h.quota) c.geometry-g.ensures, c.requires.room, c.loop-n.auto.buffer) in
-     let there =
-     read_there c.args.tree.now.geometry c.geometry-g.result c.geometry-g.ensures c.args.number c.loop-n.n c.loop-n.at c.piece_size.result c.loop-n.buffer c.requires.number below
-     c.loop-n.invariant.at c.piece_size.ensures.size few now (g.D.Disk.medium c.loop-n.disk).now c.read.new.out
-     (same_bytes (g.D.Disk.medium c.args.disk.now) (g.D.Disk.medium c.loop-n.disk) (c.loop-n.invariant.untouched k)) (c.in_ok-read.ensures.bytes k) in
-     bad_turn c.args.tree.now.geometry c.loop-n.tree.geometry c.loop-n.invariant.geometry (part (layout_of c.args.tree.now.geometry) (image c.args.number) now) c.args.version c.loop-n.n
-     (c.requires.version k) below (state_in c.loop-n.tree) (c.loop-n.invariant.said k) c.read.new.out there c.in_err-take_piece.ensures.good.1 (c.loop-n.invariant.good k) _ c.in_err-take_piece.ensures.bad)
+    let now = (g.D.Disk.medium c.args.disk.now).now in
+    let below : c.loop-n.n < piece_count c.args.tree.now.geometry = omega (arith, c.loop-n-test.true, c.piece_count-n-end.ensures.count ∙ ap piece_count c.geometry-g.ensures) in
+    let few : c.piece_size.result ≤ length c.loop-n.buffer =
+    omega (arith, c.piece_size.ensures.most, ap (λ (h : Geometry). h.quota) c.geometry-g.ensures, c.requires.room, c.loop-n.auto.buffer) in
+    let there =
+    read_there c.args.tree.now.geometry c.geometry-g.result c.geometry-g.ensures c.args.number c.loop-n.n c.loop-n.at c.piece_size.result c.loop-n.buffer c.requires.number below
+    c.loop-n.invariant.at c.piece_size.ensures.size few now (g.D.Disk.medium c.loop-n.disk).now c.read.new.out
+    (same_bytes (g.D.Disk.medium c.args.disk.now) (g.D.Disk.medium c.loop-n.disk) (c.loop-n.invariant.untouched k)) (c.in_ok-read.ensures.bytes k) in
+    bad_turn c.args.tree.now.geometry c.loop-n.tree.geometry c.loop-n.invariant.geometry (part (layout_of c.args.tree.now.geometry) (image c.args.number) now) c.args.version c.loop-n.n
+    (c.requires.version k) below (state_in c.loop-n.tree) (c.loop-n.invariant.said k) c.read.new.out there c.in_err-take_piece.ensures.good.1 (c.loop-n.invariant.good k) _ c.in_err-take_piece.ensures.bad)
 
 pub loop-n-preserved : goal.loop-n-preserved
 loop-n-preserved g c =
@@ -70,15 +74,15 @@ loop-n-preserved g c =
           said_turn c.args.tree.now.geometry c.loop-n.tree.geometry c.loop-n.invariant.geometry (part (layout_of c.args.tree.now.geometry) (image c.args.number) now) c.args.version c.loop-n.n
           (c.requires.version k) below (state_in c.loop-n.tree) (c.loop-n.invariant.said k) c.read.new.out
           (read_there c.args.tree.now.geometry c.geometry-g.result c.geometry-g.ensures c.args.number c.loop-n.n c.loop-n.at c.piece_size.result c.loop-n.buffer c.requires.number below
-           c.loop-n.invariant.at c.piece_size.ensures.size few now (g.D.Disk.medium c.loop-n.disk).now c.read.new.out
-           (same_bytes (g.D.Disk.medium c.args.disk.now) (g.D.Disk.medium c.loop-n.disk) (c.loop-n.invariant.untouched k)) (c.in_ok-read.ensures.bytes k))
+          c.loop-n.invariant.at c.piece_size.ensures.size few now (g.D.Disk.medium c.loop-n.disk).now c.read.new.out
+          (same_bytes (g.D.Disk.medium c.args.disk.now) (g.D.Disk.medium c.loop-n.disk) (c.loop-n.invariant.untouched k)) (c.in_ok-read.ensures.bytes k))
           (state_in c.take_piece.new.tree) c.in_ok-take_piece.ensures.taken;
       good = λ k.
           good_turn c.args.tree.now.geometry c.loop-n.tree.geometry c.loop-n.invariant.geometry (part (layout_of c.args.tree.now.geometry) (image c.args.number) now) c.args.version c.loop-n.n
           (c.requires.version k) below (state_in c.loop-n.tree) (c.loop-n.invariant.said k) c.read.new.out
           (read_there c.args.tree.now.geometry c.geometry-g.result c.geometry-g.ensures c.args.number c.loop-n.n c.loop-n.at c.piece_size.result c.loop-n.buffer c.requires.number below
-           c.loop-n.invariant.at c.piece_size.ensures.size few now (g.D.Disk.medium c.loop-n.disk).now c.read.new.out
-           (same_bytes (g.D.Disk.medium c.args.disk.now) (g.D.Disk.medium c.loop-n.disk) (c.loop-n.invariant.untouched k)) (c.in_ok-read.ensures.bytes k))
+          c.loop-n.invariant.at c.piece_size.ensures.size few now (g.D.Disk.medium c.loop-n.disk).now c.read.new.out
+          (same_bytes (g.D.Disk.medium c.args.disk.now) (g.D.Disk.medium c.loop-n.disk) (c.loop-n.invariant.untouched k)) (c.in_ok-read.ensures.bytes k))
           (c.in_ok-take_piece.ensures.good.0 refl) (c.loop-n.invariant.good k);
     }
 

@@ -1,4 +1,4 @@
-use Rattle.std.proofs.Common.{◌≡◌, ℕ, ◌-◌, ◌<◌, ◌==◌, Bool, List, None, sym, ◌∙◌, ap, arith}
+use Rattle.std.proofs.Common.{ℕ, ◌==◌, Bool, List, None, sym, ◌∙◌, ap, arith}
 use Rattle.checkpoint.specs.declared.fault.OpenFault.TheVariants.{BadChain}
 use Rattle.checkpoint.specs.Refusals.{fault_if}
 use Rattle.oplog.specs.Front.{chain}
@@ -16,7 +16,7 @@ returns-then-behind-clause-refused g c = λ k.
     let same = same_bytes (g.D.Disk.medium c.args.disk.now) (g.D.Disk.medium c.is_chained.new.disk) (c.is_chained.ensures.untouched k) in
     ap (λ (t : Bool). fault_if t BadChain None)
     (both_are (layout_of c.args.g.now) (g.D.Disk.medium c.args.disk.now).now c.args.area c.requires.area (sym (c.in_ok-named.ensures.chained k) ∙ c.if-not-named.false)
-     (sym (ap (λ (bytes : List ℕ). chain (layout_of c.args.g.now) (other c.args.area) bytes == 1) same) ∙ sym (c.in_ok-behind.ensures.chained k) ∙ c.if-behind.true))
+    (sym (ap (λ (bytes : List ℕ). chain (layout_of c.args.g.now) (other c.args.area) bytes == 1) same) ∙ sym (c.in_ok-behind.ensures.chained k) ∙ c.if-behind.true))
 
 pub returns-clause-sound : goal.returns-clause-sound
 returns-clause-sound g c = λ k.

@@ -1,11 +1,11 @@
-use Rattle.std.proofs.Common.{◌≡◌, ℕ, ◌+◌, ◌==◌, Bool, false, true, List, length, Option, Some, sym, ◌∙◌, ap, subst, arith}
+use Rattle.std.proofs.Common.{◌≡◌, ◌==◌, length, Some, sym, ◌∙◌, ap, subst, arith}
 use Rattle.std.proofs.lemmas.Result.{err_from_is_err_and}
 use Rattle.affinity.specs.declared.geometry.Geometry.{Geometry}
 use Rattle.checkpoint.specs.Loading.{IsFault, records_fault}
 use Rattle.checkpoint.specs.Recovery.{means}
 use Rattle.oplog.specs.Front.{chain, front}
 use Rattle.oplog.specs.Layout.{layout_of, other}
-use Rattle.oplog.specs.Log.{Log, layout}
+use Rattle.oplog.specs.Log.{Log}
 use Rattle.oplog.specs.Stands.{run}
 use Rattle.parcel.specs.Tree.{state_in}
 use Rattle.checkpoint.proofs.Refusing.{alone_count, alone_ran, alone_sound, both_count, both_ran, both_sound, named_refused, other_refused}
@@ -17,18 +17,18 @@ returns-in_err-count-clause-refused g c =
     let p = err_from_is_err_and c.from_residual.result c.from_residual.ensures.1 in
     rw (p.1, p.2)
     (λ k.
-     let now = (g.D.Disk.medium c.args.disk.now).now in
-     named_refused c.args.tree.now.geometry (state_in c.args.tree.now) c.args.area now _
-     (subst (λ (h : Geometry). IsFault (records_fault c.args.tree.now.geometry (state_in c.args.tree.now) c.args.area (front (layout_of h) c.args.area now)) c.in_err-count.field-0.0)
-      c.requires.geometry (c.in_err-count.ensures.refused k)))
+    let now = (g.D.Disk.medium c.args.disk.now).now in
+    named_refused c.args.tree.now.geometry (state_in c.args.tree.now) c.args.area now _
+    (subst (λ (h : Geometry). IsFault (records_fault c.args.tree.now.geometry (state_in c.args.tree.now) c.args.area (front (layout_of h) c.args.area now)) c.in_err-count.field-0.0)
+    c.requires.geometry (c.in_err-count.ensures.refused k)))
 
 pub returns-then-not-chained-clause-count : goal.returns-then-not-chained-clause-count
 returns-then-not-chained-clause-count g c = λ k.
     let now = (g.D.Disk.medium c.args.disk.now).now in
     c.in_ok-count.ensures.count k ∙ ap (λ (h : Geometry). length (front (layout_of h) c.args.area now)) c.requires.geometry
     ∙ alone_count c.args.tree.now.geometry (state_in c.args.tree.now) c.args.area now (state_in c.replay.new.tree)
-      (sym (ap (λ (h : Geometry). run (means c.args.tree.now.geometry) (Some (state_in c.args.tree.now)) (front (layout_of h) c.args.area now)) c.requires.geometry) ∙ c.in_ok-count.ensures.done k)
-      (sym (ap (λ (h : Geometry). chain (layout_of h) c.args.area now == 1) c.requires.geometry) ∙ sym (c.requires.chained k) ∙ c.if-not-chained.true)
+    (sym (ap (λ (h : Geometry). run (means c.args.tree.now.geometry) (Some (state_in c.args.tree.now)) (front (layout_of h) c.args.area now)) c.requires.geometry) ∙ c.in_ok-count.ensures.done k)
+    (sym (ap (λ (h : Geometry). chain (layout_of h) c.args.area now == 1) c.requires.geometry) ∙ sym (c.requires.chained k) ∙ c.if-not-chained.true)
 
 pub returns-then-not-chained-clause-done : goal.returns-then-not-chained-clause-done
 returns-then-not-chained-clause-done g c = λ k.
@@ -49,15 +49,15 @@ returns-in_err-more-clause-refused g c =
     let p = err_from_is_err_and c.from_residual-in_err-more.result c.from_residual-in_err-more.ensures.1 in
     rw (p.1, p.2)
     (λ k.
-     let now = (g.D.Disk.medium c.args.disk.now).now in
-     let same = same_bytes (g.D.Disk.medium c.args.disk.now) (g.D.Disk.medium c.replay.new.disk) (c.replay.ensures.untouched k) in
-     let log : c.replay.new.log.geometry ≡ c.args.tree.now.geometry = ap (λ (l : Log). l.geometry) c.in_ok-count.ensures.log ∙ c.requires.geometry in
-     other_refused c.args.tree.now.geometry (state_in c.args.tree.now) c.args.area now (state_in c.replay.new.tree)
-     (sym (ap (λ (h : Geometry). run (means c.args.tree.now.geometry) (Some (state_in c.args.tree.now)) (front (layout_of h) c.args.area now)) c.requires.geometry) ∙ c.in_ok-count.ensures.done k)
-     (sym (ap (λ (h : Geometry). chain (layout_of h) c.args.area now == 1) c.requires.geometry) ∙ sym (c.requires.chained k) ∙ c.if-not-chained.false) _
-     (subst (λ o. IsFault o c.in_err-more.field-0.0)
-      (λ i. records_fault (c.in_ok-count.ensures.geometry i) (state_in c.replay.new.tree) (other c.args.area) (front (layout_of (log i)) (other c.args.area) (same i)))
-      (c.in_err-more.ensures.refused k)))
+    let now = (g.D.Disk.medium c.args.disk.now).now in
+    let same = same_bytes (g.D.Disk.medium c.args.disk.now) (g.D.Disk.medium c.replay.new.disk) (c.replay.ensures.untouched k) in
+    let log : c.replay.new.log.geometry ≡ c.args.tree.now.geometry = ap (λ (l : Log). l.geometry) c.in_ok-count.ensures.log ∙ c.requires.geometry in
+    other_refused c.args.tree.now.geometry (state_in c.args.tree.now) c.args.area now (state_in c.replay.new.tree)
+    (sym (ap (λ (h : Geometry). run (means c.args.tree.now.geometry) (Some (state_in c.args.tree.now)) (front (layout_of h) c.args.area now)) c.requires.geometry) ∙ c.in_ok-count.ensures.done k)
+    (sym (ap (λ (h : Geometry). chain (layout_of h) c.args.area now == 1) c.requires.geometry) ∙ sym (c.requires.chained k) ∙ c.if-not-chained.false) _
+    (subst (λ o. IsFault o c.in_err-more.field-0.0)
+    (λ i. records_fault (c.in_ok-count.ensures.geometry i) (state_in c.replay.new.tree) (other c.args.area) (front (layout_of (log i)) (other c.args.area) (same i)))
+    (c.in_err-more.ensures.refused k)))
 
 pub returns-clause-count : goal.returns-clause-count
 returns-clause-count g c = λ k.

@@ -1,6 +1,6 @@
-use Rattle.std.proofs.Common.{◌≡◌, ℕ, Bool, true, ◌&&◌, List, get_or, length, sym, ◌∙◌, ap, arith}
+use Rattle.std.proofs.Common.{ℕ, Bool, ◌&&◌, List, get_or, sym, ◌∙◌, ap}
 use Rattle.std.specs.Str.{bytes_eq}
-use Rattle.image.specs.Image.{head_of, is_version}
+use Rattle.image.specs.Image.{head_of}
 use Rattle.checkpoint.proofs.Heads.{head_whole}
 use Rattle.checkpoint.proofs.reading.has_head.Goals as goal
 

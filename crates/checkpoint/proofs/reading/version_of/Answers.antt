@@ -1,4 +1,4 @@
-use Rattle.std.proofs.Common.{◌≡◌, ◌+◌, List, Bool, not, None, length, sym, ◌∙◌, ap, arith, ℕ}
+use Rattle.std.proofs.Common.{Bool, not, None, sym, ◌∙◌, ap, arith}
 use Rattle.image.specs.Image.{has_head, version_in}
 use Rattle.oplog.specs.Layout.{image, layout_of, part}
 use Rattle.oplog.proofs.Slices.{image_sized, part_inside}
@@ -10,8 +10,14 @@ use Rattle.checkpoint.proofs.reading.version_of.Goals as goal
 
 pub read-requires : goal.read-requires
 read-requires g c =
-    omega (arith, c.image_at.ensures, part_inside (layout_of c.args.g.now) (image c.args.number) (omega (arith, c.requires.number)),
-     image_sized (layout_of c.args.g.now) c.args.number c.requires.number, image_some c.args.g.now, c.requires.whole)
+    omega (
+      arith,
+      c.image_at.ensures,
+      part_inside (layout_of c.args.g.now) (image c.args.number) (omega (arith, c.requires.number)),
+      image_sized (layout_of c.args.g.now) c.args.number c.requires.number,
+      image_some c.args.g.now,
+      c.requires.whole,
+    )
 
 pub returns-then-not-has_head-clause-refused : goal.returns-then-not-has_head-clause-refused
 returns-then-not-has_head-clause-refused g c = λ k.

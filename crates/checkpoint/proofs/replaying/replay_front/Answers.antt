@@ -1,5 +1,4 @@
-use Rattle.std.proofs.Common.{◌≡◌, length, sym, ◌∙◌, arith}
-use Rattle.std.proofs.lemmas.Grind.{common_steps}
+use Rattle.std.proofs.Common.{sym, ◌∙◌, arith}
 use Rattle.std.proofs.lemmas.Result.{err_from_is_err_and}
 use Rattle.oplog.specs.Log.{layout}
 use Rattle.parcel.specs.Tree.{state_in}
@@ -11,10 +10,10 @@ returns-in_err-replay_record-clause-refused g c =
     let p = err_from_is_err_and c.from_residual.result c.from_residual.ensures.1 in
     rw (p.1, p.2)
     (λ k.
-     bad_at c.args.tree.now.geometry (layout c.args.log.now) c.args.half (g.D.Disk.medium c.args.disk.now).now (state_in c.args.tree.now) c.loop-i.i (state_in c.loop-i.tree)
-     (omega (arith, c.loop-i-test.true, c.requires.count k)) (c.loop-i.invariant.at k) _
-     (record_fault_same c.args.tree.now.geometry c.loop-i.tree.geometry c.loop-i.invariant.geometry c.args.log.now c.loop-i.log c.loop-i.invariant.log _ _
-      (same_bytes (g.D.Disk.medium c.args.disk.now) (g.D.Disk.medium c.loop-i.disk) (c.loop-i.invariant.untouched k)) (state_in c.loop-i.tree) c.args.half c.loop-i.i _ (c.in_err-replay_record.ensures.refused k)))
+    bad_at c.args.tree.now.geometry (layout c.args.log.now) c.args.half (g.D.Disk.medium c.args.disk.now).now (state_in c.args.tree.now) c.loop-i.i (state_in c.loop-i.tree)
+    (omega (arith, c.loop-i-test.true, c.requires.count k)) (c.loop-i.invariant.at k) _
+    (record_fault_same c.args.tree.now.geometry c.loop-i.tree.geometry c.loop-i.invariant.geometry c.args.log.now c.loop-i.log c.loop-i.invariant.log _ _
+    (same_bytes (g.D.Disk.medium c.args.disk.now) (g.D.Disk.medium c.loop-i.disk) (c.loop-i.invariant.untouched k)) (state_in c.loop-i.tree) c.args.half c.loop-i.i _ (c.in_err-replay_record.ensures.refused k)))
 
 pub loop-i-preserved : goal.loop-i-preserved
 loop-i-preserved g c = record {
@@ -28,7 +27,7 @@ loop-i-preserved g c = record {
       at_next c.args.tree.now.geometry (layout c.args.log.now) c.args.half (g.D.Disk.medium c.args.disk.now).now (state_in c.args.tree.now) c.loop-i.i (state_in c.loop-i.tree) (state_in c.replay_record.new.tree)
       (omega (arith, c.loop-i-test.true, c.requires.count k))
       (sym (apply_same c.args.tree.now.geometry c.loop-i.tree.geometry c.loop-i.invariant.geometry c.args.log.now c.loop-i.log c.loop-i.invariant.log _ _
-       (same_bytes (g.D.Disk.medium c.args.disk.now) (g.D.Disk.medium c.loop-i.disk) (c.loop-i.invariant.untouched k)) (state_in c.loop-i.tree) c.args.half c.loop-i.i)
-       ∙ c.in_ok-replay_record.ensures.done k)
+      (same_bytes (g.D.Disk.medium c.args.disk.now) (g.D.Disk.medium c.loop-i.disk) (c.loop-i.invariant.untouched k)) (state_in c.loop-i.tree) c.args.half c.loop-i.i)
+      ∙ c.in_ok-replay_record.ensures.done k)
       (c.loop-i.invariant.at k);
 }

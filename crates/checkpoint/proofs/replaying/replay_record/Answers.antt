@@ -1,7 +1,6 @@
-use Rattle.std.proofs.Common.{◌≡◌, Some, sym, ◌∙◌, ap, subst}
+use Rattle.std.proofs.Common.{Some, sym, ◌∙◌, ap, subst}
 use Rattle.std.proofs.lemmas.Result.{err_from_is_err_and}
 use Rattle.affinity.specs.declared.geometry.Geometry.{Geometry}
-use Rattle.oplog.specs.Front.{record_at}
 use Rattle.oplog.specs.Log.{layout}
 use Rattle.oplog.specs.Logged.{IsLogged}
 use Rattle.oplog.proofs.BadRecords.{records_are_bytes}
@@ -14,9 +13,9 @@ returns-in_err-m-clause-refused g c =
     let p = err_from_is_err_and c.from_residual.result c.from_residual.ensures.1 in
     rw (p.1, p.2)
     (λ k.
-     let bytes = records_are_bytes (layout c.args.log.now) c.args.half c.args.i (g.D.Disk.medium c.args.disk.now).now c.requires.half c.requires.i c.requires.parts (g.met.D.Disk.bytes c.args.disk.now) in
-     read_fault c.args.tree.now.geometry c.args.log.now.geometry c.requires.geometry (state_in c.args.tree.now) c.args.half c.args.i _ bytes.0 bytes.1
-     c.in_err-m.field-0.0 (c.in_err-m.ensures.record k) c.in_err-m.ensures.about)
+    let bytes = records_are_bytes (layout c.args.log.now) c.args.half c.args.i (g.D.Disk.medium c.args.disk.now).now c.requires.half c.requires.i c.requires.parts (g.met.D.Disk.bytes c.args.disk.now) in
+    read_fault c.args.tree.now.geometry c.args.log.now.geometry c.requires.geometry (state_in c.args.tree.now) c.args.half c.args.i _ bytes.0 bytes.1
+    c.in_err-m.field-0.0 (c.in_err-m.ensures.record k) c.in_err-m.ensures.about)
 
 pub returns-in-Done-clause-done : goal.returns-in-Done-clause-done
 returns-in-Done-clause-done g c = λ k.
