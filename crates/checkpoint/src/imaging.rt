@@ -1,5 +1,5 @@
 //! An image, read into a tree piece by piece.
-ghost use Rattle.std.specs.Prelude.{◌≡◌, ◌↔◌, ◌+◌, ◌*◌, ◌<◌, ◌≤◌, ℕ, true, None, Some, length, IfErr, IfOk, IsOk, OnOk};
+ghost use Rattle.std.specs.Prelude.{◌≡◌, ◌↔◌, ◌+◌, ◌*◌, ◌<◌, ◌≤◌, ℕ, true, None, Some, length, IfErr, IsOk, OnOk};
 ghost use Rattle.checkpoint.specs.declared.fault.OpenFault.TheVariants.{BadPiece};
 ghost use Rattle.checkpoint.specs.Loading.{CountsOpenFault, IsFault};
 ghost use Rattle.checkpoint.specs.Refusals.{fault_of, first_bad_piece};

@@ -1,14 +1,12 @@
-//! What stands on a device in front of the pieces and records: its heading, the head of an image, and the chain bytes.
+//! Reads of a device: any range, a chain byte, and the head of an image.
 ghost use Rattle.std.specs.Prelude.{◌≡◌, ◌+◌, ◌<◌, ◌≤◌, ◌==◌, not, true, None, length, IfErr, IfOk, OnOk};
 ghost use Rattle.checkpoint.specs.declared.fault.OpenFault.TheVariants.{Device, BadVersion};
-ghost use Rattle.checkpoint.specs.Header.{HasHeader};
 ghost use Rattle.checkpoint.specs.Loading.{CountsOpenFault, IsFault};
-ghost use Rattle.checkpoint.specs.Refusals.{IsRefused, fault_if};
+ghost use Rattle.checkpoint.specs.Refusals.{fault_if};
 ghost use Rattle.disk.specs.Device.{moments};
 ghost use Rattle.image.specs.Image.{has_head, head_of, is_version, version_in};
 ghost use Rattle.oplog.specs.Front.{chain};
 ghost use Rattle.oplog.specs.Layout.{device_size, image, layout_of, part, slice};
-ghost use Rattle.oplog.specs.Stands.{named_area};
 
 use crate::OpenFault;
 use affinity::Geometry;
