@@ -43,6 +43,7 @@ module _ (log : Log) (frozen : List ℕ) (named others due : List Bool) (left : 
             subst (λ (h : ℕ). IsStanding log.geometry (other log.named) h (holds log.geometry w1.now) w1) (sym placed.0)
             (subst (λ (o : Option State). IsStanding log.geometry (other log.named) (other log.named) o w1) (sym same) flipped.stands);
         ready = subst (λ (h : ℕ). IsReady (layout_of log.geometry) h log.used w1) (sym placed.0) flipped.ready;
+        state = λ x is. sound.state x (sym same ∙ is);
         named_fresh =
             subst (λ (o : Option State). IsFresh log.geometry o others (image_in log.geometry (other log.named) w1)) (sym same)
             (subst (λ (l : List ℕ). IsFresh log.geometry (holds log.geometry w0.now) others l) (sym (flipped.images (other log.named) (omega arith) ∙ written.is)) sound'.others_fresh);

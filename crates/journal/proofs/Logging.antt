@@ -9,7 +9,11 @@ use Rattle.disk.specs.Device.{AreBytes, Medium}
 use Rattle.disk.specs.Moments.{LeavesOnly}
 use Rattle.disk.proofs.Leaves.{itself}
 use Rattle.disk.proofs.Moments.{weaker}
-use Rattle.image.specs.Image.{read}
+use Rattle.image.specs.Image.{head_of, read}
+use Rattle.image.specs.Touched.{touches}
+use Rattle.image.proofs.Untouched.{piece_stays}
+use Rattle.plain.proofs.Kept.{step_kept}
+use Rattle.std.specs.List.{AllByRecursion}
 use Rattle.journal.specs.Journal.{AreCarriedOut, HoldsSome, IsSettled}
 use Rattle.journal.specs.Keeping.{IsCutOr, IsFresh, IsPlaced, IsSound, MarksTouched, coming, held_of}
 use Rattle.journal.specs.Steps.{IsStanding, run_on}
@@ -30,7 +34,7 @@ use Rattle.oplog.specs.Stands.{run}
 use Rattle.oplog.proofs.AfterCrash.{append_stands, all_by_area}
 use Rattle.oplog.proofs.Kept.{run-append}
 use Rattle.plain.specs.Serial.{fold, is_loggable, next_state, reply_to}
-use Rattle.plain.specs.State.{State}
+use Rattle.plain.specs.State.{State, IsState}
 
 -- ---- messages and their records
 
@@ -66,10 +70,23 @@ half_below g n h x m are stands =
     let is_area = named_below g n h x m are stands in
     subst (λ (k : ℕ). k < 2) (stands m.now (itself m.now m.loose are)).current (current_below n (eqb (chain (layout_of g) n m.now) 1) is_area)
 
-pub fresh_more : (g : Geometry) (x : State) (ms : List Msg) (old new : List Bool) (bytes : List ℕ) → AreCarriedOut g x ms → MarksTouched g ms old new → IsFresh g (Some x) old bytes → IsFresh g (Some (fold g x ms)) new bytes
-fresh_more g x ms old new bytes out touched fresh y is n few unmarked =
-    let kept = touched x out n few unmarked in
-    fresh x refl n few kept.0 ∙ sym kept.1 ∙ ap (λ (o : Option State). stretch_of g (unwrap_or o x) n) is
+-- what none of these messages touches stays, and what they lead to is a state
+one_stays : (g : Geometry) (x : State) (m : Msg) (n : ℕ) → IsState g x → touches g m n ≡ false → stretch_of g (next_state g x m) n ≡ stretch_of g x n
+one_stays g x m zero is off = ap (λ (l : List ℕ). head_of 2 ++ l) (piece_stays 2 g x is m 0 off)
+one_stays g x m (suc n) is off = piece_stays 2 g x is m (suc n) off
+
+all_stay : (g : Geometry) (x : State) (ms : List Msg) (n : ℕ) → IsState g x → AreCarriedOut g x ms → AllByRecursion (λ m. touches g m n ≡ false) ms → stretch_of g (fold g x ms) n ≡ stretch_of g x n
+all_stay g x [] n is out off = refl
+all_stay g x (m ∷ ms) n is out off = all_stay g (next_state g x m) ms n (step_kept g x m is out.0) out.3 off.1 ∙ one_stays g x m n is off.0
+
+carried_state : (g : Geometry) (x : State) (ms : List Msg) → IsState g x → AreCarriedOut g x ms → IsState g (fold g x ms)
+carried_state g x [] is out = is
+carried_state g x (m ∷ ms) is out = carried_state g (next_state g x m) ms (step_kept g x m is out.0) out.3
+
+pub fresh_more : (g : Geometry) (x : State) (ms : List Msg) (old new : List Bool) (bytes : List ℕ) → IsState g x → AreCarriedOut g x ms → MarksTouched g ms old new → IsFresh g (Some x) old bytes → IsFresh g (Some (fold g x ms)) new bytes
+fresh_more g x ms old new bytes is_state out touched fresh y is n few unmarked =
+    let kept = touched n few unmarked in
+    fresh x refl n few kept.0 ∙ sym (all_stay g x ms n is_state out kept.1) ∙ ap (λ (o : Option State). stretch_of g (unwrap_or o x) n) is
 
 -- the journal's facts, in the words of contracts
 pub settled_of : (log : Log) (frozen : List ℕ) (named others due : List Bool) (left : Option ℕ) (failed : Bool) (m : Medium) → IsSound log frozen named others due left m → IsSettled (held_of log left failed m)
@@ -146,15 +163,16 @@ module _ (log : Log) (frozen : List ℕ) (named others due : List Bool) (left : 
           some = ap is_some log_settled;
           stands = subst (λ (o : Option State). IsStanding log.geometry log.named log.current o w1) (sym log_settled) stands;
           ready = subst (λ (n : ℕ). IsReady (layout_of log.geometry) log.current n w1) used has.ready;
+          state = λ z is'. subst (λ (s : State). IsState log.geometry s) (ap (λ (o : Option State). unwrap_or o x) (sym log_settled ∙ is')) (carried_state log.geometry x ms (sound.state x is) out);
           named_fresh =
               subst (λ (o : Option State). IsFresh log.geometry o named' (image_in log.geometry log.named w1)) (sym log_settled)
-              (fresh_more log.geometry x ms named named' (image_in log.geometry log.named w1) out touched
+              (fresh_more log.geometry x ms named named' (image_in log.geometry log.named w1) (sound.state x is) out touched
               (subst (λ (l : List ℕ). IsFresh log.geometry (Some x) named l) (sym (images log.named is_area))
               (subst (λ (o : Option State). IsFresh log.geometry o named (image_in log.geometry log.named w0)) is sound.named_fresh)));
           others_fresh =
               subst (λ (l : List ℕ). IsFresh log.geometry (holds log.geometry w1.now) others' l) (sym (coming_used log (log.used + length ms) frozen left w1))
               (subst (λ (o : Option State). IsFresh log.geometry o others' (coming log frozen left w1)) (sym log_settled)
-              (fresh_more log.geometry x ms others others' (coming log frozen left w1) out touched'
+              (fresh_more log.geometry x ms others others' (coming log frozen left w1) (sound.state x is) out touched'
               (subst (λ (l : List ℕ). IsFresh log.geometry (Some x) others l) (sym (still_coming left))
               (subst (λ (o : Option State). IsFresh log.geometry o others (coming log frozen left w0)) is sound.others_fresh))));
           by_cut = cut_used log (log.used + length ms) frozen due left w1 (cut_more left placed sound.by_cut);

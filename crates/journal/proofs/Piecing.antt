@@ -79,6 +79,7 @@ module _ (log : Log) (frozen : List ℕ) (named others due : List Bool) (left : 
           some = ap is_some same ∙ sound.some;
           stands = subst (λ (o : Option State). IsStanding log.geometry log.named log.current o w1) (sym same) (stands pieced.moments);
           ready = pieced.ready log.current log.used (half_below log.geometry log.named log.current (holds log.geometry w0.now) w0 are sound.stands) sound.ready;
+          state = λ x is. sound.state x (sym same ∙ is);
           named_fresh =
               subst (λ (o : Option State). IsFresh log.geometry o named (image_in log.geometry log.named w1)) (sym same)
               (subst (λ (l : List ℕ). IsFresh log.geometry (holds log.geometry w0.now) named l) (sym (pieced.same.others (image log.named) (λ is. omega (arith, is, is_area)))) sound.named_fresh);

@@ -1,11 +1,16 @@
 -- Rows of marks, and what is known of an image by them.
-use Rattle.std.proofs.Common.{◌≡◌, ℕ, zero, suc, ◌+◌, ◌<◌, ◌≤◌, Bool, true, false, List, [], ◌∷◌, ◌++◌, length, take, drop, get_or, set, refl, sym, ◌∙◌, ap, arith, true≢false}
-use Rattle.std.proofs.lemmas.List.{append-nil, drop_all, take_all}
+use Rattle.std.proofs.Common.{◌≡◌, ◌≢◌, ⊎_elim, ℕ, zero, suc, ◌+◌, ◌<◌, ◌≤◌, Bool, true, false, List, [], ◌∷◌, ◌++◌, length, take, drop, get_or, set, refl, sym, ◌∙◌, ap, subst, arith, true≢false}
+use Rattle.std.specs.List.{AllByRecursion}
+use Rattle.std.proofs.lemmas.Bool.{cases_eq, cases_lt}
+use Rattle.image.specs.Touched.{touches}
+use Rattle.image.proofs.Measures.{all-append}
+use Rattle.message.specs.declared.Msg.{Msg}
+use Rattle.std.proofs.lemmas.List.{get_or-set_other, get_or-set_same, length-set, take_more, append-nil, drop_all, take_all}
 use Rattle.std.proofs.Math.Seq.{take-add}
 use Rattle.affinity.specs.declared.geometry.Geometry.{Geometry}
 use Rattle.image.specs.Pieces.{piece_count}
 use Rattle.plain.specs.State.{one_if}
-use Rattle.journal.specs.Keeping.{count_marked}
+use Rattle.journal.specs.Keeping.{MarksTouched, count_marked}
 use Rattle.journal.specs.Stretches.{stretch_at, stretch_in, stretch_size}
 use Rattle.journal.proofs.Places.{stretch_end, stretch_next}
 use Rattle.oplog.specs.Layout.{image_size}
@@ -67,3 +72,54 @@ whole_items len new old = take len (new ++ drop (length new) old)
 pub whole_put : {X : Type 0} (len : ℕ) (new old : List X) → length new ≡ length old → length new ≡ len → take len (new ++ drop (length new) old) ≡ new
 whole_put len new old size size' =
     ap (λ l. take len (new ++ l)) (drop_all (length new) old (omega (arith, size))) ∙ ap (take len) (append-nil new) ∙ take_all len new (omega (arith, size'))
+
+-- ---- marks of what messages touch
+
+-- one piece more is looked at: marked where the message touches it, and else as it was
+pub record AreMarked (g : Geometry) (m : Msg) (k : ℕ) (old new : List Bool) : Type 0 where
+  pub size : length new ≡ length old
+  pub marked : (i : ℕ) → i < k → get_or new i true ≡ false → (get_or old i true ≡ false) × (touches g m i ≡ false)
+  pub rest : (i : ℕ) → k ≤ i → get_or new i true ≡ get_or old i true
+
+pub none_looked : (g : Geometry) (m : Msg) (old : List Bool) → AreMarked g m 0 old old
+none_looked g m old = record { size = refl; marked = λ i few unmarked. absurd (omega (arith, few)); rest = λ i far. refl }
+
+pub one_touched : (g : Geometry) (m : Msg) (k : ℕ) (old new : List Bool) → k < length new → AreMarked g m k old new → AreMarked g m (k + 1) old (set new k true)
+one_touched g m k old new few so_far = record {
+  size = length-set new k true ∙ so_far.size;
+  marked = λ i below unmarked.
+      ⊎_elim
+      (λ (here : i ≡ k). absurd (true≢false (sym (get_or-set_same new k true true few) ∙ sym (ap (λ (j : ℕ). get_or (set new k true) j true) here) ∙ unmarked)))
+      (λ (elsewhere : i ≢ k). so_far.marked i (apart i elsewhere below) (sym (get_or-set_other new k i true true elsewhere) ∙ unmarked))
+      (cases_eq i k);
+  rest = λ i far. get_or-set_other new k i true true (λ here. omega (arith, here, far)) ∙ so_far.rest i (omega (arith, far));
+}
+  where
+    apart : (i : ℕ) → i ≢ k → i < k + 1 → i < k
+    apart i elsewhere below = ⊎_elim (λ (less : i < k). less) (λ (more : k ≤ i). absurd (elsewhere (omega (arith, below, more)))) (cases_lt i k)
+
+pub one_passed : (g : Geometry) (m : Msg) (k : ℕ) (old new : List Bool) → touches g m k ≡ false → AreMarked g m k old new → AreMarked g m (k + 1) old new
+one_passed g m k old new off so_far = record {
+  size = so_far.size;
+  marked = λ i below unmarked.
+      ⊎_elim
+      (λ (here : i ≡ k). subst (λ (j : ℕ). (get_or old j true ≡ false) × (touches g m j ≡ false)) (sym here) (sym (so_far.rest k (omega arith)) ∙ sym (ap (λ (j : ℕ). get_or new j true) here) ∙ unmarked, off))
+      (λ (elsewhere : i ≢ k). so_far.marked i (apart i elsewhere below) unmarked)
+      (cases_eq i k);
+  rest = λ i far. so_far.rest i (omega (arith, far));
+}
+  where
+    apart : (i : ℕ) → i ≢ k → i < k + 1 → i < k
+    apart i elsewhere below = ⊎_elim (λ (less : i < k). less) (λ (more : k ≤ i). absurd (elsewhere (omega (arith, below, more)))) (cases_lt i k)
+
+pub all_looked : (g : Geometry) (m : Msg) (k : ℕ) (old new : List Bool) → k ≡ piece_count g → AreMarked g m k old new → MarksTouched g (m ∷ []) old new
+all_looked g m k old new all so_far n few unmarked = let both = so_far.marked n (omega (arith, few, all)) unmarked in (both.0, (both.1, tt))
+
+pub no_message : (g : Geometry) (old : List Bool) → MarksTouched g [] old old
+no_message g old n few unmarked = (unmarked, tt)
+
+pub message_more : (g : Geometry) (ms : List Msg) (i : ℕ) (d : Msg) (old mid new : List Bool) → i < length ms → MarksTouched g (take i ms) old mid → MarksTouched g (get_or ms i d ∷ []) mid new → MarksTouched g (take (i + 1) ms) old new
+message_more g ms i d old mid new few so_far more n below unmarked =
+    let last = more n below unmarked in
+    let before = so_far n below last.0 in
+    (before.0, subst (λ (l : List Msg). AllByRecursion (λ m. touches g m n ≡ false) l) (sym (take_more ms i d few)) (all-append (λ m. touches g m n ≡ false) (take i ms) (get_or ms i d ∷ []) before.1 last.1))

@@ -76,6 +76,7 @@ module _ (log : Log) (frozen frozen' : List ℕ) (named others due : List Bool) 
           some = ap is_some same ∙ sound.some;
           stands = subst (λ (o : Option State). IsStanding log.geometry (other log.named) (other log.named) o w1) (sym same) made.stands;
           ready = made.ready;
+          state = λ x is'. sound.state x (sym same ∙ is');
           named_fresh =
               subst (λ (o : Option State). IsFresh log.geometry o named' (image_in log.geometry (other log.named) w1)) (sym same)
               (subst (λ (l : List ℕ). IsFresh log.geometry (holds log.geometry w0.now) named' l) (sym made.is) (frozen_fresh log.geometry (holds log.geometry w0.now) y frozen' is is_state spelled named'));
@@ -97,6 +98,7 @@ module _ (log : Log) (frozen frozen' : List ℕ) (named others due : List Bool) 
           some = ap is_some same ∙ sound.some;
           stands = subst (λ (o : Option State). IsStanding log.geometry log.named (other log.named) o w1) (sym same) begun.stands;
           ready = begun.ready;
+          state = λ x is'. sound.state x (sym same ∙ is');
           named_fresh =
               subst (λ (o : Option State). IsFresh log.geometry o named (image_in log.geometry log.named w1)) (sym same)
               (subst (λ (l : List ℕ). IsFresh log.geometry (holds log.geometry w0.now) named l) (sym (begun.images log.named is_area)) sound.named_fresh);
@@ -120,6 +122,7 @@ opened_sound log frozen named others due w0 w1 y alone is is_state spelled all a
       some = ap is_some same ∙ alone.some;
       stands = subst (λ (o : Option State). IsStanding log.geometry (other log.named) (other log.named) o w1) (sym same) made.stands;
       ready = made.ready;
+      state = λ x is'. subst (λ (s : State). IsState log.geometry s) (ap (λ (o : Option State). unwrap_or o y) (sym is ∙ sym same ∙ is')) is_state;
       named_fresh =
           subst (λ (o : Option State). IsFresh log.geometry o named (image_in log.geometry (other log.named) w1)) (sym same)
           (subst (λ (l : List ℕ). IsFresh log.geometry (holds log.geometry w0.now) named l) (sym made.is) (frozen_fresh log.geometry (holds log.geometry w0.now) y frozen is is_state spelled named));

@@ -1,10 +1,12 @@
 -- What a journal keeps true of its device between calls. No clause of a public function cites this module.
 use Rattle.std.specs.Prelude.{◌≡◌, ◌<◌, ◌-◌, ℕ, suc, Bool, true, false, List, [], ◌∷◌, get_or, Option, Some, None, is_some}
+use Rattle.std.specs.List.{AllByRecursion}
 use Rattle.affinity.specs.declared.geometry.Geometry.{Geometry}
 use Rattle.checkpoint.specs.Recovery.{holds}
 use Rattle.disk.specs.Device.{Medium}
 use Rattle.image.specs.Image.{read}
 use Rattle.image.specs.Pieces.{piece_count}
+use Rattle.image.specs.Touched.{touches}
 use Rattle.journal.specs.Journal.{AreCarriedOut, Held}
 use Rattle.journal.specs.Steps.{IsStanding, run_on}
 use Rattle.journal.specs.Stretches.{AgreeUnmarked, image_in, stretch_in, stretch_of}
@@ -14,7 +16,7 @@ use Rattle.oplog.specs.Front.{front}
 use Rattle.oplog.specs.Layout.{layout_of, other}
 use Rattle.oplog.specs.Log.{Log}
 use Rattle.plain.specs.Serial.{fold}
-use Rattle.plain.specs.State.{State}
+use Rattle.plain.specs.State.{State, IsState}
 
 -- ---- marks
 
@@ -26,20 +28,21 @@ count_marked (false ∷ marks) = count_marked marks
 
 -- Each stretch that isn't marked is the one of a state, where there is one.
 abbrev pub IsFresh : Geometry → Option State → List Bool → List ℕ → Type 0
-IsFresh g x marks bytes = (y : State) → x ≡ Some y → (n : ℕ) → n < piece_count g → get_or marks n true ≡ false → stretch_in g bytes n ≡ stretch_of g y n
+IsFresh g x marks bytes = (y : State) → x ≡ Some y → (n : ℕ) → n < piece_count g → get_or marks n true ≡ false
+    → stretch_in g bytes n ≡ stretch_of g y n
 
--- Marks after these messages: what isn't marked wasn't before, and none of the messages changes it where they are carried
--- out one after the other.
+-- Marks after these messages: what isn't marked wasn't before, and none of the messages touches it.
 abbrev pub MarksTouched : Geometry → List Msg → List Bool → List Bool → Type 0
-MarksTouched g ms old new = (x : State) → AreCarriedOut g x ms → (n : ℕ) → n < piece_count g → get_or new n true ≡ false
-    → (get_or old n true ≡ false) × (stretch_of g (fold g x ms) n ≡ stretch_of g x n)
+MarksTouched g ms old new = (n : ℕ) → n < piece_count g → get_or new n true ≡ false
+    → (get_or old n true ≡ false) × AllByRecursion (λ m. touches g m n ≡ false) ms
 
 -- ---- a cut
 
 -- A cut is in progress: its image, with the records of the other half behind it, leads to what the device stands for, and
 -- each of its stretches that isn't due is on the device.
 pub record IsCut (log : Log) (frozen : List ℕ) (due : List Bool) (m : Medium) : Type 0 where
-  pub behind : run_on log.geometry (read log.geometry frozen) (front (layout_of log.geometry) (other log.named) m.now) ≡ holds log.geometry m.now
+  pub behind : run_on log.geometry (read log.geometry frozen) (front (layout_of log.geometry) (other log.named) m.now)
+      ≡ holds log.geometry m.now
   pub written : AgreeUnmarked log.geometry due (image_in log.geometry (other log.named) m) frozen
 
 abbrev pub IsCutOr : Log → List ℕ → List Bool → Option ℕ → Medium → Type 0
@@ -64,9 +67,16 @@ pub record IsSound (log : Log) (frozen : List ℕ) (named others due : List Bool
   pub some : is_some (holds log.geometry m.now) ≡ true
   pub stands : IsStanding log.geometry log.named log.current (holds log.geometry m.now) m
   pub ready : IsReadyFor log m
+  pub state : (x : State) → holds log.geometry m.now ≡ Some x → IsState log.geometry x
   pub named_fresh : IsFresh log.geometry (holds log.geometry m.now) named (image_in log.geometry log.named m)
   pub others_fresh : IsFresh log.geometry (holds log.geometry m.now) others (coming log frozen left m)
   pub by_cut : IsCutOr log frozen due left m
 
 abbrev pub held_of : Log → Option ℕ → Bool → Medium → Held
-held_of log left failed m = record { geometry = log.geometry; room = log.geometry.half - log.used; left = left; failed = failed; medium = m }
+held_of log left failed m = record {
+  geometry = log.geometry;
+  room = log.geometry.half - log.used;
+  left = left;
+  failed = failed;
+  medium = m;
+}

@@ -54,7 +54,8 @@ pub record IsWritten (log : Log) (bytes : List ℕ) (m : Medium) : Type 0 where
   pub stands : IsStanding log.geometry log.named (other log.named) (holds log.geometry m.now) m
   pub ready : IsReady (layout_of log.geometry) (other log.named) log.used m
   pub is : image_in log.geometry (other log.named) m ≡ bytes
-  pub behind : run_on log.geometry (read log.geometry bytes) (front (layout_of log.geometry) (other log.named) m.now) ≡ holds log.geometry m.now
+  pub behind : run_on log.geometry (read log.geometry bytes) (front (layout_of log.geometry) (other log.named) m.now)
+      ≡ holds log.geometry m.now
 
 -- The other area is named, with the records that it had. Both images are as they were.
 pub record IsFlipped (log : Log) (old new : Medium) : Type 0 where

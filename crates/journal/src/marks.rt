@@ -1,9 +1,10 @@
 //! Rows of marks, one for each piece of an image.
-ghost use Rattle.std.specs.Prelude.{◌≡◌, ◌<◌, true, false, get_or, length, replicate, IfSome, IsNone};
+ghost use Rattle.std.specs.Prelude.{◌≡◌, ◌<◌, ◌∷◌, [], true, false, get_or, length, replicate, IfSome, IsNone};
 ghost use Rattle.image.specs.Pieces.{piece_count};
 ghost use Rattle.journal.specs.Keeping.{MarksTouched, count_marked};
 
 use affinity::Geometry;
+use image::touched;
 use message::Msg;
 
 /// How many are marked.
@@ -40,11 +41,26 @@ pub(crate) fn clear_marks(marks: &mut [bool])
     marks.fill(false);
 }
 
-/// Marks what these messages touch. So far that is every piece.
+/// Marks what a message touches.
+fn mark_one(g: &Geometry, m: &Msg, marks: &mut [bool])
+    requires size { length marks.old ≡ piece_count g.now }
+    ensures size { length marks.new ≡ length marks.old }
+    ensures touched { MarksTouched g.now (m.now ∷ []) marks.old marks.new }
+{
+    for n in 0..marks.len() {
+        if touched(g, m, n) {
+            marks[n] = true;
+        }
+    }
+}
+
+/// Marks what these messages touch.
 pub(crate) fn mark_touched(g: &Geometry, messages: &[Msg], marks: &mut [bool])
     requires size { length marks.old ≡ piece_count g.now }
     ensures size { length marks.new ≡ length marks.old }
     ensures touched { MarksTouched g.now messages.now marks.old marks.new }
 {
-    marks.fill(true);
+    for m in messages {
+        mark_one(g, m, marks);
+    }
 }

@@ -1,0 +1,26 @@
+use Rattle.std.proofs.Common.{◌≡◌, ◌+◌, ◌<◌, ℕ, Bool, true, false, List, length, sym, ◌∙◌, subst, arith}
+use Rattle.image.specs.Pieces.{piece_count}
+use Rattle.image.specs.Touched.{touches}
+use Rattle.journal.proofs.Rows.{AreMarked, all_looked, none_looked, one_passed, one_touched}
+use Rattle.journal.proofs.marks.mark_one.Goals as goal
+use Rattle.journal.proofs.marks.mark_one.Goals.{then-touched, else-touched}
+
+pub loop-n-init : goal.loop-n-init
+loop-n-init c = none_looked c.args.g.now c.args.m.now c.args.marks.now
+
+pub loop-n-preserved : goal.loop-n-preserved
+loop-n-preserved c =
+    let few : c.loop-n.n < length c.loop-n.marks = omega (arith, c.loop-n-test.true, c.loop-n.invariant.size) in
+    elim c.if-touched.branch [
+      | then-touched w ↦
+          subst (λ (l : List Bool). AreMarked c.args.g.now c.args.m.now (c.loop-n.n + 1) c.args.marks.now l) (sym w.marks-is)
+          (one_touched c.args.g.now c.args.m.now c.loop-n.n c.args.marks.now c.loop-n.marks few c.loop-n.invariant)
+      | else-touched w ↦
+          let off : touches c.args.g.now c.args.m.now c.loop-n.n ≡ false = sym c.touched.ensures ∙ w.if-touched.false in
+          subst (λ (l : List Bool). AreMarked c.args.g.now c.args.m.now (c.loop-n.n + 1) c.args.marks.now l) (sym w.marks-is)
+          (one_passed c.args.g.now c.args.m.now c.loop-n.n c.args.marks.now c.loop-n.marks off c.loop-n.invariant)
+    ]
+
+pub returns-clause-touched : goal.returns-clause-touched
+returns-clause-touched c =
+    all_looked c.args.g.now c.args.m.now c.loop-n.n c.args.marks.now c.loop-n.marks (omega (arith, c.requires.size)) c.loop-n.invariant

@@ -1,0 +1,19 @@
+use Rattle.std.proofs.Common.{◌≡◌, ◌∙◌, List, length, take, refl, subst, arith}
+use Rattle.std.proofs.lemmas.List.{take_all}
+use Rattle.journal.specs.Keeping.{MarksTouched}
+use Rattle.journal.proofs.Rows.{message_more, no_message}
+use Rattle.message.specs.declared.Msg.{Msg}
+use Rattle.journal.proofs.marks.mark_touched.Goals as goal
+
+pub loop-m-init : goal.loop-m-init
+loop-m-init c = record { size = refl; touched = no_message c.args.g.now c.args.marks.now }
+
+pub loop-m-preserved : goal.loop-m-preserved
+loop-m-preserved c = record {
+  size = c.mark_one.ensures.size ∙ c.loop-m.invariant.size;
+  touched = message_more c.args.g.now c.args.messages.now c.loop-m.m-index _ c.args.marks.now c.loop-m.marks c.mark_one.new.marks (omega arith) c.loop-m.invariant.touched c.mark_one.ensures.touched;
+}
+
+pub returns-clause-touched : goal.returns-clause-touched
+returns-clause-touched c =
+    subst (λ (l : List Msg). MarksTouched c.args.g.now l c.args.marks.now c.loop-m.marks) (take_all c.loop-m.m-index c.args.messages.now (omega arith)) c.loop-m.invariant.touched
