@@ -1,5 +1,5 @@
 -- The options of a command, and the numbers that they give.
-use Rattle.std.proofs.Common.{◌≡◌, ◌∙◌, ◌&&◌, refl, ℕ, Bool, true, false, not, List, [], ◌∷◌, length, Option, Some, None, nat_lt, ltb-true, lt-ltb}
+use Rattle.std.proofs.Common.{◌≡◌, ◌&&◌, refl, ℕ, Bool, true, false, not, List, [], ◌∷◌, length, Option, Some, None, nat_lt, ltb-true, lt-ltb}
 use Rattle.std.specs.Prelude.{Result, Ok, Err, option_and_then, option_map, unwrap_or}
 use Rattle.std.specs.Borrow.{Bor}
 use Rattle.std.specs.Char.{digit_value}

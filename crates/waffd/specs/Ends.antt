@@ -8,7 +8,7 @@ use Rattle.waffd.specs.Faults.{status_of}
 use Rattle.checkpoint.specs.declared.inspecting.Shown.{Shown}
 use Rattle.waffd.specs.Lines.{formatted_line, shown_lines}
 use Rattle.waffd.specs.declared.faults.Fault.{Fault}
-use Rattle.waffd.specs.declared.faults.Fault.TheVariants.{Read, Write, GeometryOutOfRange, OutOfMemory, Device, Format, Open}
+use Rattle.waffd.specs.declared.faults.Fault.TheVariants.{Read, Write, OutOfMemory, Device, Format, Open}
 use Rattle.checkpoint.specs.Refusals.{IsRefused}
 use Rattle.checkpoint.specs.Shown.{IsShown}
 use Rattle.checkpoint.specs.declared.fault.FormatFault.TheVariants as formatting

@@ -1,6 +1,6 @@
-use Rattle.std.proofs.Common.{◌≡◌, ◌∙◌, ap₂, refl}
+use Rattle.std.proofs.Common.{◌∙◌, ap₂, refl}
 use Rattle.std.proofs.lemmas.Result.{IfOk-weaker}
-use Rattle.clap.specs.Words.{app_of, with_rule}
+use Rattle.clap.specs.Words.{with_rule}
 use Rattle.waffd.proofs.words.with_geometry.Goals as goal
 
 pub returns : goal.returns

@@ -1,4 +1,4 @@
-use Rattle.std.proofs.Common.{◌∙◌, subst}
+use Rattle.std.proofs.Common.{◌∙◌}
 use Rattle.waffd.proofs.Showing.{shows, tells_of}
 use Rattle.waffd.proofs.commands.show_device.show.Goals as goal
 
