@@ -7,7 +7,7 @@ use Rattle.disk.specs.Device.{Medium}
 use Rattle.image.specs.Image.{read}
 use Rattle.image.specs.Pieces.{piece_count}
 use Rattle.image.specs.Touched.{touches}
-use Rattle.journal.specs.Journal.{AreCarriedOut, Held}
+use Rattle.journal.specs.Journal.{Held}
 use Rattle.journal.specs.Steps.{IsStanding, run_on}
 use Rattle.journal.specs.Stretches.{AgreeUnmarked, image_in, stretch_in, stretch_of}
 use Rattle.message.specs.declared.Msg.{Msg}
@@ -15,7 +15,6 @@ use Rattle.oplog.specs.Calls.{IsReadyFor}
 use Rattle.oplog.specs.Front.{front}
 use Rattle.oplog.specs.Layout.{layout_of, other}
 use Rattle.oplog.specs.Log.{Log}
-use Rattle.plain.specs.Serial.{fold}
 use Rattle.plain.specs.State.{State, IsState}
 
 -- ---- marks

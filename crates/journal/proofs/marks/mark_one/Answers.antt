@@ -1,5 +1,4 @@
-use Rattle.std.proofs.Common.{◌≡◌, ◌+◌, ◌<◌, ℕ, Bool, true, false, List, length, sym, ◌∙◌, subst, arith}
-use Rattle.image.specs.Pieces.{piece_count}
+use Rattle.std.proofs.Common.{◌≡◌, ◌+◌, ◌<◌, Bool, false, List, length, sym, ◌∙◌, subst, arith}
 use Rattle.image.specs.Touched.{touches}
 use Rattle.journal.proofs.Rows.{AreMarked, all_looked, none_looked, one_passed, one_touched}
 use Rattle.journal.proofs.marks.mark_one.Goals as goal

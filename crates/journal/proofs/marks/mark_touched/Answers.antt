@@ -1,4 +1,4 @@
-use Rattle.std.proofs.Common.{◌≡◌, ◌∙◌, List, length, take, refl, subst, arith}
+use Rattle.std.proofs.Common.{◌∙◌, List, refl, subst, arith}
 use Rattle.std.proofs.lemmas.List.{take_all}
 use Rattle.journal.specs.Keeping.{MarksTouched}
 use Rattle.journal.proofs.Rows.{message_more, no_message}
