@@ -130,11 +130,26 @@ fn images_are_refused(rt: HostRuntime) -> Result<(), Fail> {
 fn logs_are_refused(rt: HostRuntime) -> Result<(), Fail> {
     let alloc = rt.alloc();
     expect_fault(&rt, alloc, &[(128, 1), (2276, 1)], OpenFault::BadChain)?;
-    expect_fault(&rt, alloc, &[(192, 1), (196, 9)], OpenFault::BadRecord(0, 0))?;
-    expect_fault(&rt, alloc, &[(192, 1), (196, 2)], OpenFault::BadRecord(0, 0))?;
+    expect_fault(
+        &rt,
+        alloc,
+        &[(192, 1), (196, 9)],
+        OpenFault::BadRecord(0, 0),
+    )?;
+    expect_fault(
+        &rt,
+        alloc,
+        &[(192, 1), (196, 2)],
+        OpenFault::BadRecord(0, 0),
+    )?;
     let twice = [(192, 1), (193, 1), (196, 1), (716, 1)];
     expect_fault(&rt, alloc, &twice, OpenFault::BadRecord(0, 1))?;
-    expect_fault(&rt, alloc, &[(128, 1), (2340, 1)], OpenFault::BadRecord(1, 0))
+    expect_fault(
+        &rt,
+        alloc,
+        &[(128, 1), (2340, 1)],
+        OpenFault::BadRecord(1, 0),
+    )
 }
 
 #[test]
