@@ -97,7 +97,7 @@ module _ (version : ℕ) (g : Geometry) (bytes : List ℕ) (good : bytes ≡ spe
       by true on =
           sym (eight_again (number % 2 ^ g.files) fits_eight)
           ∙ sym (ap (λ (l : List ℕ). little_number 8 (bytes_at 8 8 l))
-              (good ∙ ap (λ (t : Bool). if t then 1 ∷ one_if (is_sealed_in bytes) ∷ [] ++ replicate 6 0 ++ little_bytes 8 (number % 2 ^ g.files) ++ said_label version bytes ++ replicate 16 0 else replicate 64 0) on))
+          (good ∙ ap (λ (t : Bool). if t then 1 ∷ one_if (is_sealed_in bytes) ∷ [] ++ replicate 6 0 ++ little_bytes 8 (number % 2 ^ g.files) ++ said_label version bytes ++ replicate 16 0 else replicate 64 0) on))
       by false off =
           let none : number ≡ 0 = ap (λ (l : List ℕ). little_number 8 (bytes_at 8 8 l)) (not_made off) in
           let least = pow_pos g.files in

@@ -19,7 +19,7 @@ pub(super) fn write_stripe(stripe: &StripeParcel, g: &Geometry, s: usize, out: &
     requires size { length out.old ≡ g.now.quota * 520 }
     ensures { (x : State) (a v : ℕ) → IsState g.now x
         → ((f b : ℕ) → group g.now f b ≡ s
-            → x.blocks (a, v, f, b) ≡ content_at stripe.now.entries f b)
+        → x.blocks (a, v, f, b) ≡ content_at stripe.now.entries f b)
         → out.new ≡ stripe_piece g.now x a v s }
 {
     // A stripe keeps its blocks in their order, and `len` says so.
@@ -39,7 +39,7 @@ pub(super) fn read_stripe(logical: &mut Logical, g: &Geometry, s: usize, bytes: 
     ensures files { logical.new.files ≡ logical.old.files }
     ensures blocks { IsTrue result → (f b : ℕ) → blocks_of g.now logical.new.stripes.items f b
         ≡ (if group g.now f b == s then block_in g.now bytes.now f b
-            else blocks_of g.now logical.old.stripes.items f b) }
+        else blocks_of g.now logical.old.stripes.items f b) }
     ensures fits { FitsLogical g.now logical.new }
     ensures whole { IsWholeLogical logical.new }
 {
@@ -48,13 +48,7 @@ pub(super) fn read_stripe(logical: &mut Logical, g: &Geometry, s: usize, bytes: 
 }
 
 // Takes in the piece of the stripe at one place.
-fn read_at(
-    place: &mut Option<StripeParcel>,
-    g: &Geometry,
-    files: u64,
-    s: u16,
-    bytes: &[u8],
-) -> bool
+fn read_at(place: &mut Option<StripeParcel>, g: &Geometry, files: u64, s: u16, bytes: &[u8]) -> bool
     requires fits { IfSome place.old (FitsStripe g.now s) }
     requires whole { IsWholeChild (λ (p : StripePart). Unit {0}) place.old }
     requires files { files < 2 ^ g.now.files }

@@ -14,7 +14,9 @@ const VOLUME_PIECE_SIZE: usize = 64;
 
 /// Where the files and the label stand in a volume's piece, and the zeros behind them.
 const FILES_AT: usize = 8;
+
 const LABEL_AT: usize = 16;
+
 const ZEROS_AT: usize = 48;
 
 /// The version of an image whose volumes have their labels.
