@@ -9,6 +9,7 @@ mod pieces;
 mod running;
 mod tree;
 
+pub use image::touched;
 pub use job::{Done, Job};
 pub use parts::{Aggr, Label, Logical, Parcels, Root, Standing, Vol};
 pub use pieces::{BadPiece, read_piece, read_piece_1, write_piece};
