@@ -1,0 +1,106 @@
+//! Those that wait and those that are held, and whose turn it is among them.
+ghost use Rattle.std.specs.Prelude.{◌≡◌, ◌+◌, ◌<◌, ◌++◌, ◌∷◌, ◌||◌, Bool, true, false, [], length, IfOk, IfSome, IfNone};
+ghost use Rattle.std.specs.List.{list_any};
+ghost use Rattle.affinity.specs.Interval.{IsAffinity};
+ghost use Rattle.turns.specs.declared.entries.Turn.{Turn as ATurn};
+ghost use Rattle.turns.specs.Turns.{next_turn, has_slot, has_number, without_slot, without_number, CameBefore, IsNext, holds_at};
+
+use crate::Turn;
+use crate::entries::{drop_number, drop_slot, next_turn, slot_at};
+use affinity::{Affinity, Geometry};
+use std::alloc::{AllocError, Global};
+use std::marker::Model;
+
+/// The messages that wait for their turn and those that are held, each with a slot of its own.
+///
+/// All memory is taken by `new`.
+#[derive(Drop)]
+pub struct Turns {
+    geometry: Geometry,
+    waiting: Vec<Turn>,
+    held: Vec<Turn>,
+    slots: usize,
+}
+
+impl Model for Turns {
+    ghost use Rattle.std.specs.Prelude.{◌≡◌, ◌≤◌, vec_capacity};
+    ghost use Rattle.turns.specs.Turns.{Queuing};
+    ghost use Rattle.turns.specs.Seats.{AreSeated};
+
+    ghost Value = { Queuing };
+
+    ghost view = { λ t. record {
+      geometry = t.geometry;
+      waiting = t.waiting.items;
+      held = t.held.items;
+      slots = t.slots;
+    } };
+
+    // Both rows have room for all slots.
+    ghost invariant = { λ t. (t.slots ≤ vec_capacity t.waiting) × (t.slots ≤ vec_capacity t.held)
+        × AreSeated t.slots t.waiting.items t.held.items };
+}
+
+impl Turns {
+    /// No one waits and no one is held. Those that arrive will be at affinities of the geometry, in
+    /// slots below `slots`, which is below the greatest `usize`. `AllocError` where there is no
+    /// memory.
+    pub fn new(alloc: Global, geometry: &Geometry, slots: usize) -> Result<Turns, AllocError>
+        requires { slots < usize.MAX }
+        ensures { IfOk result (λ t. t ≡ record { geometry = geometry.now; waiting = []; held = []; slots = slots }) }
+    {
+        Ok(Turns {
+            geometry: *geometry,
+            waiting: Vec::with_capacity(alloc, slots)?,
+            held: Vec::with_capacity(alloc, slots)?,
+            slots,
+        })
+    }
+
+    /// The first of those that wait that may go: no one at a related affinity is held, or came
+    /// earlier and still waits, and there is `room` where it may change something. None where no one
+    /// may go.
+    pub fn next(&self, room: bool) -> Option<Turn>
+        ensures { result ≡ next_turn room self.now.held self.now.waiting }
+    {
+        next_turn(room, &self.held, &self.waiting)
+    }
+
+    /// The slot of the one that is held at an affinity. None where no one is held there.
+    pub fn holder(&self, a: Affinity) -> Option<usize>
+        ensures some { IfSome result (λ slot. list_any (holds_at a.number slot) self.now.held ≡ true) }
+        ensures none { IfNone result (list_any (has_number a.number) self.now.held ≡ false) }
+    {
+        slot_at(&self.held, a.number())
+    }
+
+    /// One more waits, behind all others. Its ticket is above theirs, and no one has its slot.
+    pub fn arrive(&mut self, turn: Turn)
+        requires placed { IsAffinity self.old.geometry turn.affinity }
+        requires later { CameBefore turn.ticket self.old.waiting }
+        requires slot { turn.slot < self.old.slots }
+        requires new_slot { list_any (has_slot turn.slot) (self.old.waiting ++ self.old.held) ≡ false }
+        ensures { self.new ≡ record self.old { waiting = self.old.waiting ++ turn ∷ [] } }
+    {
+        self.waiting.push_reserved(turn);
+    }
+
+    /// The one that `next` gave goes: it waits no longer, and is held. All others stay.
+    pub fn go(&mut self, turn: Turn)
+        requires { IsNext self.old turn }
+        ensures waiting { self.new ≡
+            record self.old { waiting = without_slot turn.slot self.old.waiting; held = self.new.held } }
+        ensures held { (test : ATurn → Bool) → list_any test self.new.held ≡ (test turn || list_any test self.old.held) }
+        ensures count { length self.new.held ≡ length self.old.held + 1 }
+    {
+        drop_slot(&mut self.waiting, turn.slot);
+        self.held.push_reserved(turn);
+    }
+
+    /// What is held at an affinity is held no longer. Nothing changes where nothing is held there.
+    pub fn free(&mut self, a: Affinity)
+        ensures { self.new ≡ record self.old { held = without_number a.number self.old.held } }
+    {
+        drop_number(&mut self.held, a.number());
+    }
+}
