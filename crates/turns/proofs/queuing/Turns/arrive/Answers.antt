@@ -17,14 +17,13 @@ push_reserved-requires c =
     let few = fits c.self.inside.slots (c.self.inside.waiting.items ++ c.args.turn ∷ []) c.self.inside.held.items seated in
     omega (arith, few, length-append c.self.inside.waiting.items (c.args.turn ∷ []), c.self.invariant.0)
 
+-- whatever is pushed in this slot
 pub invariant_of-self : goal.invariant_of-self
-invariant_of-self c =
-    let seated : AreSeated c.self.inside.slots (c.self.inside.waiting.items ++ c.args.turn ∷ []) c.self.inside.held.items =
-        seated-arrived c.self.inside.slots c.self.inside.waiting.items c.self.inside.held.items c.args.turn c.self.invariant.2
-        (subst (λ (q : Queuing). c.args.turn.slot < q.slots) (sym c.self.view_is) c.requires.slot)
-        (subst (λ (q : Queuing). list_any (has_slot c.args.turn.slot) (q.waiting ++ q.held) ≡ false) (sym c.self.view_is) c.requires.new_slot) in
-    (
+invariant_of-self c = (
   omega (arith, c.self.invariant.0, c.push_reserved.ensures.capacity),
   c.self.invariant.1,
-  subst (λ (ts : List Turn). AreSeated c.self.inside.slots ts c.self.inside.held.items) (sym c.push_reserved.ensures.items) seated,
+  subst (λ (ts : List Turn). AreSeated c.self.inside.slots ts c.self.inside.held.items) (sym c.push_reserved.ensures.items)
+  (seated-arrived c.self.inside.slots c.self.inside.waiting.items c.self.inside.held.items _ c.self.invariant.2
+    (subst (λ (q : Queuing). c.args.turn.slot < q.slots) (sym c.self.view_is) c.requires.slot)
+    (subst (λ (q : Queuing). list_any (has_slot c.args.turn.slot) (q.waiting ++ q.held) ≡ false) (sym c.self.view_is) c.requires.new_slot)),
 )
