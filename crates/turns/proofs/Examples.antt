@@ -1,9 +1,9 @@
 -- Worked examples of the definitions, with the affinities of a small server: one volume of two stripes.
-use Rattle.std.proofs.Common.{◌≡◌, ℕ, Bool, true, false, List, [], ◌∷◌, Some, None, refl}
+use Rattle.std.proofs.Common.{◌≡◌, ℕ, Bool, true, false, [], ◌∷◌, Some, None, refl}
 use Rattle.affinity.specs.Geometry.{small}
 use Rattle.affinity.specs.Interval.{interval}
 use Rattle.affinity.specs.Path.{Path, serial, volume, logical, stripe, label}
-use Rattle.turns.specs.Turns.{overlap, has_room, is_free_of, next_turn, without_slot, without_number, has_slot, has_number, holds_at}
+use Rattle.turns.specs.Turns.{overlap, next_turn, without_slot, without_number, holds_at}
 use Rattle.turns.specs.Seats.{times}
 use Rattle.turns.specs.declared.entries.Turn.{Turn}
 

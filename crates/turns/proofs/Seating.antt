@@ -1,11 +1,10 @@
 -- How often slots stand in rows, and how long rows are.
-use Rattle.std.proofs.Common.{◌≡◌, ◌≢◌, ◌∙◌, ℕ, zero, suc, ◌+◌, ◌<◌, ◌≤◌, Bool, true, false, not, ◌||◌, List, [], ◌∷◌, ◌++◌, filter, refl, ap, sym, subst, inl, inr, arith, length}
+use Rattle.std.proofs.Common.{◌≡◌, ◌≢◌, ◌∙◌, ℕ, zero, suc, ◌+◌, ◌<◌, ◌≤◌, Bool, true, false, ◌||◌, List, [], ◌∷◌, ◌++◌, filter, refl, ap, sym, subst, inl, inr, arith, length}
 use Rattle.std.specs.Prelude.{if◌then◌else◌, nat_lt}
 use Rattle.std.specs.List.{list_any}
 use Rattle.std.proofs.lemmas.Bool.{eq-eqb, ne_eqb, cases_eq, cases_Bool, or_parts, true≢false}
 use Rattle.std.proofs.lemmas.Bool.Decides.{eqb_tells, leb_tells}
 use Rattle.std.proofs.lemmas.List.{length-append}
-use Rattle.std.proofs.lemmas.List.Folds.{list_any-append}
 use Rattle.turns.specs.Turns.{has_slot, without_slot}
 use Rattle.turns.specs.Seats.{times, AreSeated}
 use Rattle.turns.specs.declared.entries.Turn.{Turn}
@@ -91,13 +90,14 @@ few (suc n) ts once =
       | inl e ↦ (let k : if◌then◌else◌ {A = ℕ} (nat_lt s (suc n)) 1 0 ≡ 1 = rw e.0 refl in omega (arith, once s, k))
       | inr e ↦ (let k : if◌then◌else◌ {A = ℕ} (nat_lt s (suc n)) 1 0 ≡ 0 = rw e.0 refl in omega (arith, once s, k))
     ]
+
     below : (s : ℕ) → s ≢ n → times s ts ≤ (if nat_lt s n then 1 else 0)
     below s other = elim (leb_tells (suc s) n) [
       | inl e ↦ rw e.0 (once_at s)
       | inr e ↦ rw e.0 (let k : if◌then◌else◌ {A = ℕ} (nat_lt s (suc n)) 1 0 ≡ 0 = (elim (leb_tells (suc s) (suc n)) [
-          | inl i ↦ absurd (other (omega (arith, e.1, i.1)))
-          | inr i ↦ rw i.0 refl
-        ]) in omega (arith, once s, k))
+        | inl i ↦ absurd (other (omega (arith, e.1, i.1)))
+        | inr i ↦ rw i.0 refl
+      ]) in omega (arith, once s, k))
     ]
 
 -- those that wait and those that are held are no more than there are slots
@@ -120,6 +120,7 @@ seated-arrived n ws hs t seated there new s = elim (cases_eq t.slot s) [
   where
     none : times t.slot ws + times t.slot hs ≡ 0
     none = sym (times-append t.slot ws hs) ∙ times-absent t.slot (ws ++ hs) new
+
     here : times t.slot (ws ++ t ∷ []) + times t.slot hs ≤ (if nat_lt t.slot n then 1 else 0)
     here = elim (leb_tells (suc t.slot) n) [
       | inl e ↦ rw e.0 (omega (arith, none, times-append t.slot ws (t ∷ []), times-cons_is t.slot t [] refl))

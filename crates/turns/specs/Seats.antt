@@ -1,5 +1,5 @@
 -- How a `Turns` keeps to its slots. No public clause cites this module.
-use Rattle.std.specs.Prelude.{ℕ, zero, suc, ◌+◌, ◌≤◌, nat_lt, List, [], ◌∷◌, if◌then◌else◌}
+use Rattle.std.specs.Prelude.{ℕ, suc, ◌+◌, ◌≤◌, nat_lt, List, [], ◌∷◌, if◌then◌else◌}
 use Rattle.turns.specs.Turns.{has_slot}
 use Rattle.turns.specs.declared.entries.Turn.{Turn}
 

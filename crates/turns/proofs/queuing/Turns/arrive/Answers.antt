@@ -11,9 +11,9 @@ use Rattle.turns.proofs.queuing.Turns.arrive.Goals as goal
 pub push_reserved-requires : goal.push_reserved-requires
 push_reserved-requires c =
     let seated : AreSeated c.self.inside.slots (c.self.inside.waiting.items ++ c.args.turn ∷ []) c.self.inside.held.items =
-        seated-arrived c.self.inside.slots c.self.inside.waiting.items c.self.inside.held.items c.args.turn c.self.invariant.2
-        (subst (λ (q : Queuing). c.args.turn.slot < q.slots) (sym c.self.view_is) c.requires.slot)
-        (subst (λ (q : Queuing). list_any (has_slot c.args.turn.slot) (q.waiting ++ q.held) ≡ false) (sym c.self.view_is) c.requires.new_slot) in
+    seated-arrived c.self.inside.slots c.self.inside.waiting.items c.self.inside.held.items c.args.turn c.self.invariant.2
+    (subst (λ (q : Queuing). c.args.turn.slot < q.slots) (sym c.self.view_is) c.requires.slot)
+    (subst (λ (q : Queuing). list_any (has_slot c.args.turn.slot) (q.waiting ++ q.held) ≡ false) (sym c.self.view_is) c.requires.new_slot) in
     let few = fits c.self.inside.slots (c.self.inside.waiting.items ++ c.args.turn ∷ []) c.self.inside.held.items seated in
     omega (arith, few, length-append c.self.inside.waiting.items (c.args.turn ∷ []), c.self.invariant.0)
 
@@ -23,7 +23,7 @@ invariant_of-self c = (
   omega (arith, c.self.invariant.0, c.push_reserved.ensures.capacity),
   c.self.invariant.1,
   subst (λ (ts : List Turn). AreSeated c.self.inside.slots ts c.self.inside.held.items) (sym c.push_reserved.ensures.items)
-  (seated-arrived c.self.inside.slots c.self.inside.waiting.items c.self.inside.held.items _ c.self.invariant.2
-    (subst (λ (q : Queuing). c.args.turn.slot < q.slots) (sym c.self.view_is) c.requires.slot)
-    (subst (λ (q : Queuing). list_any (has_slot c.args.turn.slot) (q.waiting ++ q.held) ≡ false) (sym c.self.view_is) c.requires.new_slot)),
+      (seated-arrived c.self.inside.slots c.self.inside.waiting.items c.self.inside.held.items _ c.self.invariant.2
+      (subst (λ (q : Queuing). c.args.turn.slot < q.slots) (sym c.self.view_is) c.requires.slot)
+      (subst (λ (q : Queuing). list_any (has_slot c.args.turn.slot) (q.waiting ++ q.held) ≡ false) (sym c.self.view_is) c.requires.new_slot)),
 )
