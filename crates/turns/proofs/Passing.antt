@@ -11,16 +11,18 @@ use Rattle.turns.specs.declared.entries.Turn.{Turn}
 waits_from : (room : Bool) (held earlier later : List Turn) (t : Turn) → first_to_go room held earlier later ≡ Some t
     → list_any (has_slot t.slot) later ≡ true
 waits_from room held earlier [] t h = absurd (none-some t h)
-waits_from room held earlier (u ∷ later) t h = elim (cases_Bool (may_go room held earlier u)) [
-  | inl k ↦ (let same : u ≡ t = same_Some u t (ap (λ b. if b then Some u else first_to_go room held (earlier ++ u ∷ []) later) (sym k) ∙ h) in
-      subst (λ (v : Turn). list_any (has_slot v.slot) (u ∷ later) ≡ true) same (rw (eq-eqb u.slot u.slot refl) refl))
-  | inr k ↦ (let deeper = waits_from room held (earlier ++ u ∷ []) later t (ap (λ b. if b then Some u else first_to_go room held (earlier ++ u ∷ []) later) (sym k) ∙ h) in
-      ap (λ b. has_slot t.slot u || b) deeper ∙ or_true (has_slot t.slot u))
-]
+waits_from room held earlier (u ∷ later) t h = by (may_go room held earlier u) (waits_from room held (earlier ++ u ∷ []) later t) h
   where
     or_true : (b : Bool) → (b || true) ≡ true
     or_true true = refl
     or_true false = refl
+
+    by : (b : Bool) → (first_to_go room held (earlier ++ u ∷ []) later ≡ Some t → list_any (has_slot t.slot) later ≡ true)
+        → (if b then Some u else first_to_go room held (earlier ++ u ∷ []) later) ≡ Some t
+        → list_any (has_slot t.slot) (u ∷ later) ≡ true
+    by true behind h =
+        subst (λ (v : Turn). list_any (has_slot v.slot) (u ∷ later) ≡ true) (same_Some u t h) (rw (eq-eqb u.slot u.slot refl) refl)
+    by false behind h = ap (λ b. has_slot t.slot u || b) (behind h) ∙ or_true (has_slot t.slot u)
 
 pub next_waits : (q : Queuing) (t : Turn) → IsNext q t → list_any (has_slot t.slot) q.waiting ≡ true
 next_waits q t h = waits_from h.0 q.held [] q.waiting t h.1

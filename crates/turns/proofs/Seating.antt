@@ -2,7 +2,7 @@
 use Rattle.std.proofs.Common.{◌≡◌, ◌≢◌, ◌∙◌, ℕ, zero, suc, ◌+◌, ◌<◌, ◌≤◌, Bool, true, false, ◌||◌, List, [], ◌∷◌, ◌++◌, filter, refl, ap, sym, subst, inl, inr, arith, length}
 use Rattle.std.specs.Prelude.{if◌then◌else◌, nat_lt}
 use Rattle.std.specs.List.{list_any}
-use Rattle.std.proofs.lemmas.Bool.{eq-eqb, ne_eqb, cases_eq, cases_Bool, or_parts, true≢false}
+use Rattle.std.proofs.lemmas.Bool.{eq-eqb, ne_eqb, lt-ltb, cases_eq, cases_Bool, or_parts, true≢false}
 use Rattle.std.proofs.lemmas.Bool.Decides.{eqb_tells, leb_tells}
 use Rattle.std.proofs.lemmas.List.{length-append}
 use Rattle.turns.specs.Turns.{has_slot, without_slot}
@@ -71,48 +71,53 @@ length-without s (t ∷ ts) = elim (eqb_tells t.slot s) [
   | inr n ↦ rw n.0 (omega (arith, length-without s ts))
 ]
 
+-- how often a slot may stand
+limit-in : (s n : ℕ) → s < n → if◌then◌else◌ {A = ℕ} (nat_lt s n) 1 0 ≡ 1
+limit-in s n h = rw (lt-ltb s n h) refl
+
+limit-out : (s n : ℕ) → n ≤ s → if◌then◌else◌ {A = ℕ} (nat_lt s n) 1 0 ≡ 0
+limit-out s n h = elim (leb_tells (suc s) n) [
+  | inl e ↦ absurd (omega (arith, e.1, h))
+  | inr e ↦ rw e.0 refl
+]
+
+limit-most : (s n : ℕ) → if◌then◌else◌ {A = ℕ} (nat_lt s n) 1 0 ≤ 1
+limit-most s n = elim (leb_tells (suc s) n) [
+  | inl e ↦ rw e.0 (omega arith)
+  | inr e ↦ rw e.0 (omega arith)
+]
+
 -- slots below n that stand once at most are at most n
 few : (n : ℕ) (ts : List Turn) → ((s : ℕ) → times s ts ≤ (if nat_lt s n then 1 else 0)) → length ts ≤ n
 few zero [] once = omega arith
-few zero (t ∷ ts) once = absurd (elim (leb_tells (suc t.slot) 0) [
-  | inl e ↦ omega (arith, e.1)
-  | inr e ↦ (let k : if◌then◌else◌ {A = ℕ} (nat_lt t.slot 0) 1 0 ≡ 0 = rw e.0 refl in omega (arith, k, once t.slot, times-cons_is t.slot t ts refl))
-])
+few zero (t ∷ ts) once =
+    absurd (omega (arith, limit-out t.slot 0 (omega arith), once t.slot, times-cons_is t.slot t ts refl))
 few (suc n) ts once =
-    let rest = few n (without_slot n ts) (λ s. elim (cases_eq s n) [
-      | inl e ↦ subst (λ k. times k (without_slot n ts) ≤ (if nat_lt k n then 1 else 0)) (sym e) (rw (times-without_same n ts) (omega arith))
-      | inr k ↦ rw (times-without_other s n ts k) (below s k)
+    let rest = few n (without_slot n ts) (λ s. elim (leb_tells (suc s) n) [
+      | inl below ↦ (let other : s ≢ n = omega (arith, below.1) in
+          omega (arith, times-without_other s n ts other, once s, limit-most s (suc n), limit-in s n below.1))
+      | inr above ↦ gone s (omega (arith, above.1))
     ]) in
-    omega (arith, rest, length-without n ts, once_at n)
+    omega (arith, rest, length-without n ts, once n, limit-most n (suc n))
   where
-    once_at : (s : ℕ) → times s ts ≤ 1
-    once_at s = elim (leb_tells (suc s) (suc n)) [
-      | inl e ↦ (let k : if◌then◌else◌ {A = ℕ} (nat_lt s (suc n)) 1 0 ≡ 1 = rw e.0 refl in omega (arith, once s, k))
-      | inr e ↦ (let k : if◌then◌else◌ {A = ℕ} (nat_lt s (suc n)) 1 0 ≡ 0 = rw e.0 refl in omega (arith, once s, k))
-    ]
-
-    below : (s : ℕ) → s ≢ n → times s ts ≤ (if nat_lt s n then 1 else 0)
-    below s other = elim (leb_tells (suc s) n) [
-      | inl e ↦ rw e.0 (once_at s)
-      | inr e ↦ rw e.0 (let k : if◌then◌else◌ {A = ℕ} (nat_lt s (suc n)) 1 0 ≡ 0 = (elim (leb_tells (suc s) (suc n)) [
-        | inl i ↦ absurd (other (omega (arith, e.1, i.1)))
-        | inr i ↦ rw i.0 refl
-      ]) in omega (arith, once s, k))
+    gone : (s : ℕ) → n ≤ s → times s (without_slot n ts) ≤ (if nat_lt s n then 1 else 0)
+    gone s above = elim (cases_eq s n) [
+      | inl e ↦ subst (λ k. times k (without_slot n ts) ≤ (if nat_lt k n then 1 else 0)) (sym e)
+          (rw (times-without_same n ts) (omega arith))
+      | inr other ↦ (let behind : suc n ≤ s = omega (arith, above, other) in
+          omega (arith, times-without_other s n ts other, once s, limit-out s (suc n) behind))
     ]
 
 -- those that wait and those that are held are no more than there are slots
-pub fits : (n : ℕ) (ws hs : List Turn) → AreSeated n ws hs → length ws + length hs ≤ n
+fits : (n : ℕ) (ws hs : List Turn) → AreSeated n ws hs → length ws + length hs ≤ n
 fits n ws hs seated =
     let k = few n (ws ++ hs) (λ s. rw (times-append s ws hs) (seated s)) in
     omega (arith, k, length-append ws hs)
 
 -- ---- what each call does to them
 
-pub seated-none : (n : ℕ) → AreSeated n [] []
-seated-none n s = omega arith
-
-pub seated-arrived : (n : ℕ) (ws hs : List Turn) (t : Turn) → AreSeated n ws hs → t.slot < n → list_any (has_slot t.slot) (ws ++ hs) ≡ false
-    → AreSeated n (ws ++ t ∷ []) hs
+pub seated-arrived : (n : ℕ) (ws hs : List Turn) (t : Turn) → AreSeated n ws hs → t.slot < n
+    → list_any (has_slot t.slot) (ws ++ hs) ≡ false → AreSeated n (ws ++ t ∷ []) hs
 seated-arrived n ws hs t seated there new s = elim (cases_eq t.slot s) [
   | inl e ↦ subst (λ k. times k (ws ++ t ∷ []) + times k hs ≤ (if nat_lt k n then 1 else 0)) e here
   | inr k ↦ omega (arith, seated s, times-append s ws (t ∷ []), times-cons_other s t [] k)
@@ -122,18 +127,32 @@ seated-arrived n ws hs t seated there new s = elim (cases_eq t.slot s) [
     none = sym (times-append t.slot ws hs) ∙ times-absent t.slot (ws ++ hs) new
 
     here : times t.slot (ws ++ t ∷ []) + times t.slot hs ≤ (if nat_lt t.slot n then 1 else 0)
-    here = elim (leb_tells (suc t.slot) n) [
-      | inl e ↦ rw e.0 (omega (arith, none, times-append t.slot ws (t ∷ []), times-cons_is t.slot t [] refl))
-      | inr e ↦ absurd (omega (arith, e.1, there))
-    ]
+    here = omega (arith, none, times-append t.slot ws (t ∷ []), times-cons_is t.slot t [] refl, limit-in t.slot n there)
+
+-- so there is a seat for it
+pub room-arrived : (n : ℕ) (ws hs : List Turn) (t : Turn) → AreSeated n ws hs → t.slot < n
+    → list_any (has_slot t.slot) (ws ++ hs) ≡ false → length ws < n
+room-arrived n ws hs t seated there new =
+    omega (arith, fits n (ws ++ t ∷ []) hs (seated-arrived n ws hs t seated there new), length-append ws (t ∷ []))
 
 pub seated-gone : (n : ℕ) (ws hs : List Turn) (t : Turn) → AreSeated n ws hs → list_any (has_slot t.slot) ws ≡ true
     → AreSeated n (without_slot t.slot ws) (hs ++ t ∷ [])
 seated-gone n ws hs t seated waits s = elim (cases_eq t.slot s) [
-  | inl e ↦ subst (λ k. times k (without_slot t.slot ws) + times k (hs ++ t ∷ []) ≤ (if nat_lt k n then 1 else 0)) e
-      (omega (arith, seated t.slot, times-there t.slot ws waits, times-without_same t.slot ws, times-append t.slot hs (t ∷ []), times-cons_is t.slot t [] refl))
-  | inr k ↦ omega (arith, seated s, times-without_other s t.slot ws (λ same. k (sym same)), times-append s hs (t ∷ []), times-cons_other s t [] k)
+  | inl e ↦ subst (λ k. times k (without_slot t.slot ws) + times k (hs ++ t ∷ []) ≤ (if nat_lt k n then 1 else 0)) e here
+  | inr k ↦ (let other = times-without_other s t.slot ws (λ same. k (sym same)) in
+      omega (arith, seated s, other, times-append s hs (t ∷ []), times-cons_other s t [] k))
 ]
+  where
+    here : times t.slot (without_slot t.slot ws) + times t.slot (hs ++ t ∷ []) ≤ (if nat_lt t.slot n then 1 else 0)
+    here =
+        let one = times-append t.slot hs (t ∷ []) in
+        let last = times-cons_is t.slot t [] refl in
+        omega (arith, seated t.slot, times-there t.slot ws waits, times-without_same t.slot ws, one, last)
+
+pub room-gone : (n : ℕ) (ws hs : List Turn) (t : Turn) → AreSeated n ws hs → list_any (has_slot t.slot) ws ≡ true
+    → length hs < n
+room-gone n ws hs t seated waits =
+    omega (arith, fits n (without_slot t.slot ws) (hs ++ t ∷ []) (seated-gone n ws hs t seated waits), length-append hs (t ∷ []))
 
 pub seated-freed : (n : ℕ) (ws hs : List Turn) (p : Turn → Bool) → AreSeated n ws hs → AreSeated n ws (filter p hs)
 seated-freed n ws hs p seated s = omega (arith, seated s, times-filter p s hs)

@@ -31,7 +31,8 @@ may_go room held earlier t = has_room room t && (is_free_of held t && is_free_of
 -- the first that may go of those that came later than these
 abbrev pub first_to_go : Bool → List Turn → List Turn → List Turn → Option Turn
 first_to_go room held earlier [] = None
-first_to_go room held earlier (t ∷ later) = if may_go room held earlier t then Some t else first_to_go room held (earlier ++ t ∷ []) later
+first_to_go room held earlier (t ∷ later) =
+    if may_go room held earlier t then Some t else first_to_go room held (earlier ++ t ∷ []) later
 
 -- the first of those that wait that may go
 abbrev pub next_turn : Bool → List Turn → List Turn → Option Turn
