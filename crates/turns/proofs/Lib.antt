@@ -1,3 +1,6 @@
-mod Passing
+-- ---- for the crates above: whose turn it is, by tickets, and that it waits
+pub mod ByTicket
+pub mod Passing
+-- ---- this crate's own
 mod Seating
 mod Examples

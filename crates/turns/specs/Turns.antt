@@ -12,6 +12,10 @@ pub record Queuing : Type 0 where
   pub held : List Turn
   pub slots : ℕ
 
+-- no one waits, and no one is held
+abbrev pub at_start : Geometry → ℕ → Queuing
+at_start geometry slots = record { geometry = geometry; waiting = []; held = []; slots = slots }
+
 -- whether the number of one is among those of the other: of two affinities one is the other, or lies above it
 abbrev pub overlap : Interval → Interval → Bool
 overlap a b = contains a b.number || contains b a.number
@@ -61,3 +65,7 @@ CameBefore ticket turns = AllByRecursion (λ t. t.ticket < ticket) turns
 -- it is the next one, with room or without
 abbrev pub IsNext : Queuing → Turn → Type 0
 IsNext q t = (room : Bool) × (next_turn room q.held q.waiting ≡ Some t)
+
+-- These are the ones that were there and this one, in any order: no test tells them apart.
+abbrev pub HasJoined : Turn → List Turn → List Turn → Type 0
+HasJoined t before after = (test : Turn → Bool) → list_any test after ≡ (test t || list_any test before)

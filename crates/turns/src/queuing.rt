@@ -1,9 +1,8 @@
 //! Those that wait and those that are held, and whose turn it is among them.
-ghost use Rattle.std.specs.Prelude.{◌≡◌, ◌+◌, ◌<◌, ◌++◌, ◌∷◌, ◌||◌, Bool, true, false, [], length, IfOk, IfSome, IfNone};
+ghost use Rattle.std.specs.Prelude.{◌≡◌, ◌+◌, ◌<◌, ◌++◌, ◌∷◌, true, false, [], length, IfOk, IfSome, IfNone};
 ghost use Rattle.std.specs.List.{list_any};
 ghost use Rattle.affinity.specs.Interval.{IsAffinity};
-ghost use Rattle.turns.specs.declared.entries.Turn.{Turn as ATurn};
-ghost use Rattle.turns.specs.Turns.{next_turn, has_slot, has_number, without_slot, without_number, CameBefore, IsNext, holds_at};
+ghost use Rattle.turns.specs.Turns.{next_turn, has_slot, has_number, without_slot, without_number, holds_at, at_start, CameBefore, IsNext, HasJoined};
 
 use crate::Turn;
 use crate::entries::{drop_number, drop_slot, next_turn, slot_at};
@@ -47,7 +46,7 @@ impl Turns {
     /// memory.
     pub fn new(alloc: Global, geometry: &Geometry, slots: usize) -> Result<Turns, AllocError>
         requires { slots < usize.MAX }
-        ensures { IfOk result (λ t. t ≡ record { geometry = geometry.now; waiting = []; held = []; slots = slots }) }
+        ensures { IfOk result (λ turns. turns ≡ at_start geometry.now slots) }
     {
         Ok(Turns {
             geometry: *geometry,
@@ -90,7 +89,7 @@ impl Turns {
         requires { IsNext self.old turn }
         ensures waiting { self.new ≡
             record self.old { waiting = without_slot turn.slot self.old.waiting; held = self.new.held } }
-        ensures held { (test : ATurn → Bool) → list_any test self.new.held ≡ (test turn || list_any test self.old.held) }
+        ensures held { HasJoined turn self.old.held self.new.held }
         ensures count { length self.new.held ≡ length self.old.held + 1 }
     {
         drop_slot(&mut self.waiting, turn.slot);
