@@ -4,7 +4,7 @@ use Rattle.std.specs.Prelude.{if◌then◌else◌, nat_lt}
 use Rattle.std.specs.List.{list_any, find, AllByRecursion}
 use Rattle.std.proofs.lemmas.Bool.{ltb-true, lt-ltb, false_from_ne_true}
 use Rattle.std.proofs.lemmas.List.Folds.{list_any-append}
-use Rattle.turns.specs.Turns.{overlap, is_free_of, has_room, may_go, first_to_go, next_turn, CameBefore}
+use Rattle.turns.specs.Turns.{overlap, is_free_of, has_room, first_to_go, next_turn, CameBefore}
 use Rattle.turns.specs.declared.entries.Turn.{Turn}
 
 abbrev pub Ascend : List Turn → Type 0
@@ -69,7 +69,7 @@ first_from room held waiting earlier (t ∷ later) whole before ascends =
     let early = ap (list_any (comes_first t)) whole ∙ only_early t earlier later before.0 ascends.0 in
     let same = ap (λ b. has_room room t && (is_free_of held t && not b)) (sym early) in
     let deeper = first_from room held waiting (earlier ++ t ∷ []) later (whole ∙ sym (append_assoc earlier (t ∷ []) later))
-        (all_came earlier t later before.1 ascends.0) ascends.1 in
+    (all_came earlier t later before.1 ascends.0) ascends.1 in
     ap (λ b. if b then Some t else first_to_go room held (earlier ++ t ∷ []) later) same
     ∙ ap (λ o. if has_room room t && is_clear held waiting t then Some t else o) deeper
 

@@ -2,7 +2,7 @@
 ghost use Rattle.std.specs.Prelude.{◌≡◌, ◌+◌, ◌<◌, ◌++◌, ◌∷◌, true, false, [], length, IfOk, IfSome, IfNone};
 ghost use Rattle.std.specs.List.{list_any};
 ghost use Rattle.affinity.specs.Interval.{IsAffinity};
-ghost use Rattle.turns.specs.Turns.{next_turn, has_slot, has_number, without_slot, without_number, holds_at, at_start, CameBefore, IsNext, HasJoined};
+ghost use Rattle.turns.specs.Turns.{next_turn, has_slot, has_number, without_slot, without_number, holds_at};
 
 use crate::Turn;
 use crate::entries::{drop_number, drop_slot, next_turn, slot_at};
@@ -41,6 +41,8 @@ impl Model for Turns {
 }
 
 impl Turns {
+    ghost use Rattle.turns.specs.Turns.{at_start, CameBefore, IsNext, HasJoined};
+
     /// No one waits and no one is held. Those that arrive will be at affinities of the geometry, in
     /// slots below `slots`, which is below the greatest `usize`. `AllocError` where there is no
     /// memory.

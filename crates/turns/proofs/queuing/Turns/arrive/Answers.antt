@@ -23,10 +23,9 @@ invariant_of-self c =
     let hs = c.self.inside.held.items in
     let slot = c.args.turn.slot in
     let there = subst (λ (q : Queuing). slot < q.slots) (sym c.self.view_is) c.requires.slot in
-    let new = subst (λ (q : Queuing). list_any (has_slot slot) (q.waiting ++ q.held) ≡ false) (sym c.self.view_is) c.requires.new_slot in
-    (
+    let new = subst (λ (q : Queuing). list_any (has_slot slot) (q.waiting ++ q.held) ≡ false) (sym c.self.view_is) c.requires.new_slot in (
       omega (arith, c.self.invariant.0, c.push_reserved.ensures.capacity),
       c.self.invariant.1,
       subst (λ (ts : List Turn). AreSeated c.self.inside.slots ts hs) (sym c.push_reserved.ensures.items)
-      (seated-arrived c.self.inside.slots ws hs _ c.self.invariant.2 there new),
+          (seated-arrived c.self.inside.slots ws hs _ c.self.invariant.2 there new),
     )

@@ -14,7 +14,7 @@ push_reserved-requires c =
     let hs = c.self.inside.held.items in
     let t = c.args.turn in
     let waits = subst (λ (q : Queuing). list_any (has_slot t.slot) q.waiting ≡ true) (sym c.self.view_is)
-        (next_waits c.args.self.now t c.requires) in
+    (next_waits c.args.self.now t c.requires) in
     omega (arith, room-gone c.self.inside.slots ws hs t c.self.invariant.2 waits, c.self.invariant.1)
 
 pub invariant_of-self : goal.invariant_of-self
@@ -24,10 +24,9 @@ invariant_of-self c =
     let hs = c.self.inside.held.items in
     let t = c.args.turn in
     let waits = subst (λ (q : Queuing). list_any (has_slot t.slot) q.waiting ≡ true) (sym c.self.view_is)
-        (next_waits c.args.self.now t c.requires) in
+    (next_waits c.args.self.now t c.requires) in
     let left = subst (λ (hs' : List Turn). AreSeated slots (without_slot t.slot ws) hs') (sym c.push_reserved.ensures.items)
-        (seated-gone slots ws hs t c.self.invariant.2 waits) in
-    (
+    (seated-gone slots ws hs t c.self.invariant.2 waits) in (
       omega (arith, c.self.invariant.0, c.drop_slot.ensures.capacity),
       omega (arith, c.self.invariant.1, c.push_reserved.ensures.capacity),
       subst (λ (ts : List Turn). AreSeated slots ts c.push_reserved.new.self.items) (sym c.drop_slot.ensures.items) left,
