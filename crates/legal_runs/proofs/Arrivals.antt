@@ -1,0 +1,249 @@
+-- The replies in a legal run are those of the serial server to the messages in the order in which they arrived.
+use Rattle.std.proofs.Common.{◌≡◌, ℕ, ◌<◌, ◌≤◌, Bool, false, List, [], ◌∷◌, ◌++◌, refl, ap, sym, ◌∙◌, subst, append_assoc, take, drop, arith}
+use Rattle.std.specs.Prelude.{◌&&◌, ◌||◌, ◌==◌, not, nat_lt}
+use Rattle.std.specs.List.{AllByRecursion, list_any}
+use Rattle.std.proofs.lemmas.List.{append-nil, take-append-drop}
+use Rattle.std.proofs.lemmas.Bool.{and_parts, or_parts, not-true, lt-ltb}
+use Rattle.affinity.specs.declared.geometry.Geometry.{Geometry}
+use Rattle.message.specs.declared.Reply.{Reply}
+use Rattle.plain.specs.State.{State}
+use Rattle.plain.specs.Serial.{reply_to, fold}
+use Rattle.plain.specs.Order.{told, messages, by_ticket}
+use Rattle.plain.proofs.ByTicket.{by_ticket-ascending, AreAscending as AreEachLess}
+use Rattle.legal_runs.specs.World.{Entry, Replied, World, entries, held, touches}
+use Rattle.legal_runs.specs.Eligible.{is_clear, has_room, is_eligible}
+use Rattle.legal_runs.specs.Events.{Hands, Event, grant, give_back, log}
+use Rattle.legal_runs.specs.Runs.{IsLegal, last, goes, arrives, went, arrived, answered}
+use Rattle.legal_runs.specs.Laws.{AreApart, AreAscending, IsSound, IsIdle, said}
+use Rattle.legal_runs.proofs.Lists.{picked, all_join, all_front, all_none, all_weaker, before_back, before_moved, before_one, before_join}
+use Rattle.legal_runs.proofs.Apart.{apart_turned, entries-append}
+use Rattle.legal_runs.proofs.Moves.{Passed, Move, Stays, Arrives, Grants, Backs, Logs, Answers, moves, passed}
+use Rattle.legal_runs.proofs.Told.{told-append, IsIn, in_left, IsAsGood, good_itself, good_on, good_push, good_moved}
+use Rattle.legal_runs.proofs.Sound.{move_sound}
+use Rattle.legal_runs.proofs.Idle.{none_out, none_ran, none_logged}
+use Rattle.legal_runs.proofs.Runs.{run_follows, run_answers}
+
+-- ---- a run leaves its messages in a row that is as good as that of their arrivals
+
+-- all that arrived: what was logged so far, then what ran, is out and waits
+abbrev pub row : World → List Replied → List Entry
+row w past = entries past ++ (entries w.ran ++ (w.out ++ w.waiting))
+
+or_false : (a b : Bool) → a ≡ false → b ≡ false → (a || b) ≡ false
+or_false a b h j = ap (λ a. a || b) h ∙ j
+
+not_any : (p : Entry → Bool) (us : List Entry) → AllByRecursion (λ d. p d ≡ false) us → list_any p us ≡ false
+not_any p [] h = refl
+not_any p (u ∷ us) h = or_false (p u) (list_any p us) h.0 (not_any p us h.1)
+
+any_front : (p : Entry → Bool) (us vs : List Entry) → list_any p (us ++ vs) ≡ false → list_any p us ≡ false
+any_front p [] vs h = refl
+any_front p (u ∷ us) vs h = let k = or_parts (p u) (list_any p (us ++ vs)) h in or_false (p u) (list_any p us) k.0 (any_front p us vs k.1)
+
+module _ (g : Geometry) (x : State) where
+  -- where nothing is logged and nothing comes
+  quiet : (new : World) (past : List Replied) (all : List Entry) (gone : List Replied) (come : List Entry) → gone ≡ [] → come ≡ []
+      → IsAsGood g x all (row new past) → IsAsGood g x (all ++ come) (row new (past ++ gone))
+  quiet new past all gone come e f good =
+      subst (λ c. IsAsGood g x (all ++ c) (row new (past ++ gone))) (sym f)
+      (subst (λ d. IsAsGood g x (all ++ []) (row new (past ++ d))) (sym e)
+      (subst (λ l. IsAsGood g x l (row new (past ++ []))) (sym (append-nil all))
+      (subst (λ l. IsAsGood g x all (row new l)) (sym (append-nil past)) good)))
+
+  one_more : (w : World) (past : List Replied) (e : Entry)
+      → row w past ++ e ∷ [] ≡ entries past ++ (entries w.ran ++ (w.out ++ (w.waiting ++ e ∷ [])))
+  one_more w past e =
+      append_assoc (entries past) _ (e ∷ [])
+      ∙ ap (λ l. entries past ++ l) (append_assoc (entries w.ran) _ (e ∷ []) ∙ ap
+      (λ l. entries w.ran ++ l) (append_assoc w.out w.waiting (e ∷ [])))
+
+  -- a related one with a smaller ticket doesn't wait
+  clear_of : (w : World) (e : Entry) (us : List Entry) → list_any (λ d. nat_lt d.0 e.0 && touches g e d) us ≡ false
+      → AllByRecursion (λ d. d.0 < e.0) us → AllByRecursion (λ d. touches g e d ≡ false) us
+  clear_of w e [] h j = tt
+  clear_of w e (u ∷ us) h j =
+      let k = all_none (λ d. nat_lt d.0 e.0 && touches g e d) (u ∷ us) h in (
+        ap (λ b. b && touches g e u) (sym (lt-ltb u.0 e.0 j.0))
+            ∙ k.0,
+        clear_of w e us (not_any (λ d. nat_lt d.0 e.0 && touches g e d) us k.1) j.1,
+      )
+
+  move_good : (old new : World) (p : Passed) (past : List Replied) (all : List Entry)
+      → Move g old new p → IsSound g old → IsAsGood g x all (row old past) → IsAsGood g x (all ++ p.come) (row new (past ++ p.gone))
+  move_good old new p past all (Stays s e) h good =
+      quiet new past all p.gone p.come (ap (λ p. p.gone) e) (ap (λ p. p.come) e)
+      (subst (IsAsGood g x all) (λ i. entries past ++ (entries (sym s.ran i) ++ (sym s.out i ++ sym s.waiting i))) good)
+  move_good old new p past all (Arrives m fits is e) h good =
+      let one : Entry = (old.next, m) in
+      subst (λ p. IsAsGood g x (all ++ p.come) (row new (past ++ p.gone))) (sym e)
+      (subst (λ l. IsAsGood g x (all ++ one ∷ []) (row new l)) (sym (append-nil past))
+      (subst (λ w. IsAsGood g x (all ++ one ∷ []) (row w past)) (sym is)
+      (subst (IsAsGood g x (all ++ one ∷ [])) (one_more old past one) (good_push g x all (row old past) one good))))
+  move_good old new p past all (Grants found first is e) h good =
+      let k = picked (is_eligible g old) old.waiting found first in
+      let one = found.0 in
+      let P = entries past in
+      let R = entries old.ran in
+      let waits_before = λ (d : Entry). nat_lt d.0 one.0 && touches g one d in
+      let clear = (and_parts (is_clear g old one) (has_room old one) k.passes).0 in
+      let early = (and_parts (not (list_any (touches g one) (held old))) (not (list_any
+      (λ d. nat_lt d.0 one.0 && touches g one d) old.waiting)) clear).1 in
+      let none = any_front waits_before k.before (one ∷ k.behind) (ap (list_any waits_before) (sym k.whole) ∙ not-true _ early) in
+      let free = clear_of old one k.before none (before_one (λ e d. e.0 < d.0) k.before one k.behind
+      (subst AreAscending k.whole h.ascending)) in
+      let F = P ++ (R ++ old.out) in
+      let joined : (l : List Entry) → P ++ (R ++ (old.out ++ l)) ≡ F ++ l = λ l. ap (λ m. P ++ m) (sym (append_assoc R old.out l))
+      ∙ sym (append_assoc P (R ++ old.out) l) in
+      let from : row old past ≡ F ++ (k.before ++ one ∷ k.behind) = ap (λ l. P ++ (R ++ (old.out ++ l))) k.whole ∙ joined _ in
+      let to : F ++ one ∷ (k.before ++ k.behind) ≡ row (grant old found) past =
+      sym (joined _) ∙ ap (λ l. P ++ (R ++ l)) (sym (append_assoc old.out (one ∷ []) _) ∙ ap
+      (λ l. (old.out ++ one ∷ []) ++ l) (sym k.rest)) in
+      quiet new past all p.gone p.come (ap (λ p. p.gone) e) (ap (λ p. p.come) e) (subst (λ w. IsAsGood g x all (row w past)) (sym is)
+      (subst (IsAsGood g x all) to (good_on g x all _ _
+      (subst (IsAsGood g x all) from good) (good_moved g x F k.before one k.behind free))))
+  move_good old new p past all (Backs ticket found one_out is e) h good =
+      let k = picked (λ d. d.0 == ticket) old.out found one_out in
+      let one = found.0 in
+      let P = entries past in
+      let R = entries old.ran in
+      let L = entries old.logged in
+      let whole : held old ≡ (L ++ R) ++ (k.before ++ one ∷ k.behind) = ap (λ o. L ++ (R ++ o)) k.whole ∙ sym (append_assoc L R _) in
+      let free = all_front (λ d. touches g one d ≡ false) k.before k.behind (before_back
+      (λ e d. touches g e d ≡ false) (L ++ R) _ (before_moved
+      (λ e d. touches g e d ≡ false) (apart_turned g) (L ++ R) k.before one k.behind (subst (AreApart g) whole h.apart))).0 in
+      let from : row old past ≡ (P ++ R) ++ (k.before ++ one ∷ (k.behind ++ old.waiting)) =
+      ap (λ o. P ++ (R ++ (o ++ old.waiting))) k.whole ∙ ap (λ l. P ++ (R ++ l)) (append_assoc k.before (one ∷ k.behind) old.waiting)
+      ∙ sym (append_assoc P R _) in
+      let back : R ++ one ∷ [] ≡ entries (old.ran ++ (one.0, one.1, reply_to g old.settled one.1)
+      ∷ []) = sym (entries-append old.ran ((one.0, one.1, reply_to g old.settled one.1) ∷ [])) in
+      let to : (P ++ R) ++ one ∷ (k.before ++ (k.behind ++ old.waiting)) ≡ row (give_back g old found) past =
+      append_assoc P R _ ∙ ap (λ l. P ++ l) (sym (append_assoc R (one ∷ []) _) ∙
+      (λ i. back i ++ (sym (append_assoc k.before k.behind old.waiting) i)) ∙ ap
+      (λ o. entries (old.ran ++ (one.0, one.1, reply_to g old.settled one.1) ∷ []) ++ (o ++ old.waiting)) (sym k.rest)) in
+      quiet new past all p.gone p.come (ap (λ p. p.gone) e) (ap (λ p. p.come) e) (subst (λ w. IsAsGood g x all (row w past)) (sym is)
+      (subst (IsAsGood g x all) to (good_on g x all _ _
+      (subst (IsAsGood g x all) from good) (good_moved g x (P ++ R) k.before one (k.behind ++ old.waiting) free))))
+  move_good old new p past all (Logs n is e) h good =
+      let rest = old.out ++ old.waiting in
+      let same : row old past ≡ row (log g old n) (past ++ take n old.ran) =
+      ap (λ l. entries past ++ (entries l ++ rest)) (sym (take-append-drop n old.ran))
+      ∙ ap (λ l. entries past ++ l) (ap (λ l. l ++ rest) (entries-append (take n old.ran) (drop n old.ran))
+      ∙ append_assoc (entries (take n old.ran)) (entries (drop n old.ran)) rest)
+      ∙ sym (append_assoc (entries past) (entries (take n old.ran)) _)
+      ∙ ap (λ l. l ++ (entries (drop n old.ran) ++ rest)) (sym (entries-append past (take n old.ran))) in
+      subst (λ p. IsAsGood g x (all ++ p.come) (row new (past ++ p.gone))) (sym e)
+      (subst (λ l. IsAsGood g x l (row new (past ++ take n old.ran))) (sym (append-nil all))
+      (subst (λ w. IsAsGood g x all (row w (past ++ take n old.ran))) (sym is) (subst (IsAsGood g x all) same good)))
+  move_good old new p past all (Answers a rest front is e) h good =
+      quiet new past all p.gone p.come (ap (λ p. p.gone) e) (ap (λ p. p.come) e) (subst (λ w. IsAsGood g x all (row w past)) (sym is) good)
+
+  run_good : (old : Hands) (events : List Event) (past : List Replied) (all : List Entry) → IsLegal g old events
+      → IsSound g old.core → IsAsGood g x all (row old.core past)
+      → IsAsGood g x (all ++ arrived events) (row (last old events).core (past ++ went old events))
+  run_good old [] past all legal h good = quiet old.core past all [] [] refl refl good
+  run_good old (event ∷ events) past all legal h good =
+      let m = moves g old event legal.0 in
+      let p = passed old.core event.step event.outcome event.rose in
+      let gone = goes old.core event.step event.rose in
+      let come = arrives event.step event.outcome in
+      let k = run_good event.world events (past ++ gone) (all
+      ++ come) legal.1 (move_sound g old.core event.world.core p m h) (move_good old.core event.world.core p past all m h good) in
+      subst (λ l. IsAsGood g x l (row (last event.world events).core (past
+      ++ (gone ++ went event.world events)))) (append_assoc all come (arrived events))
+      (subst (λ l. IsAsGood g x ((all ++ come)
+      ++ arrived events) (row (last event.world events).core l)) (append_assoc past gone (went event.world events)) k)
+
+-- ---- tickets are given in order
+
+-- from this ticket on
+abbrev IsFrom : ℕ → Entry → Type 0
+IsFrom n e = n ≤ e.0
+
+record GivenFrom (old new : World) (come : List Entry) : Type 0 where
+  grows : old.next ≤ new.next
+  ascending : AreAscending come
+  from : AllByRecursion (IsFrom old.next) come
+  below : AllByRecursion (λ e. e.0 < new.next) come
+
+none_come : (old new : World) (come : List Entry) → come ≡ [] → new.next ≡ old.next → GivenFrom old new come
+none_come old new come none next = subst (GivenFrom old new) (sym none)
+    (record { grows = omega (arith, next); ascending = tt; from = tt; below = tt })
+
+move_given : (g : Geometry) (old new : World) (p : Passed) → Move g old new p → GivenFrom old new p.come
+move_given g old new p (Stays s e) = none_come old new p.come (ap (λ p. p.come) e) s.next
+move_given g old new p (Arrives m fits is e) =
+    let next = ap (λ w. w.next) is in
+    subst (λ p. GivenFrom old new p.come) (sym e)
+    (record { grows = omega (arith, next); ascending = (tt, tt); from = (omega arith, tt); below = (omega (arith, next), tt) })
+move_given g old new p (Grants found first is e) = none_come old new p.come (ap (λ p. p.come) e) (ap (λ w. w.next) is)
+move_given g old new p (Backs ticket found one_out is e) = none_come old new p.come (ap (λ p. p.come) e) (ap (λ w. w.next) is)
+move_given g old new p (Logs n is e) = none_come old new p.come (ap (λ p. p.come) e) (ap (λ w. w.next) is)
+move_given g old new p (Answers a rest front is e) = none_come old new p.come (ap (λ p. p.come) e) (ap (λ w. w.next) is)
+
+record ArrivedFrom (n : ℕ) (es : List Entry) : Type 0 where
+  ascending : AreAscending es
+  from : AllByRecursion (IsFrom n) es
+
+run_given : (g : Geometry) (old : Hands) (events : List Event) → IsLegal g old events → ArrivedFrom old.core.next (arrived events)
+run_given g old [] legal = record { ascending = tt; from = tt }
+run_given g old (event ∷ events) legal =
+    let come = arrives event.step event.outcome in
+    let k = move_given g old.core event.world.core _ (moves g old event legal.0) in
+    let j = run_given g event.world events legal.1 in
+    let grows = k.grows in
+    record {
+      ascending = before_join (λ e d. e.0 < d.0) come (arrived events) k.ascending j.ascending
+          (all_weaker (λ e. e.0 < event.world.core.next) (λ e. AllByRecursion (λ d. e.0 < d.0) (arrived events))
+          (λ e lt. all_weaker (IsFrom event.world.core.next) (λ d. e.0 < d.0)
+          (λ d from. omega (arith, lt, from)) (arrived events) j.from) come k.below);
+      from = all_join (IsFrom old.core.next) come (arrived events) k.from
+          (all_weaker (IsFrom event.world.core.next) (IsFrom old.core.next) (λ d from. omega (arith, grows, from)) (arrived events) j.from);
+    }
+
+-- The tickets of the messages that arrive in a run ascend.
+pub run_ascending : (g : Geometry) (old : Hands) (events : List Event) → IsLegal g old events → AreAscending (arrived events)
+run_ascending g old events legal = (run_given g old events legal).ascending
+
+each_less : (es : List Entry) → AreAscending es → AreEachLess es
+each_less [] h = tt
+each_less (e ∷ es) h = (h.0, each_less es h.1)
+
+-- So they are in order already.
+pub arrived_by_ticket : (g : Geometry) (old : Hands) (events : List Event) → IsLegal g old events
+    → by_ticket (arrived events) ≡ arrived events
+arrived_by_ticket g old events legal = by_ticket-ascending (arrived events) (each_less (arrived events) (run_ascending g old events legal))
+
+-- ---- from a world in which nothing waits and nothing is held
+
+module _ (g : Geometry) (old : Hands) (events : List Event) (legal : IsLegal g old events) (h : IsSound g old.core)
+    (idle : IsIdle old.core) where
+  good : IsAsGood g old.core.settled (by_ticket (arrived events)) (row (last old events).core (went old events))
+  good =
+      let none : row old.core [] ≡ [] = λ i. entries (none_ran old.core idle i) ++ (none_out old.core idle i ++ idle.none_waits i) in
+      subst (λ l. IsAsGood g old.core.settled l (row (last old events).core (went old events))) (sym (arrived_by_ticket g old events legal))
+      (run_good g old.core.settled old events [] [] legal h
+      (subst (IsAsGood g old.core.settled []) (sym none) (good_itself g old.core.settled [])))
+
+  -- Each reply to a message that the run logs is that of the serial server to the messages by ticket.
+  pub logged_by_ticket : (p : ℕ × Reply) → IsIn p (said (went old events)) → IsIn p (told g old.core.settled (by_ticket (arrived events)))
+  logged_by_ticket p is =
+      let x = old.core.settled in
+      good.tells p (subst (IsIn p) (sym (told-append g x (entries (went old events)) _)) (in_left p _ _
+      (subst (IsIn p) (sym (run_follows g old events legal h).told) is)))
+
+  -- So is each reply that it gives.
+  pub answered_by_ticket : (p : ℕ × Reply) → IsIn p (answered events) → IsIn p (told g old.core.settled (by_ticket (arrived events)))
+  answered_by_ticket p is =
+      let all : said (went old events) ≡ answered events ++ said (last old events).core.logged =
+      ap (λ l. said l ++ said (went old events)) (sym (none_logged old.core idle)) ∙ run_answers g old events legal in
+      logged_by_ticket p (subst (IsIn p) (sym all) (in_left p (answered events) _ is))
+
+  -- Where all was answered in the end, the settled state is the serial one too.
+  pub settled_by_ticket : IsIdle (last old events).core
+      → (last old events).core.settled ≡ fold g old.core.settled (messages (by_ticket (arrived events)))
+  settled_by_ticket ends =
+      let new = (last old events).core in
+      let none : row new (went old events) ≡ entries (went old events) =
+      (λ i. entries (went old events) ++ (entries (none_ran new ends i) ++ (none_out new ends i ++ ends.none_waits i)))
+      ∙ append-nil (entries (went old events)) in
+      (run_follows g old events legal h).settled ∙ ap (λ l. fold g old.core.settled (messages l)) (sym none) ∙ sym good.state

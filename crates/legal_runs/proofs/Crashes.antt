@@ -1,0 +1,49 @@
+-- What a crash of a legal run may leave.
+use Rattle.std.proofs.Common.{◌≡◌, ℕ, zero, suc, ◌≤◌, List, [], ◌∷◌, ◌++◌, refl, ap, sym, ◌∙◌, append_assoc, take, drop, arith}
+use Rattle.affinity.specs.declared.geometry.Geometry.{Geometry}
+use Rattle.message.specs.declared.Msg.{Msg}
+use Rattle.plain.specs.State.{State}
+use Rattle.plain.specs.Serial.{fold}
+use Rattle.legal_runs.specs.Events.{Hands, Event}
+use Rattle.legal_runs.specs.Runs.{IsLegal, last, appended, journal}
+use Rattle.legal_runs.specs.Crash.{in_doubt, IsLogAfter, IsLeftSince}
+use Rattle.legal_runs.specs.Laws.{IsSound}
+use Rattle.legal_runs.proofs.Told.{fold-joined}
+use Rattle.legal_runs.proofs.Runs.{run_journal}
+
+legal_first : (g : Geometry) (old : Hands) (events : List Event) (k : ℕ) → IsLegal g old events → IsLegal g old (take k events)
+legal_first g old events zero legal = tt
+legal_first g old [] (suc k) legal = tt
+legal_first g old (event ∷ events) (suc k) legal = (legal.0, legal_first g event.world events k legal.1)
+
+-- the first events append a beginning of what more of them append
+journal_first : (old : Hands) (events : List Event) (k after : ℕ) → k ≤ after
+    → (rest : List Msg) × (journal old (take after events) ≡ journal old (take k events) ++ rest)
+journal_first old events zero after le = (journal old (take after events), refl)
+journal_first old events (suc k) zero le = absurd (omega (arith, le))
+journal_first old [] (suc k) (suc after) le = ([], refl)
+journal_first old (event ∷ events) (suc k) (suc after) le =
+    let j = journal_first event.world events k after (omega (arith, le)) in
+    let now = appended old.core event.step event.rose in
+    (j.0, ap (λ l. now ++ l) j.1 ∙ sym (append_assoc now (journal event.world (take k events)) j.0))
+
+-- Whatever is left, the log begins with all that was appended before.
+pub left_begins : (g : Geometry) (old : Hands) (events : List Event) (k : ℕ) (x : State) → IsLeftSince g old events k x
+    → (rest : List Msg) × (x ≡ fold g old.core.settled (journal old (take k events) ++ rest))
+left_begins g old events k x left =
+    let j = journal_first old events k left.after left.since in
+    let rest = take left.is_log.some (in_doubt (last old (take left.after events)).core (drop left.after events)) in (
+      j.0 ++ rest,
+      left.state ∙ ap (fold g old.core.settled) (left.is_log.is ∙ ap (λ l. l ++ rest) j.1
+          ∙ append_assoc (journal old (take k events)) j.0 rest),
+    )
+
+-- It is the settled state with the first so many of the messages in doubt.
+pub left_is_settled : (g : Geometry) (old : Hands) (events : List Event) (k : ℕ) (ms : List Msg) → IsLegal g old events
+    → IsSound g old.core → (log : IsLogAfter old events k ms)
+    → fold g old.core.settled ms
+    ≡ fold g (last old (take k events)).core.settled (take log.some (in_doubt (last old (take k events)).core (drop k events)))
+left_is_settled g old events k ms legal h log =
+    let rest = take log.some (in_doubt (last old (take k events)).core (drop k events)) in
+    ap (fold g old.core.settled) log.is ∙ fold-joined g old.core.settled (journal old (take k events)) rest
+    ∙ ap (λ y. fold g y rest) (sym (run_journal g old (take k events) (legal_first g old events k legal) h))

@@ -1,0 +1,283 @@
+-- Worked examples, by computing: what a small machine answers to lists of steps, what is logged in them, and what a crash may leave.
+use Rattle.std.proofs.Common.{◌≡◌, ℕ, zero, suc, true, false, List, [], ◌∷◌, ◌++◌, take, refl, ap, sym, ◌∙◌, lit≤}
+use Rattle.std.specs.Prelude.{◌-◌, ◌^◌, None}
+use Rattle.std.proofs.lemmas.Bool.{true≢false}
+use Rattle.affinity.specs.Geometry.{small}
+use Rattle.message.specs.declared.Block.{Block}
+use Rattle.message.specs.declared.Msg.{Msg}
+use Rattle.message.specs.declared.Msg.TheVariants.{MakeVol, Create, Write, Read, Summary as AskSummary, SetLabel, Label as AskLabel}
+use Rattle.message.specs.declared.Refusal.TheVariants.{Exists}
+use Rattle.message.specs.declared.Reply.TheVariants.{Done, Summary, Refused}
+use Rattle.plain.specs.State.{State, empty}
+use Rattle.plain.specs.Serial.{fold, next_state}
+use Rattle.legal_runs.specs.declared.outcomes.Step.{Step}
+use Rattle.legal_runs.specs.declared.outcomes.Step.TheVariants as steps
+use Rattle.legal_runs.specs.declared.outcomes.Outcome.{Outcome}
+use Rattle.legal_runs.specs.declared.outcomes.Outcome.TheVariants as outcomes
+use Rattle.legal_runs.specs.declared.outcomes.ArriveRefusal.TheVariants as arrivals
+use Rattle.legal_runs.specs.declared.outcomes.CoreFault.TheVariants as faults
+use Rattle.legal_runs.specs.declared.outcomes.PointRefusal.TheVariants as points
+use Rattle.legal_runs.specs.World.{World}
+use Rattle.legal_runs.specs.Events.{Hands, Empty, Event, IsAllowed, happens, fault, touches_device}
+use Rattle.legal_runs.specs.Runs.{IsLegal, outcomes_of, journal, last}
+use Rattle.legal_runs.specs.Crash.{IsLeftSince, IsLogAfter, in_doubt}
+
+-- a core just opened
+abbrev opened : ℕ → State → World
+opened slots x = record {
+  waiting = [];
+  out = [];
+  ran = [];
+  logged = [];
+  settled = x;
+  room = 4;
+  next = 0;
+  slots = slots;
+  failed = false;
+  doubt = [];
+  left = None;
+}
+
+abbrev one_hand : ℕ → State → Hands
+one_hand slots x = record { core = opened slots x; hands = Empty ∷ [] }
+
+abbrev two_hands : ℕ → State → Hands
+two_hands slots x = record { core = opened slots x; hands = Empty ∷ Empty ∷ [] }
+
+abbrev three_hands : ℕ → State → Hands
+three_hands slots x = record { core = opened slots x; hands = Empty ∷ Empty ∷ Empty ∷ [] }
+
+-- a state with a volume and its first file
+abbrev with_file : State
+with_file = fold small empty (MakeVol 0 0 ∷ Create 0 0 0 ∷ [])
+
+-- what a machine answers whose cuts have three pieces
+abbrev answers_of : Hands → List Step → List Outcome
+answers_of w ss = outcomes_of small 3 w ss
+
+-- the events of steps during which the device doesn't fail, and the world after them
+abbrev events_of : Hands → List Step → List Event
+events_of w [] = []
+events_of w (s ∷ ss) = record { step = s; outcome = (happens small 3 w s).0; rose = false; world = (happens small 3 w s).1 }
+    ∷ events_of (happens small 3 w s).1 ss
+
+abbrev after : Hands → List Step → Hands
+after w ss = last w (events_of w ss)
+
+abbrev journal_of : Hands → List Step → List Msg
+journal_of w ss = journal w (events_of w ss)
+
+-- ---- one message after the other
+
+-- all that is done with one message
+abbrev whole : Msg → List Step
+whole m = steps.Arrive m ∷ steps.Grant ∷ steps.Run 0 ∷ steps.Back 0 ∷ steps.Log 1 ∷ steps.Answer ∷ []
+
+abbrev done : ℕ → List Outcome
+done t = outcomes.Ticket t ∷ outcomes.Granted 0 t ∷ outcomes.Ran ∷ outcomes.Back t ∷ outcomes.Logged 1 ∷ outcomes.Answered t Done ∷ []
+
+a_message_goes_from_step_to_step : answers_of (one_hand 1 empty) (steps.Back 0 ∷ steps.Run 0 ∷ steps.Answer ∷ steps.Arrive AskSummary
+    ∷ steps.Grant ∷ steps.Back 0 ∷ steps.Run 0 ∷ steps.Back 0 ∷ steps.Log 1 ∷ steps.Answer ∷ [])
+    ≡ outcomes.Idle ∷ outcomes.Idle ∷ outcomes.Idle ∷ outcomes.Ticket 0 ∷ outcomes.Granted 0 0 ∷ outcomes.Idle ∷ outcomes.Ran
+    ∷ outcomes.Back 0 ∷ outcomes.Logged 1 ∷ outcomes.Answered 0 (Summary 0 0 0) ∷ []
+a_message_goes_from_step_to_step = refl
+
+a_refused_message_is_answered : answers_of (one_hand 1 empty) (whole (MakeVol 0 0) ++ whole (MakeVol 0 0))
+    ≡ done 0 ++ outcomes.Ticket 1 ∷ outcomes.Granted 0 1 ∷ outcomes.Ran ∷ outcomes.Back 1 ∷ outcomes.Logged 1
+    ∷ outcomes.Answered 1 (Refused Exists) ∷ []
+a_refused_message_is_answered = refl
+
+a_refused_message_leaves_no_record : journal_of (one_hand 1 empty) (whole (MakeVol 0 0) ++ whole (MakeVol 0 0)) ≡ MakeVol 0 0 ∷ []
+a_refused_message_leaves_no_record = refl
+
+a_point_gives_room : (x y : Block) → answers_of (one_hand 1 empty)
+    (whole (MakeVol 0 0) ++ (whole (Create 0 0 0)
+    ++ (whole (Create 0 0 1) ++ (whole (Write 0 0 0 0 x)
+    ++ (steps.Arrive (Write 0 0 0 1 y) ∷ steps.Grant ∷ steps.Point ∷ steps.Grant ∷ [])))))
+    ≡ done 0 ++ (done 1 ++ (done 2 ++ (done 3 ++ (outcomes.Ticket 4 ∷ outcomes.NoRoom ∷ outcomes.Pointed ∷ outcomes.Granted 0 4 ∷ []))))
+a_point_gives_room x y = refl
+
+-- ---- messages side by side
+
+a_later_message_waits_for_an_earlier_one : (x y : Block) → answers_of (three_hands 3 with_file)
+    (steps.Arrive (Write 0 0 0 0 x) ∷ steps.Arrive (Create 0 0 1) ∷ steps.Arrive (Write 0 0 0 1 y) ∷ steps.Arrive AskSummary
+    ∷ steps.Arrive (Read 1 0 0 0) ∷ steps.Grant ∷ steps.Grant ∷ steps.Run 0 ∷ steps.Back 0 ∷ steps.Log 1 ∷ steps.Answer
+    ∷ steps.Grant ∷ [])
+    ≡ outcomes.Ticket 0 ∷ outcomes.Ticket 1 ∷ outcomes.Ticket 2 ∷ outcomes.ArriveRefused arrivals.Full
+    ∷ outcomes.ArriveRefused arrivals.Range ∷ outcomes.Granted 0 0 ∷ outcomes.NoneEligible ∷ outcomes.Ran ∷ outcomes.Back 0
+    ∷ outcomes.Logged 1 ∷ outcomes.Answered 0 Done ∷ outcomes.Granted 0 1 ∷ []
+a_later_message_waits_for_an_earlier_one x y = refl
+
+two_stripes_side_by_side : (x y : Block) → answers_of (two_hands 3 with_file)
+    (steps.Arrive (Write 0 0 0 0 x) ∷ steps.Arrive (Write 0 0 0 1 y) ∷ steps.Grant ∷ steps.Grant ∷ steps.Point ∷ steps.Run 1
+    ∷ steps.Back 1 ∷ steps.Log 1 ∷ steps.Answer ∷ steps.Run 0 ∷ steps.Back 0 ∷ steps.Log 4 ∷ steps.Answer ∷ steps.Point ∷ [])
+    ≡ outcomes.Ticket 0 ∷ outcomes.Ticket 1 ∷ outcomes.Granted 0 0 ∷ outcomes.Granted 1 1 ∷ outcomes.PointRefused points.Held
+    ∷ outcomes.Ran ∷ outcomes.Back 1 ∷ outcomes.Logged 1 ∷ outcomes.Answered 1 Done ∷ outcomes.Ran ∷ outcomes.Back 0
+    ∷ outcomes.Logged 1 ∷ outcomes.Answered 0 Done ∷ outcomes.Pointed ∷ []
+two_stripes_side_by_side x y = refl
+
+-- A message is held, and its place taken, until it is answered.
+a_label_beside_a_write : (x : Block) (bytes : List ℕ) → answers_of (two_hands 4 with_file)
+    (steps.Arrive (Write 0 0 0 0 x) ∷ steps.Arrive (SetLabel 0 0 bytes) ∷ steps.Arrive (AskLabel 0 0) ∷ steps.Grant ∷ steps.Grant
+    ∷ steps.Grant ∷ steps.Run 1 ∷ steps.Back 1 ∷ steps.Grant ∷ steps.Log 1 ∷ steps.Grant ∷ steps.Answer ∷ steps.Grant ∷ [])
+    ≡ outcomes.Ticket 0 ∷ outcomes.Ticket 1 ∷ outcomes.Ticket 2 ∷ outcomes.Granted 0 0 ∷ outcomes.Granted 1 1
+    ∷ outcomes.Idle ∷ outcomes.Ran ∷ outcomes.Back 1 ∷ outcomes.NoneEligible ∷ outcomes.Logged 1 ∷ outcomes.NoneEligible
+    ∷ outcomes.Answered 1 Done ∷ outcomes.Granted 1 2 ∷ []
+a_label_beside_a_write x bytes = refl
+
+they_are_logged_as_they_came_back : (x y : Block) → journal_of (two_hands 3 with_file)
+    (steps.Arrive (Write 0 0 0 0 x) ∷ steps.Arrive (Write 0 0 0 1 y) ∷ steps.Grant ∷ steps.Grant ∷ steps.Run 1 ∷ steps.Back 1
+    ∷ steps.Run 0 ∷ steps.Back 0 ∷ steps.Log 4 ∷ [])
+    ≡ Write 0 0 0 1 y ∷ Write 0 0 0 0 x ∷ []
+they_are_logged_as_they_came_back x y = refl
+
+they_are_answered_as_they_came_back : (x y : Block) → answers_of (after (two_hands 3 with_file)
+    (steps.Arrive (Write 0 0 0 0 x) ∷ steps.Arrive (Write 0 0 0 1 y) ∷ steps.Grant ∷ steps.Grant ∷ steps.Run 1 ∷ steps.Back 1
+    ∷ steps.Run 0 ∷ steps.Back 0 ∷ []))
+    (steps.Log 1 ∷ steps.Answer ∷ steps.Log 0 ∷ steps.Answer ∷ steps.Log 4 ∷ steps.Answer ∷ [])
+    ≡ outcomes.Logged 1 ∷ outcomes.Answered 1 Done ∷ outcomes.Logged 0 ∷ outcomes.Idle ∷ outcomes.Logged 1 ∷ outcomes.Answered 0 Done ∷ []
+they_are_answered_as_they_came_back x y = refl
+
+-- One record is left. What is out and what ran is counted against it, and a question needs none.
+abbrev one_record : Hands
+one_record = record { core = record (opened 4 with_file) { room = 1 }; hands = Empty ∷ Empty ∷ Empty ∷ [] }
+
+room_is_kept_for_what_ran : (x y : Block) → answers_of one_record
+    (steps.Arrive (Write 0 0 0 0 x) ∷ steps.Arrive (Write 0 0 0 1 y) ∷ steps.Arrive (AskLabel 0 0) ∷ steps.Grant ∷ steps.Grant
+    ∷ steps.Grant ∷ steps.Run 0 ∷ steps.Back 0 ∷ steps.Grant ∷ steps.Log 1 ∷ steps.Answer ∷ steps.Grant ∷ steps.Point ∷ [])
+    ≡ outcomes.Ticket 0 ∷ outcomes.Ticket 1 ∷ outcomes.Ticket 2 ∷ outcomes.Granted 0 0 ∷ outcomes.Granted 1 2
+    ∷ outcomes.NoRoom ∷ outcomes.Ran ∷ outcomes.Back 0 ∷ outcomes.NoRoom ∷ outcomes.Logged 1 ∷ outcomes.Answered 0 Done
+    ∷ outcomes.NoRoom ∷ outcomes.PointRefused points.Held ∷ []
+room_is_kept_for_what_ran x y = refl
+
+-- All tickets but one are given, and no slot is there.
+the_last_ticket_is_not_given : answers_of (record { core = record (opened 0 empty) { next = 2 ^ 64 - 1 }; hands = [] })
+    (steps.Arrive AskSummary ∷ steps.Arrive (Read 1 0 0 0) ∷ steps.Grant ∷ [])
+    ≡ outcomes.ArriveRefused arrivals.Exhausted ∷ outcomes.ArriveRefused arrivals.Range ∷ outcomes.Idle ∷ []
+the_last_ticket_is_not_given = refl
+
+-- ---- consistency points in steps
+
+the_steps_of_a_point : answers_of (one_hand 1 empty) (steps.Cut ∷ steps.Cut ∷ steps.Flip ∷ steps.Piece ∷ steps.Piece ∷ steps.Piece
+    ∷ steps.Piece ∷ steps.Flip ∷ steps.Flip ∷ steps.Piece ∷ [])
+    ≡ outcomes.Cut ∷ outcomes.PointRefused points.Running ∷ outcomes.PointRefused points.Unfinished ∷ outcomes.Left 2 ∷ outcomes.Left 1
+    ∷ outcomes.Left 0 ∷ outcomes.Left 0 ∷ outcomes.Flipped ∷ outcomes.PointRefused points.NotRunning
+    ∷ outcomes.PointRefused points.NotRunning ∷ []
+the_steps_of_a_point = refl
+
+messages_during_a_point : answers_of (one_hand 1 empty) (whole (MakeVol 0 0) ++ (steps.Cut ∷ whole (Create 0 0 0))
+    ++ (steps.Point ∷ steps.Piece ∷ steps.Piece ∷ steps.Piece ∷ steps.Flip ∷ []))
+    ≡ done 0 ++ (outcomes.Cut ∷ done 1)
+    ++ (outcomes.PointRefused points.Running ∷ outcomes.Left 2 ∷ outcomes.Left 1 ∷ outcomes.Left 0 ∷ outcomes.Flipped ∷ [])
+messages_during_a_point = refl
+
+a_point_in_progress_is_told_before_what_is_held : answers_of (one_hand 1 empty)
+    (steps.Cut ∷ steps.Arrive AskSummary ∷ steps.Grant ∷ steps.Point ∷ steps.Cut ∷ [])
+    ≡ outcomes.Cut ∷ outcomes.Ticket 0 ∷ outcomes.Granted 0 0 ∷ outcomes.PointRefused points.Running
+    ∷ outcomes.PointRefused points.Running ∷ []
+a_point_in_progress_is_told_before_what_is_held = refl
+
+a_point_frees_all_records : (after (one_hand 1 empty) (whole (MakeVol 0 0) ++ (steps.Point ∷ []))).core.room ≡ 4
+a_point_frees_all_records = refl
+
+-- three records are free again: the half took four, and one came since the point began
+room_after_a_point : (after (one_hand 1 empty) (whole (MakeVol 0 0) ++ (steps.Cut ∷ whole (Create 0 0 0)))).core.room ≡ 3
+room_after_a_point = refl
+
+-- ---- a device that fails
+
+-- a volume is to be made, and ran
+abbrev ran_one : Hands
+ran_one = after (one_hand 2 empty) (steps.Arrive (MakeVol 0 0) ∷ steps.Grant ∷ steps.Run 0 ∷ steps.Back 0 ∷ [])
+
+-- The device failed while it was logged.
+abbrev failed_one : Hands
+failed_one = record { core = (fault ran_one.core (steps.Log 1)).1; hands = ran_one.hands }
+
+a_failed_log_tells : (fault ran_one.core (steps.Log 1)).0 ≡ outcomes.LogFault faults.Device
+a_failed_log_tells = refl
+
+a_failed_core_takes_nothing : answers_of failed_one (steps.Grant ∷ steps.Arrive AskSummary ∷ steps.Answer ∷ steps.Log 1 ∷ steps.Point
+    ∷ steps.Cut ∷ steps.Piece ∷ steps.Flip ∷ [])
+    ≡ outcomes.Failed ∷ outcomes.ArriveRefused arrivals.Failed ∷ outcomes.Idle ∷ outcomes.LogFault faults.Failed
+    ∷ outcomes.PointRefused points.Failed ∷ outcomes.PointRefused points.Failed ∷ outcomes.PointRefused points.Failed
+    ∷ outcomes.PointRefused points.Failed ∷ []
+a_failed_core_takes_nothing = refl
+
+no_hand_is_empty : answers_of (record { core = failed_one.core; hands = [] }) (steps.Grant ∷ []) ≡ outcomes.Idle ∷ []
+no_hand_is_empty = refl
+
+what_was_to_be_logged_is_in_doubt : in_doubt failed_one.core [] ≡ MakeVol 0 0 ∷ []
+what_was_to_be_logged_is_in_doubt = refl
+
+a_question_touches_no_device : touches_device (after (one_hand 1 empty) (steps.Arrive AskSummary ∷ steps.Grant ∷ steps.Run 0
+    ∷ steps.Back 0 ∷ [])).core (steps.Log 1) ≡ false
+a_question_touches_no_device = refl
+
+a_change_touches_the_device : touches_device ran_one.core (steps.Log 1) ≡ true
+a_change_touches_the_device = refl
+
+a_point_with_nothing_to_write_touches_no_device : touches_device (after (one_hand 1 empty) (steps.Cut ∷ steps.Piece ∷ steps.Piece
+    ∷ steps.Piece ∷ [])).core steps.Piece ≡ false
+a_point_with_nothing_to_write_touches_no_device = refl
+
+-- ---- legal runs, and what a crash of one may leave
+
+-- the event in which the device failed
+abbrev failed_log : Event
+failed_log = record { step = steps.Log 1; outcome = outcomes.LogFault faults.Device; rose = true; world = failed_one }
+
+failing_is_legal : IsLegal small ran_one (failed_log ∷ [])
+failing_is_legal = (record { touched = refl; core = refl; hands = refl }, tt)
+
+-- the same told of the log of a question
+abbrev false_alarm : Event
+false_alarm = record { step = steps.Log 1; outcome = outcomes.LogFault faults.Device; rose = true; world = failed_one }
+
+a_log_that_touches_no_device_doesnt_fail : IsAllowed small (after (one_hand 1 empty) (steps.Arrive AskSummary ∷ steps.Grant
+    ∷ steps.Run 0 ∷ steps.Back 0 ∷ [])) false_alarm
+    → ⊥
+a_log_that_touches_no_device_doesnt_fail h = true≢false (sym h.touched)
+
+-- an outcome that tells of a failure where none was
+abbrev invented : Event
+invented = record { step = steps.Log 1; outcome = outcomes.LogFault faults.Device; rose = false; world = failed_one }
+
+logged_or_failed : outcomes.Logged 1 ≡ outcomes.LogFault faults.Device → ⊥
+logged_or_failed e = cc
+
+a_failure_is_not_invented : IsAllowed small ran_one invented → ⊥
+a_failure_is_not_invented h = logged_or_failed (ap (λ x. x.0) h.does)
+
+-- The volume may be there after a crash, or not; it may be while it is logged and when that has failed.
+nothing_was_written : IsLeftSince small ran_one (failed_log ∷ []) 0 empty
+nothing_was_written = record {
+  after = 0;
+  since = lit≤ tt;
+  within = lit≤ tt;
+  log = [];
+  is_log = record { some = 0; at_most = lit≤ tt; is = refl };
+  state = refl;
+}
+
+the_volume_was_written : IsLeftSince small ran_one (failed_log ∷ []) 1 (next_state small empty (MakeVol 0 0))
+the_volume_was_written = record {
+  after = 1;
+  since = lit≤ tt;
+  within = lit≤ tt;
+  log = MakeVol 0 0
+      ∷ [];
+  is_log = record { some = 1; at_most = lit≤ tt; is = refl };
+  state = refl;
+}
+
+-- What was logged and answered during a consistency point is in the log too.
+abbrev cut_run : List Event
+cut_run = events_of (one_hand 1 empty) (whole (MakeVol 0 0) ++ (steps.Cut ∷ whole (Create 0 0 0)))
+
+none_more : (n : ℕ) → take {A = Msg} n [] ≡ []
+none_more zero = refl
+none_more (suc n) = refl
+
+both_are_left : (ms : List Msg) → IsLogAfter (one_hand 1 empty) cut_run 13 ms → fold small empty ms ≡ with_file
+both_are_left ms log = ap (fold small empty) (log.is ∙ ap (λ l. (MakeVol 0 0 ∷ Create 0 0 0 ∷ []) ++ l) (none_more log.some))

@@ -1,0 +1,206 @@
+-- A device's failure is told, and it lasts.
+use Rattle.std.proofs.Common.{◌≡◌, ℕ, zero, suc, ◌^◌, ◌-◌, ◌+◌, Bool, true, false, List, [], ◌∷◌, Option, Some, None, refl, ap, sym, ◌∙◌, subst, length}
+use Rattle.std.specs.Prelude.{◌&&◌, ◌==◌, not, nat_le, nat_lt, if◌then◌else◌, is_some, is_none, MatchBool, position, slice_get}
+use Rattle.std.specs.List.{list_any}
+use Rattle.std.proofs.lemmas.Bool.{true≢false}
+use Rattle.affinity.specs.declared.geometry.Geometry.{Geometry}
+use Rattle.message.specs.declared.Msg.{Msg}
+use Rattle.message.specs.Messages.{is_in_range}
+use Rattle.legal_runs.specs.declared.outcomes.Step.{Step}
+use Rattle.legal_runs.specs.declared.outcomes.Step.TheVariants as steps
+use Rattle.legal_runs.specs.declared.outcomes.Outcome.{Outcome}
+use Rattle.legal_runs.specs.declared.outcomes.Outcome.TheVariants as outcomes
+use Rattle.legal_runs.specs.declared.outcomes.PointRefusal.{PointRefusal}
+use Rattle.legal_runs.specs.World.{Entry, Replied, World, held}
+use Rattle.legal_runs.specs.Eligible.{lacks_room_alone, next_eligible}
+use Rattle.legal_runs.specs.Events.{Hand, Hands, Empty, Job, Result, Event, IsAllowed, IsFault, IsCarriedOut, arrive, answer, not_ended, unless_refused, piece_refusal, point_refusal, flip_refusal, grant_to, run_hand, result_in, back_from, is_empty, happens, fault, touches_device}
+use Rattle.legal_runs.specs.Laws.{IsStopped, tells_of_failure}
+
+-- ---- what happens doesn't tell of a failure, and a fault does
+
+either : {A : Type 0} (P : A → Type 0) (b : Bool) (x y : A) → P x → P y → P (if b then x else y)
+either P true x y h j = h
+either P false x y h j = j
+
+abbrev Quiet : {W : Type 0} → Outcome × W → Type 0
+Quiet o = tells_of_failure o.0 ≡ false
+
+arrive_quiet : (g : Geometry) (w : World) (m : Msg) → Quiet (arrive g w m)
+arrive_quiet g w m =
+    either Quiet w.failed _ _ refl
+    (either Quiet (not (is_in_range g m)) _ _ refl
+    (either Quiet (w.next == 2 ^ 64 - 1) _ _ refl
+    (either Quiet (nat_le w.slots (length w.waiting + length (held w))) _ _ refl refl)))
+
+answer_quiet : (w : World) (as' : List Replied) → Quiet (answer w as')
+answer_quiet w [] = refl
+answer_quiet w (a ∷ as') = refl
+
+module _ (w : World) (done : Outcome × World) (quiet : Quiet done) where
+  abbrev Refusing : Option PointRefusal → Type 0
+  Refusing r = Quiet (unless_refused w r done)
+
+  point_quiet : Refusing (point_refusal w)
+  point_quiet =
+      either Refusing w.failed _ _ refl
+      (either Refusing (is_some w.left) _ _ refl (either Refusing (nat_lt 0 (length (held w))) _ _ refl quiet))
+
+  piece_quiet : Refusing (piece_refusal w)
+  piece_quiet = either Refusing w.failed _ _ refl (either Refusing (is_none w.left) _ _ refl quiet)
+
+  ended_quiet : (left : Option ℕ) → Refusing (not_ended left)
+  ended_quiet None = refl
+  ended_quiet (Some zero) = quiet
+  ended_quiet (Some (suc n)) = refl
+
+  flip_quiet : Refusing (flip_refusal w)
+  flip_quiet = either Refusing w.failed _ _ refl (ended_quiet w.left)
+
+module _ (g : Geometry) (w : Hands) where
+  none_quiet : (b : Bool) → tells_of_failure (if b then outcomes.NoRoom else outcomes.NoneEligible) ≡ false
+  none_quiet true = refl
+  none_quiet false = refl
+
+  grant_quiet : (hand : Option ℕ) (found : Option (Entry × List Entry)) → Quiet (grant_to g w hand found)
+  grant_quiet None found = refl
+  grant_quiet (Some hand) None = none_quiet (list_any (lacks_room_alone g w.core) w.core.waiting)
+  grant_quiet (Some hand) (Some found) = refl
+
+  run_quiet : (i : ℕ) (hand : Option Hand) → Quiet (run_hand w i hand)
+  run_quiet i None = refl
+  run_quiet i (Some Empty) = refl
+  run_quiet i (Some (Job ticket)) = refl
+  run_quiet i (Some (Result ticket)) = refl
+
+  back_quiet : (i : ℕ) (found : Option (Entry × List Entry)) → Quiet (back_from g w i found)
+  back_quiet i None = refl
+  back_quiet i (Some found) = refl
+
+  happens_quiet : (n : ℕ) (s : Step) → Quiet (happens g n w s)
+  happens_quiet n (steps.Arrive m) = arrive_quiet g w.core m
+  happens_quiet n steps.Grant =
+      either Quiet (w.core.failed && is_some (position is_empty w.hands)) _ _ refl
+      (grant_quiet (position is_empty w.hands) (next_eligible g w.core))
+  happens_quiet n (steps.Run i) = run_quiet i (slice_get w.hands i)
+  happens_quiet n (steps.Back i) = back_quiet i (result_in w.core (slice_get w.hands i))
+  happens_quiet n (steps.Log k) = either Quiet w.core.failed _ _ refl refl
+  happens_quiet n steps.Answer = answer_quiet w.core w.core.logged
+  happens_quiet n steps.Point = point_quiet w.core _ refl
+  happens_quiet n steps.Cut = point_quiet w.core _ refl
+  happens_quiet n steps.Piece = piece_quiet w.core _ refl
+  happens_quiet n steps.Flip = flip_quiet w.core _ refl
+
+fault_told : (w : World) (s : Step) → tells_of_failure (fault w s).0 ≡ true
+fault_told w (steps.Arrive m) = refl
+fault_told w steps.Grant = refl
+fault_told w (steps.Run i) = refl
+fault_told w (steps.Back i) = refl
+fault_told w (steps.Log k) = refl
+fault_told w steps.Answer = refl
+fault_told w steps.Point = refl
+fault_told w steps.Cut = refl
+fault_told w steps.Piece = refl
+fault_told w steps.Flip = refl
+
+-- A step tells that the device failed exactly where it did.
+pub failure_told : (g : Geometry) (old : Hands) (event : Event) → IsAllowed g old event → event.rose ≡ tells_of_failure event.outcome
+failure_told g old event h = by event.rose h
+  where
+    by : (b : Bool) → MatchBool b (IsFault old event) (IsCarriedOut g old event) → b ≡ tells_of_failure event.outcome
+    by true f = sym (fault_told old.core event.step) ∙ ap (λ o. tells_of_failure o.0) f.core
+    by false d = sym (happens_quiet g old d.to_write event.step) ∙ ap (λ o. tells_of_failure o.0) d.does
+
+-- ---- then it has failed
+
+fault_fails : (w : World) (s : Step) → (fault w s).1.failed ≡ true
+fault_fails w (steps.Arrive m) = refl
+fault_fails w steps.Grant = refl
+fault_fails w (steps.Run i) = refl
+fault_fails w (steps.Back i) = refl
+fault_fails w (steps.Log k) = refl
+fault_fails w steps.Answer = refl
+fault_fails w steps.Point = refl
+fault_fails w steps.Cut = refl
+fault_fails w steps.Piece = refl
+fault_fails w steps.Flip = refl
+
+pub failure_fails : (g : Geometry) (old : Hands) (event : Event) → IsAllowed g old event → event.rose ≡ true
+    → event.world.core.failed ≡ true
+failure_fails g old event h rose = by event.rose h rose
+  where
+    by : (b : Bool) → MatchBool b (IsFault old event) (IsCarriedOut g old event) → b ≡ true → event.world.core.failed ≡ true
+    by true f rose = ap (λ o. o.1.failed) (sym f.core) ∙ fault_fails old.core event.step
+    by false d rose = absurd (true≢false (sym rose))
+
+-- ---- and for good
+
+module _ (g : Geometry) (n : ℕ) (world : World) (row : List Hand) where
+  abbrev stopped : World
+  stopped = record world { failed = true }
+
+  abbrev machine : Hands
+  machine = record { core = stopped; hands = row }
+
+  still : IsStopped stopped stopped
+  still = record { failed = refl; waiting = refl; settled = refl; doubt = refl; room = refl; next = refl; left = refl }
+
+  abbrev Still : Outcome × Hands → Type 0
+  Still o = IsStopped stopped o.1.core
+
+  grant_still : (hand : Option ℕ)
+      → Still (if is_some hand then (outcomes.Failed, machine) else grant_to g machine hand (next_eligible g stopped))
+  grant_still None = still
+  grant_still (Some hand) = still
+
+  run_still : (i : ℕ) (hand : Option Hand) → Still (run_hand machine i hand)
+  run_still i None = still
+  run_still i (Some Empty) = still
+  run_still i (Some (Job ticket)) = still
+  run_still i (Some (Result ticket)) = still
+
+  back_still : (i : ℕ) (found : Option (Entry × List Entry)) → Still (back_from g machine i found)
+  back_still i None = still
+  back_still i (Some found) = record { failed = refl; waiting = refl; settled = refl; doubt = refl; room = refl; next = refl; left = refl }
+
+  answer_still : (as' : List Replied) → IsStopped stopped (answer stopped as').1
+  answer_still [] = still
+  answer_still (a ∷ as') = record { failed = refl; waiting = refl; settled = refl; doubt = refl; room = refl; next = refl; left = refl }
+
+  happens_still : (s : Step) → Still (happens g n machine s)
+  happens_still (steps.Arrive m) = still
+  happens_still steps.Grant = grant_still (position is_empty row)
+  happens_still (steps.Run i) = run_still i (slice_get row i)
+  happens_still (steps.Back i) = back_still i (result_in stopped (slice_get row i))
+  happens_still (steps.Log k) = still
+  happens_still steps.Answer = answer_still world.logged
+  happens_still steps.Point = still
+  happens_still steps.Cut = still
+  happens_still steps.Piece = still
+  happens_still steps.Flip = still
+
+untouched : (world : World) (s : Step) → touches_device (record world { failed = true }) s ≡ false
+untouched world (steps.Arrive m) = refl
+untouched world steps.Grant = refl
+untouched world (steps.Run i) = refl
+untouched world (steps.Back i) = refl
+untouched world (steps.Log k) = refl
+untouched world steps.Answer = refl
+untouched world steps.Point = refl
+untouched world steps.Cut = refl
+untouched world steps.Piece = refl
+untouched world steps.Flip = refl
+
+pub failure_lasts : (g : Geometry) (old : Hands) (event : Event) → IsAllowed g old event → old.core.failed ≡ true
+    → IsStopped old.core event.world.core
+failure_lasts g old event h failed = by event.rose h
+  where
+    is_stopped : old.core ≡ record old.core { failed = true }
+    is_stopped = λ i. record old.core { failed = failed i }
+
+    by : (b : Bool) → MatchBool b (IsFault old event) (IsCarriedOut g old event) → IsStopped old.core event.world.core
+    by true f = absurd (true≢false (sym f.touched ∙ ap (λ w. touches_device w event.step) is_stopped ∙ untouched old.core event.step))
+    by false d =
+        let does = ap (λ w. happens g d.to_write (record { core = w; hands = old.hands }) event.step) (sym is_stopped) ∙ d.does in
+        subst (λ w. IsStopped w event.world.core) (sym is_stopped)
+        (subst (λ o. IsStopped (record old.core { failed = true }) o.1.core) does
+        (happens_still g d.to_write old.core old.hands event.step))

@@ -1,0 +1,197 @@
+-- Each event leads from a sound world to a sound one.
+use Rattle.std.proofs.Common.{◌≡◌, ℕ, ◌+◌, ◌<◌, ◌≤◌, List, [], ◌∷◌, ◌++◌, refl, ap, sym, ◌∙◌, subst, append_assoc, take, drop, length, arith}
+use Rattle.std.specs.Prelude.{◌==◌}
+use Rattle.std.specs.List.{AllByRecursion}
+use Rattle.std.proofs.lemmas.List.{take-append-drop, length-append}
+use Rattle.affinity.specs.declared.geometry.Geometry.{Geometry}
+use Rattle.plain.specs.Serial.{reply_to}
+use Rattle.legal_runs.specs.World.{Entry, Replied, World, entries, held}
+use Rattle.legal_runs.specs.Eligible.{is_eligible}
+use Rattle.legal_runs.specs.Events.{Hands, Event, IsAllowed, grant, give_back, log}
+use Rattle.legal_runs.specs.Runs.{IsLegal}
+use Rattle.legal_runs.specs.Laws.{AreApart, AreReplied, AreAscending, AreOnce, DoubtsOnlyFailed, HasRoom, IsSound}
+use Rattle.legal_runs.proofs.Lists.{all_join, all_front, all_back, all_weaker, all_moved, all_without, before_push, before_back, before_front, before_without, before_moved, picked}
+use Rattle.legal_runs.proofs.Apart.{grant_apart, back_apart, log_held, held_grant, length_held}
+use Rattle.legal_runs.proofs.Moves.{Passed, Move, Stays, Arrives, Grants, Backs, Logs, Answers, moves}
+use Rattle.legal_runs.proofs.Told.{InARow, in_a_row}
+use Rattle.legal_runs.proofs.Room.{move_room}
+
+once_turned : (e d : Entry) → (e.0 ≡ d.0 → ⊥) → d.0 ≡ e.0 → ⊥
+once_turned e d h is = h (sym is)
+
+-- its ticket is given, and none that is to come
+abbrev IsGiven : ℕ → Entry → Type 0
+IsGiven n e = e.0 < n
+
+module _ (g : Geometry) where
+  -- what is logged next is told in a row
+  pub row_of : (w : World) (n : ℕ) → IsSound g w → InARow g w.settled (take n w.ran) (drop n w.ran)
+  row_of w n h =
+      let whole : take n w.ran ++ drop n w.ran ≡ w.ran = take-append-drop n w.ran in
+      in_a_row g w.settled (take n w.ran) (drop n w.ran)
+      (subst (λ r. AreApart g (entries r)) (sym whole) (before_front _ (entries w.ran) w.out (before_back _ (entries w.logged) _ h.apart)))
+      (subst (AreReplied g w.settled) (sym whole) h.replied)
+
+  stays_sound : (old new : World) (p : Passed) → Move g old new p → new.waiting ≡ old.waiting → new.out ≡ old.out
+      → new.ran ≡ old.ran → new.logged ≡ old.logged → new.settled ≡ old.settled → new.next ≡ old.next → new.slots ≡ old.slots
+      → IsSound g old → IsSound g new
+  stays_sound old new p move waiting out ran logged settled next slots h =
+      let all : new.out ++ new.waiting ≡ old.out ++ old.waiting = λ i. out i ++ waiting i in
+      let holds : held new ≡ held old = λ i. entries (logged i) ++ (entries (ran i) ++ out i) in
+      record {
+        apart = subst (AreApart g) (sym holds) h.apart;
+        replied = subst (AreReplied g new.settled) (sym ran) (subst (λ x. AreReplied g x old.ran) (sym settled) h.replied);
+        ascending = subst AreAscending (sym waiting) h.ascending;
+        once = subst AreOnce (sym all) h.once;
+        given = subst (λ n. AllByRecursion (IsGiven n) (new.out ++ new.waiting)) (sym next)
+            (subst (AllByRecursion (IsGiven old.next)) (sym all) h.given);
+        room = move_room g old new p move h.room;
+        fits = subst (λ n. length new.waiting + length (held new) ≤ n) (sym slots)
+            (subst (λ l. length new.waiting + length l ≤ old.slots) (sym holds)
+            (subst (λ l. length l + length (held old) ≤ old.slots) (sym waiting) h.fits));
+      }
+
+  pub move_sound : (old new : World) (p : Passed) → Move g old new p → IsSound g old → IsSound g new
+  move_sound old new p (Stays s e) h = stays_sound old new p (Stays s e) s.waiting s.out s.ran s.logged s.settled s.next s.slots h
+  move_sound old new p (Arrives m fits is e) h =
+      let one : Entry = (old.next, m) in
+      let same = sym (append_assoc old.out old.waiting (one ∷ [])) in
+      let l = length-append old.waiting (one ∷ []) in
+      let room = move_room g old new p (Arrives m fits is e) h.room in
+      subst (IsSound g) (sym is) (record {
+        apart = h.apart;
+        replied = h.replied;
+        ascending = before_push (λ e d. e.0 < d.0) old.waiting one h.ascending (waits_given old h);
+        once = subst AreOnce (sym same) (before_push
+            (λ e d. e.0 ≡ d.0 → ⊥) (old.out ++ old.waiting) one h.once (all_weaker (IsGiven old.next) (λ e. e.0 ≡ old.next → ⊥)
+            (λ e lt is. omega (arith, lt, is)) _ h.given));
+        given = subst (AllByRecursion (IsGiven (old.next + 1))) (sym same)
+            (all_join (IsGiven (old.next + 1)) (old.out ++ old.waiting) (one
+            ∷ []) (all_weaker (IsGiven old.next) (IsGiven (old.next + 1)) (λ e lt. omega (arith, lt)) _ h.given) (omega arith, tt));
+        room = h.room;
+        fits = omega (arith, l, fits);
+      })
+    where
+      waits_given : (w : World) → IsSound g w → AllByRecursion (IsGiven w.next) w.waiting
+      waits_given w h = all_back (IsGiven w.next) w.out w.waiting h.given
+  move_sound old new p (Grants found first is e) h =
+      let k = picked (is_eligible g old) old.waiting found first in
+      let one = found.0 in
+      let from : old.out ++ old.waiting ≡ old.out ++ (k.before ++ one ∷ k.behind) = ap (λ l. old.out ++ l) k.whole in
+      let to : old.out ++ one ∷ (k.before ++ k.behind) ≡ (old.out ++ one ∷ []) ++ found.1 = sym (append_assoc old.out (one ∷ []) _) ∙ ap
+      (λ l. (old.out ++ one ∷ []) ++ l) (sym k.rest) in
+      let room = move_room g old (grant old found) p (Grants found first refl e) h.room in
+      let was = ap length k.whole ∙ length-append k.before (one ∷ k.behind) in
+      let now = ap length k.rest ∙ length-append k.before k.behind in
+      let holds = ap length (held_grant old found) ∙ length-append (held old) (one ∷ []) in
+      let fits = h.fits in
+      subst (IsSound g) (sym is) (record {
+        apart = grant_apart g old found first h.apart;
+        replied = h.replied;
+        ascending = subst AreAscending (sym k.rest) (before_without _ k.before one k.behind (subst AreAscending k.whole h.ascending));
+        once = subst AreOnce to (before_moved _ once_turned old.out k.before one k.behind (subst AreOnce from h.once));
+        given = subst (AllByRecursion (IsGiven old.next)) to (moved old.next old.out k.before one k.behind
+            (subst (AllByRecursion (IsGiven old.next)) from h.given));
+        room = room;
+        fits = omega (arith, was, now, holds, fits);
+      })
+    where
+      moved : (n : ℕ) (xs us : List Entry) (e : Entry) (vs : List Entry) → AllByRecursion (IsGiven n) (xs ++ (us ++ e ∷ vs))
+          → AllByRecursion (IsGiven n) (xs ++ e ∷ (us ++ vs))
+      moved n xs us e vs h = all_join (IsGiven n) xs (e
+          ∷ (us ++ vs)) (all_front (IsGiven n) xs _ h) (all_moved (IsGiven n) us e vs (all_back (IsGiven n) xs _ h))
+  move_sound old new p (Backs ticket found one_out is e) h =
+      let k = picked (λ d. d.0 == ticket) old.out found one_out in
+      let one = found.0 in
+      let a : Replied = (one.0, one.1, reply_to g old.settled one.1) in
+      let from : old.out ++ old.waiting ≡ k.before ++ one ∷ (k.behind ++ old.waiting) = ap (λ l. l ++ old.waiting) k.whole
+      ∙ append_assoc k.before (one ∷ k.behind) old.waiting in
+      let to : k.before ++ (k.behind ++ old.waiting) ≡ found.1 ++ old.waiting = sym (append_assoc k.before k.behind old.waiting) ∙ ap
+      (λ l. l ++ old.waiting) (sym k.rest) in
+      let room = move_room g old (give_back g old found) p (Backs ticket found one_out refl e) h.room in
+      let was = ap length k.whole ∙ length-append k.before (one ∷ k.behind) in
+      let now = ap length k.rest ∙ length-append k.before k.behind in
+      let more = length-append old.ran (a ∷ []) in
+      let held_was = length_held old in
+      let held_now = length_held (give_back g old found) in
+      let fits = h.fits in
+      subst (IsSound g) (sym is) (record {
+        apart = back_apart g old ticket found one_out h.apart;
+        replied = all_join (λ a. a.2 ≡ reply_to g old.settled a.1) old.ran _ h.replied (refl, tt);
+        ascending = h.ascending;
+        once = subst AreOnce to (before_without _ k.before one (k.behind ++ old.waiting) (subst AreOnce from h.once));
+        given = subst (AllByRecursion (IsGiven old.next)) to (all_without (IsGiven old.next) k.before one (k.behind ++ old.waiting)
+            (subst (AllByRecursion (IsGiven old.next)) from h.given));
+        room = room;
+        fits = omega (arith, was, now, more, held_was, held_now, fits);
+      })
+  move_sound old new p (Logs n is e) h =
+      let room = move_room g old (log g old n) p (Logs n refl e) h.room in
+      subst (IsSound g) (sym is) (record {
+        apart = subst (AreApart g) (sym (log_held g old n)) h.apart;
+        replied = subst (λ x. AreReplied g x (drop n old.ran)) (sym (row_of old n h).logs) (row_of old n h).still;
+        ascending = h.ascending;
+        once = h.once;
+        given = h.given;
+        room = room;
+        fits = subst (λ l. length old.waiting + length l ≤ old.slots) (sym (log_held g old n)) h.fits;
+      })
+  move_sound old new p (Answers a rest front is e) h =
+      let fits = subst (λ l. length old.waiting + length (entries l ++ (entries old.ran ++ old.out)) ≤ old.slots) front h.fits in
+      subst (IsSound g) (sym is) (record {
+        apart = (subst (λ l. AreApart g (entries l ++ (entries old.ran ++ old.out))) front h.apart).1;
+        replied = h.replied;
+        ascending = h.ascending;
+        once = h.once;
+        given = h.given;
+        room = h.room;
+        fits = omega (arith, fits);
+      })
+
+  pub event_sound : (old : Hands) (event : Event) → IsAllowed g old event → IsSound g old.core → IsSound g event.world.core
+  event_sound old event allowed h = move_sound old.core event.world.core _ (moves g old event allowed) h
+
+  pub run_sound : (old : Hands) (events : List Event) → IsLegal g old events → IsSound g old.core
+      → AllByRecursion (λ event. IsSound g event.world.core) events
+  run_sound old [] legal h = tt
+  run_sound old (event ∷ events) legal h =
+      let k = event_sound old event legal.0 h in
+      (k, run_sound event.world events legal.1 k)
+
+-- ---- the number of slots
+
+move_slots : (g : Geometry) (old new : World) (p : Passed) → Move g old new p → new.slots ≡ old.slots
+move_slots g old new p (Stays s e) = s.slots
+move_slots g old new p (Arrives m fits is e) = ap (λ w. w.slots) is
+move_slots g old new p (Grants found first is e) = ap (λ w. w.slots) is
+move_slots g old new p (Backs ticket found one_out is e) = ap (λ w. w.slots) is
+move_slots g old new p (Logs n is e) = ap (λ w. w.slots) is
+move_slots g old new p (Answers a rest front is e) = ap (λ w. w.slots) is
+
+pub event_slots : (g : Geometry) (old : Hands) (event : Event) → IsAllowed g old event → event.world.core.slots ≡ old.core.slots
+event_slots g old event allowed = move_slots g old.core event.world.core _ (moves g old event allowed)
+
+-- Whatever a run of events does, what is out and what ran has room, and each message has a slot of those that there were.
+pub run_fits : (g : Geometry) (old : Hands) (events : List Event) → IsLegal g old events → IsSound g old.core
+    → AllByRecursion (λ event. HasRoom old.core.slots event.world.core) events
+run_fits g old [] legal h = tt
+run_fits g old (event ∷ events) legal h =
+    let k = event_sound g old event legal.0 h in
+    let same = event_slots g old event legal.0 in (
+      (k.room, subst (λ n. length event.world.core.waiting + length (held event.world.core) ≤ n) same k.fits),
+      subst (λ n. AllByRecursion (λ event. HasRoom n event.world.core) events) same (run_fits g event.world events legal.1 k),
+    )
+
+-- ---- what is in doubt
+
+move_doubts : (g : Geometry) (old new : World) (p : Passed) → Move g old new p → DoubtsOnlyFailed old → DoubtsOnlyFailed new
+move_doubts g old new p (Stays s e) h = s.doubt h
+move_doubts g old new p (Arrives m fits is e) h = subst DoubtsOnlyFailed (sym is) h
+move_doubts g old new p (Grants found first is e) h = subst DoubtsOnlyFailed (sym is) h
+move_doubts g old new p (Backs ticket found one_out is e) h = subst DoubtsOnlyFailed (sym is) h
+move_doubts g old new p (Logs n is e) h = subst DoubtsOnlyFailed (sym is) h
+move_doubts g old new p (Answers a rest front is e) h = subst DoubtsOnlyFailed (sym is) h
+
+pub event_doubts : (g : Geometry) (old : Hands) (event : Event) → IsAllowed g old event → DoubtsOnlyFailed old.core
+    → DoubtsOnlyFailed event.world.core
+event_doubts g old event allowed h = move_doubts g old.core event.world.core _ (moves g old event allowed) h

@@ -1,0 +1,98 @@
+-- The words of the laws of legal runs.
+use Rattle.std.specs.Prelude.{◌≡◌, ℕ, ◌+◌, ◌<◌, ◌≤◌, Bool, true, false, List, [], ◌∷◌, ◌++◌, map, length}
+use Rattle.std.specs.List.{AllByRecursion}
+use Rattle.affinity.specs.declared.geometry.Geometry.{Geometry}
+use Rattle.message.specs.declared.Reply.{Reply}
+use Rattle.plain.specs.State.{State}
+use Rattle.plain.specs.Serial.{reply_to}
+use Rattle.legal_runs.specs.declared.outcomes.Outcome.{Outcome}
+use Rattle.legal_runs.specs.declared.outcomes.Outcome.TheVariants as outcomes
+use Rattle.legal_runs.specs.declared.outcomes.CoreFault.TheVariants as faults
+use Rattle.legal_runs.specs.declared.outcomes.PointRefusal.TheVariants as points
+use Rattle.legal_runs.specs.World.{Entry, Replied, World, held, touches}
+use Rattle.legal_runs.specs.Eligible.{in_flight}
+use Rattle.legal_runs.specs.Events.{Hands, Event}
+use Rattle.legal_runs.specs.Runs.{IsLegal, last, went, journal, arrived, answered}
+
+-- each one stands so to all behind it
+abbrev pub EachBefore : {A : Type 0} → (A → A → Type 0) → List A → Type 0
+EachBefore R [] = Unit {0}
+EachBefore R (x ∷ xs) = AllByRecursion (R x) xs × EachBefore R xs
+
+-- no two of the messages are at related places
+abbrev pub AreApart : Geometry → List Entry → Type 0
+AreApart g es = EachBefore (λ e d. touches g e d ≡ false) es
+
+-- the tickets ascend
+abbrev pub AreAscending : List Entry → Type 0
+AreAscending es = EachBefore (λ e d. e.0 < d.0) es
+
+-- no two have one ticket
+abbrev pub AreOnce : List Entry → Type 0
+AreOnce es = EachBefore (λ e d. e.0 ≡ d.0 → ⊥) es
+
+-- each reply is that at this state
+abbrev pub AreReplied : Geometry → State → List Replied → Type 0
+AreReplied g x as' = AllByRecursion (λ a. a.2 ≡ reply_to g x a.1) as'
+
+-- What every world keeps.
+pub record IsSound (g : Geometry) (w : World) : Type 0 where
+  -- no two messages held at once are at related places
+  pub apart : AreApart g (held w)
+  -- the replies of those that ran are those at the settled state
+  pub replied : AreReplied g w.settled w.ran
+  -- they wait by ticket
+  pub ascending : AreAscending w.waiting
+  -- no ticket was given twice, and none that is to come
+  pub once : AreOnce (w.out ++ w.waiting)
+  pub given : AllByRecursion (λ e. e.0 < w.next) (w.out ++ w.waiting)
+  -- what is out and what ran has room in the log
+  pub room : in_flight w ≤ w.room
+  -- there is a slot for each message
+  pub fits : length w.waiting + length (held w) ≤ w.slots
+
+-- Nothing is in doubt, unless the device has failed.
+abbrev pub DoubtsOnlyFailed : World → Type 0
+DoubtsOnlyFailed w = w.failed ≡ false → w.doubt ≡ []
+
+-- the outcomes that tell that the device failed during the step
+abbrev pub tells_of_failure : Outcome → Bool
+tells_of_failure (outcomes.LogFault faults.Device) = true
+tells_of_failure (outcomes.PointRefused points.Device) = true
+tells_of_failure _ = false
+
+-- The device has failed: nothing arrives, goes out, is logged or comes to be in doubt, and no consistency point goes on.
+pub record IsStopped (old new : World) : Type 0 where
+  pub failed : new.failed ≡ true
+  pub waiting : new.waiting ≡ old.waiting
+  pub settled : new.settled ≡ old.settled
+  pub doubt : new.doubt ≡ old.doubt
+  pub room : new.room ≡ old.room
+  pub next : new.next ≡ old.next
+  pub left : new.left ≡ old.left
+
+-- What is out and what ran has room in the log, and each message has one of so many slots.
+abbrev pub HasRoom : ℕ → World → Type 0
+HasRoom slots w = (in_flight w ≤ w.room) × (length w.waiting + length (held w) ≤ slots)
+
+-- Nothing waits, and nothing is held.
+pub record IsIdle (w : World) : Type 0 where
+  pub none_waits : w.waiting ≡ []
+  pub none_held : held w ≡ []
+
+-- each ticket with its reply
+abbrev pub said : List Replied → List (ℕ × Reply)
+said as' = map (λ a. (a.0, a.2)) as'
+
+-- The message was logged first, and has gone.
+abbrev pub IsAnswered : World → World → Replied → Type 0
+IsAnswered old new a = old.logged ≡ a ∷ new.logged
+
+-- A run, and a run that goes on from where it ended, in one.
+pub record IsJoined (g : Geometry) (old : Hands) (events more : List Event) : Type 0 where
+  pub legal : IsLegal g old (events ++ more)
+  pub last_is : last old (events ++ more) ≡ last (last old events) more
+  pub went_is : went old (events ++ more) ≡ went old events ++ went (last old events) more
+  pub journal_is : journal old (events ++ more) ≡ journal old events ++ journal (last old events) more
+  pub arrived_is : arrived (events ++ more) ≡ arrived events ++ arrived more
+  pub answered_is : answered (events ++ more) ≡ answered events ++ answered more

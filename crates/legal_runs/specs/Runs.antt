@@ -1,0 +1,63 @@
+-- Legal runs: lists of events, each of them allowed in the world that the ones before it left.
+use Rattle.std.specs.Prelude.{ℕ, Bool, ◌||◌, List, [], ◌∷◌, ◌++◌, take, if◌then◌else◌}
+use Rattle.affinity.specs.declared.geometry.Geometry.{Geometry}
+use Rattle.message.specs.declared.Msg.{Msg}
+use Rattle.message.specs.declared.Reply.{Reply}
+use Rattle.legal_runs.specs.declared.outcomes.Step.{Step}
+use Rattle.legal_runs.specs.declared.outcomes.Step.TheVariants as steps
+use Rattle.legal_runs.specs.declared.outcomes.Outcome.{Outcome}
+use Rattle.legal_runs.specs.declared.outcomes.Outcome.TheVariants as outcomes
+use Rattle.legal_runs.specs.World.{Entry, Replied, World}
+use Rattle.legal_runs.specs.Events.{Hands, Event, IsAllowed, batch, happens}
+
+abbrev pub IsLegal : Geometry → Hands → List Event → Type 0
+IsLegal g old [] = Unit {0}
+IsLegal g old (event ∷ events) = IsAllowed g old event × IsLegal g event.world events
+
+-- the world after a run
+abbrev pub last : Hands → List Event → Hands
+last old [] = old
+last old (event ∷ events) = last event.world events
+
+-- the messages that a step logs, and those of them that it appends to the journal
+abbrev pub goes : World → Step → Bool → List Replied
+goes w (steps.Log n) rose = if rose || w.failed then [] else take n w.ran
+goes w _ rose = []
+
+abbrev pub appended : World → Step → Bool → List Msg
+appended w (steps.Log n) rose = if rose || w.failed then [] else batch w n
+appended w _ rose = []
+
+-- the message that arrives at a step, and the reply that it gives
+abbrev pub arrives : Step → Outcome → List Entry
+arrives (steps.Arrive m) (outcomes.Ticket ticket) = (ticket, m) ∷ []
+arrives _ _ = []
+
+abbrev pub answers : Outcome → List (ℕ × Reply)
+answers (outcomes.Answered ticket reply) = (ticket, reply) ∷ []
+answers _ = []
+
+-- the messages that a run logs
+abbrev pub went : Hands → List Event → List Replied
+went w [] = []
+went w (event ∷ events) = goes w.core event.step event.rose ++ went event.world events
+
+-- those that it appends to the journal
+abbrev pub journal : Hands → List Event → List Msg
+journal w [] = []
+journal w (event ∷ events) = appended w.core event.step event.rose ++ journal event.world events
+
+-- those that arrive in it
+abbrev pub arrived : List Event → List Entry
+arrived [] = []
+arrived (event ∷ events) = arrives event.step event.outcome ++ arrived events
+
+-- and the replies that it gives, with their tickets
+abbrev pub answered : List Event → List (ℕ × Reply)
+answered [] = []
+answered (event ∷ events) = answers event.outcome ++ answered events
+
+-- the outcomes of steps during which the device doesn't fail, where each cut has n pieces to write
+abbrev pub outcomes_of : Geometry → ℕ → Hands → List Step → List Outcome
+outcomes_of g n w [] = []
+outcomes_of g n w (s ∷ ss) = (happens g n w s).0 ∷ outcomes_of g n (happens g n w s).1 ss

@@ -1,0 +1,120 @@
+//! What holds of every legal run: laws of the definitions alone. No function here does anything; its
+//! contract is the law.
+
+ghost use Rattle.std.specs.Prelude.{◌≡◌, ◌++◌, ◌≤◌, ℕ, true, false, List, drop, length, take};
+ghost use Rattle.std.specs.List.{AllByRecursion, Contains};
+ghost use Rattle.affinity.specs.declared.geometry.Geometry.{Geometry};
+ghost use Rattle.message.specs.declared.Msg.{Msg};
+ghost use Rattle.message.specs.declared.Reply.{Reply};
+ghost use Rattle.plain.specs.State.{State};
+ghost use Rattle.plain.specs.Serial.{fold};
+ghost use Rattle.plain.specs.Order.{by_ticket, messages, told};
+ghost use Rattle.legal_runs.specs.World.{Entry, Replied, World, entries, entry, held, touches};
+ghost use Rattle.legal_runs.specs.Eligible.{is_clear};
+ghost use Rattle.legal_runs.specs.Events.{Event, Hands, IsAllowed, batch, loggable};
+ghost use Rattle.legal_runs.specs.Runs.{IsLegal, answered, arrived, journal, last, went};
+ghost use Rattle.legal_runs.specs.Crash.{IsLeftSince, IsLogAfter, in_doubt};
+ghost use Rattle.legal_runs.specs.Laws.{AreApart, AreAscending, DoubtsOnlyFailed, HasRoom, IsAnswered, IsIdle, IsJoined, IsSound, IsStopped};
+ghost use Rattle.legal_runs.specs.Laws.{said, tells_of_failure};
+
+/// A world in which nothing waits and nothing is held is sound, and each event leads from a sound
+/// world to a sound one.
+pub fn events_keep_worlds_sound()
+    ensures idle { (g : Geometry) (w : World) → IsIdle w → IsSound g w }
+    ensures event { (g : Geometry) (old : Hands) (event : Event) → IsAllowed g old event → IsSound g old.core
+        → IsSound g event.world.core }
+{}
+
+/// In each world of a legal run no two of the messages that are held are at related places.
+pub fn held_messages_are_unrelated()
+    ensures { (g : Geometry) (old : Hands) (events : List Event) → IsLegal g old events → IsSound g old.core
+        → AllByRecursion (λ event. AreApart g (held event.world.core)) events }
+{}
+
+/// The messages that a run logs are replied what the serial server replies to them, one after the
+/// other in log order; and they are answered so, in that order, behind those that were logged before.
+pub fn replies_are_in_log_order()
+    ensures replied { (g : Geometry) (old : Hands) (events : List Event) → IsLegal g old events → IsSound g old.core
+        → said (went old events) ≡ told g old.core.settled (entries (went old events)) }
+    ensures answered { (g : Geometry) (old : Hands) (events : List Event) → IsLegal g old events
+        → said old.core.logged ++ said (went old events) ≡ answered events ++ said (last old events).core.logged }
+{}
+
+/// The settled state is where the messages that a run logs lead, and where those of them lead that it
+/// appends to the journal.
+pub fn settled_is_what_was_logged()
+    ensures logged { (g : Geometry) (old : Hands) (events : List Event) → IsLegal g old events → IsSound g old.core
+        → (last old events).core.settled ≡ fold g old.core.settled (messages (entries (went old events))) }
+    ensures appended { (g : Geometry) (old : Hands) (events : List Event) → IsLegal g old events → IsSound g old.core
+        → (last old events).core.settled ≡ fold g old.core.settled (journal old events) }
+    ensures journal { (old : Hands) (events : List Event) → journal old events ≡ loggable (went old events) }
+{}
+
+/// A legal run goes on by every legal run from where it ended: they are one, and what they log, append,
+/// take in and answer is what the two do, one after the other.
+pub fn legal_runs_join()
+    ensures { (g : Geometry) (old : Hands) (events more : List Event) → IsLegal g old events → IsLegal g (last old events) more
+        → IsJoined g old events more }
+{}
+
+/// In each world of a legal run there is room in the log for all that is out and all that ran, and a
+/// slot for each message, of as many as there were in the beginning. So a log always has room for what
+/// it appends.
+pub fn room_and_slots_are_enough()
+    ensures run { (g : Geometry) (old : Hands) (events : List Event) → IsLegal g old events → IsSound g old.core
+        → AllByRecursion (λ event. HasRoom old.core.slots event.world.core) events }
+    ensures log { (g : Geometry) (w : World) (n : ℕ) → IsSound g w → length (batch w n) ≤ w.room }
+{}
+
+/// Where nothing waited and nothing was held in the beginning, each reply to a message that was logged or
+/// answered is the one that the serial server gives where all that arrived come by ticket. Tickets ascend,
+/// so no two have one. Where nothing waits and nothing is held in the end, the settled state is the serial
+/// server's too.
+pub fn replies_are_by_ticket()
+    ensures tickets { (g : Geometry) (old : Hands) (events : List Event) → IsLegal g old events → AreAscending (arrived events) }
+    ensures logged { (g : Geometry) (old : Hands) (events : List Event) → IsLegal g old events → IsIdle old.core
+        → (reply : ℕ × Reply) → Contains (said (went old events)) reply
+        → Contains (told g old.core.settled (by_ticket (arrived events))) reply }
+    ensures answered { (g : Geometry) (old : Hands) (events : List Event) → IsLegal g old events → IsIdle old.core
+        → (reply : ℕ × Reply) → Contains (answered events) reply
+        → Contains (told g old.core.settled (by_ticket (arrived events))) reply }
+    ensures settled { (g : Geometry) (old : Hands) (events : List Event) → IsLegal g old events → IsIdle old.core
+        → IsIdle (last old events).core
+        → (last old events).core.settled ≡ fold g old.core.settled (messages (by_ticket (arrived events))) }
+{}
+
+/// Only an answer makes a waiting message clear, and only one to a message at a place related to its own:
+/// whatever else comes, a message that waits on stays clear, or stays not clear.
+pub fn only_answers_clear()
+    ensures { (g : Geometry) (old : Hands) (event : Event) (e : Entry) → IsAllowed g old event → IsSound g old.core
+        → Contains old.core.waiting e → Contains event.world.core.waiting e
+        → ((a : Replied) → IsAnswered old.core event.world.core a → touches g e (entry a) ≡ false)
+        → is_clear g event.world.core e ≡ is_clear g old.core e }
+{}
+
+/// A step tells that the device failed exactly where it failed during the step, and then it has failed for
+/// good: messages that are out still come back, and those that are logged are answered, but nothing else comes.
+pub fn failures_are_told_and_last()
+    ensures told { (g : Geometry) (old : Hands) (event : Event) → IsAllowed g old event → event.rose ≡ tells_of_failure event.outcome }
+    ensures failed { (g : Geometry) (old : Hands) (event : Event) → IsAllowed g old event → event.rose ≡ true
+        → event.world.core.failed ≡ true }
+    ensures lasts { (g : Geometry) (old : Hands) (event : Event) → IsAllowed g old event → old.core.failed ≡ true
+        → IsStopped old.core event.world.core }
+{}
+
+/// Messages come to be in doubt only where the device fails.
+pub fn only_a_failure_leaves_doubt()
+    ensures { (g : Geometry) (old : Hands) (event : Event) → IsAllowed g old event → DoubtsOnlyFailed old.core
+        → DoubtsOnlyFailed event.world.core }
+{}
+
+/// What a crash may leave, if it comes when k events or more have ended, is where all that these appended
+/// leads, with more behind it. If it comes before the next one has ended, it is the state that was settled
+/// then, with the first so many of the messages in doubt.
+pub fn a_crash_leaves_what_was_appended()
+    ensures begins { (g : Geometry) (old : Hands) (events : List Event) (k : ℕ) (x : State) → IsLeftSince g old events k x
+        → (rest : List Msg) × (x ≡ fold g old.core.settled (journal old (take k events) ++ rest)) }
+    ensures settled { (g : Geometry) (old : Hands) (events : List Event) (k : ℕ) (ms : List Msg) → IsLegal g old events
+        → IsSound g old.core → (log : IsLogAfter old events k ms) → fold g old.core.settled ms
+        ≡ fold g (last old (take k events)).core.settled (take log.some (in_doubt (last old (take k events)).core (drop k events))) }
+{}
