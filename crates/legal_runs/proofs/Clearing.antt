@@ -16,7 +16,7 @@ use Rattle.legal_runs.proofs.Moves.{Passed, Move, Stays, Arrives, Grants, Backs,
 use Rattle.legal_runs.proofs.Told.{IsIn, in_left, in_either}
 
 module _ {A : Type 0} where
-  all_at : (P : A → Type 0) (xs : List A) (x : A) → AllByRecursion P xs → IsIn x xs → P x
+  pub all_at : (P : A → Type 0) (xs : List A) (x : A) → AllByRecursion P xs → IsIn x xs → P x
   all_at P [] x h is = absurd is
   all_at P (y ∷ ys) x h is = ⊎_elim (λ e. subst P (sym e) h.0) (λ r. all_at P ys x h.1 r) is
 

@@ -11,13 +11,13 @@ use Rattle.legal_runs.specs.Laws.{IsSound}
 use Rattle.legal_runs.proofs.Told.{fold-joined}
 use Rattle.legal_runs.proofs.Runs.{run_journal}
 
-legal_first : (g : Geometry) (old : Hands) (events : List Event) (k : ℕ) → IsLegal g old events → IsLegal g old (take k events)
+pub legal_first : (g : Geometry) (old : Hands) (events : List Event) (k : ℕ) → IsLegal g old events → IsLegal g old (take k events)
 legal_first g old events zero legal = tt
 legal_first g old [] (suc k) legal = tt
 legal_first g old (event ∷ events) (suc k) legal = (legal.0, legal_first g event.world events k legal.1)
 
 -- the first events append a beginning of what more of them append
-journal_first : (old : Hands) (events : List Event) (k after : ℕ) → k ≤ after
+pub journal_first : (old : Hands) (events : List Event) (k after : ℕ) → k ≤ after
     → (rest : List Msg) × (journal old (take after events) ≡ journal old (take k events) ++ rest)
 journal_first old events zero after le = (journal old (take after events), refl)
 journal_first old events (suc k) zero le = absurd (omega (arith, le))

@@ -19,8 +19,9 @@ use Rattle.legal_runs.specs.declared.outcomes.CoreFault.TheVariants as faults
 use Rattle.legal_runs.specs.declared.outcomes.PointRefusal.TheVariants as points
 use Rattle.legal_runs.specs.World.{World}
 use Rattle.legal_runs.specs.Events.{Hands, Empty, Event, IsAllowed, happens, fault, touches_device}
-use Rattle.legal_runs.specs.Runs.{IsLegal, outcomes_of, journal, last}
+use Rattle.legal_runs.specs.Runs.{IsLegal, IsRun, outcomes_of, journal, last, answered_changes}
 use Rattle.legal_runs.specs.Crash.{IsLeftSince, IsLogAfter, in_doubt}
+use Rattle.legal_runs.specs.Lives.{Unopened, Ran, IsLeftByLives}
 
 -- a core just opened
 abbrev opened : ℕ → State → World
@@ -281,3 +282,81 @@ none_more (suc n) = refl
 
 both_are_left : (ms : List Msg) → IsLogAfter (one_hand 1 empty) cut_run 13 ms → fold small empty ms ≡ with_file
 both_are_left ms log = ap (fold small empty) (log.is ∙ ap (λ l. (MakeVol 0 0 ∷ Create 0 0 0 ∷ []) ++ l) (none_more log.some))
+
+-- ---- runs and lives
+
+legal_where_no_device_fails : (w : Hands) (ss : List Step) → IsLegal small w (events_of w ss)
+legal_where_no_device_fails w [] = tt
+legal_where_no_device_fails w (s ∷ ss) =
+    (record { to_write = 3; at_most = lit≤ tt; does = refl }, legal_where_no_device_fails (happens small 3 w s).1 ss)
+
+a_run_of_two_messages : IsRun small (one_hand 1 empty) (after (one_hand 1 empty) (whole (MakeVol 0 0) ++ whole (Create 0 0 0)))
+    (whole (MakeVol 0 0) ++ whole (Create 0 0 0)) (done 0 ++ done 1)
+    (events_of (one_hand 1 empty) (whole (MakeVol 0 0) ++ whole (Create 0 0 0)))
+a_run_of_two_messages = record {
+  legal = legal_where_no_device_fails (one_hand 1 empty) (whole (MakeVol 0 0) ++ whole (Create 0 0 0));
+  of_steps = refl;
+  with_outcomes = refl;
+  ends = refl;
+}
+
+a_question_is_no_answered_change : answered_changes (one_hand 1 empty)
+    (events_of (one_hand 1 empty) (whole AskSummary ++ (whole (MakeVol 0 0) ++ whole (MakeVol 0 0)))) ≡ MakeVol 0 0 ∷ []
+a_question_is_no_answered_change = refl
+
+what_is_logged_is_not_answered_yet : answered_changes (one_hand 1 empty)
+    (events_of (one_hand 1 empty) (steps.Arrive (MakeVol 0 0) ∷ steps.Grant ∷ steps.Run 0 ∷ steps.Back 0 ∷ steps.Log 1 ∷ [])) ≡ []
+what_is_logged_is_not_answered_yet = refl
+
+-- a state with a volume
+abbrev with_volume : State
+with_volume = next_state small empty (MakeVol 0 0)
+
+-- A volume was made in the first life. The next two ended before anything was logged, one of them before the server was open. In
+-- the last one the crash came when a message had run, while it was logged.
+file_made_in_the_last_life : IsLeftByLives small
+    (Ran (one_hand 1 empty) (events_of (one_hand 1 empty) (whole (MakeVol 0 0))) 6 ∷ Unopened
+    ∷ Ran (one_hand 1 with_volume) [] 0
+    ∷ Ran (one_hand 1 with_volume) (events_of (one_hand 1 with_volume) (whole (Create 0 0 0))) 4 ∷ [])
+    with_file
+file_made_in_the_last_life = record {
+  logs = (MakeVol 0 0 ∷ []) ∷ [] ∷ [] ∷ (Create 0 0 0 ∷ []) ∷ [];
+  are_logs = (
+    record {
+      idle = record { none_waits = refl; none_held = refl };
+      settled = refl;
+      legal = legal_where_no_device_fails (one_hand 1 empty) (whole (MakeVol 0 0));
+      after = 6;
+      since = lit≤ tt;
+      within = lit≤ tt;
+      is_log = record { some = 0; at_most = lit≤ tt; is = refl };
+    },
+    (
+      refl,
+      (
+        record {
+          idle = record { none_waits = refl; none_held = refl };
+          settled = refl;
+          legal = tt;
+          after = 0;
+          since = lit≤ tt;
+          within = lit≤ tt;
+          is_log = record { some = 0; at_most = lit≤ tt; is = refl };
+        },
+        (
+          record {
+            idle = record { none_waits = refl; none_held = refl };
+            settled = refl;
+            legal = legal_where_no_device_fails (one_hand 1 with_volume) (whole (Create 0 0 0));
+            after = 4;
+            since = lit≤ tt;
+            within = lit≤ tt;
+            is_log = record { some = 1; at_most = lit≤ tt; is = refl };
+          },
+          tt,
+        ),
+      ),
+    ),
+  );
+  state = refl;
+}

@@ -13,5 +13,8 @@ pub mod Elements
 pub mod Crashes
 pub mod Clearing
 pub mod Failures
+pub mod Answering
+pub mod Outs
+pub mod Living
 -- ---- this crate's own
 mod Examples

@@ -4,3 +4,4 @@ pub mod Events
 pub mod Runs
 pub mod Crash
 pub mod Laws
+pub mod Lives

@@ -1,5 +1,5 @@
 -- Legal runs: lists of events, each of them allowed in the world that the ones before it left.
-use Rattle.std.specs.Prelude.{ℕ, Bool, ◌||◌, List, [], ◌∷◌, ◌++◌, take, if◌then◌else◌}
+use Rattle.std.specs.Prelude.{◌≡◌, ℕ, Bool, ◌||◌, List, [], ◌∷◌, ◌++◌, map, take, if◌then◌else◌}
 use Rattle.affinity.specs.declared.geometry.Geometry.{Geometry}
 use Rattle.message.specs.declared.Msg.{Msg}
 use Rattle.message.specs.declared.Reply.{Reply}
@@ -8,7 +8,7 @@ use Rattle.legal_runs.specs.declared.outcomes.Step.TheVariants as steps
 use Rattle.legal_runs.specs.declared.outcomes.Outcome.{Outcome}
 use Rattle.legal_runs.specs.declared.outcomes.Outcome.TheVariants as outcomes
 use Rattle.legal_runs.specs.World.{Entry, Replied, World}
-use Rattle.legal_runs.specs.Events.{Hands, Event, IsAllowed, batch, happens}
+use Rattle.legal_runs.specs.Events.{Hands, Event, IsAllowed, batch, happens, loggable}
 
 abbrev pub IsLegal : Geometry → Hands → List Event → Type 0
 IsLegal g old [] = Unit {0}
@@ -56,6 +56,25 @@ arrived (event ∷ events) = arrives event.step event.outcome ++ arrived events
 abbrev pub answered : List Event → List (ℕ × Reply)
 answered [] = []
 answered (event ∷ events) = answers event.outcome ++ answered events
+
+-- the message that an outcome answers, which was logged first; those that a run answers, and the changes among them
+abbrev pub answered_at : World → Outcome → List Replied
+answered_at w (outcomes.Answered ticket reply) = take 1 w.logged
+answered_at w _ = []
+
+abbrev pub answered_messages : Hands → List Event → List Replied
+answered_messages w [] = []
+answered_messages w (event ∷ events) = answered_at w.core event.outcome ++ answered_messages event.world events
+
+abbrev pub answered_changes : Hands → List Event → List Msg
+answered_changes w events = loggable (answered_messages w events)
+
+-- A run of steps: each had its outcome in an event of its own, and the last one left this world.
+pub record IsRun (g : Geometry) (old new : Hands) (asked : List Step) (came : List Outcome) (events : List Event) : Type 0 where
+  pub legal : IsLegal g old events
+  pub of_steps : map (λ e. e.step) events ≡ asked
+  pub with_outcomes : map (λ e. e.outcome) events ≡ came
+  pub ends : last old events ≡ new
 
 -- the outcomes of steps during which the device doesn't fail, where each cut has n pieces to write
 abbrev pub outcomes_of : Geometry → ℕ → Hands → List Step → List Outcome

@@ -1,19 +1,23 @@
 //! What holds of every legal run: laws of the definitions alone. No function here does anything; its
 //! contract is the law.
 
-ghost use Rattle.std.specs.Prelude.{◌≡◌, ◌++◌, ◌≤◌, ℕ, true, false, List, drop, length, take};
+ghost use Rattle.std.specs.Prelude.{◌≡◌, ◌++◌, ◌≤◌, ℕ, true, false, List, [], ◌∷◌, drop, length, take};
 ghost use Rattle.std.specs.List.{AllByRecursion, Contains};
 ghost use Rattle.affinity.specs.declared.geometry.Geometry.{Geometry};
+ghost use Rattle.affinity.specs.Path.{are_related};
 ghost use Rattle.message.specs.declared.Msg.{Msg};
 ghost use Rattle.message.specs.declared.Reply.{Reply};
-ghost use Rattle.plain.specs.State.{State};
+ghost use Rattle.message.specs.Messages.{place};
+ghost use Rattle.plain.specs.State.{State, empty};
 ghost use Rattle.plain.specs.Serial.{fold};
 ghost use Rattle.plain.specs.Order.{by_ticket, messages, told};
+ghost use Rattle.plain.specs.Shares.{AgreeOn};
 ghost use Rattle.legal_runs.specs.World.{Entry, Replied, World, entries, entry, held, touches};
 ghost use Rattle.legal_runs.specs.Eligible.{is_clear};
 ghost use Rattle.legal_runs.specs.Events.{Event, Hands, IsAllowed, batch, loggable};
-ghost use Rattle.legal_runs.specs.Runs.{IsLegal, answered, arrived, journal, last, went};
+ghost use Rattle.legal_runs.specs.Runs.{IsLegal, answered, answered_changes, answered_messages, arrived, journal, last, went};
 ghost use Rattle.legal_runs.specs.Crash.{IsLeftSince, IsLogAfter, in_doubt};
+ghost use Rattle.legal_runs.specs.Lives.{AreLogsOf, HoldAnswered, IsLeftByLives, IsLogOf, Life, Ran};
 ghost use Rattle.legal_runs.specs.Laws.{AreApart, AreAscending, DoubtsOnlyFailed, HasRoom, IsAnswered, IsIdle, IsJoined, IsSound, IsStopped};
 ghost use Rattle.legal_runs.specs.Laws.{said, tells_of_failure};
 
@@ -117,4 +121,36 @@ pub fn a_crash_leaves_what_was_appended()
     ensures settled { (g : Geometry) (old : Hands) (events : List Event) (k : ℕ) (ms : List Msg) → IsLegal g old events
         → IsSound g old.core → (log : IsLogAfter old events k ms) → fold g old.core.settled ms
         ≡ fold g (last old (take k events)).core.settled (take log.some (in_doubt (last old (take k events)).core (drop k events))) }
+{}
+
+/// What a run answers is a beginning of what was logged before and in it, in log order. So whatever a crash leaves, if it comes
+/// later, the log begins with every change that was answered.
+pub fn answered_changes_are_in_the_log()
+    ensures told { (g : Geometry) (old : Hands) (events : List Event) → IsLegal g old events
+        → said (answered_messages old events) ≡ answered events }
+    ensures in_order { (g : Geometry) (old : Hands) (events : List Event) → IsLegal g old events
+        → old.core.logged ++ went old events ≡ answered_messages old events ++ (last old events).core.logged }
+    ensures crash { (g : Geometry) (old : Hands) (events : List Event) (k after : ℕ) (ms : List Msg) → IsLegal g old events
+        → k ≤ after → IsLogAfter old events after ms
+        → (rest : List Msg) × (loggable old.core.logged ++ ms ≡ answered_changes old (take k events) ++ rest) }
+{}
+
+/// Whatever comes, what a message that is out can read of the settled state stays as it is: what is at its place, below it and
+/// above it.
+pub fn what_is_out_sees_no_change()
+    ensures { (g : Geometry) (old : Hands) (event : Event) (e : Entry) → IsAllowed g old event → IsSound g old.core
+        → Contains old.core.out e → AgreeOn g (are_related (place g e.1)) event.world.core.settled old.core.settled }
+{}
+
+/// A further life goes on from each state that the lives before it may have left. In whatever they leave, the log of each life
+/// begins with every change that was answered in it.
+pub fn lives_follow_one_another()
+    ensures first { (g : Geometry) → IsLeftByLives g [] empty }
+    ensures next { (g : Geometry) (lives : List Life) (life : Life) (x : State) (log : List Msg) → IsLeftByLives g lives x
+        → IsLogOf g x life log → IsLeftByLives g (lives ++ life ∷ []) (fold g x log) }
+    ensures run { (g : Geometry) (start : Hands) (events : List Event) (ended : ℕ) (x : State) → IsIdle start.core
+        → IsLegal g start events → IsLeftSince g start events ended x
+        → (log : List Msg) × IsLogOf g start.core.settled (Ran start events ended) log × (x ≡ fold g start.core.settled log) }
+    ensures answered { (g : Geometry) (x : State) (lives : List Life) (logs : List (List Msg)) → AreLogsOf g x lives logs
+        → HoldAnswered lives logs }
 {}

@@ -1,0 +1,125 @@
+-- What a run answers is a beginning of what was logged, before and in it.
+use Rattle.std.proofs.Common.{◌≡◌, ℕ, ◌≤◌, List, [], ◌∷◌, ◌++◌, refl, ap, sym, ◌∙◌, append_assoc, take, drop}
+use Rattle.std.specs.Prelude.{map, filter}
+use Rattle.std.proofs.lemmas.List.{append-nil, map-append}
+use Rattle.std.proofs.lemmas.List.Elements.{filter-append}
+use Rattle.affinity.specs.declared.geometry.Geometry.{Geometry}
+use Rattle.message.specs.declared.Msg.{Msg}
+use Rattle.message.specs.declared.Reply.{Reply}
+use Rattle.plain.specs.Serial.{is_loggable}
+use Rattle.legal_runs.specs.declared.outcomes.Outcome.{Outcome}
+use Rattle.legal_runs.specs.declared.outcomes.Outcome.TheVariants as outcomes
+use Rattle.legal_runs.specs.World.{Replied, World}
+use Rattle.legal_runs.specs.Events.{Hands, Event, loggable}
+use Rattle.legal_runs.specs.Runs.{IsLegal, last, goes, went, journal, answers, answered, answered_at, answered_messages, answered_changes}
+use Rattle.legal_runs.specs.Crash.{IsLogAfter, in_doubt}
+use Rattle.legal_runs.specs.Laws.{said}
+use Rattle.legal_runs.proofs.Moves.{Passed, Move, Stays, Arrives, Grants, Backs, Logs, Answers, moves}
+use Rattle.legal_runs.proofs.Told.{said-append}
+use Rattle.legal_runs.proofs.Runs.{journal_is_loggable}
+use Rattle.legal_runs.proofs.Crashes.{legal_first, journal_first}
+
+pub loggable-append : (as' bs : List Replied) → loggable (as' ++ bs) ≡ loggable as' ++ loggable bs
+loggable-append as' bs = ap (map (λ (a : Replied). a.1)) (filter-append (λ (a : Replied). is_loggable a.1 a.2) as' bs)
+    ∙ map-append (λ (a : Replied). a.1) (filter (λ (a : Replied). is_loggable a.1 a.2) as') (filter
+    (λ (a : Replied). is_loggable a.1 a.2) bs)
+
+-- ---- one event
+
+module _ (w : World) where
+  none_answered : (o : Outcome) → answers o ≡ [] → answered_at w o ≡ []
+  none_answered (outcomes.Answered ticket reply) e = cc
+  none_answered _ e = refl
+
+  one_answered : (o : Outcome) (reply : ℕ × Reply) → answers o ≡ reply ∷ [] → answered_at w o ≡ take 1 w.logged
+  one_answered (outcomes.Answered ticket reply) x e = refl
+  one_answered _ x e = cc
+
+-- Where nothing is answered, none of the outcome's messages is.
+record Silent (old : World) (o : Outcome) : Type 0 where
+  pub none : answered_at old o ≡ []
+  pub same : said (answered_at old o) ≡ answers o
+
+silent : (old : World) (o : Outcome) → answers o ≡ [] → Silent old o
+silent old o e = record { none = none_answered old o e; same = ap said (none_answered old o e) ∙ sym e }
+
+-- What an event answers stands before what is logged then.
+pub record Ordered (old new : World) (p : Passed) (o : Outcome) : Type 0 where
+  pub order : old.logged ++ p.gone ≡ answered_at old o ++ new.logged
+  pub same : said (answered_at old o) ≡ answers o
+
+quiet : (old new : World) (p : Passed) (o : Outcome) → answers o ≡ p.told → p.gone ≡ [] → p.told ≡ [] → new.logged ≡ old.logged
+    → Ordered old new p o
+quiet old new p o told none quietly still =
+    let k = silent old o (told ∙ quietly) in
+    record {
+      order = ap (λ l. old.logged ++ l) none ∙ append-nil old.logged ∙ sym still ∙ ap (λ l. l ++ new.logged) (sym k.none);
+      same = k.same;
+    }
+
+pub move_ordered : (g : Geometry) (old new : World) (p : Passed) (o : Outcome) → answers o ≡ p.told → Move g old new p
+    → Ordered old new p o
+move_ordered g old new p o told (Stays s e) = quiet old new p o told (ap (λ p. p.gone) e) (ap (λ p. p.told) e) s.logged
+move_ordered g old new p o told (Arrives m fits is e) = quiet old new p o told (ap (λ p. p.gone) e) (ap (λ p. p.told) e)
+    (ap (λ w. w.logged) is)
+move_ordered g old new p o told (Grants found first is e) = quiet old new p o told (ap (λ p. p.gone) e) (ap (λ p. p.told) e)
+    (ap (λ w. w.logged) is)
+move_ordered g old new p o told (Backs ticket found one_out is e) = quiet old new p o told (ap (λ p. p.gone) e) (ap (λ p. p.told) e)
+    (ap (λ w. w.logged) is)
+move_ordered g old new p o told (Logs n is e) =
+    let k = silent old o (told ∙ ap (λ p. p.told) e) in
+    record {
+      order = ap (λ p. old.logged ++ p.gone) e ∙ sym (ap (λ w. w.logged) is) ∙ ap (λ l. l ++ new.logged) (sym k.none);
+      same = k.same;
+    }
+move_ordered g old new p o told (Answers a rest front is e) =
+    let one : answered_at old o ≡ a ∷ [] = one_answered old o (a.0, a.2) (told ∙ ap (λ p. p.told) e) ∙ ap (take 1) front in
+    record {
+      order = ap (λ p. old.logged ++ p.gone) e ∙ append-nil old.logged ∙ front ∙ ap (λ w. a ∷ w.logged) (sym is)
+          ∙ ap (λ l. l ++ new.logged) (sym one);
+      same = ap said one ∙ sym (told ∙ ap (λ p. p.told) e);
+    }
+
+-- ---- a run
+
+pub run_in_order : (g : Geometry) (old : Hands) (events : List Event) → IsLegal g old events
+    → old.core.logged ++ went old events ≡ answered_messages old events ++ (last old events).core.logged
+run_in_order g old [] legal = append-nil old.core.logged
+run_in_order g old (event ∷ events) legal =
+    let gone = goes old.core event.step event.rose in
+    let later = went event.world events in
+    let now = answered_at old.core event.outcome in
+    sym (append_assoc old.core.logged gone later)
+    ∙ ap (λ l. l ++ later) (move_ordered g old.core event.world.core _ event.outcome refl (moves g old event legal.0)).order
+    ∙ append_assoc now event.world.core.logged later
+    ∙ ap (λ l. now ++ l) (run_in_order g event.world events legal.1)
+    ∙ sym (append_assoc now (answered_messages event.world events) (last event.world events).core.logged)
+
+pub run_told : (g : Geometry) (old : Hands) (events : List Event) → IsLegal g old events
+    → said (answered_messages old events) ≡ answered events
+run_told g old [] legal = refl
+run_told g old (event ∷ events) legal =
+    let k = move_ordered g old.core event.world.core _ event.outcome refl (moves g old event legal.0) in
+    said-append (answered_at old.core event.outcome) (answered_messages event.world events)
+    ∙ (λ i. k.same i ++ run_told g event.world events legal.1 i)
+
+-- Whatever is left later begins with the changes that were answered.
+pub answered_left : (g : Geometry) (old : Hands) (events : List Event) (k after : ℕ) (ms : List Msg) → IsLegal g old events
+    → k ≤ after → IsLogAfter old events after ms
+    → (rest : List Msg) × (loggable old.core.logged ++ ms ≡ answered_changes old (take k events) ++ rest)
+answered_left g old events k after ms legal le log =
+    let j = journal_first old events k after le in
+    let first = take k events in
+    let begun = loggable old.core.logged in
+    let more = j.0 ++ take log.some (in_doubt (last old (take after events)).core (drop after events)) in
+    let still = loggable (last old first).core.logged in
+    let answers_first : begun ++ journal old first ≡ answered_changes old first ++ still =
+    ap (λ l. begun ++ l) (journal_is_loggable old first) ∙ sym (loggable-append old.core.logged (went old first))
+    ∙ ap loggable (run_in_order g old first (legal_first g old events k legal))
+    ∙ loggable-append (answered_messages old first) (last old first).core.logged in (
+      still ++ more,
+      ap (λ l. begun ++ l) (log.is ∙ ap (λ l. l ++ take log.some (in_doubt (last old (take after events)).core (drop after events))) j.1
+          ∙ append_assoc (journal old first) j.0 _)
+          ∙ sym (append_assoc begun (journal old first) more) ∙ ap (λ l. l ++ more) answers_first
+          ∙ append_assoc (answered_changes old first) still more,
+    )

@@ -1,0 +1,78 @@
+-- What is out sees the same in the settled state, whatever comes.
+use Rattle.std.proofs.Common.{◌≡◌, ℕ, true, false, List, [], ◌∷◌, ◌++◌, ap, sym, ◌∙◌, subst, take, drop}
+use Rattle.std.specs.Prelude.{map, filter, cond}
+use Rattle.std.specs.List.{AllByRecursion}
+use Rattle.std.proofs.lemmas.List.{take-append-drop}
+use Rattle.affinity.specs.declared.geometry.Geometry.{Geometry}
+use Rattle.affinity.specs.Path.{are_related}
+use Rattle.message.specs.declared.Msg.{Msg}
+use Rattle.message.specs.Messages.{place}
+use Rattle.plain.specs.Serial.{fold, is_loggable, next_state}
+use Rattle.plain.specs.Shares.{AgreeOn}
+use Rattle.plain.specs.State.{State}
+use Rattle.plain.proofs.Agree.{agree-refl, agree-trans}
+use Rattle.plain.proofs.Frame.{left_alone}
+use Rattle.legal_runs.specs.World.{Entry, Replied, World, entry, entries, touches}
+use Rattle.legal_runs.specs.Events.{Hands, Event, IsAllowed, batch, loggable}
+use Rattle.legal_runs.specs.Laws.{EachBefore, IsSound}
+use Rattle.legal_runs.proofs.Apart.{apart_turned, entries-append}
+use Rattle.legal_runs.proofs.Clearing.{all_at}
+use Rattle.legal_runs.proofs.Lists.{all_back, all_front, before_back}
+use Rattle.legal_runs.proofs.Moves.{Passed, Move, Stays, Arrives, Grants, Backs, Logs, Answers, moves}
+use Rattle.legal_runs.proofs.Told.{IsIn}
+
+-- those before one of a row stand to it
+before_in : {A : Type 0} (R : A → A → Type 0) (xs ys : List A) (y : A) → EachBefore R (xs ++ ys) → IsIn y ys
+    → AllByRecursion (λ x. R x y) xs
+before_in R [] ys y h is = tt
+before_in R (x ∷ xs) ys y h is = (all_at (R x) ys y (all_back (R x) xs ys h.0) is, before_in R xs ys y h.1 is)
+
+module _ (g : Geometry) where
+  -- messages at other places leave what a message can read
+  fold_leaves : (x : State) (m : Msg) (ms : List Msg) → AllByRecursion (λ n. are_related (place g m) (place g n) ≡ false) ms
+      → AgreeOn g (are_related (place g m)) (fold g x ms) x
+  fold_leaves x m [] apart = agree-refl x
+  fold_leaves x m (n ∷ ms) apart = agree-trans (fold_leaves (next_state g x n) m ms apart.1) (left_alone g x m n apart.0)
+
+  module _ (e : Entry) where
+    abbrev Elsewhere : Msg → Type 0
+    Elsewhere n = are_related (place g e.1) (place g n) ≡ false
+
+    logged_elsewhere : (as' : List Replied) → AllByRecursion (λ d. touches g d e ≡ false) (entries as')
+        → AllByRecursion Elsewhere (loggable as')
+    logged_elsewhere [] apart = tt
+    logged_elsewhere (a ∷ as') apart =
+        let k = logged_elsewhere as' apart.1 in
+        elim (is_loggable a.1 a.2) as (λ b. AllByRecursion Elsewhere (map (λ (a : Replied). a.1)
+        (cond b (a ∷ filter (λ a. is_loggable a.1 a.2) as') (filter (λ a. is_loggable a.1 a.2) as')))) [
+          | true ↦ (apart_turned g (entry a) e apart.0, k)
+          | false ↦ k
+        ]
+
+    batch_elsewhere : (w : World) (n : ℕ) → IsSound g w → IsIn e w.out → AllByRecursion Elsewhere (batch w n)
+    batch_elsewhere w n sound is =
+        let R : Entry → Entry → Type 0 = λ c d. touches g c d ≡ false in
+        let ran = before_in R (entries w.ran) w.out e (before_back R (entries w.logged) _ sound.apart) is in
+        let split = ap entries (sym (take-append-drop n w.ran)) ∙ entries-append (take n w.ran) (drop n w.ran) in
+        logged_elsewhere (take n w.ran)
+        (all_front (λ d. touches g d e ≡ false) (entries (take n w.ran)) (entries (drop n w.ran))
+        (subst (AllByRecursion (λ d. touches g d e ≡ false)) split ran))
+
+    abbrev SeesSame : World → World → Type 0
+    SeesSame old new = AgreeOn g (are_related (place g e.1)) new.settled old.settled
+
+    same_settled : (old new : World) → new.settled ≡ old.settled → SeesSame old new
+    same_settled old new same = subst (λ x. AgreeOn g (are_related (place g e.1)) x old.settled) (sym same) (agree-refl old.settled)
+
+    move_sees : (old new : World) (p : Passed) → Move g old new p → IsSound g old → IsIn e old.out → SeesSame old new
+    move_sees old new p (Stays s k) sound is = same_settled old new s.settled
+    move_sees old new p (Arrives m fits moved k) sound is = same_settled old new (ap (λ w. w.settled) moved)
+    move_sees old new p (Grants found first moved k) sound is = same_settled old new (ap (λ w. w.settled) moved)
+    move_sees old new p (Backs ticket found one_out moved k) sound is = same_settled old new (ap (λ w. w.settled) moved)
+    move_sees old new p (Logs n moved k) sound is =
+        subst (λ (w : World). SeesSame old w) (sym moved) (fold_leaves old.settled e.1 (batch old n) (batch_elsewhere old n sound is))
+    move_sees old new p (Answers a rest front moved k) sound is = same_settled old new (ap (λ w. w.settled) moved)
+
+  pub event_sees : (old : Hands) (event : Event) (e : Entry) → IsAllowed g old event → IsSound g old.core → IsIn e old.core.out
+      → AgreeOn g (are_related (place g e.1)) event.world.core.settled old.core.settled
+  event_sees old event e allowed sound is = move_sees e old.core event.world.core _ (moves g old event allowed) sound is
