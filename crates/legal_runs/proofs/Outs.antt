@@ -1,20 +1,25 @@
--- What is out sees the same in the settled state, whatever comes.
-use Rattle.std.proofs.Common.{◌≡◌, ℕ, true, false, List, [], ◌∷◌, ◌++◌, ap, sym, ◌∙◌, subst, take, drop}
-use Rattle.std.specs.Prelude.{map, filter, cond}
+-- What is out sees the same in the settled state, whatever comes; and which steps leave what is out as it is.
+use Rattle.std.proofs.Common.{◌≡◌, ℕ, ◌+◌, ◌-◌, ◌^◌, Bool, true, false, List, [], ◌∷◌, ◌++◌, Option, Some, None, refl, ap, sym, ◌∙◌, subst, take, drop, length}
+use Rattle.std.specs.Prelude.{map, filter, cond, not, ◌==◌, nat_le, if◌then◌else◌, slice_get, MatchBool}
+use Rattle.std.proofs.lemmas.Bool.{true≢false}
 use Rattle.std.specs.List.{AllByRecursion}
 use Rattle.std.proofs.lemmas.List.{take-append-drop}
 use Rattle.affinity.specs.declared.geometry.Geometry.{Geometry}
 use Rattle.affinity.specs.Path.{are_related}
 use Rattle.message.specs.declared.Msg.{Msg}
-use Rattle.message.specs.Messages.{place}
+use Rattle.message.specs.Messages.{place, is_in_range}
 use Rattle.plain.specs.Serial.{fold, is_loggable, next_state}
 use Rattle.plain.specs.Shares.{AgreeOn}
 use Rattle.plain.specs.State.{State}
 use Rattle.plain.proofs.Agree.{agree-refl, agree-trans}
 use Rattle.plain.proofs.Frame.{left_alone}
-use Rattle.legal_runs.specs.World.{Entry, Replied, World, entry, entries, touches}
-use Rattle.legal_runs.specs.Events.{Hands, Event, IsAllowed, batch, loggable}
-use Rattle.legal_runs.specs.Laws.{EachBefore, IsSound}
+use Rattle.legal_runs.specs.declared.outcomes.Outcome.{Outcome}
+use Rattle.legal_runs.specs.declared.outcomes.PointRefusal.{PointRefusal}
+use Rattle.legal_runs.specs.declared.outcomes.Step.{Step}
+use Rattle.legal_runs.specs.declared.outcomes.Step.TheVariants as steps
+use Rattle.legal_runs.specs.World.{Entry, Replied, World, entry, entries, held, touches}
+use Rattle.legal_runs.specs.Events.{Hand, Hands, Empty, Job, Result, Event, IsAllowed, IsCarriedOut, IsFault, answer, arrive, batch, fault, flip_refusal, happens, loggable, piece_refusal, point_refusal, run_hand, unless_refused}
+use Rattle.legal_runs.specs.Laws.{EachBefore, IsSound, moves_what_is_out}
 use Rattle.legal_runs.proofs.Apart.{apart_turned, entries-append}
 use Rattle.legal_runs.proofs.Clearing.{all_at}
 use Rattle.legal_runs.proofs.Lists.{all_back, all_front, before_back}
@@ -22,7 +27,7 @@ use Rattle.legal_runs.proofs.Moves.{Passed, Move, Stays, Arrives, Grants, Backs,
 use Rattle.legal_runs.proofs.Told.{IsIn}
 
 -- those before one of a row stand to it
-before_in : {A : Type 0} (R : A → A → Type 0) (xs ys : List A) (y : A) → EachBefore R (xs ++ ys) → IsIn y ys
+pub before_in : {A : Type 0} (R : A → A → Type 0) (xs ys : List A) (y : A) → EachBefore R (xs ++ ys) → IsIn y ys
     → AllByRecursion (λ x. R x y) xs
 before_in R [] ys y h is = tt
 before_in R (x ∷ xs) ys y h is = (all_at (R x) ys y (all_back (R x) xs ys h.0) is, before_in R xs ys y h.1 is)
@@ -76,3 +81,62 @@ module _ (g : Geometry) where
   pub event_sees : (old : Hands) (event : Event) (e : Entry) → IsAllowed g old event → IsSound g old.core → IsIn e old.core.out
       → AgreeOn g (are_related (place g e.1)) event.world.core.settled old.core.settled
   event_sees old event e allowed sound is = move_sees e old.core event.world.core _ (moves g old event allowed) sound is
+
+-- ---- steps that neither let a message out nor take one back
+
+either : {A : Type 0} (P : A → Type 0) (b : Bool) (x y : A) → P x → P y → P (if b then x else y)
+either P true x y h j = h
+either P false x y h j = j
+
+module _ (w : World) where
+  abbrev KeepsOut : Outcome × World → Type 0
+  KeepsOut x = x.1.out ≡ w.out
+
+  refused_keeps_out : (why : Option PointRefusal) (made : Outcome × World) → KeepsOut made → KeepsOut (unless_refused w why made)
+  refused_keeps_out None made h = h
+  refused_keeps_out (Some why) made h = refl
+
+  arrive_keeps_out : (g : Geometry) (m : Msg) → KeepsOut (arrive g w m)
+  arrive_keeps_out g m =
+      either KeepsOut w.failed _ _ refl
+      (either KeepsOut (not (is_in_range g m)) _ _ refl
+      (either KeepsOut (w.next == 2 ^ 64 - 1) _ _ refl
+      (either KeepsOut (nat_le w.slots (length w.waiting + length (held w))) _ _ refl refl)))
+
+  answer_keeps_out : (as' : List Replied) → KeepsOut (answer w as')
+  answer_keeps_out [] = refl
+  answer_keeps_out (a ∷ as') = refl
+
+module _ (g : Geometry) (n : ℕ) (w : Hands) where
+  abbrev KeepsIn : Outcome × Hands → Type 0
+  KeepsIn x = x.1.core.out ≡ w.core.out
+
+  run_keeps_out : (i : ℕ) (hand : Option Hand) → KeepsIn (run_hand w i hand)
+  run_keeps_out i None = refl
+  run_keeps_out i (Some Empty) = refl
+  run_keeps_out i (Some (Job ticket)) = refl
+  run_keeps_out i (Some (Result ticket)) = refl
+
+  happens_keeps_out : (s : Step) → moves_what_is_out s ≡ false → KeepsIn (happens g n w s)
+  happens_keeps_out (steps.Arrive m) e = arrive_keeps_out w.core g m
+  happens_keeps_out steps.Grant e = absurd (true≢false e)
+  happens_keeps_out (steps.Run i) e = run_keeps_out i (slice_get w.hands i)
+  happens_keeps_out (steps.Back i) e = absurd (true≢false e)
+  happens_keeps_out (steps.Log k) e = either (KeepsOut w.core) w.core.failed _ _ refl refl
+  happens_keeps_out steps.Answer e = answer_keeps_out w.core w.core.logged
+  happens_keeps_out steps.Point e = refused_keeps_out w.core (point_refusal w.core) _ refl
+  happens_keeps_out steps.Cut e = refused_keeps_out w.core (point_refusal w.core) _ refl
+  happens_keeps_out steps.Piece e = refused_keeps_out w.core (piece_refusal w.core) _ refl
+  happens_keeps_out steps.Flip e = refused_keeps_out w.core (flip_refusal w.core) _ refl
+
+fault_keeps_out : (w : World) (s : Step) → (fault w s).1.out ≡ w.out
+fault_keeps_out w (steps.Log k) = refl
+fault_keeps_out w _ = refl
+
+pub event_keeps_out : (g : Geometry) (old : Hands) (event : Event) → IsAllowed g old event → moves_what_is_out event.step ≡ false
+    → event.world.core.out ≡ old.core.out
+event_keeps_out g old event allowed still = by event.rose allowed
+  where
+    by : (b : Bool) → MatchBool b (IsFault old event) (IsCarriedOut g old event) → event.world.core.out ≡ old.core.out
+    by true f = ap (λ (x : Outcome × World). x.1.out) (sym f.core) ∙ fault_keeps_out old.core event.step
+    by false d = ap (λ (x : Outcome × Hands). x.1.core.out) (sym d.does) ∙ happens_keeps_out g d.to_write old event.step still

@@ -5,6 +5,8 @@ use Rattle.affinity.specs.declared.geometry.Geometry.{Geometry}
 use Rattle.message.specs.declared.Reply.{Reply}
 use Rattle.plain.specs.State.{State}
 use Rattle.plain.specs.Serial.{reply_to}
+use Rattle.legal_runs.specs.declared.outcomes.Step.{Step}
+use Rattle.legal_runs.specs.declared.outcomes.Step.TheVariants as steps
 use Rattle.legal_runs.specs.declared.outcomes.Outcome.{Outcome}
 use Rattle.legal_runs.specs.declared.outcomes.Outcome.TheVariants as outcomes
 use Rattle.legal_runs.specs.declared.outcomes.CoreFault.TheVariants as faults
@@ -50,6 +52,12 @@ pub record IsSound (g : Geometry) (w : World) : Type 0 where
   pub room : in_flight w ≤ w.room
   -- there is a slot for each message
   pub fits : length w.waiting + length (held w) ≤ w.slots
+
+-- the steps that may let a message out or take one back
+abbrev pub moves_what_is_out : Step → Bool
+moves_what_is_out steps.Grant = true
+moves_what_is_out (steps.Back i) = true
+moves_what_is_out _ = false
 
 -- Nothing is in doubt, unless the device has failed.
 abbrev pub DoubtsOnlyFailed : World → Type 0

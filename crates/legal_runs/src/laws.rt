@@ -19,7 +19,7 @@ ghost use Rattle.legal_runs.specs.Runs.{IsLegal, answered, answered_changes, ans
 ghost use Rattle.legal_runs.specs.Crash.{IsLeftSince, IsLogAfter, in_doubt};
 ghost use Rattle.legal_runs.specs.Lives.{AreLogsOf, HoldAnswered, IsLeftByLives, IsLogOf, Life, Ran};
 ghost use Rattle.legal_runs.specs.Laws.{AreApart, AreAscending, DoubtsOnlyFailed, HasRoom, IsAnswered, IsIdle, IsJoined, IsSound, IsStopped};
-ghost use Rattle.legal_runs.specs.Laws.{said, tells_of_failure};
+ghost use Rattle.legal_runs.specs.Laws.{moves_what_is_out, said, tells_of_failure};
 
 /// A world in which nothing waits and nothing is held is sound, and each event leads from a sound
 /// world to a sound one.
@@ -140,6 +140,12 @@ pub fn answered_changes_are_in_the_log()
 pub fn what_is_out_sees_no_change()
     ensures { (g : Geometry) (old : Hands) (event : Event) (e : Entry) → IsAllowed g old event → IsSound g old.core
         → Contains old.core.out e → AgreeOn g (are_related (place g e.1)) event.world.core.settled old.core.settled }
+{}
+
+/// Only a grant lets a message out, and only a return takes one back.
+pub fn only_grants_and_returns_change_what_is_out()
+    ensures { (g : Geometry) (old : Hands) (event : Event) → IsAllowed g old event → moves_what_is_out event.step ≡ false
+        → event.world.core.out ≡ old.core.out }
 {}
 
 /// A further life goes on from each state that the lives before it may have left. In whatever they leave, the log of each life
