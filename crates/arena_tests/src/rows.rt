@@ -1,116 +1,121 @@
 //! An arena at work, slot by slot.
 
 use crate::calls::Call::{Counts, Front, Get, Lend, MoveTo, Next, Put, Restore, Take, Write};
-use crate::calls::{checks, made};
+use crate::calls::{Call, checks, made};
 use std::test::Fail;
 
 fn sent<T: Send>(value: T) -> T {
     value
 }
 
+const THREE_SLOTS: [Call; 18] = [
+    Counts(3, 3),
+    Put('a', Ok(0)),
+    Put('b', Ok(1)),
+    MoveTo(0, 1, true),
+    MoveTo(1, 1, true),
+    Put('c', Ok(2)),
+    Put('d', Err('d')),
+    Front(1, Some(0)),
+    Next(0, Some(1)),
+    Lend(0, Some('a')),
+    Front(1, Some(1)),
+    Take(1, Some('b')),
+    Front(1, None),
+    Put('e', Ok(1)),
+    Put('f', Err('f')),
+    Restore(0, 'a', Ok(())),
+    Get(0, Some('a')),
+    Counts(0, 3),
+];
+
 #[test]
 fn three_slots_and_two_chains(rt: HostRuntime) -> Result<(), Fail> {
-    let calls = [
-        Counts(3, 3),
-        Put('a', Ok(0)),
-        Put('b', Ok(1)),
-        MoveTo(0, 1, true),
-        MoveTo(1, 1, true),
-        Put('c', Ok(2)),
-        Put('d', Err('d')),
-        Front(1, Some(0)),
-        Next(0, Some(1)),
-        Lend(0, Some('a')),
-        Front(1, Some(1)),
-        Take(1, Some('b')),
-        Front(1, None),
-        Put('e', Ok(1)),
-        Put('f', Err('f')),
-        Restore(0, 'a', Ok(())),
-        Get(0, Some('a')),
-        Counts(0, 3),
-    ];
-    checks(&rt, &mut made(rt.alloc(), 3, 2)?, &calls);
+    checks(&rt, &mut made(rt.alloc(), 3, 2)?, &THREE_SLOTS);
     Ok(())
 }
+
+const NO_SLOT: [Call; 5] = [
+    Put('a', Err('a')),
+    Put('b', Err('b')),
+    Get(0, None),
+    Front(0, None),
+    Counts(0, 0),
+];
 
 #[test]
 fn no_slot_holds_nothing(rt: HostRuntime) -> Result<(), Fail> {
-    let calls = [
-        Put('a', Err('a')),
-        Put('b', Err('b')),
-        Get(0, None),
-        Front(0, None),
-        Counts(0, 0),
-    ];
-    checks(&rt, &mut made(rt.alloc(), 0, 1)?, &calls);
+    checks(&rt, &mut made(rt.alloc(), 0, 1)?, &NO_SLOT);
     Ok(())
 }
+
+const NO_CHAIN: [Call; 9] = [
+    Put('a', Ok(0)),
+    MoveTo(0, 0, true),
+    MoveTo(0, 2, false),
+    MoveTo(0, usize::MAX, false),
+    Front(0, Some(0)),
+    Front(2, None),
+    Front(usize::MAX, None),
+    Next(0, None),
+    Counts(2, 3),
+];
 
 #[test]
 fn a_chain_that_is_not_there(rt: HostRuntime) -> Result<(), Fail> {
-    let calls = [
-        Put('a', Ok(0)),
-        MoveTo(0, 0, true),
-        MoveTo(0, 2, false),
-        MoveTo(0, usize::MAX, false),
-        Front(0, Some(0)),
-        Front(2, None),
-        Front(usize::MAX, None),
-        Next(0, None),
-        Counts(2, 3),
-    ];
-    checks(&rt, &mut made(rt.alloc(), 3, 2)?, &calls);
+    checks(&rt, &mut made(rt.alloc(), 3, 2)?, &NO_CHAIN);
     Ok(())
 }
+
+const MIDDLE: [Call; 18] = [
+    Put('a', Ok(0)),
+    MoveTo(0, 0, true),
+    Put('b', Ok(1)),
+    MoveTo(1, 0, true),
+    Put('c', Ok(2)),
+    MoveTo(2, 0, true),
+    Take(1, Some('b')),
+    Front(0, Some(0)),
+    Next(0, Some(2)),
+    Next(2, None),
+    MoveTo(0, 0, true),
+    Front(0, Some(2)),
+    Next(2, Some(0)),
+    Next(0, None),
+    Take(0, Some('a')),
+    // what was freed last goes first, and what was never used goes last
+    Put('d', Ok(0)),
+    Put('e', Ok(1)),
+    Put('f', Ok(3)),
+];
 
 #[test]
 fn the_middle_of_a_chain_and_the_free_list(rt: HostRuntime) -> Result<(), Fail> {
-    let calls = [
-        Put('a', Ok(0)),
-        MoveTo(0, 0, true),
-        Put('b', Ok(1)),
-        MoveTo(1, 0, true),
-        Put('c', Ok(2)),
-        MoveTo(2, 0, true),
-        Take(1, Some('b')),
-        Front(0, Some(0)),
-        Next(0, Some(2)),
-        Next(2, None),
-        MoveTo(0, 0, true),
-        Front(0, Some(2)),
-        Next(2, Some(0)),
-        Next(0, None),
-        Take(0, Some('a')),
-        // what was freed last goes first, and what was never used goes last
-        Put('d', Ok(0)),
-        Put('e', Ok(1)),
-        Put('f', Ok(3)),
-    ];
-    checks(&rt, &mut sent(made(rt.alloc(), 4, 2)?), &calls);
+    checks(&rt, &mut sent(made(rt.alloc(), 4, 2)?), &MIDDLE);
     Ok(())
 }
 
+const REFUSED: [Call; 16] = [
+    Restore(0, 'x', Err('x')), // free
+    Restore(2, 'x', Err('x')), // no slot
+    Put('a', Ok(0)),
+    Restore(0, 'x', Err('x')), // holds a value
+    Write(0, 'b', true),
+    Write(1, 'b', false),
+    Lend(0, Some('b')),
+    Get(0, None),
+    MoveTo(0, 0, false),
+    Lend(0, None),
+    Take(0, None),
+    Take(1, None),
+    Take(2, None),
+    Restore(0, 'c', Ok(())),
+    Next(0, None),
+    Counts(1, 2),
+];
+
 #[test]
 fn what_is_refused(rt: HostRuntime) -> Result<(), Fail> {
-    let calls = [
-        Restore(0, 'x', Err('x')), // free
-        Restore(2, 'x', Err('x')), // no slot
-        Put('a', Ok(0)),
-        Restore(0, 'x', Err('x')), // holds a value
-        Write(0, 'b', true),
-        Write(1, 'b', false),
-        Lend(0, Some('b')),
-        Get(0, None),
-        MoveTo(0, 0, false),
-        Lend(0, None),
-        Take(0, None),
-        Take(1, None),
-        Take(2, None),
-        Restore(0, 'c', Ok(())),
-        Next(0, None),
-        Counts(1, 2),
-    ];
-    checks(&rt, &mut made(rt.alloc(), 2, 1)?, &calls);
+    checks(&rt, &mut made(rt.alloc(), 2, 1)?, &REFUSED);
     Ok(())
 }
