@@ -36,13 +36,21 @@ fn number(word: &[u8]) -> Option<u16> {
     u16::try_from(value).ok()
 }
 
-fn digit(c: u8) -> Option<u8> {
-    match c {
-        b'0'..=b'9' => Some(c - b'0'),
-        b'a'..=b'f' => Some(c - b'a' + 10),
-        b'A'..=b'F' => Some(c - b'A' + 10),
-        _ => None,
+/// The value of each byte as a hexadecimal digit, and `NO_DIGIT` where it is none.
+static DIGITS: [u8; 256] = digits();
+
+const NO_DIGIT: u8 = 255;
+
+const fn digits() -> [u8; 256] {
+    let mut values = [NO_DIGIT; 256];
+    let mut value = 0;
+    while value < 16 {
+        let digit = b"0123456789abcdef"[value];
+        values[digit as usize] = value as u8;
+        values[digit.to_ascii_uppercase() as usize] = value as u8;
+        value += 1;
     }
+    values
 }
 
 fn bytes<const N: usize>(word: &[u8]) -> Option<[u8; N]> {
@@ -50,10 +58,13 @@ fn bytes<const N: usize>(word: &[u8]) -> Option<[u8; N]> {
         return None;
     }
     let mut block = [0; N];
+    let mut all = 0;
     for (byte, pair) in block.iter_mut().zip(word.chunks_exact(2)) {
-        *byte = digit(pair[0])? * 16 + digit(pair[1])?;
+        let (high, low) = (DIGITS[usize::from(pair[0])], DIGITS[usize::from(pair[1])]);
+        all |= high | low;
+        *byte = high << 4 | low;
     }
-    Some(block)
+    (all < 16).then_some(block)
 }
 
 /// The numbers that the words say, where there are just so many.
