@@ -1,7 +1,6 @@
 -- What a word says as bytes, a block or a label.
 use Rattle.std.proofs.Common.{◌≡◌, ℕ, ◌-◌, ◌*◌, ◌/◌, ◌%◌, ◌<◌, ◌≤◌, Bool, true, false, cond, List, [], ◌∷◌, ◌++◌, length, length-take-le, take, drop, replicate, Option, Some, None, Result, Ok, Err, refl, ap, sym, ◌∙◌, inl, inr, arith}
 use Rattle.std.specs.Prelude.{◌&&◌, nat_le, MatchResult, option_map}
-use Rattle.std.specs.Result.{result_ok}
 use Rattle.std.proofs.lemmas.Bool.{and_parts, and_from, ne_eqb, leb-true, le-leb, cond-true, cases_eq, true≢false}
 use Rattle.std.proofs.lemmas.Option.{same_Some}
 use Rattle.std.proofs.lemmas.List.{drop-replicate, length-replicate}
@@ -95,21 +94,21 @@ decode_sized-half w n half =
     ]
 
 -- what decoding into a slice told
-abbrev pub Decoded : List ℕ → ℕ → Result (Unit {0}) FromHexError → List ℕ → Type 0
-Decoded w n r out = MatchResult (decode_sized w n) (λ bytes. (r ≡ Ok tt) × (out ≡ bytes)) (λ e. r ≡ Err e)
+abbrev pub Decoded : List ℕ → ℕ → Option (Unit {0}) → List ℕ → Type 0
+Decoded w n r out = MatchResult (decode_sized w n) (λ bytes. (r ≡ Some tt) × (out ≡ bytes)) (λ e. r ≡ None)
 
-decoded_ok : (d : Result (List ℕ) FromHexError) (r : Result (Unit {0}) FromHexError) (out : List ℕ) (u : Unit {0}) → MatchResult d (λ bytes. (r ≡ Ok tt) × (out ≡ bytes)) (λ e. r ≡ Err e) → Some u ≡ result_ok r → d ≡ Ok out
+decoded_ok : (d : Result (List ℕ) FromHexError) (r : Option (Unit {0})) (out : List ℕ) (u : Unit {0}) → MatchResult d (λ bytes. (r ≡ Some tt) × (out ≡ bytes)) (λ e. r ≡ None) → Some u ≡ r → d ≡ Ok out
 decoded_ok (Ok bytes) r out u h e = ap Ok (sym h.1)
-decoded_ok (Err x) r out u h e = let f : Some u ≡ None = e ∙ ap result_ok h in cc f
+decoded_ok (Err x) r out u h e = let f : Some u ≡ None = e ∙ h in cc f
 
-decoded_err : (d : Result (List ℕ) FromHexError) (r : Result (Unit {0}) FromHexError) (out bytes : List ℕ) → MatchResult d (λ bytes. (r ≡ Ok tt) × (out ≡ bytes)) (λ e. r ≡ Err e) → None ≡ result_ok r → d ≡ Ok bytes → ⊥
-decoded_err (Ok bs) r out bytes h e ok = let f : None ≡ Some tt = e ∙ ap result_ok h.0 in cc f
+decoded_err : (d : Result (List ℕ) FromHexError) (r : Option (Unit {0})) (out bytes : List ℕ) → MatchResult d (λ bytes. (r ≡ Some tt) × (out ≡ bytes)) (λ e. r ≡ None) → None ≡ r → d ≡ Ok bytes → ⊥
+decoded_err (Ok bs) r out bytes h e ok = let f : None ≡ Some tt = e ∙ h.0 in cc f
 decoded_err (Err x) r out bytes h e ok = cc ok
 
 room_is : (size n : ℕ) → n ≤ size → length {A = ℕ} (take n (replicate size 0)) ≡ n
 room_is size n h = length-take-le n (replicate size 0) (let e : length {A = ℕ} (replicate size 0) ≡ size = length-replicate {A = ℕ} size 0 in omega arith)
 
-pub bytes_decoded : (size : ℕ) (w : List ℕ) (n : ℕ) (r : Result (Unit {0}) FromHexError) (out : List ℕ) (u : Unit {0}) → n ≡ length w / 2 → 0 < n → n ≤ size → Decoded w (length {A = ℕ} (take n (replicate size 0))) r out → Some u ≡ result_ok r
+pub bytes_decoded : (size : ℕ) (w : List ℕ) (n : ℕ) (r : Option (Unit {0})) (out : List ℕ) (u : Unit {0}) → n ≡ length w / 2 → 0 < n → n ≤ size → Decoded w (length {A = ℕ} (take n (replicate size 0))) r out → Some u ≡ r
     → bytes_in_word size w ≡ Some (out ++ drop n (replicate size 0))
 bytes_decoded size w n r out u half some most told ok =
     let room : ℕ = length {A = ℕ} (take n (replicate size 0)) in
@@ -120,7 +119,7 @@ bytes_decoded size w n r out u half some most told ok =
     let rest : drop {A = ℕ} n (replicate size 0) ≡ replicate (size - length out) 0 = rw same (drop-replicate (length out) size 0) in
     bytes_from size w out (record { low = omega arith; high = omega arith; decoded = decoded }) ∙ ap (λ (behind : List ℕ). Some (out ++ behind)) (sym rest)
 
-pub bytes_not_decoded : (size : ℕ) (w : List ℕ) (n : ℕ) (r : Result (Unit {0}) FromHexError) (out : List ℕ) → n ≡ length w / 2 → n ≤ size → Decoded w (length {A = ℕ} (take n (replicate size 0))) r out → None ≡ result_ok r → bytes_in_word size w ≡ None
+pub bytes_not_decoded : (size : ℕ) (w : List ℕ) (n : ℕ) (r : Option (Unit {0})) (out : List ℕ) → n ≡ length w / 2 → n ≤ size → Decoded w (length {A = ℕ} (take n (replicate size 0))) r out → None ≡ r → bytes_in_word size w ≡ None
 bytes_not_decoded size w n r out half most told err =
     let room : ℕ = length {A = ℕ} (take n (replicate size 0)) in
     no_bytes size w (λ bytes h. decoded_err (decode_sized w room) r out bytes told err (decode_sized-half w room (room_is size n most ∙ half) ∙ h.decoded))

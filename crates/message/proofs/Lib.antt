@@ -3,6 +3,7 @@ pub mod Words
 pub mod Numbers
 pub mod Blocks
 pub mod Digits
+pub mod DigitLoop
 pub mod Forms
 pub mod Keywords
 pub mod Zeros

@@ -2,6 +2,7 @@
 #![tactic(auto)]
 
 mod carried;
+mod decoding;
 mod kinds;
 mod lent_reader;
 mod parsing;

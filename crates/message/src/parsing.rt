@@ -6,6 +6,7 @@ ghost use Rattle.message.specs.declared.Msg.TheVariants.{Write as write, SetLabe
 ghost use Rattle.message.specs.Lines.{words, number, block, bytes_in_word};
 ghost use Rattle.message.specs.Grammar.{message_of, Spells, first_number, of_kind, of_volume, of_file, of_block, of_data, of_label, kind_named};
 
+use crate::decoding::decode_to_slice;
 use crate::{Block, LONGEST_LINE, Msg};
 use affinity::Kind;
 use memchr::memchr;
@@ -186,6 +187,6 @@ fn bytes_in_word<const N: usize>(digits: &[u8]) -> Option<[u8; N]>
         return None;
     }
     let mut bytes = [0; N];
-    hex::decode_to_slice(digits, &mut bytes[..size]).ok()?;
+    decode_to_slice(digits, &mut bytes[..size])?;
     Some(bytes)
 }

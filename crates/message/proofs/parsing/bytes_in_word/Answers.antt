@@ -8,8 +8,8 @@ returns-then-size-eq0 g c = sym (no_bytes g.row.N c.args.digits.now (λ bytes h.
     let high = h.high in
     elim c.then-size-eq0.either [ inl none ↦ absurd (omega arith) | inr many ↦ absurd (omega arith) ]))
 
-pub returns-in_err-ok : goal.returns-in_err-ok
-returns-in_err-ok g c = c.from_residual.ensures ∙ sym (bytes_not_decoded g.row.N c.args.digits.now (length c.args.digits.now / 2) c.decode_to_slice.result c.decode_to_slice.new.out refl (omega arith) c.decode_to_slice.ensures.value c.in_err-ok.ensures.value)
+pub returns-in_err-decode_to_slice : goal.returns-in_err-decode_to_slice
+returns-in_err-decode_to_slice g c = c.from_residual.ensures ∙ sym (bytes_not_decoded g.row.N c.args.digits.now (length c.args.digits.now / 2) c.decode_to_slice.result c.decode_to_slice.new.out refl (omega arith) c.decode_to_slice.ensures.value (sym c.in_err-decode_to_slice.was))
 
 pub returns : goal.returns
-returns g c = sym (bytes_decoded g.row.N c.args.digits.now (length c.args.digits.now / 2) c.decode_to_slice.result c.decode_to_slice.new.out c.in_ok-ok.field-0 refl (omega arith) (omega arith) c.decode_to_slice.ensures.value c.in_ok-ok.ensures.value)
+returns g c = sym (bytes_decoded g.row.N c.args.digits.now (length c.args.digits.now / 2) c.decode_to_slice.result c.decode_to_slice.new.out tt refl (omega arith) (omega arith) c.decode_to_slice.ensures.value (sym c.in_ok-decode_to_slice.was))
