@@ -4,6 +4,7 @@ pub mod Numbers
 pub mod Blocks
 pub mod Digits
 pub mod DigitLoop
+pub mod DigitTexts
 pub mod Forms
 pub mod Keywords
 pub mod Zeros

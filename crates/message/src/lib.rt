@@ -3,6 +3,7 @@
 
 mod carried;
 mod decoding;
+mod encoding;
 mod kinds;
 mod lent_reader;
 mod parsing;

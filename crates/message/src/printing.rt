@@ -5,6 +5,7 @@ ghost use Rattle.hex.specs.Hex.{encode_lower};
 ghost use Rattle.message.specs.Replies.{Appends, at_least_one, no_message, output_line, reply_line, reply_text, shown, spaced, without_zeros, reason};
 ghost use Rattle.message.specs.declared.Reply.TheVariants.{Files as files_reply, Usage as usage_reply, Summary as summary_reply};
 
+use crate::encoding::encode_to_slice;
 use crate::{Refusal, Reply};
 use itoa::Buffer;
 
@@ -142,7 +143,7 @@ fn append_shown(bytes: &[u8], out: &mut [u8; 1031], at: usize) -> usize
 {
     let bytes = &bytes[..shown_size(bytes)];
     let end = at + 2 * bytes.len();
-    hex::encode_to_slice(bytes, &mut out[at..end]).unwrap();
+    encode_to_slice(bytes, &mut out[at..end]);
     end
 }
 
