@@ -9,6 +9,7 @@ pub mod Forms
 pub mod Keywords
 pub mod Zeros
 pub mod Assembly
+pub mod WrittenParts
 pub mod Spelling
 pub mod RecordLemmas
 pub mod ReaderLemmas

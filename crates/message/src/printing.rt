@@ -3,10 +3,10 @@
 ghost use Rattle.std.specs.Prelude.{◌≡◌, ◌≤◌, ◌+◌, ◌*◌, length, take, drop, codes};
 ghost use Rattle.hex.specs.Hex.{encode_lower};
 ghost use Rattle.message.specs.Replies.{Appends, at_least_one, no_message, output_line, reply_line, reply_text, shown, spaced, without_zeros, reason};
-ghost use Rattle.message.specs.declared.Reply.TheVariants.{Files as files_reply, Usage as usage_reply, Summary as summary_reply};
+ghost use Rattle.message.specs.declared.Reply.TheVariants.{Block as block_reply, Files as files_reply, Usage as usage_reply, Summary as summary_reply};
 
 use crate::encoding::encode_to_slice;
-use crate::{Refusal, Reply};
+use crate::{Block, Refusal, Reply};
 use itoa::Buffer;
 
 /// Writes the line of a reply, its newline included, into the front of `out`, and gives the
@@ -18,6 +18,17 @@ pub fn write_reply(reply: &Reply, out: &mut [u8; 1031]) -> usize
     ensures bound { result ≤ 1031 }
 {
     let end = write_text(reply, out);
+    append(b"\n", out, end)
+}
+
+/// The same for the reply that a block is, from where the block lies.
+pub(crate) fn write_block(content: &Block, out: &mut [u8; 1031]) -> usize
+    ensures length { result ≡ length (reply_line (block_reply content.now)) }
+    ensures line { take result out.new ≡ reply_line (block_reply content.now) }
+    ensures rest { drop result out.new ≡ drop result out.old }
+    ensures bound { result ≤ 1031 }
+{
+    let end = write_block_text(content, out);
     append(b"\n", out, end)
 }
 
@@ -36,10 +47,7 @@ fn write_text(reply: &Reply, out: &mut [u8; 1031]) -> usize
     match reply {
         Reply::Done => append(b"done", out, 0),
         Reply::Hole => append(b"hole", out, 0),
-        Reply::Block(block) => {
-            let end = append(b"block ", out, 0);
-            append_shown(&block.0, out, end)
-        }
+        Reply::Block(content) => write_block_text(content, out),
         Reply::Files(files) => write_files(*files, out),
         Reply::Usage {
             files,
@@ -60,6 +68,15 @@ fn write_text(reply: &Reply, out: &mut [u8; 1031]) -> usize
             append(reason(*why), out, end)
         }
     }
+}
+
+/// Writes what the reply says that a block is, and gives its length.
+fn write_block_text(content: &Block, out: &mut [u8; 1031]) -> usize
+    ensures text { Appends out.old out.new 0 result (reply_text (block_reply content.now)) }
+    ensures bound { result ≤ 1030 }
+{
+    let end = append(b"block ", out, 0);
+    append_shown(&content.0, out, end)
 }
 
 fn reason(why: Refusal) -> &'static [u8]

@@ -5,9 +5,11 @@ ghost use Rattle.std.specs.Io.KnownBytes.{Appends};
 ghost use Rattle.message.specs.Reader.{HoldsLine};
 ghost use Rattle.message.specs.Replies.{no_message, reply_line};
 ghost use Rattle.message.specs.Waiting.{so_far};
+ghost use Rattle.message.specs.declared.Reply.TheVariants.{Block as block_reply};
 
+use crate::printing::write_block;
 use crate::reading::LineReader;
-use crate::{LONGEST_REPLY, Reply, no_message_line, write_reply};
+use crate::{Block, LONGEST_REPLY, Reply, no_message_line, write_reply};
 use std::alloc::{AllocError, Global};
 use std::io::{Read, Write};
 use std::marker::Model;
@@ -60,6 +62,38 @@ fn put_reply(reply: &Reply, bytes: &mut Vec<u8>, at: usize) -> usize
     ensures len { vec_len bytes.new ≡ vec_len bytes.old }
 {
     put_reply_at(reply, bytes.as_mut_slice(), at)
+}
+
+/// Writes the line of a block to the front of `room`, and gives its length.
+fn write_block_to_front(content: &Block, room: &mut [u8]) -> usize
+    requires { length room.old ≡ LONGEST_REPLY }
+    ensures line { take result room.new ≡ reply_line (block_reply content.now) }
+    ensures bound { result ≤ LONGEST_REPLY }
+{
+    let Some(out) = room.as_mut_array() else {
+        unreachable!()
+    };
+    write_block(content, out)
+}
+
+/// Writes the line of a block over the bytes from `at` on, and gives where it ends.
+fn put_block_at(content: &Block, bytes: &mut [u8], at: usize) -> usize
+    requires { at + LONGEST_REPLY ≤ length bytes.old }
+    ensures line { take result bytes.new ≡ take at bytes.old ++ reply_line (block_reply content.now) }
+    ensures bound { result ≤ at + LONGEST_REPLY }
+{
+    at + write_block_to_front(content, &mut bytes[at..at + LONGEST_REPLY])
+}
+
+/// The same, in a vector.
+fn put_block(content: &Block, bytes: &mut Vec<u8>, at: usize) -> usize
+    requires { at + LONGEST_REPLY ≤ vec_len bytes.old }
+    ensures line { take result bytes.new.items
+        ≡ take at bytes.old.items ++ reply_line (block_reply content.now) }
+    ensures bound { result ≤ at + LONGEST_REPLY }
+    ensures len { vec_len bytes.new ≡ vec_len bytes.old }
+{
+    put_block_at(content, bytes.as_mut_slice(), at)
 }
 
 /// The lines of replies that wait to be written, in order. A contract sees the bytes that wait.
@@ -181,6 +215,23 @@ impl ReplyBuffer {
     {
         self.make_room(w)?;
         self.len = put_reply(reply, &mut self.bytes, self.len);
+        Ok(())
+    }
+
+    /// The same with the reply that a block is, from where the block lies: it is not copied.
+    ///
+    /// # Errors
+    ///
+    /// Those of `send`. The reply is not added then.
+    pub fn add_block<W: Write>(&mut self, content: &Block, w: &mut W) -> Result<(), WriteFault>
+        ensures added { OnOk result (Appends (so_far (W.contents w.old) self.old)
+            (so_far (W.contents w.new) self.new) (reply_line (block_reply content.now))) }
+        ensures idle { length self.old + LONGEST_REPLY ≤ REPLY_BUFFER_SIZE →
+            IsOk result × (w.new ≡ w.old) }
+        ensures unchanged { OnErr result (self.new ≡ self.old) }
+    {
+        self.make_room(w)?;
+        self.len = put_block(content, &mut self.bytes, self.len);
         Ok(())
     }
 
