@@ -7,16 +7,50 @@ ghost use Rattle.message.specs.Reader.{unread, is_drained, source, KnowsEnd};
 ghost use Rattle.message.specs.Waiting.{so_far};
 ghost use Rattle.plain.specs.State.{State, empty};
 ghost use Rattle.plain.specs.Server.{server_state, IsConsistent};
+ghost use Rattle.message.specs.Replies.{reply_line};
+ghost use Rattle.plain.specs.Serial.{reply_to, next_state};
 ghost use Rattle.plain.specs.Progress.{HasAnswered};
 ghost use Rattle.plain.specs.Output.{serial_out, answer_line, state_after_line, AnswersWholeLines, IsBeginning, Writes};
 
 use crate::PlainFault;
 use crate::server::Server;
 use affinity::Geometry;
-use message::{Found, LentReader, LineReader, Loan, ReplyBuffer, parse_line};
+use message::{Found, LentReader, LineReader, Loan, Msg, ReplyBuffer, parse_line};
 use std::alloc::Global;
 use std::io::{Read, Write};
 use std::marker::PhantomData;
+
+/// Answers one message.
+fn answer_message<W: Write>(
+    g: &Geometry,
+    m: &Msg,
+    server: &mut Server,
+    out: &mut ReplyBuffer,
+    w: &mut W,
+) -> Result<(), PlainFault>
+    requires { IsConsistent g.now server.old }
+    ensures sound { IsConsistent g.now server.new }
+    ensures state { OnOk result (server_state server.new
+        ≡ next_state g.now (server_state server.old) m.now) }
+    ensures added { OnOk result (Appends (so_far (W.contents w.old) out.old)
+        (so_far (W.contents w.new) out.new)
+        (reply_line (reply_to g.now (server_state server.old) m.now))) }
+    ensures out_of_memory { IsErrOf result PlainFault.OutOfMemory →
+        (out.new ≡ out.old) × (w.new ≡ w.old) }
+    ensures no_read { IsErrOf result PlainFault.Read → ⊥ }
+{
+    if let Some(content) = server.block_shown(g, m) {
+        out.add_block(content, w)?;
+        return Ok(());
+    }
+    match &server.answer(g, m) {
+        Ok(reply) => {
+            out.add_reply(reply, w)?;
+            Ok(())
+        }
+        Err(_) => Err(PlainFault::OutOfMemory),
+    }
+}
 
 /// Answers one line.
 fn answer_line<W: Write>(
@@ -37,15 +71,13 @@ fn answer_line<W: Write>(
         (out.new ≡ out.old) × (w.new ≡ w.old) }
     ensures no_read { IsErrOf result PlainFault.Read → ⊥ }
 {
-    let Some(m) = parse_line(line) else {
-        out.add_no_message(w)?;
-        return Ok(());
-    };
-    let Ok(reply) = server.answer(g, &m) else {
-        return Err(PlainFault::OutOfMemory);
-    };
-    out.add_reply(&reply, w)?;
-    Ok(())
+    match &parse_line(line) {
+        Some(m) => answer_message(g, m, server, out, w),
+        None => {
+            out.add_no_message(w)?;
+            Ok(())
+        }
+    }
 }
 
 /// Answers the next line, unless the input has ended: whether it has not.

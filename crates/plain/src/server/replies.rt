@@ -1,14 +1,15 @@
 //! The reply to a message that passes its tests.
 
-ghost use Rattle.std.specs.Prelude.{◌≡◌, None};
+ghost use Rattle.std.specs.Prelude.{◌≡◌, None, IfSome};
 ghost use Rattle.affinity.specs.declared.geometry.Geometry.{Geometry};
 ghost use Rattle.message.specs.declared.Msg.{Msg};
-ghost use Rattle.plain.specs.Serial.{refusal, accepted_reply};
+ghost use Rattle.message.specs.declared.Reply.TheVariants.{Block as shows};
+ghost use Rattle.plain.specs.Serial.{refusal, accepted_reply, step};
 ghost use Rattle.plain.specs.Server.{server_state, IsConsistent};
 
 use super::Server;
 use affinity::Geometry;
-use message::{Msg, Reply};
+use message::{Block, Msg, Reply};
 
 impl Server {
     /// What a read of a block gives.
@@ -18,6 +19,22 @@ impl Server {
         match self.blocks.get(&(a, v, f, b)) {
             Some(content) => Reply::Block(*content),
             None => Reply::Hole,
+        }
+    }
+
+    /// The block that answers a read, where it lies, so that it isn't copied. Where there is none,
+    /// or the message is answered otherwise, `answer` tells what it is answered.
+    pub(crate) fn block_shown(&self, g: &Geometry, m: &Msg) -> Option<&Block>
+        requires sound { IsConsistent g.now self.now }
+        ensures { IfSome result (λ content.
+            step g.now (server_state self.now) m.now ≡ (shows content.now, server_state self.now)) }
+    {
+        match m {
+            Msg::Read(a, v, f, b) => match self.refusal(g, m) {
+                None => self.blocks.get(&(*a, *v, *f, *b)),
+                Some(_) => None,
+            },
+            _ => None,
         }
     }
 
