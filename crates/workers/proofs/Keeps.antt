@@ -11,8 +11,8 @@ use Rattle.parcel.specs.declared.job.Done.{Done}
 use Rattle.workers.specs.Rule.{Board, Home, Row, lent_at, word_of, Stands, is_empty, is_offered, is_claimed, is_answered, Kept}
 use Rattle.workers.specs.Steps.{Sat, Readies, Offers, Claims, Delivers, Collects, OfPlace}
 use Rattle.workers.specs.Desk.{idle}
-use Rattle.workers.specs.declared.words.Load.{Load}
-use Rattle.workers.specs.declared.words.Load.TheVariants.{Offered, Answered}
+use Rattle.workers.specs.declared.tray.Load.{Load}
+use Rattle.workers.specs.declared.tray.Load.TheVariants.{Offered, Answered}
 use Rattle.workers.specs.declared.seats.View.{View}
 use Rattle.workers.specs.declared.seats.View.TheVariants.{Dispatcher, Idle, Claimed}
 use Rattle.workers.proofs.Rows.{set_at, there}

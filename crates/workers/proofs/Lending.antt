@@ -8,8 +8,8 @@ use Rattle.parcel.specs.declared.job.Done.{Done}
 use Rattle.workers.specs.Rule.{Row, lent_at}
 use Rattle.workers.specs.Steps.{Sat, Offers, job_on}
 use Rattle.workers.specs.Desk.{IsBench, IsDesk, lent_of, spare, spare_from}
-use Rattle.workers.specs.declared.words.Load.{Load}
-use Rattle.workers.specs.declared.words.Load.TheVariants.{Offered, Answered}
+use Rattle.workers.specs.declared.tray.Load.{Load}
+use Rattle.workers.specs.declared.tray.Load.TheVariants.{Offered, Answered}
 use Rattle.workers.specs.declared.seats.View.TheVariants.{Dispatcher, Claimed}
 use Rattle.workers.proofs.Turning.{others, spare_from_start, spare_from_end, spare_from_empty, lent_rest, back_rest}
 
@@ -85,11 +85,11 @@ taken k ls job done m n w e is f g near =
     let here : lent_at ls k ≡ Some job = sym (ap (λ (y : Sat). lent_at (lent_of y.0) k) e) ∙ is in
     (here, comes_back k ls job done n w (f ∙ ap (λ (y : Sat). (Dispatcher 0 (set (lent_of y.0) k None), (k, Some (Answered done)) ∷ y.1)) e) g near here)
 
-pub one_result : (a b : Done) (x : Load) (r : Option Load) → r ≡ Some x → x ≡ Answered a → r ≡ Some (Answered b) → a ≡ b
-one_result a b x r e f g = cc
+pub one_result : (a b : Done) → Some (Answered a) ≡ Some (Answered b) → a ≡ b
+one_result a b e = cc
 
-pub one_job : (a b : Asked) (x : Load) (r : Option Load) → r ≡ Some x → x ≡ Offered a → r ≡ Some (Offered b) → a ≡ b
-one_job a b x r e f g = cc
+pub one_job : (a b : Asked) → Some (Offered a) ≡ Some (Offered b) → a ≡ b
+one_job a b e = cc
 
 -- a worker puts the result into the slot from which it took the job
 pub answered : (k : ℕ) (job : Asked) (x y z : Option Load) (m n w : Sat) → m ≡ (Claimed k job, (k, x) ∷ []) → n ≡ (m.0, (k, y) ∷ rest m.1) → w ≡ (n.0, (k, z) ∷ rest n.1) → w ≡ (Claimed k job, (k, z) ∷ [])

@@ -5,7 +5,7 @@ use Rattle.atomic_table.specs.Table.{turned}
 use Rattle.parcel.specs.Run.{Asked}
 use Rattle.workers.specs.Rule.{Row, lent_at}
 use Rattle.workers.specs.Desk.{spare, spare_from}
-use Rattle.workers.specs.declared.words.Load.{Load}
+use Rattle.workers.specs.declared.tray.Load.{Load}
 
 append_none : (xs : List (ℕ × Option Load)) → xs ++ [] ≡ xs
 append_none [] = refl

@@ -3,7 +3,7 @@ use Rattle.std.specs.Prelude.{◌≡◌, ℕ, ◌+◌, ◌≤◌, suc, Bool, Lis
 use Rattle.atomic_table.specs.Table.{Me}
 use Rattle.atomic_table.specs.Seated.{TableId}
 use Rattle.parcel.specs.Run.{Asked}
-use Rattle.workers.specs.declared.words.Load.{Load}
+use Rattle.workers.specs.declared.tray.Load.{Load}
 use Rattle.workers.specs.declared.seats.View.{View}
 use Rattle.workers.specs.declared.seats.View.TheVariants.{Dispatcher, Idle}
 

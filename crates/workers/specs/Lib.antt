@@ -1,3 +1,4 @@
+pub mod Tray
 pub mod Rule
 pub mod Steps
 pub mod Desk

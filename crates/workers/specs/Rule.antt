@@ -5,8 +5,8 @@ use lib.ListN.{get_elem?}
 use Rattle.atomic_table.specs.Table.{State}
 use Rattle.parcel.specs.Run.{Asked, IsRun}
 use Rattle.parcel.specs.declared.job.Done.{Done}
-use Rattle.workers.specs.declared.words.Load.{Load}
-use Rattle.workers.specs.declared.words.Load.TheVariants.{Offered, Answered}
+use Rattle.workers.specs.declared.tray.Load.{Load}
+use Rattle.workers.specs.declared.tray.Load.TheVariants.{Offered, Answered}
 use Rattle.workers.specs.declared.seats.View.{View}
 use Rattle.workers.specs.declared.seats.View.TheVariants.{Dispatcher, Claimed}
 

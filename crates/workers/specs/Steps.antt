@@ -5,8 +5,8 @@ use Rattle.parcel.specs.Run.{Asked, IsRun}
 use Rattle.parcel.specs.declared.job.Done.{Done}
 use Rattle.workers.specs.Rule.{lent_at, word_of}
 use Rattle.workers.specs.Desk.{lent_of}
-use Rattle.workers.specs.declared.words.Load.{Load}
-use Rattle.workers.specs.declared.words.Load.TheVariants.{Offered, Answered}
+use Rattle.workers.specs.declared.tray.Load.{Load}
+use Rattle.workers.specs.declared.tray.Load.TheVariants.{Offered, Answered}
 use Rattle.workers.specs.declared.seats.View.{View}
 use Rattle.workers.specs.declared.seats.View.TheVariants.{Dispatcher, Idle, Claimed}
 

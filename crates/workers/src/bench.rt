@@ -7,7 +7,8 @@ ghost use Rattle.workers.specs.declared.seats.View.TheVariants.{Dispatcher};
 
 use crate::seats::{DispatchSeat, Seat, View, WorkSeat, turn_to};
 use crate::steps::{self, Handoff, Words};
-use crate::words::{FIRST_PLACE, Load, MOST_PLACES, OFFERS, RING, is_slept_on};
+use crate::tray::Tray;
+use crate::words::{FIRST_PLACE, MOST_PLACES, OFFERS, RING, is_slept_on};
 use atomic_table::Table;
 use parcel::{Done, Job};
 use std::alloc::{AllocError, Global};
@@ -17,7 +18,7 @@ use std::marker::Model;
 /// `slots` the places are counted.
 #[derive(Drop)]
 pub struct Bench {
-    pub(crate) table: Table<Option<Load>, View, usize, Handoff, Global>,
+    pub(crate) table: Table<Tray, View, usize, Handoff, Global>,
 }
 
 impl Model for Bench {
@@ -55,6 +56,7 @@ impl Bench {
 
     /// Lends a job to the workers at place k and wakes one that sleeps. Hands it back where something is
     /// lent there.
+    #[inline(always)]
     pub fn offer(&self, seat: &mut DispatchSeat, k: usize, job: Job) -> Result<(), Job>
         requires { (seat.old.bench ≡ self.now) × (k < self.now.slots) }
         ensures bench { seat.new.bench ≡ seat.old.bench }
@@ -102,13 +104,28 @@ fn lay(
     alloc: Global,
     words: &[u64],
     places: usize,
-) -> Result<(Table<Option<Load>, View, usize, Handoff, Global>, Seat), AllocError>
+) -> Result<(Table<Tray, View, usize, Handoff, Global>, Seat), AllocError>
     requires places { places ≤ MOST_PLACES }
     requires words { words.now ≡ replicate (places + 3) 0 }
     ensures table { IfOk result (λ r. IsBench r.0.shared.table_id × (r.0.shared.table_id.slots ≡ places)) }
     ensures seat { IfOk result (λ r. (r.1.table_id ≡ r.0.shared.table_id) × (r.1.me ≡ (Dispatcher places (replicate places None), []))) }
 {
-    Table::vacant(alloc, words, places, &places)
+    let trays = empty_trays(alloc, places)?;
+    match Table::new(alloc, words, trays, &places) {
+        Ok(laid) => Ok(laid),
+        Err(_refused) => Err(AllocError),
+    }
+}
+
+// So many empty trays.
+fn empty_trays(alloc: Global, places: usize) -> Result<Vec<Tray>, AllocError>
+    ensures { IfOk result (λ trays. trays.items ≡ replicate places None) }
+{
+    let mut trays = Vec::with_capacity(alloc, places)?;
+    for _place in 0..places {
+        trays.push(Tray::new(alloc)?)?;
+    }
+    Ok(trays)
 }
 
 // Splits off a seat for each worker.
@@ -146,6 +163,7 @@ fn ready_all(words: &Words, seat: &mut Seat, places: usize)
 }
 
 // Offers a job at a place where nothing is lent.
+#[inline(always)]
 fn lend(words: &Words, seat: &mut Seat, lent: &mut [bool], k: usize, job: Job)
     requires bench { (seat.old.table_id ≡ words.now.table_id) × (k < words.now.table_id.slots) }
     requires desk { IsDesk words.now.table_id seat.old.me lent.old }
@@ -155,7 +173,7 @@ fn lend(words: &Words, seat: &mut Seat, lent: &mut [bool], k: usize, job: Job)
     ensures lent { lent_of seat.new.me.0 ≡ slice_set (lent_of seat.old.me.0) k (Some job) }
 {
     turn_to(seat, lent, 0, k);
-    steps::fill(words, seat, k, Load::Offered(job));
+    steps::lay_job(words, seat, k, job);
     steps::offer(words, seat, k);
     lent[k] = true;
     turn_to(seat, lent, k + 1, lent.len());
@@ -175,9 +193,7 @@ fn take_back(words: &Words, seat: &mut Seat, lent: &mut [bool], k: usize) -> Opt
         turn_to(seat, lent, k, lent.len());
         return None;
     }
-    let Some(Load::Answered(done)) = words.exchange(seat, k, None) else {
-        unreachable!()
-    };
+    let done = steps::take_result(words, seat, k);
     lent[k] = false;
     turn_to(seat, lent, k, lent.len());
     Some(done)

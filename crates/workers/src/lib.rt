@@ -6,6 +6,7 @@ mod bench;
 mod pace;
 mod seats;
 mod steps;
+mod tray;
 mod words;
 mod work;
 

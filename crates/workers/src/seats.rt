@@ -3,7 +3,7 @@ ghost use Rattle.std.specs.Prelude.{◌≡◌, ℕ, ◌+◌, ◌<◌, ◌≤◌,
 ghost use Rattle.workers.specs.Rule.{lent_at};
 ghost use Rattle.workers.specs.Desk.{lent_of, spare_from};
 
-use crate::words::Load;
+use crate::tray::Tray;
 use parcel::Job;
 use std::collections::LinkedList;
 use std::marker::Model;
@@ -19,7 +19,7 @@ pub enum View {
 }
 
 /// A seat at the table, whoever has it.
-pub type Seat = atomic_table::Seat<Option<Load>, View>;
+pub type Seat = atomic_table::Seat<Tray, View>;
 
 /// The seat of the thread that offers jobs and collects their results. A clause sees which bench it
 /// belongs to and the job that is lent at each place.

@@ -7,23 +7,24 @@ ghost use Rattle.parcel.specs.declared.job.Done.{Done as TheDone};
 ghost use Rattle.workers.specs.Rule.{Row, Kept, lent_at};
 ghost use Rattle.workers.specs.Desk.{IsBench, lent_of, idle};
 ghost use Rattle.workers.specs.Steps.{job_on, Readies, Offers, Claims, Delivers, Collects, OfPlace};
-ghost use Rattle.workers.specs.declared.words.Load.{Load as TheLoad};
-ghost use Rattle.workers.specs.declared.words.Load.TheVariants.{Offered, Answered};
+ghost use Rattle.workers.specs.declared.tray.Load.TheVariants.{Offered, Answered};
 ghost use Rattle.workers.specs.declared.seats.View.TheVariants.{Dispatcher, Idle, Claimed};
 
 use crate::seats::{Seat, View};
+use crate::tray::Tray;
 use crate::words::{
-    ANSWERED, CLAIMED, DELIVERIES, EMPTY, FIRST_PLACE, Load, OFFERED, OFFERS, QUIET, SLEPT_ON, STOP,
+    ANSWERED, CLAIMED, DELIVERIES, EMPTY, FIRST_PLACE, OFFERED, OFFERS, QUIET, SLEPT_ON, STOP,
 };
 use atomic_table::{Play, Shared, Split, TableRule};
+use parcel::{Done, Job};
 
 /// The shared part of the table.
-pub type Words = Shared<Option<Load>, View, usize, Handoff>;
+pub type Words = Shared<Tray, View, usize, Handoff>;
 
 /// The rule of the table. It is told the number of places when it is made.
 pub struct Handoff;
 
-impl TableRule<Option<Load>, View, usize> for Handoff {
+impl TableRule<Tray, View, usize> for Handoff {
     ghost holds = { λ _. Kept };
 
     ghost first = { λ places. Dispatcher places (replicate places None) };
@@ -50,27 +51,27 @@ impl Split<View> for Joining {
     ghost right = { λ _. Idle };
 }
 
-impl Play<Option<Load>, View> for Readying {
+impl Play<Tray, View> for Readying {
     ghost then = { OfPlace (λ k m _. Readies k m) };
 }
 
-impl Play<Option<Load>, View> for Offering {
+impl Play<Tray, View> for Offering {
     ghost then = { OfPlace (λ k m _. Offers k m) };
 }
 
-impl Play<Option<Load>, View> for Claiming {
+impl Play<Tray, View> for Claiming {
     ghost then = { OfPlace Claims };
 }
 
-impl Play<Option<Load>, View> for Delivering {
+impl Play<Tray, View> for Delivering {
     ghost then = { OfPlace (λ _ m _. Delivers m) };
 }
 
-impl Play<Option<Load>, View> for Collecting {
+impl Play<Tray, View> for Collecting {
     ghost then = { OfPlace Collects };
 }
 
-impl Play<Option<Load>, View> for Aside {
+impl Play<Tray, View> for Aside {
     ghost then = { λ _ m _ w. w ≡ m };
 }
 
@@ -173,13 +174,48 @@ pub fn close(words: &Words, seat: &mut Seat)
     words.store::<Aside>(seat, STOP, 1);
 }
 
-/// Puts a job or a result into the slot that the seat took last. It is written there and nowhere else.
+/// Lays a job into the slot that the seat took last.
 #[inline(always)]
-pub fn fill(words: &Words, seat: &mut Seat, k: usize, load: Load)
-    requires { (seat.old.table_id ≡ words.now.table_id) × ((old : Option TheLoad) × (seat.old.me.1 ≡ (k, old) ∷ rest seat.old.me.1)) }
+pub fn lay_job(words: &Words, seat: &mut Seat, k: usize, job: Job)
+    requires { (seat.old.table_id ≡ words.now.table_id) × (seat.old.me.1 ≡ (k, None) ∷ rest seat.old.me.1) }
     ensures bench { seat.new.table_id ≡ seat.old.table_id }
-    ensures slot { seat.new.me ≡ (seat.old.me.0, (k, Some load) ∷ rest seat.old.me.1) }
+    ensures slot { seat.new.me ≡ (seat.old.me.0, (k, Some (Offered job)) ∷ rest seat.old.me.1) }
 {
-    let slot = seat.slot_mut(words, k);
-    *slot = Some(load);
+    let tray = seat.slot_mut(words, k);
+    tray.lay_job(job);
+}
+
+/// Takes the job out of the slot that the seat took last.
+#[inline(always)]
+pub fn take_job(words: &Words, seat: &mut Seat, k: usize) -> Job
+    requires { (seat.old.table_id ≡ words.now.table_id) × ((job : Asked) × (seat.old.me.1 ≡ (k, Some (Offered job)) ∷ rest seat.old.me.1)) }
+    ensures bench { seat.new.table_id ≡ seat.old.table_id }
+    ensures job { seat.old.me.1 ≡ (k, Some (Offered result)) ∷ rest seat.old.me.1 }
+    ensures slot { seat.new.me ≡ (seat.old.me.0, (k, None) ∷ rest seat.old.me.1) }
+{
+    let tray = seat.slot_mut(words, k);
+    tray.take_job()
+}
+
+/// Lays a result into the slot that the seat took last.
+#[inline(always)]
+pub fn lay_result(words: &Words, seat: &mut Seat, k: usize, done: Done)
+    requires { (seat.old.table_id ≡ words.now.table_id) × (seat.old.me.1 ≡ (k, None) ∷ rest seat.old.me.1) }
+    ensures bench { seat.new.table_id ≡ seat.old.table_id }
+    ensures slot { seat.new.me ≡ (seat.old.me.0, (k, Some (Answered done)) ∷ rest seat.old.me.1) }
+{
+    let tray = seat.slot_mut(words, k);
+    tray.lay_result(done);
+}
+
+/// Takes the result out of the slot that the seat took last.
+#[inline(always)]
+pub fn take_result(words: &Words, seat: &mut Seat, k: usize) -> Done
+    requires { (seat.old.table_id ≡ words.now.table_id) × ((done : TheDone) × (seat.old.me.1 ≡ (k, Some (Answered done)) ∷ rest seat.old.me.1)) }
+    ensures bench { seat.new.table_id ≡ seat.old.table_id }
+    ensures result { seat.old.me.1 ≡ (k, Some (Answered result)) ∷ rest seat.old.me.1 }
+    ensures slot { seat.new.me ≡ (seat.old.me.0, (k, None) ∷ rest seat.old.me.1) }
+{
+    let tray = seat.slot_mut(words, k);
+    tray.take_result()
 }

@@ -1,7 +1,5 @@
-//! The words of the table and what they may be, and what a slot holds.
+//! The words of the table and what they may be.
 ghost use Rattle.std.specs.Prelude.{◌≡◌, ◌<◌, ◌%◌, ◌^◌, nat_le};
-
-use parcel::{Done, Job};
 
 /// The word that is 0 at first, and 1 once the bench is stopped.
 pub const STOP: usize = 0;
@@ -48,13 +46,6 @@ pub const RUNG: u64 = 1;
 
 /// The bell of the deliveries: nothing was, and the dispatcher sleeps or is about to.
 pub const SLEPT_ON: u64 = 2;
-
-/// What a slot holds.
-#[derive(Drop)]
-pub enum Load {
-    Offered(Job),
-    Answered(Done),
-}
 
 /// How often the bell of the offers was rung: by this half a worker that sleeps on it sees it change.
 pub fn rings(bell: u64) -> u32

@@ -2,7 +2,7 @@
 ghost use Rattle.std.specs.Prelude.{◌≡◌, ℕ, ◌<◌, [], ◌∷◌, Some, All};
 ghost use Rattle.parcel.specs.Run.{Asked};
 ghost use Rattle.workers.specs.Desk.{IsBench, idle};
-ghost use Rattle.workers.specs.declared.words.Load.TheVariants.{Offered};
+ghost use Rattle.workers.specs.declared.tray.Load.TheVariants.{Offered};
 ghost use Rattle.workers.specs.declared.seats.View.TheVariants.{Claimed};
 
 use crate::bench::Bench;
@@ -10,8 +10,7 @@ use crate::pace::Gate;
 use crate::seats::{DispatchSeat, Seat, WorkSeat};
 use crate::steps::{self, Words};
 use crate::words::{
-    DELIVERIES, FIRST_PLACE, Load, OFFERED, OFFERS, QUIET, RISEN, RUNG, SLEEPER, SLEPT_ON, STOP,
-    rings,
+    DELIVERIES, FIRST_PLACE, OFFERED, OFFERS, QUIET, RISEN, RUNG, SLEEPER, SLEPT_ON, STOP, rings,
 };
 use parcel::run;
 use std::alloc::AllocError;
@@ -151,12 +150,10 @@ fn answer<G: Gate>(words: &Words, seat: &mut Seat, k: usize, gate: &G)
     requires claimed { (job : Asked) × (seat.old.me ≡ (Claimed k job, (k, Some (Offered job)) ∷ [])) }
     ensures { (seat.new.table_id ≡ seat.old.table_id) × (seat.new.me ≡ idle) }
 {
-    let Some(Load::Offered(job)) = words.exchange(seat, k, None) else {
-        unreachable!()
-    };
+    let job = steps::take_job(words, seat, k);
     gate.before(job.ticket());
     let done = run(job);
-    steps::fill(words, seat, k, Load::Answered(done));
+    steps::lay_result(words, seat, k, done);
     steps::deliver(words, seat, k);
     tell(words, seat);
 }

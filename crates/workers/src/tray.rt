@@ -1,0 +1,96 @@
+//! What lies at a place: a job, or the result of one. Neither is copied where it may be moved.
+ghost use Rattle.std.specs.Prelude.{◌≡◌, Option, None, Some, IfOk};
+ghost use Rattle.parcel.specs.Run.{Asked};
+ghost use Rattle.parcel.specs.declared.job.Done.{Done as TheDone};
+ghost use Rattle.workers.specs.declared.tray.Load.TheVariants.{Offered, Answered};
+
+use parcel::{Done, Job};
+use std::alloc::{AllocError, Global};
+use std::marker::Model;
+
+/// What a tray holds, as clauses see it. No value of it is made: it would have room for the greater of
+/// both, and clear what the lesser leaves.
+pub enum Load {
+    Offered(Job),
+    Answered(Done),
+}
+
+/// A tray is empty, or it has a job or a result. It has the memory for both from the start. A clause sees
+/// what it holds.
+#[derive(Drop)]
+pub struct Tray {
+    // Each has room for one.
+    jobs: Vec<Job>,
+    results: Vec<Done>,
+}
+
+impl Model for Tray {
+    ghost use Rattle.std.specs.Prelude.{◌+◌, ◌≤◌, length, vec_capacity, Option};
+    ghost use Rattle.workers.specs.Tray.{load_of};
+    ghost use Rattle.workers.specs.declared.tray.Load.{Load};
+
+    ghost Value = { Option Load };
+
+    ghost view = { λ t. load_of t.jobs.items t.results.items };
+
+    ghost invariant = { λ t. (1 ≤ vec_capacity t.jobs) × (1 ≤ vec_capacity t.results) × (length t.jobs.items + length t.results.items ≤ 1) };
+}
+
+impl Tray {
+    /// An empty one.
+    pub fn new(alloc: Global) -> Result<Tray, AllocError>
+        ensures { IfOk result (λ t. t ≡ None) }
+    {
+        let jobs = Vec::with_capacity(alloc, 1)?;
+        let results = Vec::with_capacity(alloc, 1)?;
+        Ok(Tray { jobs, results })
+    }
+
+    /// Lays a job into an empty tray.
+    #[inline(always)]
+    pub fn lay_job(&mut self, job: Job)
+        requires { self.old ≡ None }
+        ensures { self.new ≡ Some (Offered job) }
+    {
+        let Ok(()) = self.jobs.push(job) else {
+            unreachable!()
+        };
+    }
+
+    /// Takes the job out.
+    #[inline(always)]
+    pub fn take_job(&mut self) -> Job
+        requires { (job : Asked) × (self.old ≡ Some (Offered job)) }
+        ensures job { self.old ≡ Some (Offered result) }
+        ensures empty { self.new ≡ None }
+    {
+        match self.jobs.pop() {
+            Some(job) => job,
+            None => unreachable!(),
+        }
+    }
+
+    /// Lays a result into an empty tray.
+    #[inline(always)]
+    pub fn lay_result(&mut self, done: Done)
+        requires { self.old ≡ None }
+        ensures { self.new ≡ Some (Answered done) }
+    {
+        let Ok(()) = self.results.push(done) else {
+            unreachable!()
+        };
+    }
+
+    /// Takes the result out.
+    #[inline(always)]
+    pub fn take_result(&mut self) -> Done
+        requires { (done : TheDone) × (self.old ≡ Some (Answered done)) }
+        ensures result { self.old ≡ Some (Answered result) }
+        ensures empty { self.new ≡ None }
+    {
+        match self.results.pop() {
+            Some(done) => done,
+            None => unreachable!(),
+        }
+    }
+}
