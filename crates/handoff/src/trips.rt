@@ -40,6 +40,7 @@ fn reading(tree: &mut Tree, k: u16) -> Option<Job>
 }
 
 // Offers a job. Says whether the place took it.
+#[inline(always)]
 fn offer(bench: &Bench, desk: &mut DispatchSeat, g: &Geometry, k: usize, job: Job) -> bool
     requires bench { (desk.old.bench ≡ bench.now) × (k < bench.now.slots) }
     requires lent { AreOfGeometry g.now desk.old.lent }
