@@ -27,6 +27,7 @@ use message::{Msg, Reply};
 
 /// Runs a message on its parcels: the reply is that of the serial server in the state that they and
 /// the standing show, and they show the state after it.
+#[inline(always)]
 pub fn run(job: Job) -> Done
     ensures { IsRun job result }
 {
@@ -47,6 +48,7 @@ pub fn run(job: Job) -> Done
 }
 
 // Runs a message on the parcels of its place, and gives its reply.
+#[inline(never)]
 fn run_on(parcels: &mut Parcels, g: &Geometry, standing: Standing, message: &Msg) -> Reply
     requires { Suits g.now message.now parcels.old }
     ensures step { IsStep g.now (shown_state g.now (place g.now message.now) standing parcels.old) message.now result (shown_state g.now (place g.now message.now) standing parcels.new) }
