@@ -1,16 +1,9 @@
 //! `waffd`: a server for messages about files of 512-byte blocks, as a program.
 #![tactic(auto)]
 
-mod command;
-mod commands;
-mod faults;
-mod lines;
 mod streams;
-#[cfg(test)]
-mod tests;
-mod words;
 
-use command::{command, report_unread_words};
+use command_line::{command, report_unread_words};
 use std::process::ExitCode;
 use std::{env, io};
 use streams::take_stream_numbers;

@@ -1,0 +1,137 @@
+-- How a command ends where it serves nothing, and that words which are wrong ask for nothing.
+use Rattle.std.proofs.Common.{◌≡◌, ◌∙◌, refl, sym, subst, inl, inr, ℕ, List, [], ◌∷◌, true, false, Option, Some, None, codes}
+use Rattle.std.specs.Prelude.{Err, Ok, Result}
+use Rattle.std.specs.List.{list_all}
+use Rattle.std.proofs.KnownBytes.{Appends-nil}
+use Rattle.checkpoint.specs.declared.fault.FormatFault.TheVariants as formatting
+use Rattle.checkpoint.specs.declared.fault.OpenFault.TheVariants as opening
+use Rattle.std.proofs.lemmas.Bool.{and_parts}
+use Rattle.std.proofs.lemmas.Option.{same_Some}
+use Rattle.affinity.specs.declared.geometry.Geometry.{Geometry}
+use Rattle.affinity.specs.Limits.{AreInRange}
+use Rattle.affinity.proofs.Numbers.{geometry_same}
+use Rattle.clap.specs.Words.{IsAmong, Kinds, Row, Text, kind_of}
+use Rattle.clap.specs.declared.error.kind.ErrorKind.{ErrorKind}
+use Rattle.plain.specs.Output.{Writes, IsBeginning}
+use Rattle.plain.specs.State.{empty}
+use Rattle.command_line.proofs.Options.{in_range}
+use Rattle.commands.specs.Ends.{EndsMaking, EndsServing}
+use Rattle.command_line.specs.Ends.{Ends, EndsFormat, EndsHelp, EndsPlain, EndsRefused, EndsShow, status_at}
+use Rattle.commands.specs.Faults.{status_of}
+use Rattle.command_line.specs.Words.{Asks, AsksFormat, AsksNoService, AsksPlain, AsksShow, IsNamed, IsReason, IsRefused, command_of, findings, is_mistake}
+use Rattle.commands.specs.declared.faults.Fault.{Fault}
+use Rattle.commands.specs.declared.faults.Fault.TheVariants.{Read, Write, GeometryOutOfRange, OutOfMemory, Device, Format as ByFormat, Open as ByOpen}
+use Rattle.command_line.specs.declared.words.Refusal.TheVariants.{Fault as by_fault, Words as by_words}
+use Rattle.clap.specs.declared.error.Error.{Error}
+use Rattle.command_line.specs.declared.words.Request.{Request}
+use Rattle.command_line.specs.declared.words.Request.TheVariants.{Help, Plain, Format, Show}
+
+-- ---- words that are wrong
+
+mistake_among : (kinds : Kinds) (k : ErrorKind) → list_all is_mistake kinds ≡ true → IsAmong k kinds → is_mistake k ≡ true
+mistake_among [] k all among = absurd among
+mistake_among (x ∷ xs) k all among = elim among [
+  | inl is ↦ rw is (and_parts (is_mistake x) (list_all is_mistake xs) all).0
+  | inr later ↦ mistake_among xs k (and_parts (is_mistake x) (list_all is_mistake xs) all).1 later
+]
+
+pub ask_for_nothing : (words : List Text) (request : Request) → Asks words request → IsRefused words → ⊥
+ask_for_nothing words (Plain g) asks (inl wrong) = wrong.0 asks.0
+ask_for_nothing words (Plain g) asks (inr out_of_range) = out_of_range.2 (subst AreInRange asks.2 (in_range g))
+ask_for_nothing words (Format path g) asks (inl wrong) = wrong.0 asks.0
+ask_for_nothing words (Format path g) asks (inr out_of_range) = out_of_range.2 (subst AreInRange asks.3 (in_range g))
+ask_for_nothing words (Show path) asks (inl wrong) = wrong.0 asks.0
+ask_for_nothing words (Show path) asks (inr out_of_range) = out_of_range.1 asks.1
+ask_for_nothing words (Help text) asks (inl wrong) =
+    let bad : true ≡ false = sym (mistake_among _ (kind_of text) wrong.1 asks.0) ∙ asks.1 in
+    cc
+ask_for_nothing words (Help text) asks (inr out_of_range) = subst (IsAmong (kind_of text)) out_of_range.0 asks.0
+
+-- ---- words that ask for no service
+
+pub refused_by : (words : List Text) (fault : Fault) → IsReason words (by_fault fault) → EndsRefused (status_of fault)
+refused_by words OutOfMemory reason = inr refl
+refused_by words GeometryOutOfRange reason = inl refl
+refused_by words fault reason = absurd reason
+
+pub helped : (words : List Text) (request : Request) (end : Result (Unit {0}) Fault) (input left old new : Option (List ℕ)) → AsksNoService words → Asks words request
+    → Ends request end input left old new → EndsHelp (status_at end) × (left ≡ input)
+helped words (Plain g) end input left old new no_service asks ends = absurd (no_service asks.0)
+helped words (Format path g) end input left old new no_service asks ends = absurd (no_service asks.0)
+helped words (Show path) end input left old new no_service asks ends = absurd (no_service asks.0)
+helped words (Help text) (Ok _) input left old new no_service asks ends = (inl refl, ends)
+helped words (Help text) (Err Write) input left old new no_service asks ends = (inr (inl refl), ends)
+helped words (Help text) (Err fault) input left old new no_service asks ends = absurd ends
+
+-- ---- a fault has a status of its own
+
+pub is_told : (fault : Fault) → status_of fault ≡ 0 → ⊥
+is_told Read none = cc
+is_told Write none = cc
+is_told GeometryOutOfRange none = cc
+is_told OutOfMemory none = cc
+is_told Device none = cc
+is_told (ByFormat formatting.OutOfMemory) none = cc
+is_told (ByFormat fault) none = cc
+is_told (ByOpen opening.OutOfMemory) none = cc
+is_told (ByOpen fault) none = cc
+
+-- ---- want of memory while the words are read
+
+nothing_written : (g : Geometry) (input old : Option (List ℕ)) → Writes input old old (IsBeginning g empty)
+nothing_written g None old = tt
+nothing_written g (Some bytes) old = ([], Appends-nil old, (0, refl))
+
+pub served_nothing : (words : List Text) (g : Geometry) (fault : Fault) (input old : Option (List ℕ)) → AsksPlain words g → IsReason words (by_fault fault)
+    → EndsPlain g (status_of fault) input input old old
+served_nothing words g OutOfMemory input old asks reason = (Err OutOfMemory, refl, nothing_written g input old)
+served_nothing words g GeometryOutOfRange input old asks reason = absurd (reason.2 (subst AreInRange asks.2 (in_range g)))
+served_nothing words g fault input old asks reason = absurd reason
+
+pub formatted_nothing : (words : List Text) (path : List ℕ) (g : Geometry) (fault : Fault) (old : Option (List ℕ)) → AsksFormat words path g → IsReason words (by_fault fault)
+    → EndsFormat g (status_of fault) old old
+formatted_nothing words path g OutOfMemory old asks reason = (Err OutOfMemory, refl, refl)
+formatted_nothing words path g GeometryOutOfRange old asks reason = absurd (reason.2 (subst AreInRange asks.3 (in_range g)))
+formatted_nothing words path g fault old asks reason = absurd reason
+
+pub shown_nothing : (words : List Text) (path : List ℕ) (fault : Fault) (old : Option (List ℕ)) → AsksShow words path → IsReason words (by_fault fault)
+    → EndsShow (status_of fault) old old
+shown_nothing words path OutOfMemory old asks reason = (Err OutOfMemory, refl, refl)
+shown_nothing words path GeometryOutOfRange old asks reason = absurd (reason.1 asks.1)
+shown_nothing words path fault old asks reason = absurd reason
+
+-- ---- what the words ask for is done
+
+pub served : (words : List Text) (request : Request) (g : Geometry) (end : Result (Unit {0}) Fault) (input left old new : Option (List ℕ)) → Asks words request → AsksPlain words g
+    → Ends request end input left old new → EndsPlain g (status_at end) input left old new
+served words (Plain h) g end input left old new given asks ends =
+    (end, refl, subst (λ k. EndsServing k end input left old new) (geometry_same h g (given.2 ∙ sym asks.2)) ends)
+served words (Format path h) g end input left old new given asks ends = absurd (asks.1.0 given.1)
+served words (Show path) g end input left old new given asks ends = absurd (asks.1.1 given.1)
+served words (Help text) g end input left old new given asks ends = absurd (subst (IsAmong (kind_of text)) asks.0 given.0)
+
+-- a command has one name
+two_names : (name other : Text) (command : Option (Text × List Row)) → IsNamed name command → IsNamed other command → name ≡ other
+two_names name other command named called = same_Some _ _ (sym named ∙ called)
+
+pub formatted : (words : List Text) (request : Request) (path : List ℕ) (g : Geometry) (end : Result (Unit {0}) Fault) (input left old new : Option (List ℕ)) → Asks words request
+    → AsksFormat words path g → Ends request end input left old new → EndsFormat g (status_at end) old new × (left ≡ input)
+formatted words (Plain h) path g end input left old new given asks ends = absurd (given.1.0 asks.1)
+formatted words (Format there h) path g end input left old new given asks ends =
+    ((end, refl, subst (λ k. EndsMaking k end old new) (geometry_same h g (given.3 ∙ sym asks.3)) ends.1), ends.0)
+formatted words (Show there) path g end input left old new given asks ends =
+    let same : codes "format" ≡ codes "show" = two_names _ _ (command_of words) asks.1 given.1 in cc
+formatted words (Help text) path g end input left old new given asks ends = absurd (subst (IsAmong (kind_of text)) asks.0 given.0)
+
+pub shown : (words : List Text) (request : Request) (path : List ℕ) (end : Result (Unit {0}) Fault) (input left old new : Option (List ℕ)) → Asks words request
+    → AsksShow words path → Ends request end input left old new → EndsShow (status_at end) old new × (left ≡ input)
+shown words (Plain h) path end input left old new given asks ends = absurd (given.1.1 asks.1)
+shown words (Format there h) path end input left old new given asks ends =
+    let same : codes "format" ≡ codes "show" = two_names _ _ (command_of words) given.1 asks.1 in cc
+shown words (Show there) path end input left old new given asks ends = ((end, refl, ends.1), ends.0)
+shown words (Help text) path end input left old new given asks ends = absurd (subst (IsAmong (kind_of text)) asks.0 given.0)
+
+-- ---- words that name a command have no mistakes
+
+pub no_mistake : (words : List Text) (error : Error) → findings words ≡ [] → IsReason words (by_words error) → ⊥
+no_mistake words error nothing reason = subst (IsAmong (kind_of error)) nothing reason.0

@@ -1,0 +1,43 @@
+-- How a call ends, and with which status.
+use Rattle.std.specs.Prelude.{◌≡◌, ◌⊎◌, ℕ, List, Option, Result, Ok, Err}
+use Rattle.affinity.specs.declared.geometry.Geometry.{Geometry}
+use Rattle.commands.specs.Ends.{EndsMaking, EndsServing, EndsShowing}
+use Rattle.commands.specs.Faults.{status_of}
+use Rattle.commands.specs.declared.faults.Fault.{Fault}
+use Rattle.commands.specs.declared.faults.Fault.TheVariants.{Write, OutOfMemory}
+use Rattle.command_line.specs.declared.words.Request.{Request}
+use Rattle.command_line.specs.declared.words.Request.TheVariants.{Help, Plain, Format, Show}
+
+-- What was written where the request came to this end, and what is left of the input: that of its command.
+-- Help reads nothing. Its text, and whether it was written, is open.
+abbrev pub Ends : Request → Result (Unit {0}) Fault → Option (List ℕ) → Option (List ℕ) → Option (List ℕ) → Option (List ℕ) → Type 0
+Ends (Help text) (Ok _) input left old new = left ≡ input
+Ends (Help text) (Err Write) input left old new = left ≡ input
+Ends (Help text) (Err _) input left old new = ⊥
+Ends (Plain g) end input left old new = EndsServing g end input left old new
+Ends (Format path g) end input left old new = (left ≡ input) × EndsMaking g end old new
+Ends (Show path) end input left old new = (left ≡ input) × EndsShowing end old new
+
+abbrev pub status_at : Result (Unit {0}) Fault → ℕ
+status_at (Ok _) = 0
+status_at (Err fault) = status_of fault
+
+-- The service came to an end that has this status.
+abbrev pub EndsPlain : Geometry → ℕ → Option (List ℕ) → Option (List ℕ) → Option (List ℕ) → Option (List ℕ) → Type 0
+EndsPlain g status input left old new = (end : Result (Unit {0}) Fault) × (status ≡ status_at end) × EndsServing g end input left old new
+
+-- The making of a device came to an end that has this status.
+abbrev pub EndsFormat : Geometry → ℕ → Option (List ℕ) → Option (List ℕ) → Type 0
+EndsFormat g status old new = (end : Result (Unit {0}) Fault) × (status ≡ status_at end) × EndsMaking g end old new
+
+-- The telling of what a device holds came to an end that has this status.
+abbrev pub EndsShow : ℕ → Option (List ℕ) → Option (List ℕ) → Type 0
+EndsShow status old new = (end : Result (Unit {0}) Fault) × (status ≡ status_at end) × EndsShowing end old new
+
+-- Help was printed, or could not be written, or there was no memory.
+abbrev pub EndsHelp : ℕ → Type 0
+EndsHelp status = (status ≡ 0) ⊎ ((status ≡ status_of Write) ⊎ (status ≡ status_of OutOfMemory))
+
+-- The words were refused, or there was no memory to read them.
+abbrev pub EndsRefused : ℕ → Type 0
+EndsRefused status = (status ≡ 2) ⊎ (status ≡ status_of OutOfMemory)

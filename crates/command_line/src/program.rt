@@ -1,0 +1,80 @@
+//! The program over a reader and two writers.
+ghost use Rattle.std.specs.Prelude.{◌≡◌, ◌⊎◌, ℕ, List, [], ◌∷◌, codes, map, string_bytes};
+ghost use Rattle.affinity.specs.Geometry.{standard};
+ghost use Rattle.command_line.specs.Ends.{Ends, EndsFormat, EndsHelp, EndsPlain, EndsRefused, EndsShow};
+ghost use Rattle.command_line.specs.Words.{AsksFormat, AsksHelp, AsksNoService, AsksPlain, AsksShow, IsRefused};
+ghost use Rattle.affinity.specs.declared.geometry.Geometry.{Geometry};
+
+use crate::words::{Refusal, Request, read_words};
+use commands::{Fault, WRONG_WORDS, answer_input, format_device, report, show_device};
+use std::alloc::Global;
+use std::fs::File;
+use std::io::{Read, Write};
+use std::rt::Files;
+
+/// Does what was asked for, from `r` to `w`.
+pub fn run<T: Files<File = File>, R: Read, W: Write>(
+    rt: &T,
+    alloc: Global,
+    request: Request<'_>,
+    r: &mut R,
+    w: &mut W,
+) -> Result<(), Fault>
+    ensures { Ends request.entry result (R.remaining r.old) (R.remaining r.new)
+        (W.contents w.old) (W.contents w.new) }
+{
+    match request {
+        Request::Help(text) => {
+            write!(w, "{text}").map_err(|_| Fault::Write)?;
+            w.flush().map_err(|_| Fault::Write)
+        }
+        Request::Plain(geometry) => answer_input(alloc, &geometry, r, w),
+        Request::Format(path, geometry) => format_device(rt, alloc, path, geometry, w),
+        Request::Show(path) => show_device(rt, alloc, path, w),
+    }
+}
+
+/// Reads the words, the program's own name first, does what they ask for from `r` to `w`, prints a
+/// fault on `e`, and answers the exit status. Files are those of `rt`.
+pub fn command<T: Files<File = File>, R: Read, W: Write, E: Write>(
+    rt: &T,
+    alloc: Global,
+    words: &[String],
+    r: &mut R,
+    w: &mut W,
+    e: &mut E,
+) -> u8
+    ensures served { (g : Geometry) → AsksPlain (map string_bytes words.now) g
+        → EndsPlain g result (R.remaining r.old) (R.remaining r.new)
+        (W.contents w.old) (W.contents w.new) }
+    ensures plain { (program : List ℕ) → map string_bytes words.now ≡ program ∷ codes "plain" ∷ []
+        → EndsPlain standard result (R.remaining r.old) (R.remaining r.new)
+        (W.contents w.old) (W.contents w.new) }
+    ensures formatted { (path : List ℕ) → (g : Geometry) → AsksFormat (map string_bytes words.now) path g
+        → EndsFormat g result (W.contents w.old) (W.contents w.new)
+        × (R.remaining r.new ≡ R.remaining r.old) }
+    ensures shown { (path : List ℕ) → AsksShow (map string_bytes words.now) path
+        → EndsShow result (W.contents w.old) (W.contents w.new)
+        × (R.remaining r.new ≡ R.remaining r.old) }
+    ensures help { AsksHelp (map string_bytes words.now)
+        → EndsHelp result × (R.remaining r.new ≡ R.remaining r.old) }
+    ensures refused { IsRefused (map string_bytes words.now)
+        → EndsRefused result × (r.new ≡ r.old) × (w.new ≡ w.old) }
+    ensures unserved { AsksNoService (map string_bytes words.now)
+        → (EndsHelp result × (R.remaining r.new ≡ R.remaining r.old))
+        ⊎ (EndsRefused result × (r.new ≡ r.old) × (w.new ≡ w.old)) }
+    ensures quiet { result ≡ 0 → e.new ≡ e.old }
+{
+    let request = match read_words(alloc, words) {
+        Ok(request) => request,
+        Err(Refusal::Fault(fault)) => return report(fault, e),
+        Err(Refusal::Words(error)) => {
+            let _ = write!(e, "{error}");
+            return WRONG_WORDS;
+        }
+    };
+    match run(rt, alloc, request, r, w) {
+        Ok(()) => 0,
+        Err(fault) => report(fault, e),
+    }
+}

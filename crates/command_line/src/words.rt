@@ -1,0 +1,208 @@
+//! The words that the program is called with, and what they ask for.
+ghost use Rattle.std.specs.Prelude.{◌≡◌, IfOk, IfErr, false, map, string_bytes};
+ghost use Rattle.clap.specs.Words.{app_of, found_of, new_app, rows_of, rule_of, subcommand_rows_of, with_rule};
+ghost use Rattle.command_line.specs.Words.{Asks, GivesGeometry, IsReason, IsRequested, answer_of, device_in, device_rule, no_memory, number_in, number_rule, numbers_in, waffd, with_numbers};
+
+use affinity::{BadGeometry, Geometry};
+use clap::error::ErrorKind;
+use clap::{Arg, ArgMatches, Command, value_parser};
+use commands::Fault;
+use std::alloc::{AllocError, Global};
+
+// What help says of the commands.
+const PLAIN: &str = "Answers the messages on standard input, one line each, from an empty state on";
+
+const FORMAT: &str = "Makes a device of an empty state in a file, instead of a file that is there";
+
+const SHOW: &str = "Tells what the device in a file holds, and leaves it as it is";
+
+/// What help says of the file of a device.
+const DEVICE: &str = "The file of the device";
+
+// What help says of the options of a geometry.
+const AGGREGATES: &str = "Aggregates, 1 to 4 [default: 1]";
+
+const VOLUMES: &str = "Volumes of each aggregate, 1 to 8 [default: 4]";
+
+const STRIPES: &str = "Stripes of each volume, 1 to 8 [default: 4]";
+
+const WIDTH: &str = "Blocks in a row in one stripe, 1 to 64 [default: 4]";
+
+const FILES: &str = "Files of each volume, 1 to 64 [default: 16]";
+
+const BLOCKS: &str = "Blocks of each file, 1 to 256 [default: 64]";
+
+const QUOTA: &str = "Blocks that a stripe can hold, 1 to 64 [default: 64]";
+
+const HALF: &str = "Records in each half of the log, 4 to 1024 [default: 256]";
+
+/// What the words ask for.
+#[derive(Drop)]
+pub enum Request<'a> {
+    /// Print this text of `clap`.
+    Help(clap::Error),
+    /// Serve standard input to standard output, without a device.
+    Plain(Geometry),
+    /// Make a device of this geometry in the file of this path.
+    Format(&'a str, Geometry),
+    /// Tell what the device in the file of this path holds.
+    Show(&'a str),
+}
+
+/// Why the words give no request.
+#[derive(Drop)]
+pub enum Refusal {
+    /// `clap` says what is wrong with them.
+    Words(clap::Error),
+    /// They are good, and something else is not.
+    Fault(Fault),
+}
+
+impl From<AllocError> for Refusal {
+    ghost from_gives = { λ _ refusal. refusal ≡ no_memory };
+
+    fn from(_error: AllocError) -> Refusal {
+        Refusal::Fault(Fault::OutOfMemory)
+    }
+}
+
+/// What an error of `clap` stands for: help, a mistake in the words, or want of memory.
+fn answered<'a>(error: clap::Error) -> Result<Request<'a>, Refusal>
+    ensures { result ≡ answer_of error }
+{
+    if error.kind() == ErrorKind::OutOfMemory {
+        return Err(Refusal::Fault(Fault::OutOfMemory));
+    }
+    if error.use_stderr() {
+        return Err(Refusal::Words(error));
+    }
+    Ok(Request::Help(error))
+}
+
+/// An option that takes a number from 0 to 65535.
+fn number<'a>(alloc: Global, name: &'a str, help: &'a str) -> Arg<'a>
+    ensures rule { rule_of result ≡ number_rule name.entry.now }
+    ensures local { result.global ≡ false }
+{
+    Arg::new(alloc, name)
+        .long(name)
+        .value_name("N")
+        .value_parser(value_parser!(u16))
+        .help(help)
+}
+
+/// The argument that tells the file of a device. It has to be given.
+fn device<'a>(alloc: Global) -> Arg<'a>
+    ensures rule { rule_of result ≡ device_rule }
+    ensures local { result.global ≡ false }
+{
+    Arg::new(alloc, "device")
+        .value_name("DEVICE")
+        .required(true)
+        .help(DEVICE)
+}
+
+/// The command with the options of a geometry added.
+fn with_geometry<'a>(alloc: Global, command: Command<'a>) -> Result<Command<'a>, AllocError>
+    ensures { IfOk result (λ c. app_of c ≡ with_numbers (app_of command.entry)) }
+{
+    command
+        .arg(number(alloc, "aggregates", AGGREGATES))?
+        .arg(number(alloc, "volumes", VOLUMES))?
+        .arg(number(alloc, "stripes", STRIPES))?
+        .arg(number(alloc, "width", WIDTH))?
+        .arg(number(alloc, "files", FILES))?
+        .arg(number(alloc, "blocks", BLOCKS))?
+        .arg(number(alloc, "quota", QUOTA))?
+        .arg(number(alloc, "half", HALF))
+}
+
+/// A command with the file of a device.
+fn of_device<'a>(alloc: Global, name: &'a str, about: &'a str) -> Result<Command<'a>, AllocError>
+    ensures { IfOk result (λ c. app_of c ≡ with_rule (new_app name.entry.now) device_rule) }
+{
+    Command::new(alloc, name).about(about).arg(device(alloc))
+}
+
+/// The commands of the program, each with its options.
+fn commands<'a>(alloc: Global) -> Result<Command<'a>, AllocError>
+    ensures { IfOk result (λ command. app_of command ≡ waffd) }
+{
+    let plain = with_geometry(alloc, Command::new(alloc, "plain").about(PLAIN))?;
+    let format = with_geometry(alloc, of_device(alloc, "format", FORMAT)?)?;
+    let show = of_device(alloc, "show", SHOW)?;
+    Command::new(alloc, "waffd")
+        .about("A server for messages about files of 512-byte blocks")
+        .subcommand_required(true)
+        .arg_required_else_help(true)
+        .subcommand(plain)?
+        .subcommand(format)?
+        .subcommand(show)
+}
+
+/// The number that was given to an option, or the program's own.
+fn number_given(options: &ArgMatches<'_>, name: &str, standard: u16) -> u16
+    ensures { result ≡ number_in (rows_of (found_of options.now)) name.now standard }
+{
+    options.get_one::<u16>(name).unwrap_or(standard)
+}
+
+/// The eight numbers of the geometry that the options ask for.
+fn numbers_given(options: &ArgMatches<'_>) -> [u16; 8]
+    ensures { result ≡ numbers_in (rows_of (found_of options.now)) }
+{
+    let standard = Geometry::default();
+    [
+        number_given(options, "aggregates", standard.aggregates),
+        number_given(options, "volumes", standard.volumes),
+        number_given(options, "stripes", standard.stripes),
+        number_given(options, "width", standard.width),
+        number_given(options, "files", standard.files),
+        number_given(options, "blocks", standard.blocks),
+        number_given(options, "quota", standard.quota),
+        number_given(options, "half", standard.half),
+    ]
+}
+
+/// The geometry that the options ask for.
+fn geometry_given(options: &ArgMatches<'_>) -> Result<Geometry, Refusal>
+    ensures { GivesGeometry (numbers_in (rows_of (found_of options.now))) result }
+{
+    match Geometry::new(numbers_given(options)) {
+        Ok(geometry) => Ok(geometry),
+        Err(BadGeometry) => Err(Refusal::Fault(Fault::GeometryOutOfRange)),
+    }
+}
+
+/// The file of the device that was given.
+fn device_given<'a>(options: &ArgMatches<'a>) -> &'a str
+    ensures { result.now ≡ device_in (rows_of (found_of options.now)) }
+{
+    options.get_str("device").unwrap_or("")
+}
+
+/// What the words ask for, where `clap` found nothing wrong with them.
+fn requested<'a>(matches: &ArgMatches<'a>) -> Result<Request<'a>, Refusal>
+    ensures { IsRequested (subcommand_rows_of matches.now) result }
+{
+    match matches.subcommand() {
+        Some(("format", options)) => Ok(Request::Format(
+            device_given(options),
+            geometry_given(options)?,
+        )),
+        Some(("show", options)) => Ok(Request::Show(device_given(options))),
+        Some((_plain, options)) => Ok(Request::Plain(geometry_given(options)?)),
+        None => Ok(Request::Plain(Geometry::default())),
+    }
+}
+
+/// What the words ask for, the program's own name first.
+pub fn read_words<'a>(alloc: Global, words: &'a [String]) -> Result<Request<'a>, Refusal>
+    ensures ok { IfOk result (Asks (map string_bytes words.now)) }
+    ensures err { IfErr result (IsReason (map string_bytes words.now)) }
+{
+    match commands(alloc)?.try_get_matches_from(words) {
+        Ok(matches) => requested(&matches),
+        Err(error) => answered(error),
+    }
+}

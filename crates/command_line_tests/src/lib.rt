@@ -1,0 +1,9 @@
+//! Tests of the command line by its public surface.
+#![tactic(auto)]
+
+#[cfg(test)]
+mod calls;
+#[cfg(test)]
+mod devices;
+#[cfg(test)]
+mod serving;

@@ -1,0 +1,46 @@
+-- How a command ends: what was written, and what was read.
+use Rattle.std.specs.Prelude.{◌≡◌, ℕ, List, Option, Result, Ok, Err}
+use Rattle.std.specs.Io.KnownBytes.{Appends, IsAtEnd}
+use Rattle.affinity.specs.declared.geometry.Geometry.{Geometry}
+use Rattle.plain.specs.State.{empty}
+use Rattle.plain.specs.Output.{serial_out, AnswersWholeLines, IsBeginning, Writes}
+use Rattle.checkpoint.specs.declared.inspecting.Shown.{Shown}
+use Rattle.checkpoint.specs.Refusals.{IsRefused}
+use Rattle.checkpoint.specs.Shown.{IsShown}
+use Rattle.checkpoint.specs.declared.fault.FormatFault.TheVariants as formatting
+use Rattle.commands.specs.Lines.{formatted_line, shown_lines}
+use Rattle.commands.specs.declared.faults.Fault.{Fault}
+use Rattle.commands.specs.declared.faults.Fault.TheVariants.{Read, Write, OutOfMemory, Device, Format, Open}
+
+-- What was written where the service came to this end, and what is left of the input: all that the serial server writes for the input, and nothing is left; the answers to all whole lines that were taken; the first lines of the output. A failed write leaves it open.
+abbrev pub EndsServing : Geometry → Result (Unit {0}) Fault → Option (List ℕ) → Option (List ℕ) → Option (List ℕ) → Option (List ℕ) → Type 0
+EndsServing g (Ok _) input left old new = Writes input old new (λ read written. written ≡ serial_out g empty read) × IsAtEnd left
+EndsServing g (Err Read) input left old new = Writes input old new (AnswersWholeLines g empty left)
+EndsServing g (Err Write) input left old new = Unit {0}
+EndsServing g (Err OutOfMemory) input left old new = Writes input old new (IsBeginning g empty)
+EndsServing g (Err _) input left old new = ⊥
+
+-- A device was made and its length told, or it was not made and nothing was written. A failed write leaves open what was written. What the file holds is open.
+abbrev pub EndsMaking : Geometry → Result (Unit {0}) Fault → Option (List ℕ) → Option (List ℕ) → Type 0
+EndsMaking g (Ok _) old new = Appends old new (formatted_line g)
+EndsMaking g (Err Write) old new = Unit {0}
+EndsMaking g (Err Device) old new = new ≡ old
+EndsMaking g (Err OutOfMemory) old new = new ≡ old
+EndsMaking g (Err (Format formatting.TooShort)) old new = ⊥
+EndsMaking g (Err (Format fault)) old new = new ≡ old
+EndsMaking g (Err _) old new = ⊥
+
+-- What a device holds was told, or nothing was. A failed write leaves open what was written.
+abbrev pub EndsShowing : Result (Unit {0}) Fault → Option (List ℕ) → Option (List ℕ) → Type 0
+EndsShowing (Ok _) old new = (shown : Shown) × Appends old new (shown_lines shown)
+EndsShowing (Err Write) old new = Unit {0}
+EndsShowing (Err Device) old new = new ≡ old
+EndsShowing (Err OutOfMemory) old new = new ≡ old
+EndsShowing (Err (Open fault)) old new = new ≡ old
+EndsShowing (Err _) old new = ⊥
+
+-- The same where the device has these bytes: what is told is what it holds, and a refusal is that of its bytes.
+abbrev pub TellsOf : List ℕ → Result (Unit {0}) Fault → Option (List ℕ) → Option (List ℕ) → Type 0
+TellsOf bytes (Ok _) old new = (shown : Shown) × IsShown bytes shown × Appends old new (shown_lines shown)
+TellsOf bytes (Err (Open fault)) old new = IsRefused bytes fault
+TellsOf bytes (Err _) old new = Unit {0}

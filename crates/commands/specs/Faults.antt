@@ -1,0 +1,39 @@
+-- The exit status of each fault.
+use Rattle.std.specs.Prelude.{ℕ}
+use Rattle.std.specs.declared.io.ErrorKind.{ErrorKind}
+use Rattle.std.specs.declared.io.ErrorKind.TheVariants as kind
+use Rattle.disk.specs.declared.fault.FileFault.{FileFault}
+use Rattle.disk.specs.declared.fault.FileFault.TheVariants as file
+use Rattle.checkpoint.specs.declared.fault.FormatFault.TheVariants as formatting
+use Rattle.checkpoint.specs.declared.fault.OpenFault.TheVariants as opening
+use Rattle.plain.specs.declared.fault.PlainFault.{PlainFault}
+use Rattle.plain.specs.declared.fault.PlainFault.TheVariants as plain
+use Rattle.commands.specs.declared.faults.Fault.{Fault}
+use Rattle.commands.specs.declared.faults.Fault.TheVariants.{Read, Write, GeometryOutOfRange, OutOfMemory, Device, Format, Open}
+
+abbrev pub status_of : Fault → ℕ
+status_of Read = 1
+status_of Write = 1
+status_of GeometryOutOfRange = 2
+status_of OutOfMemory = 3
+status_of Device = 1
+status_of (Format formatting.OutOfMemory) = 3
+status_of (Format _) = 1
+status_of (Open opening.OutOfMemory) = 3
+status_of (Open _) = 1
+
+-- The exit status where the words of the call could not be read: 3 for want of memory, and else that of wrong words, since one of them is not UTF-8.
+abbrev pub status_without_words : ErrorKind → ℕ
+status_without_words kind.OutOfMemory = status_of OutOfMemory
+status_without_words _ = 2
+
+-- the fault of the program where the serial server ends by one of its own
+abbrev pub of_plain : PlainFault → Fault
+of_plain plain.Read = Read
+of_plain plain.Write = Write
+of_plain plain.OutOfMemory = OutOfMemory
+
+-- the fault of the program where the file of a device can't be made or opened
+abbrev pub of_file : FileFault → Fault
+of_file file.Device = Device
+of_file file.OutOfMemory = OutOfMemory

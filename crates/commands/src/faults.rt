@@ -1,0 +1,98 @@
+//! What can go wrong once the words are read: the text that is printed of it, and the exit status.
+ghost use Rattle.std.specs.Prelude.{◌≡◌};
+ghost use Rattle.commands.specs.Faults.{status_of, of_file, of_plain};
+ghost use Rattle.commands.specs.declared.faults.Fault.TheVariants.{Format, Open, OutOfMemory};
+
+use checkpoint::{FormatFault, OpenFault};
+use disk::FileFault;
+use plain::PlainFault;
+use std::alloc::AllocError;
+use thiserror::Error;
+
+/// Why a command ended without what was asked of it.
+#[derive(Clone, Copy, Debug, PartialEq, Eq, Error)]
+pub enum Fault {
+    /// The input could not be read.
+    #[error("read fault")]
+    Read,
+    /// The output could not be written.
+    #[error("write fault")]
+    Write,
+    /// One of the numbers of the geometry is out of its range.
+    #[error("geometry out of range")]
+    GeometryOutOfRange,
+    /// There was no memory.
+    #[error("out of memory")]
+    OutOfMemory,
+    /// The file of a device could not be made or opened.
+    #[error("device fault")]
+    Device,
+    /// The device could not be made in its file.
+    #[error(transparent)]
+    Format(FormatFault),
+    /// The device in the file could not be opened.
+    #[error(transparent)]
+    Open(OpenFault),
+}
+
+impl Fault {
+    /// The exit status that tells of the fault.
+    pub fn status(self) -> u8
+        ensures { result ≡ status_of self }
+    {
+        match self {
+            Fault::GeometryOutOfRange => 2,
+            Fault::OutOfMemory
+            | Fault::Format(FormatFault::OutOfMemory)
+            | Fault::Open(OpenFault::OutOfMemory) => 3,
+            Fault::Read | Fault::Write | Fault::Device | Fault::Format(_) | Fault::Open(_) => 1,
+        }
+    }
+}
+
+impl From<AllocError> for Fault {
+    ghost from_gives = { λ _ fault. fault ≡ OutOfMemory };
+
+    fn from(_error: AllocError) -> Fault {
+        Fault::OutOfMemory
+    }
+}
+
+impl From<PlainFault> for Fault {
+    ghost from_gives = { λ from fault. fault ≡ of_plain from };
+
+    fn from(fault: PlainFault) -> Fault {
+        match fault {
+            PlainFault::Read => Fault::Read,
+            PlainFault::Write => Fault::Write,
+            PlainFault::OutOfMemory => Fault::OutOfMemory,
+        }
+    }
+}
+
+impl From<FileFault> for Fault {
+    ghost from_gives = { λ from fault. fault ≡ of_file from };
+
+    fn from(fault: FileFault) -> Fault {
+        match fault {
+            FileFault::Device => Fault::Device,
+            FileFault::OutOfMemory => Fault::OutOfMemory,
+        }
+    }
+}
+
+impl From<FormatFault> for Fault {
+    ghost from_gives = { λ from fault. fault ≡ Format from };
+
+    fn from(fault: FormatFault) -> Fault {
+        Fault::Format(fault)
+    }
+}
+
+impl From<OpenFault> for Fault {
+    ghost from_gives = { λ from fault. fault ≡ Open from };
+
+    fn from(fault: OpenFault) -> Fault {
+        Fault::Open(fault)
+    }
+}

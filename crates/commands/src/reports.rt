@@ -1,0 +1,37 @@
+//! What is told of a fault, and the exit status.
+ghost use Rattle.std.specs.Prelude.{◌≡◌};
+ghost use Rattle.std.specs.IoError.{error_kind};
+ghost use Rattle.commands.specs.Faults.{status_of, status_without_words};
+
+use crate::faults::Fault;
+use std::io;
+use std::io::{ErrorKind, Write};
+
+/// The exit status where the words are wrong.
+pub const WRONG_WORDS: u8 = 2;
+
+/// What is said of words that are not UTF-8. `clap` says so elsewhere, but here it takes text alone.
+const NOT_TEXT: &str = "error: invalid UTF-8 was detected in one or more arguments
+
+For more information, try '--help'.
+";
+
+/// Prints a fault on `e`, and answers its exit status. A write that fails is not looked at.
+pub fn report<E: Write>(fault: Fault, e: &mut E) -> u8
+    ensures { result ≡ status_of fault }
+{
+    let _ = write!(e, "waffd: {fault}\n");
+    fault.status()
+}
+
+/// Prints on `e` why the program has no words, and answers the exit status: one of them is not UTF-8,
+/// or there was no memory for them. A write that fails is not looked at.
+pub fn report_unread_words<E: Write>(error: &io::Error, e: &mut E) -> u8
+    ensures { result ≡ status_without_words (error_kind error.now) }
+{
+    if error.kind() == ErrorKind::OutOfMemory {
+        return report(Fault::OutOfMemory, e);
+    }
+    let _ = write!(e, "{NOT_TEXT}");
+    WRONG_WORDS
+}

@@ -1,0 +1,21 @@
+//! `waffd plain`: the serial server, without a device.
+ghost use Rattle.commands.specs.Ends.{EndsServing};
+
+use crate::faults::Fault;
+use affinity::Geometry;
+use plain::serve_from;
+use std::alloc::Global;
+use std::io::{Read, Write};
+
+/// Answers the messages of `r` on `w`, from the state in which there is nothing.
+pub fn answer_input<R: Read, W: Write>(
+    alloc: Global,
+    geometry: &Geometry,
+    r: &mut R,
+    w: &mut W,
+) -> Result<(), Fault>
+    ensures { EndsServing geometry.now result (R.remaining r.old) (R.remaining r.new)
+        (W.contents w.old) (W.contents w.new) }
+{
+    Ok(serve_from(alloc, geometry, r, w)?)
+}

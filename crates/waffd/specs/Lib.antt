@@ -1,4 +1,0 @@
-pub mod Faults
-pub mod Words
-pub mod Lines
-pub mod Ends
