@@ -14,6 +14,8 @@ mod trees;
 
 #[cfg(test)]
 use message::Block;
+#[cfg(test)]
+use std::process::Abort;
 
 /// One volume of two files of four blocks, in two stripes that hold two blocks each. Neighboring
 /// blocks of a file lie in different stripes.
@@ -24,4 +26,10 @@ const SMALL: [u16; 8] = [1, 1, 2, 1, 2, 4, 2, 4];
 #[cfg(test)]
 fn filled(byte: u8) -> Block {
     Block([byte; 512])
+}
+
+/// It is so.
+#[cfg(test)]
+fn holds(rt: &impl Abort, fact: bool) {
+    assert!(rt; fact);
 }

@@ -2,8 +2,8 @@
 ghost use Rattle.std.specs.Prelude.{◌≡◌, length, IfOk, OnOk};
 ghost use Rattle.parcel_tests.specs.Pieces.{IsNewTree, IsSmallTree};
 
-use crate::SMALL;
 use crate::lines::expect_told;
+use crate::{SMALL, holds};
 use affinity::Geometry;
 use parcel::{BadPiece, Tree, read_piece, read_piece_1, write_piece};
 use std::alloc::Global;
@@ -61,12 +61,12 @@ fn expect_written(rt: &impl Abort, tree: &Tree, volume: &[u8], stripe: &[u8])
 {
     let mut of_volume = [9; 64];
     write_piece(tree, 0, &mut of_volume);
-    assert!(rt; of_volume.as_slice() == volume);
+    holds(rt, of_volume.as_slice() == volume);
     let mut of_stripe = [9; 1040];
     write_piece(tree, 1, &mut of_stripe);
-    assert!(rt; of_stripe.as_slice() == stripe);
+    holds(rt, of_stripe.as_slice() == stripe);
     write_piece(tree, 2, &mut of_stripe);
-    assert!(rt; of_stripe.iter().all(|byte| *byte == 0));
+    holds(rt, of_stripe.iter().all(|byte| *byte == 0));
 }
 
 // Whether a tree takes in a volume's piece with these bytes, and then a stripe's with those.
@@ -81,31 +81,48 @@ fn expect_good(
     let volume = volume_piece(volume);
     let stripe = stripe_piece(stripe);
     let read = read_both(&mut tree, &volume, &stripe);
-    assert_eq!(rt; read.is_ok(), good);
+    holds(rt, read.is_ok() == good);
     if read.is_ok() {
         expect_written(rt, &tree, &volume, &stripe);
     }
     Ok(())
 }
 
+/// The bytes of a volume's piece, and of its first stripe's.
+type Row<'a> = (&'a [(usize, u8)], &'a [(usize, u8)]);
+
+// Whether each of these rows is taken in.
+fn expect_rows(rt: &impl Abort, alloc: Global, rows: &[Row<'_>], good: bool) -> Result<(), Fail> {
+    for (volume, stripe) in rows {
+        expect_good(rt, alloc, volume, stripe, good)?;
+    }
+    Ok(())
+}
+
+const GOOD: [Row<'static>; 3] = [
+    (&[], &[]),
+    (&VOLUME, &STRIPE),
+    (&[(0, 1), (1, 1), (8, 3)], &STRIPE),
+];
+
 #[test]
 fn pieces_come_back(rt: HostRuntime) -> Result<(), Fail> {
-    let alloc = rt.alloc();
-    expect_good(&rt, alloc, &[], &[], true)?;
-    expect_good(&rt, alloc, &VOLUME, &STRIPE, true)?;
-    expect_good(&rt, alloc, &[(0, 1), (1, 1), (8, 3)], &STRIPE, true)
+    expect_rows(&rt, rt.alloc(), &GOOD, true)
 }
+
+const BAD: [Row<'static>; 7] = [
+    (&[(1, 1)], &[]),
+    (&[(0, 2)], &[]),
+    (&[(0, 1), (2, 1)], &[]),
+    (&[(0, 1), (8, 4)], &[]),
+    (&[(0, 1), (48, 1)], &[]),
+    (&[(0, 1), (8, 1)], &STRIPE),
+    (&VOLUME, &[(1039, 1)]),
+];
 
 #[test]
 fn bad_bytes(rt: HostRuntime) -> Result<(), Fail> {
-    let alloc = rt.alloc();
-    expect_good(&rt, alloc, &[(1, 1)], &[], false)?;
-    expect_good(&rt, alloc, &[(0, 2)], &[], false)?;
-    expect_good(&rt, alloc, &[(0, 1), (2, 1)], &[], false)?;
-    expect_good(&rt, alloc, &[(0, 1), (8, 4)], &[], false)?;
-    expect_good(&rt, alloc, &[(0, 1), (48, 1)], &[], false)?;
-    expect_good(&rt, alloc, &[(0, 1), (8, 1)], &STRIPE, false)?;
-    expect_good(&rt, alloc, &VOLUME, &[(1039, 1)], false)
+    expect_rows(&rt, rt.alloc(), &BAD, false)
 }
 
 const TOLD: [(&str, &str); 6] = [
@@ -121,7 +138,7 @@ const TOLD: [(&str, &str); 6] = [
 fn what_pieces_say_is_told(rt: HostRuntime) -> Result<(), Fail> {
     let mut tree = new_tree(rt.alloc())?;
     let read = read_both(&mut tree, &volume_piece(&VOLUME), &stripe_piece(&STRIPE));
-    assert_eq!(rt; read, Ok(()));
+    holds(&rt, read == Ok(()));
     expect_told(&rt, rt.alloc(), &mut tree, &TOLD)?;
     Ok(())
 }
@@ -135,7 +152,7 @@ fn expect_version_1(
 ) -> Result<(), Fail> {
     let mut tree = new_tree(alloc)?;
     let read = first_piece(&mut tree, &volume_piece(volume));
-    assert_eq!(rt; read.is_ok(), good);
+    holds(rt, read.is_ok() == good);
     if good {
         expect_told(rt, alloc, &mut tree, &[("label 0 0", "label 00")])?;
     }

@@ -1,7 +1,7 @@
 //! Messages on the parcels of their place, one after the other.
 ghost use Rattle.parcel.specs.Fits.{Suits};
 
-use crate::filled;
+use crate::{filled, holds};
 use affinity::{Geometry, Kind, place_of};
 use message::{Msg, Refusal, Reply};
 use parcel::{Job, Label, Parcels, Standing, StripeParcel, Tree, run};
@@ -62,7 +62,7 @@ fn expect(
     ensures { Suits g message result }
 {
     let (reply, left) = answer(g, message, standing, parcels);
-    assert_eq!(rt; reply, wanted);
+    holds(rt, reply == wanted);
     left
 }
 
@@ -71,11 +71,11 @@ fn done_tells_of_its_job(rt: HostRuntime) -> Result<(), Fail> {
     let g = Geometry::default();
     let label = label(&rt, rt.alloc(), g)?;
     let job = Job::new(g, 7, Msg::Label(0, 0), OPEN, Parcels::Label(label));
-    assert_eq!(rt; job.ticket(), 7);
+    holds(&rt, job.ticket() == 7);
     let done = run(job);
-    assert_eq!(rt; done.ticket(), 7);
-    assert_eq!(rt; *done.msg(), Msg::Label(0, 0));
-    assert_eq!(rt; *done.reply(), Reply::Label([0; 32]));
+    holds(&rt, done.ticket() == 7);
+    holds(&rt, *done.msg() == Msg::Label(0, 0));
+    holds(&rt, *done.reply() == Reply::Label([0; 32]));
     Ok(())
 }
 

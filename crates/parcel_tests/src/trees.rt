@@ -3,7 +3,7 @@ ghost use Rattle.std.specs.Prelude.{◌≡◌, [], ◌∷◌};
 ghost use Rattle.affinity.specs.Interval.{IsAffinityOf};
 ghost use Rattle.affinity.specs.Place.{place};
 
-use crate::SMALL;
+use crate::{SMALL, holds};
 use affinity::{Affinity, Geometry, Kind, place_of};
 use parcel::{Parcels, Standing, StripeParcel, Tree};
 use std::alloc::{AllocError, Global};
@@ -42,38 +42,40 @@ fn stripe_of(rt: &impl Abort, tree: &mut Tree, block: u16) -> StripeParcel {
 // Whether something of what lies at the place of a message is out; what is in is taken out now.
 fn expect_out(rt: &impl Abort, tree: &mut Tree, rows: &[(Kind, u16, bool)]) {
     for (kind, block, out) in rows {
-        assert_eq!(rt; lent(rt, tree, *kind, *block).is_none(), *out);
+        holds(rt, lent(rt, tree, *kind, *block).is_none() == *out);
     }
 }
+
+const BESIDE: [(Kind, u16, bool); 9] = [
+    (Kind::Read, 0, true),
+    (Kind::Read, 2, true),
+    (Kind::List, 0, true),
+    (Kind::Usage, 0, true),
+    (Kind::MakeVol, 0, true),
+    (Kind::Summary, 0, true),
+    (Kind::Label, 0, false),
+    (Kind::Read, 1, false),
+    (Kind::Read, 1, true),
+];
 
 #[test]
 fn beside_a_stripe_that_is_out(rt: HostRuntime) -> Result<(), Fail> {
     let mut tree = made(rt.alloc(), Geometry::new(SMALL)?)?;
     let _first = stripe_of(&rt, &mut tree, 0);
-    let rows = [
-        (Kind::Read, 0, true),
-        (Kind::Read, 2, true),
-        (Kind::List, 0, true),
-        (Kind::Usage, 0, true),
-        (Kind::MakeVol, 0, true),
-        (Kind::Summary, 0, true),
-        (Kind::Label, 0, false),
-        (Kind::Read, 1, false),
-        (Kind::Read, 1, true),
-    ];
-    expect_out(&rt, &mut tree, &rows);
+    expect_out(&rt, &mut tree, &BESIDE);
     Ok(())
 }
+
+const ALL_OUT: [(Kind, u16, bool); 3] = [
+    (Kind::Summary, 0, false),
+    (Kind::Summary, 0, true),
+    (Kind::Read, 0, true),
+];
 
 #[test]
 fn all_is_out_with_the_server(rt: HostRuntime) -> Result<(), Fail> {
     let mut tree = made(rt.alloc(), Geometry::new(SMALL)?)?;
-    let rows = [
-        (Kind::Summary, 0, false),
-        (Kind::Summary, 0, true),
-        (Kind::Read, 0, true),
-    ];
-    expect_out(&rt, &mut tree, &rows);
+    expect_out(&rt, &mut tree, &ALL_OUT);
     Ok(())
 }
 
@@ -83,7 +85,7 @@ fn a_stripe_comes_back_to_its_place_alone(rt: HostRuntime) -> Result<(), Fail> {
     let stripe = stripe_of(&rt, &mut tree, 0);
     let volume = place(&rt, &tree, Kind::Usage, 0);
     let back = restored_at(&mut tree, volume, stripe).expect(&rt, "handed back");
-    assert!(rt; matches!(back, Parcels::Stripe(_)));
+    holds(&rt, matches!(back, Parcels::Stripe(_)));
     expect_out(&rt, &mut tree, &[(Kind::Usage, 0, true)]);
     Ok(())
 }
