@@ -2,3 +2,4 @@ pub mod Journal
 pub mod Stretches
 pub mod Steps
 pub mod Keeping
+pub mod Opening

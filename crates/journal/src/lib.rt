@@ -5,7 +5,9 @@
 mod freezing;
 mod journal;
 mod marks;
+mod opening;
 mod steps;
 mod stretches;
 
 pub use journal::Journal;
+pub use opening::open;

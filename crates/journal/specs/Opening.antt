@@ -1,0 +1,57 @@
+-- What it is to open a device: which state is opened, what a crash leaves meanwhile, and what a refusal leaves.
+use Rattle.std.specs.Prelude.{◌≡◌, ◌⊎◌, ◌≤◌, ℕ, List, [], Some, None, length, Result, Ok, Err}
+use Rattle.affinity.specs.declared.geometry.Geometry.{Geometry}
+use Rattle.checkpoint.specs.declared.fault.OpenFault.{OpenFault}
+use Rattle.checkpoint.specs.declared.fault.OpenFault.TheVariants.{Device, BadRecord}
+use Rattle.checkpoint.specs.Header.{HasHeader}
+use Rattle.checkpoint.specs.Recovery.{holds}
+use Rattle.checkpoint.specs.Refusals.{refused}
+use Rattle.disk.specs.Device.{Medium, Leaves, IsSynced}
+use Rattle.disk.specs.Moments.{LeavesOnly}
+use Rattle.journal.specs.Journal.{Held, IsSettled, records, settled}
+use Rattle.oplog.specs.Layout.{layout_of}
+use Rattle.oplog.specs.Stands.{named_area}
+use Rattle.plain.specs.State.{State, IsState}
+
+-- A device was opened: it isn't refused, and the journal holds the state for which it stood, with no record in force.
+pub record IsOpened (old : Medium) (j : Held) (x : State) : Type 0 where
+  pub header : HasHeader j.geometry old.now
+  pub fine : refused j.geometry old.now ≡ None
+  pub was : holds j.geometry old.now ≡ Some x
+  pub is : settled j ≡ Some x
+  pub sound : IsSettled j
+  pub emptied : records j ≡ []
+  pub state : IsState j.geometry x
+
+-- ---- what a crash leaves
+
+-- These bytes stand for what those before stood for.
+pub record StandsAs (before c : List ℕ) : Type 0 where
+  pub same : (g : Geometry) (x : State) → holds g before ≡ Some x → holds g c ≡ Some x
+
+-- The first sync is over: nothing was loose then, and from then on a crash leaves what stands for the same.
+pub record IsPastSync (old synced new : Medium) : Type 0 where
+  pub calm : IsSynced synced
+  pub now : synced.now ≡ old.now
+  pub later : LeavesOnly synced new (StandsAs old.now)
+
+-- A crash at any moment from `old` to `new` leaves what a crash before might have left, until the first sync is over; and
+-- from then on what stands for the same as the device did.
+pub record OpeningLeaves (old new : Medium) : Type 0 where
+  pub synced : Medium
+  pub first : LeavesOnly old synced (Leaves old)
+  pub rest : (new ≡ synced) ⊎ IsPastSync old synced new
+
+-- ---- what a refusal leaves
+
+-- Nothing was written: the bytes are as they were, and a crash leaves only what a crash before might have left.
+pub record IsUnwritten (old new : Medium) : Type 0 where
+  pub now : new.now ≡ old.now
+  pub later : LeavesOnly old new (Leaves old)
+
+-- A refusal with this fault leaves the device unwritten, unless the device failed, or a cut in progress was finished
+-- before: the bad record is one of the half behind the named one.
+abbrev pub IsRefusedUnwritten : Medium → OpenFault → Medium → Type 0
+IsRefusedUnwritten old Device new = Unit {0}
+IsRefusedUnwritten old (BadRecord h i) new = (g : Geometry) → HasHeader g old.now → h ≡ named_area (layout_of g) old.now → IsUnwritten old new
+IsRefusedUnwritten old fault new = IsUnwritten old new
