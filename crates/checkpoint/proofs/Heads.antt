@@ -16,7 +16,7 @@ use Rattle.oplog.proofs.Slices.{image_sized}
 
 -- ---- a header
 
-two_bytes : (n : ℕ) (rest : List ℕ) → n < 65536 → little_number 2 (little_bytes 2 n ++ rest) ≡ n
+pub two_bytes : (n : ℕ) (rest : List ℕ) → n < 65536 → little_number 2 (little_bytes 2 n ++ rest) ≡ n
 two_bytes n rest small = omega (arith, small)
 
 pub numbers_there : (g : Geometry) (header numbers : List ℕ) → header ≡ header_of g → length numbers ≡ 8 → IsRead little_number 2 (take 16 (drop 8 header)) numbers → numbers ≡ numbers_of g

@@ -73,7 +73,7 @@ module _ (g : Geometry) (x : State) (n : ℕ) (c : List ℕ) where
   abbrev l : Layout
   l = layout_of g
 
-  abbrev behind : Bool → Option State → Option OpenFault
+  abbrev pub behind : Bool → Option State → Option OpenFault
   behind chained o = fault_of (BadRecord (other n)) (first_bad_record g 0 o (if chained then front l (other n) c else [])) None
 
   pub named_refused : (e : OpenFault) → IsFault (records_fault g x n (front l n c)) e → IsFault (in_force_fault g x n c) e
@@ -81,7 +81,7 @@ module _ (g : Geometry) (x : State) (n : ℕ) (c : List ℕ) where
 
   -- once the records of the named half were run
   module _ (y : State) (ran : run (means g) (Some x) (front l n c) ≡ Some y) where
-    named_sound : in_force_fault g x n c ≡ behind (chain l n c == 1) (Some y)
+    pub named_sound : in_force_fault g x n c ≡ behind (chain l n c == 1) (Some y)
     named_sound =
         ap (λ (o : Option ℕ). fault_of (BadRecord n) o (behind (chain l n c == 1) (run (means g) (Some x) (front l n c)))) (none_bad g (front l n c) 0 (Some x) y ran)
         ∙ ap (λ (o : Option State). behind (chain l n c == 1) o) ran
@@ -181,7 +181,7 @@ module _ (g : Geometry) (c : List ℕ) (head : HasHeader g c) (long : device_siz
 
     -- and no more than one half is chained
     module _ (x : State) (said : read g bytes ≡ Some x) (one : are_chained (layout_of g) c ≡ false) where
-      past_chain : refused g c ≡ in_force_fault g x n c
+      pub past_chain : refused g c ≡ in_force_fault g x n c
       unfolding tests_of behind_image records_of
       past_chain = past_image ∙ cond-false (are_chained (layout_of g) c) (Some BadChain) (records_of n (read g bytes)) one ∙ ap (λ (o : Option State). records_of n o) said
 

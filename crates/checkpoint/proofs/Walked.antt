@@ -180,7 +180,7 @@ free_turn version g h same n x y out is before =
 
 -- ---- the whole image
 
-image_bytes : (g : Geometry) (number : ℕ) (now : List ℕ) → number < 2 → device_size (layout_of g) ≤ length now → AreBytes now
+pub image_bytes : (g : Geometry) (number : ℕ) (now : List ℕ) → number < 2 → device_size (layout_of g) ≤ length now → AreBytes now
     → Holds (piece_at g (piece_count g)) (part (layout_of g) (image number) now)
 image_bytes g number now is_image long are =
     let at = part_at (layout_of g) (image number) in

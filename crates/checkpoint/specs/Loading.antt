@@ -1,16 +1,17 @@
 -- Reading a device into a tree: what its steps answer, and what they leave.
-use Rattle.std.specs.Prelude.{◌≡◌, ℕ, ◌+◌, Bool, not, ◌&&◌, ◌==◌, if◌then◌else◌, List, [], Option, Some, None, is_none, Result, Ok, Err}
+use Rattle.std.specs.Prelude.{◌≡◌, ◌≤◌, ℕ, ◌+◌, Bool, false, not, ◌&&◌, ◌==◌, if◌then◌else◌, List, [], length, Option, Some, None, is_none, Result, Ok, Err}
 use Rattle.affinity.specs.declared.geometry.Geometry.{Geometry}
 use Rattle.checkpoint.specs.declared.fault.OpenFault.{OpenFault}
 use Rattle.checkpoint.specs.declared.fault.OpenFault.TheVariants.{Device, NotFormatted, BadGeometry, OutOfMemory, BadVersion, BadPiece, BadRecord}
+use Rattle.checkpoint.specs.Header.{HasHeader}
 use Rattle.checkpoint.specs.Recovery.{apply, means}
 use Rattle.checkpoint.specs.Refusals.{fault_if, fault_of, first_bad_piece, first_bad_record}
-use Rattle.image.specs.Image.{has_head}
+use Rattle.image.specs.Image.{has_head, read}
 use Rattle.oplog.specs.declared.fault.LogFault.{LogFault}
 use Rattle.oplog.specs.declared.fault.LogFault.TheVariants as log
 use Rattle.oplog.specs.Front.{chain, front}
-use Rattle.oplog.specs.Layout.{Layout, layout_of, other}
-use Rattle.oplog.specs.Stands.{run}
+use Rattle.oplog.specs.Layout.{Layout, device_size, image, layout_of, other, part}
+use Rattle.oplog.specs.Stands.{named_area, run}
 use Rattle.plain.specs.State.{State}
 
 -- A call adds one to the count of the device's failures exactly where it answers `Device`.
@@ -55,3 +56,17 @@ in_force_fault g x n c =
     let l = layout_of g in
     fault_of (BadRecord n) (first_bad_record g 0 (Some x) (front l n c))
     (fault_of (BadRecord (other n)) (first_bad_record g 0 (run (means g) (Some x) (front l n c)) (if chain l n c == 1 then front l (other n) c else [])) None)
+
+-- A device with these bytes has a header of this geometry and all its parts, this is its named area, and whether its half is
+-- chained. The image there is sound, at most one half is chained, and the records of the named half lead from the state of
+-- the image to this one.
+pub record NamedHolds (g : Geometry) (c : List ℕ) (area : ℕ) (chained : Bool) (x : State) : Type 0 where
+  pub header : HasHeader g c
+  pub whole : device_size (layout_of g) ≤ length c
+  pub named : area ≡ named_area (layout_of g) c
+  pub chain : chained ≡ (chain (layout_of g) area c == 1)
+  pub one : are_chained (layout_of g) c ≡ false
+  pub sound : image_fault g (part (layout_of g) (image area) c) ≡ None
+  pub first : State
+  pub said : read g (part (layout_of g) (image area) c) ≡ Some first
+  pub ran : run (means g) (Some first) (front (layout_of g) area c) ≡ Some x

@@ -19,7 +19,7 @@ use oplog::layout::{HEADER_SIZE, ROOT_ZONE_AT, ROOT_ZONE_SIZE, device_len};
 const HEADING_SIZE: usize = HEADER_SIZE + ROOT_ZONE_SIZE;
 
 /// The geometry of a device with a header, which is long enough for all its parts.
-pub(crate) fn read_header<D: Disk>(disk: &mut D) -> Result<Geometry, OpenFault>
+pub fn read_header<D: Disk>(disk: &mut D) -> Result<Geometry, OpenFault>
     ensures header { IfOk result (λ g. D.keeps → HasHeader g (D.medium disk.old).now) }
     ensures whole { IfOk result (λ g. device_size (layout_of g) ≤ length (D.medium disk.old).now) }
     ensures refused { IfErr result (λ e. D.keeps → IsRefused (D.medium disk.old).now e) }

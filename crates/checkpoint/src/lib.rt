@@ -12,7 +12,7 @@ mod header;
 mod heading;
 mod imaging;
 mod inspecting;
-mod loading;
+pub mod loading;
 mod reading;
 mod replaying;
 mod stepping;

@@ -1,25 +1,28 @@
 //! A device, loaded: its named image is read into a tree, and the records in force are run on it.
 ghost use Rattle.std.specs.Prelude.{◌≡◌, ◌+◌, ◌*◌, ◌<◌, ◌≤◌, ◌==◌, false, None, Some, length, IfErr, IfOk, OnOk};
 ghost use Rattle.checkpoint.specs.declared.fault.OpenFault.TheVariants.{BadChain, OutOfMemory};
-ghost use Rattle.checkpoint.specs.Loading.{CountsOpenFault, IsFault, are_chained, image_fault, in_force_fault};
+ghost use Rattle.checkpoint.specs.Header.{HasHeader};
+ghost use Rattle.checkpoint.specs.Loading.{CountsOpenFault, IsFault, NamedHolds, are_chained, image_fault, in_force_fault};
 ghost use Rattle.checkpoint.specs.Recovery.{means};
 ghost use Rattle.checkpoint.specs.Refusals.{IsRefused, fault_if};
 ghost use Rattle.checkpoint.specs.Shown.{IsLoaded};
 ghost use Rattle.disk.specs.Device.{moments};
 ghost use Rattle.image.specs.Image.{read, version_in};
 ghost use Rattle.oplog.specs.Calls.{HasParts};
-ghost use Rattle.oplog.specs.Front.{chain};
+ghost use Rattle.oplog.specs.Front.{chain, front};
 ghost use Rattle.oplog.specs.Layout.{device_size, image, layout_of, part};
 ghost use Rattle.oplog.specs.Log.{layout, new_log, renamed};
 ghost use Rattle.oplog.specs.Stands.{in_force, run};
 ghost use Rattle.parcel.specs.Tree.{IsWholeTree, state_in};
 ghost use Rattle.plain.specs.State.{empty};
 
+pub use crate::heading::read_header;
+pub use crate::replaying::replay;
+
 use crate::OpenFault;
-use crate::heading::{named_area, read_header};
+use crate::heading::named_area;
 use crate::imaging::{largest_piece, read_pieces};
 use crate::reading::{is_chained, version_of};
-use crate::replaying::replay;
 use affinity::Geometry;
 use disk::Disk;
 use oplog::Halves;
@@ -41,8 +44,9 @@ pub(crate) struct Loaded {
     pub records: usize,
 }
 
-/// All memory that loading a device takes: an empty tree, a log, and a buffer for the largest piece of an image.
-fn take_room(alloc: Global, g: &Geometry) -> Result<(Tree, Halves, Vec<u8>), OpenFault>
+/// All memory that loading a device of this geometry takes: an empty tree, a log of which nothing is known, and a
+/// buffer for the largest piece of an image. `OutOfMemory` where there isn't so much.
+pub fn take_room(alloc: Global, g: &Geometry) -> Result<(Tree, Halves, Vec<u8>), OpenFault>
     ensures whole { IfOk result (λ r. IsWholeTree r.0) }
     ensures empty { IfOk result (λ r. state_in r.0 ≡ empty) }
     ensures geometry { IfOk result (λ r. r.0.geometry ≡ g.now) }
@@ -109,6 +113,66 @@ fn chain_of<D: Disk>(disk: &mut D, g: &Geometry, area: usize) -> Result<bool, Op
         return Err(OpenFault::BadChain);
     }
     Ok(true)
+}
+
+/// What the named area of a device holds by itself.
+#[derive(Clone, Copy)]
+pub struct Named {
+    /// The number of the area, 0 or 1.
+    pub area: usize,
+    /// The version of its image.
+    pub version: u8,
+    /// How many records the front of its half has.
+    pub records: usize,
+    /// Whether the records of the other half are in force behind these.
+    pub chained: bool,
+}
+
+/// Loads what the named area holds by itself: its image is read into an empty tree, and the records of its half are run
+/// on it. The log names that half then, with no room. The device is only read.
+///
+/// The device has a header and all its parts. It is refused exactly where its bytes are, for any fault but a bad record
+/// of the other half: `BadVersion`, `BadPiece`, `BadChain`, `BadRecord`, in the order of the tests. `Device` exactly where
+/// the device failed.
+pub fn load_named<D: Disk>(
+    disk: &mut D,
+    tree: &mut Tree,
+    log: &mut Halves,
+    buffer: &mut [u8],
+) -> Result<Named, OpenFault>
+    requires whole { IsWholeTree tree.old }
+    requires empty { state_in tree.old ≡ empty }
+    requires log { log.old ≡ new_log tree.old.geometry }
+    requires header { D.keeps → HasHeader tree.old.geometry (D.medium disk.old).now }
+    requires parts { device_size (layout_of tree.old.geometry) ≤ length (D.medium disk.old).now }
+    requires room { tree.old.geometry.quota * 520 ≤ length buffer.old }
+    ensures loaded { IfOk result (λ n. D.keeps →
+        NamedHolds tree.old.geometry (D.medium disk.old).now n.area n.chained (state_in tree.new)) }
+    ensures area { IfOk result (λ n. n.area < 2) }
+    ensures version { IfOk result (λ n. D.keeps →
+        n.version ≡ version_in (part (layout_of tree.old.geometry) (image n.area) (D.medium disk.old).now)) }
+    ensures records { IfOk result (λ n. D.keeps →
+        n.records ≡ length (front (layout_of tree.old.geometry) n.area (D.medium disk.old).now)) }
+    ensures log { IfOk result (λ n. log.new ≡ renamed n.area (new_log tree.old.geometry)) }
+    ensures refused { IfErr result (λ e. D.keeps → IsRefused (D.medium disk.old).now e) }
+    ensures whole { OnOk result (IsWholeTree tree.new) }
+    ensures geometry { OnOk result (tree.new.geometry ≡ tree.old.geometry) }
+    ensures untouched { D.keeps → moments (D.medium disk.new) ≡ moments (D.medium disk.old) }
+    ensures counts { CountsOpenFault result (D.medium disk.old).faults (D.medium disk.new).faults }
+    ensures len { length (D.medium disk.new).now ≡ length (D.medium disk.old).now }
+{
+    let g = tree.geometry();
+    let area = named_area(disk, &g)?;
+    let version = read_image(disk, tree, area, buffer)?;
+    let chained = chain_of(disk, &g, area)?;
+    log.name(area);
+    let records = replay(log, disk, area, tree)?;
+    Ok(Named {
+        area,
+        version,
+        records,
+        chained,
+    })
 }
 
 /// Runs the records in force on the tree, where this area is named, and gives their number.
