@@ -16,13 +16,12 @@ ghost use Rattle.oplog.specs.Stands.{in_force, run};
 ghost use Rattle.parcel.specs.Tree.{IsWholeTree, state_in};
 ghost use Rattle.plain.specs.State.{empty};
 
-pub use crate::heading::read_header;
-pub use crate::replaying::replay;
-
 use crate::OpenFault;
 use crate::heading::named_area;
+pub use crate::heading::read_header;
 use crate::imaging::{largest_piece, read_pieces};
 use crate::reading::{is_chained, version_of};
+pub use crate::replaying::replay;
 use affinity::Geometry;
 use disk::Disk;
 use oplog::Halves;

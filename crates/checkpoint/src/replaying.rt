@@ -1,5 +1,6 @@
 //! The records of a half, run on a tree.
-ghost use Rattle.std.specs.Prelude.{◌≡◌, ◌<◌, ◌≤◌, Some, false, length, IfOk, IfErr, OnOk};
+ghost use Rattle.std.specs.Prelude.{◌≡◌, ◌≢◌, ◌<◌, ◌≤◌, Some, false, length, IfOk, IfErr, OnOk};
+ghost use Rattle.checkpoint.specs.declared.fault.OpenFault.TheVariants.{OutOfMemory};
 ghost use Rattle.checkpoint.specs.Loading.{CountsOpenFault, IsFault, record_fault, records_fault};
 ghost use Rattle.checkpoint.specs.Recovery.{apply, means};
 ghost use Rattle.disk.specs.Device.{moments};
@@ -36,6 +37,7 @@ fn replay_record<D: Disk>(
         ≡ Some (state_in tree.new)) }
     ensures refused { IfErr result (λ e. D.keeps → IsFault (record_fault tree.old.geometry (state_in tree.old)
         half i (record_at (layout log.old) half i (D.medium disk.old).now)) e) }
+    ensures took_none { IfErr result (λ e. e ≢ OutOfMemory) }
     ensures whole { OnOk result (IsWholeTree tree.new) }
     ensures geometry { OnOk result (tree.new.geometry ≡ tree.old.geometry) }
     ensures log { OnOk result (log.new ≡ log.old) }
@@ -70,6 +72,7 @@ fn replay_front<D: Disk>(
         (front (layout log.old) half (D.medium disk.old).now) ≡ Some (state_in tree.new)) }
     ensures refused { IfErr result (λ e. D.keeps → IsFault (records_fault tree.old.geometry
         (state_in tree.old) half (front (layout log.old) half (D.medium disk.old).now)) e) }
+    ensures took_none { IfErr result (λ e. e ≢ OutOfMemory) }
     ensures whole { OnOk result (IsWholeTree tree.new) }
     ensures geometry { OnOk result (tree.new.geometry ≡ tree.old.geometry) }
     ensures log { OnOk result (log.new ≡ log.old) }
@@ -103,6 +106,7 @@ pub fn replay<D: Disk>(
         (front (layout log.old) half (D.medium disk.old).now) ≡ Some (state_in tree.new)) }
     ensures refused { IfErr result (λ e. D.keeps → IsFault (records_fault tree.old.geometry
         (state_in tree.old) half (front (layout log.old) half (D.medium disk.old).now)) e) }
+    ensures took_none { IfErr result (λ e. e ≢ OutOfMemory) }
     ensures whole { OnOk result (IsWholeTree tree.new) }
     ensures geometry { OnOk result (tree.new.geometry ≡ tree.old.geometry) }
     ensures log { OnOk result (log.new ≡ log.old) }
