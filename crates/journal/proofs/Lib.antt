@@ -10,3 +10,7 @@ mod Flipping
 mod Piecing
 mod FrozenBytes
 mod Saving
+mod Finishing
+mod Loaded
+mod Settling
+mod StillRefused

@@ -1,17 +1,17 @@
 -- Rows of marks, and what is known of an image by them.
-use Rattle.std.proofs.Common.{◌≡◌, ◌≢◌, ⊎_elim, ℕ, zero, suc, ◌+◌, ◌<◌, ◌≤◌, Bool, true, false, List, [], ◌∷◌, ◌++◌, length, take, drop, get_or, set, refl, sym, ◌∙◌, ap, subst, arith, true≢false}
+use Rattle.std.proofs.Common.{◌≡◌, ◌≢◌, ⊎_elim, ℕ, zero, suc, ◌+◌, ◌<◌, ◌≤◌, Bool, true, false, List, [], ◌∷◌, ◌++◌, length, take, drop, get_or, replicate, set, refl, sym, ◌∙◌, ap, subst, arith, true≢false}
 use Rattle.std.specs.List.{AllByRecursion}
 use Rattle.std.proofs.lemmas.Bool.{cases_eq, cases_lt}
 use Rattle.image.specs.Touched.{touches}
 use Rattle.image.proofs.Measures.{all-append}
 use Rattle.message.specs.declared.Msg.{Msg}
-use Rattle.std.proofs.lemmas.List.{get_or-set_other, get_or-set_same, length-set, take_more, append-nil, drop_all, take_all}
+use Rattle.std.proofs.lemmas.List.{get_or-replicate, get_or-set_other, get_or-set_same, length-set, take_more, append-nil, drop_all, take_all}
 use Rattle.std.proofs.Math.Seq.{take-add}
 use Rattle.affinity.specs.declared.geometry.Geometry.{Geometry}
 use Rattle.image.specs.Pieces.{piece_count}
 use Rattle.plain.specs.State.{one_if}
 use Rattle.journal.specs.Keeping.{MarksTouched, count_marked}
-use Rattle.journal.specs.Stretches.{stretch_at, stretch_in, stretch_size}
+use Rattle.journal.specs.Stretches.{AreAllMarked, stretch_at, stretch_in, stretch_size}
 use Rattle.journal.proofs.Places.{stretch_end, stretch_next}
 use Rattle.oplog.specs.Layout.{image_size}
 
@@ -123,3 +123,8 @@ message_more g ms i d old mid new few so_far more n below unmarked =
     let last = more n below unmarked in
     let before = so_far n below last.0 in
     (before.0, subst (λ (l : List Msg). AllByRecursion (λ m. touches g m n ≡ false) l) (sym (take_more ms i d few)) (all-append (λ m. touches g m n ≡ false) (take i ms) (get_or ms i d ∷ []) before.1 last.1))
+
+-- ---- all of them
+
+pub all_marked : (g : Geometry) (n : ℕ) (marks : List Bool) → n ≡ piece_count g → marks ≡ replicate n true → AreAllMarked g marks
+all_marked g n marks count is i few = ap (λ (l : List Bool). get_or l i true) is ∙ get_or-replicate n i true true (omega (arith, few, count))

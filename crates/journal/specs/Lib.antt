@@ -3,3 +3,4 @@ pub mod Stretches
 pub mod Steps
 pub mod Keeping
 pub mod Opening
+pub mod Parts

@@ -25,18 +25,20 @@ pub record IsOpened (old : Medium) (j : Held) (x : State) : Type 0 where
 
 -- ---- what a crash leaves
 
--- These bytes stand for what those before stood for.
+-- These bytes stand for what those before stood for, or are refused for the same fault as they were.
 pub record StandsAs (before c : List ℕ) : Type 0 where
   pub same : (g : Geometry) (x : State) → holds g before ≡ Some x → holds g c ≡ Some x
+  pub alike : (g : Geometry) (fault : OpenFault) → HasHeader g before → refused g before ≡ Some fault → HasHeader g c × (refused g c ≡ Some fault)
 
--- The first sync is over: nothing was loose then, and from then on a crash leaves what stands for the same.
+-- The first sync is over: nothing was loose then, and from then on a crash leaves what stands for the same, or is refused
+-- for the same fault.
 pub record IsPastSync (old synced new : Medium) : Type 0 where
   pub calm : IsSynced synced
   pub now : synced.now ≡ old.now
   pub later : LeavesOnly synced new (StandsAs old.now)
 
 -- A crash at any moment from `old` to `new` leaves what a crash before might have left, until the first sync is over; and
--- from then on what stands for the same as the device did.
+-- from then on what stands for the same as the device did, or is refused for the same fault.
 pub record OpeningLeaves (old new : Medium) : Type 0 where
   pub synced : Medium
   pub first : LeavesOnly old synced (Leaves old)

@@ -1,18 +1,18 @@
 -- The steps of a point on a device: what each asks of it, and what stands on it afterwards. No clause of a public function
 -- cites this module.
-use Rattle.std.specs.Prelude.{◌≡◌, ◌<◌, ℕ, true, false, List, [], Option, is_some}
+use Rattle.std.specs.Prelude.{◌≡◌, ◌<◌, ◌==◌, if◌then◌else◌, ℕ, true, false, List, [], Option, is_some}
 use Rattle.affinity.specs.declared.geometry.Geometry.{Geometry}
 use Rattle.checkpoint.specs.Recovery.{holds, means}
-use Rattle.disk.specs.Device.{Medium}
+use Rattle.disk.specs.Device.{Medium, IsSynced}
 use Rattle.disk.specs.Moments.{LeavesOnly}
 use Rattle.image.specs.Image.{read}
 use Rattle.journal.specs.Stretches.{image_in}
 use Rattle.oplog.specs.Changes.{IsReady}
 use Rattle.oplog.specs.Crash.{StandsByNow}
-use Rattle.oplog.specs.Front.{front}
+use Rattle.oplog.specs.Front.{chain, front}
 use Rattle.oplog.specs.Layout.{layout_of, other}
 use Rattle.oplog.specs.Log.{Log}
-use Rattle.oplog.specs.Stands.{in_force, named_area, run}
+use Rattle.oplog.specs.Stands.{in_force, is_laid_out, named_area, run}
 use Rattle.plain.specs.State.{State}
 
 -- A crash at any moment from `old` to `new` leaves a device that stands for what it stood for.
@@ -63,6 +63,20 @@ pub record IsFlipped (log : Log) (old new : Medium) : Type 0 where
   pub ready : IsReady (layout_of log.geometry) (other log.named) log.used new
   pub images : (i : ℕ) → i < 2 → image_in log.geometry i new ≡ image_in log.geometry i old
 
+-- Both halves are in force, nothing is loose, and these bytes are the image of what the named area holds by itself.
+pub record IsUnfinished (log : Log) (bytes : List ℕ) (m : Medium) : Type 0 where
+  pub calm : IsSynced m
+  pub laid : is_laid_out (means log.geometry) (layout_of log.geometry) m.now ≡ true
+  pub named : named_area (layout_of log.geometry) m.now ≡ log.named
+  pub chained : (chain (layout_of log.geometry) log.named m.now == 1) ≡ true
+  pub reads : read log.geometry bytes
+      ≡ run_on log.geometry (read log.geometry (image_in log.geometry log.named m)) (front (layout_of log.geometry) log.named m.now)
+
+-- The other area is named and stands for the same by itself. Its half has the records that it had.
+pub record IsFinished (log : Log) (old new : Medium) : Type 0 where
+  pub stands : IsStanding log.geometry (other log.named) (other log.named) (holds log.geometry old.now) new
+  pub front : front (layout_of log.geometry) (other log.named) new.now ≡ front (layout_of log.geometry) (other log.named) old.now
+
 -- ---- the log after each
 
 abbrev pub pointed : Log → Log
@@ -73,3 +87,12 @@ cut_now log = record log { current = other log.named; used = 0; cleared = false 
 
 abbrev pub named_now : Log → Log
 named_now log = record log { named = other log.named; cleared = false }
+
+-- once a cut that was in progress is finished; what room its half has is known only where it was cleared
+abbrev pub finished_now : Log → Log
+finished_now log = record log {
+  named = other log.named;
+  current = other log.named;
+  used = if log.cleared then 0 else log.geometry.half;
+  cleared = false;
+}

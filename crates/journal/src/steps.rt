@@ -1,13 +1,17 @@
 //! The steps of a point on a device. A crash at any moment of one leaves a device that stands for what it stood for.
-ghost use Rattle.std.specs.Prelude.{◌≡◌, false, length, OnOk, OnErr};
+ghost use Rattle.std.specs.Prelude.{◌≡◌, true, false, Some, length, OnOk, OnErr};
+ghost use Rattle.checkpoint.specs.Loading.{NamedHolds};
 ghost use Rattle.checkpoint.specs.Recovery.{holds};
+ghost use Rattle.disk.specs.Moments.{LeavesOnly};
 ghost use Rattle.image.specs.Image.{read};
 ghost use Rattle.image.specs.Pieces.{piece_count};
-ghost use Rattle.journal.specs.Steps.{IsAlone, IsBegun, IsFlipped, IsPointed, IsWritten, StandsStill, cut_now, named_now, pointed};
-ghost use Rattle.journal.specs.Stretches.{AgreeUnmarked, image_in};
+ghost use Rattle.journal.specs.Parts.{IsRefusedAlike};
+ghost use Rattle.journal.specs.Steps.{IsAlone, IsBegun, IsFinished, IsFlipped, IsPointed, IsUnfinished, IsWritten, StandsStill, cut_now, finished_now, named_now, pointed};
+ghost use Rattle.journal.specs.Stretches.{AgreeUnmarked, AreAllMarked, image_in};
 ghost use Rattle.oplog.specs.Calls.{HasParts};
 ghost use Rattle.oplog.specs.Layout.{image_size, other};
 ghost use Rattle.oplog.specs.Log.{CountsLogFault, IsNotBad};
+ghost use Rattle.plain.specs.State.{State};
 
 use crate::stretches::write_image;
 use disk::Disk;
@@ -96,6 +100,43 @@ pub(crate) fn flip_on<D: Disk>(
     ensures len { length (D.medium disk.new).now ≡ length (D.medium disk.old).now }
 {
     if disk.sync().is_err() {
+        return Err(LogFault::Device);
+    }
+    halves.flip_root(disk)?;
+    Ok(())
+}
+
+/// Finishes a cut that was in progress when the device was left: this image of what the named area holds by itself is
+/// written into the other one, which is then named. The records of its half were in force behind those of the named one,
+/// and are in force still.
+pub(crate) fn finish_on<D: Disk>(
+    halves: &mut Halves,
+    disk: &mut D,
+    bytes: &[u8],
+    marks: &[bool],
+) -> Result<(), LogFault>
+    requires sound { halves.old.failed ≡ false }
+    requires size { length bytes.now ≡ image_size halves.old.geometry }
+    requires marks { length marks.now ≡ piece_count halves.old.geometry }
+    requires all { AreAllMarked halves.old.geometry marks.now }
+    requires whole { HasParts halves.old (D.medium disk.old) }
+    requires together { halves.old.current ≡ halves.old.named }
+    requires unfinished { D.keeps → IsUnfinished halves.old bytes.now (D.medium disk.old) }
+    ensures any_moment { D.keeps →
+        StandsStill halves.old.geometry (D.medium disk.old) (D.medium disk.new) }
+    ensures alike { D.keeps → (x : State) → read halves.old.geometry bytes.now ≡ Some x
+        → NamedHolds halves.old.geometry (D.medium disk.old).now halves.old.named true x
+        → LeavesOnly (D.medium disk.old) (D.medium disk.new) (IsRefusedAlike halves.old.geometry (D.medium disk.old).now) }
+    ensures finished { OnOk result (D.keeps →
+        IsFinished halves.old (D.medium disk.old) (D.medium disk.new)) }
+    ensures log { OnOk result (halves.new ≡ finished_now halves.old) }
+    ensures not_bad { IsNotBad result }
+    ensures counts { CountsLogFault result (D.medium disk.old).faults (D.medium disk.new).faults }
+    ensures len { length (D.medium disk.new).now ≡ length (D.medium disk.old).now }
+{
+    let g = halves.geometry();
+    let second = 1 - halves.named();
+    if write_image(disk, &g, second, bytes, marks).is_err() {
         return Err(LogFault::Device);
     }
     halves.flip_root(disk)?;

@@ -1,14 +1,9 @@
-use Rattle.std.proofs.Common.{inl, refl}
-use Rattle.disk.specs.Device.{Leaves}
-use Rattle.disk.proofs.Moments.{started}
+use Rattle.journal.proofs.Loaded.{opened}
 use Rattle.journal.proofs.opening.open.Goals as goal
 
-pub returns-clause-any_moment : goal.returns-clause-any_moment
-returns-clause-any_moment g c = λ k.
-    let m = g.D.Disk.medium c.args.d in
-    record { synced = m; first = started m (Leaves m) (λ c' left. left); rest = inl refl }
+pub new-journal-requires-clause-sound : goal.new-journal-requires-clause-sound
+new-journal-requires-clause-sound g c = λ k. (c.in-Ok.ensures.made_of k).sound
 
-pub returns-clause-unwritten : goal.returns-clause-unwritten
-returns-clause-unwritten g c = λ k.
-    let m = g.D.Disk.medium c.args.d in
-    record { now = refl; later = started m (Leaves m) (λ c' left. left) }
+pub returns-in-Ok-clause-opened : goal.returns-in-Ok-clause-opened
+returns-in-Ok-clause-opened g c = λ k.
+    opened c.in-Ok.parts (g.D.Disk.medium c.args.d) (g.D.Disk.medium c.open_on.new.disk) c.new-journal.result c.in-Ok.ensures.made (c.in-Ok.ensures.made_of k) c.in-Ok.ensures.whole c.new-journal.ensures

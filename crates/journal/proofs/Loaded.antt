@@ -1,0 +1,144 @@
+-- What a device stands for of which the named area was loaded.
+use Rattle.std.proofs.Common.{◌≡◌, ◌==◌, ◌&&◌, ℕ, Bool, true, false, not, List, [], Option, Some, None, is_some, length, refl, sym, ◌∙◌, ap, subst, true≢false}
+use Rattle.std.specs.Prelude.{nat_le}
+use Rattle.std.proofs.lemmas.Bool.{le-leb}
+use Rattle.std.proofs.lemmas.Slice.Eq.{bytes_eq-Decides}
+use Rattle.affinity.specs.declared.geometry.Geometry.{Geometry}
+use Rattle.checkpoint.specs.declared.fault.OpenFault.{OpenFault}
+use Rattle.checkpoint.specs.Header.{HasHeader, header_of, is_header}
+use Rattle.checkpoint.specs.Loading.{IsFault, NamedHolds, records_fault}
+use Rattle.checkpoint.specs.Recovery.{holds, means}
+use Rattle.checkpoint.specs.Refusals.{IsRefused, refused}
+use Rattle.checkpoint.proofs.Replays.{same_bytes}
+use Rattle.checkpoint.proofs.Refusing.{alone_ran, alone_sound, both_ran, both_sound, not_refused, other_refused, records_refused, stands_for}
+use Rattle.disk.specs.Device.{AreBytes, IsSynced, Medium, moments}
+use Rattle.disk.proofs.Leaves.{calm_left}
+use Rattle.image.specs.Image.{image_of, read}
+use Rattle.image.proofs.Reading.{read_again}
+use Rattle.journal.specs.declared.opening.Parts.{Parts}
+use Rattle.journal.specs.Journal.{Held}
+use Rattle.journal.specs.Keeping.{IsSound, held_of}
+use Rattle.journal.specs.Opening.{IsOpened}
+use Rattle.journal.specs.Parts.{IsMade, IsMadeOf}
+use Rattle.journal.specs.Steps.{IsAlone, IsPointed, IsUnfinished, pointed, run_on}
+use Rattle.journal.specs.Stretches.{AreAllMarked}
+use Rattle.journal.proofs.Logging.{settled_of}
+use Rattle.journal.proofs.Saving.{opened_sound}
+use Rattle.journal.proofs.Standing.{holds_now, shut_current}
+use Rattle.oplog.specs.Front.{chain, front}
+use Rattle.oplog.specs.Layout.{layout_of, device_size, header, other, part}
+use Rattle.oplog.specs.Log.{Log, new_log, renamed}
+use Rattle.oplog.specs.Stands.{in_force, is_laid_out, named_area, run, stands_as}
+use Rattle.parcel.specs.Tree.{IsWholeTree, state_in}
+use Rattle.plain.specs.State.{State, IsState}
+
+-- ---- where the named half has no chain
+
+module _ (g : Geometry) (c : List ℕ) (n : ℕ) (x : State) (is : NamedHolds g c n false x) where
+  shut : (chain (layout_of g) n c == 1) ≡ false
+  shut = sym is.chain
+
+  pub alone_holds : holds g c ≡ Some x
+  alone_holds = stands_for g c is.header is.whole n is.named is.sound is.first is.said is.one x (alone_ran g is.first n c x is.ran shut)
+
+  pub alone_fine : refused g c ≡ None
+  alone_fine = not_refused g c is.header is.whole n is.named is.sound is.first is.said is.one (alone_sound g is.first n c x is.ran shut)
+
+pub alone_stands : (log : Log) (m : Medium) (x : State) → NamedHolds log.geometry m.now log.named false x → IsSynced m → IsAlone log m
+alone_stands log m x is calm = record {
+  some = ap is_some (alone_holds log.geometry m.now log.named x is);
+  stands = λ c left.
+      let same = calm_left m c calm left in
+      record {
+        named = ap (λ (l : List ℕ). named_area (layout_of log.geometry) l) same ∙ sym is.named;
+        current = shut_current (layout_of log.geometry) log.named c (ap (λ (l : List ℕ). chain (layout_of log.geometry) log.named l == 1) same ∙ sym is.chain);
+        is = λ i. stands_as (means log.geometry) (layout_of log.geometry) (is.named i) (same i);
+      };
+}
+
+-- ---- where it has one
+
+module _ (g : Geometry) (c : List ℕ) (n : ℕ) (x : State) (is : NamedHolds g c n true x) where
+  follows : (chain (layout_of g) n c == 1) ≡ true
+  follows = sym is.chain
+
+  pub laid_out : is_laid_out (means g) (layout_of g) c ≡ true
+  laid_out =
+      let is_head : is_header g (part (layout_of g) header c) ≡ true = (bytes_eq-Decides (part (layout_of g) header c) (header_of g)).1 is.header in
+      let whole : nat_le (device_size (layout_of g)) (length c) ≡ true = le-leb (device_size (layout_of g)) (length c) is.whole in
+      λ i. is_head i && whole i && not (is.one i)
+
+  pub behind_refused : (e : OpenFault) → IsFault (records_fault g x (other n) (front (layout_of g) (other n) c)) e → IsRefused c e
+  behind_refused e fault =
+      records_refused g c is.header is.whole n is.named is.sound is.first is.said is.one e (other_refused g is.first n c x is.ran follows e fault)
+
+  module _ (y : State) (more : run (means g) (Some x) (front (layout_of g) (other n) c) ≡ Some y) where
+    pub behind_holds : holds g c ≡ Some y
+    behind_holds = stands_for g c is.header is.whole n is.named is.sound is.first is.said is.one y (both_ran g is.first n c x is.ran follows y more)
+
+    pub behind_fine : refused g c ≡ None
+    behind_fine = not_refused g c is.header is.whole n is.named is.sound is.first is.said is.one (both_sound g is.first n c x is.ran follows y more)
+
+pub unfinished_cut : (log : Log) (m : Medium) (x : State) (bytes : List ℕ) → NamedHolds log.geometry m.now log.named true x → IsSynced m → IsState log.geometry x → bytes ≡ image_of 2 log.geometry x → IsUnfinished log bytes m
+unfinished_cut log m x bytes is calm is_state spelled = record {
+  calm = calm;
+  laid = laid_out log.geometry m.now log.named x is;
+  named = sym is.named;
+  chained = follows log.geometry m.now log.named x is;
+  reads =
+      ap (read log.geometry) spelled ∙ read_again log.geometry x is_state
+      ∙ sym (ap (λ (o : Option State). run_on log.geometry o (front (layout_of log.geometry) log.named m.now)) is.said ∙ is.ran);
+}
+
+-- ---- a test the other way round
+
+pub not_on : (t : Bool) → not t ≡ true → t ≡ false
+not_on true is = absurd (true≢false (sym is))
+not_on false is = refl
+
+pub not_off : (t : Bool) → not t ≡ false → t ≡ true
+not_off true is = refl
+not_off false is = absurd (true≢false is)
+
+-- ---- as the log has it, on the device that was only read
+
+abbrev pub loaded_log : Geometry → ℕ → Log
+loaded_log g n = renamed n (new_log g)
+
+pub held_after : (g : Geometry) (log : Log) (n : ℕ) (t u : Bool) (x : State) (w0 w1 : Medium) → log ≡ loaded_log g n → t ≡ u → moments w1 ≡ moments w0 → NamedHolds g w0.now n t x → NamedHolds log.geometry w1.now log.named u x
+held_after g log n t u x w0 w1 is chained only held =
+    subst (λ (l : Log). NamedHolds l.geometry w1.now l.named u x) (sym is)
+    (subst (λ (b : Bool). NamedHolds g w1.now n b x) chained (subst (λ (c : List ℕ). NamedHolds g c n t x) (sym (same_bytes w0 w1 only)) held))
+
+-- ---- in the words of contracts
+
+pub opened : (p : Parts) (old m : Medium) (j : Held) → IsMade p m → IsMadeOf old.now p m → IsWholeTree p.tree → j ≡ held_of p.halves None false m → IsOpened old j (state_in p.tree)
+opened p old m j made is whole same =
+    subst (λ (h : Held). IsOpened old h (state_in p.tree)) (sym same)
+    (record {
+      header = subst (λ (g : Geometry). HasHeader g old.now) (sym made.geometry) is.header;
+      fine = ap (λ (g : Geometry). refused g old.now) made.geometry ∙ is.fine;
+      was = ap (λ (g : Geometry). holds g old.now) made.geometry ∙ is.was;
+      is = is.is;
+      sound = settled_of p.halves p.frozen.items p.named_marks.items p.other_marks.items p.due.items None false m is.sound;
+      emptied = is.emptied;
+      state = subst (λ (g : Geometry). IsState g (state_in p.tree)) (sym made.geometry) whole.state;
+    })
+
+pub made_of : (p : Parts) (log : Log) (old w2 w3 : Medium) (frozen : List ℕ) → AreBytes w3.now → HasHeader p.tree.geometry old.now → refused p.tree.geometry old.now ≡ None → holds p.tree.geometry old.now ≡ Some (state_in p.tree)
+    → p.halves ≡ pointed log → p.tree.geometry ≡ log.geometry → p.frozen.items ≡ frozen → frozen ≡ image_of 2 p.tree.geometry (state_in p.tree) → IsWholeTree p.tree → AreAllMarked log.geometry p.other_marks.items
+    → IsAlone log w2 → holds log.geometry w2.now ≡ Some (state_in p.tree) → IsPointed log frozen w2 w3 → IsMadeOf old.now p w3
+made_of p log old w2 w3 frozen are head fine was is_log geometry items spelled whole all alone held made =
+    let same : p.halves.geometry ≡ log.geometry = ap (λ (l : Log). l.geometry) is_log in
+    let is_state = subst (λ (g : Geometry). IsState g (state_in p.tree)) geometry whole.state in
+    record {
+      header = head;
+      fine = fine;
+      was = was;
+      is = ap (λ (g : Geometry). holds g w3.now) same ∙ holds_now log.geometry (other log.named) (other log.named) (holds log.geometry w2.now) w3 are made.stands ∙ held;
+      emptied = subst (λ (g : Geometry). in_force (layout_of g) (named_area (layout_of g) w3.now) w3.now ≡ []) (sym same) made.emptied;
+      sound =
+          subst (λ (l : List ℕ). IsSound p.halves l p.named_marks.items p.other_marks.items p.due.items None w3) (sym items)
+          (subst (λ (l : Log). IsSound l frozen p.named_marks.items p.other_marks.items p.due.items None w3) (sym is_log)
+          (opened_sound log frozen p.named_marks.items p.other_marks.items p.due.items w2 w3 (state_in p.tree) alone held is_state (spelled ∙ ap (λ (g : Geometry). image_of 2 g (state_in p.tree)) geometry) all are made));
+    }

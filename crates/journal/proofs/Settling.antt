@@ -1,0 +1,220 @@
+-- What a crash leaves while a device is opened, from step to step, and what a refusal leaves.
+use Rattle.std.proofs.Common.{◌≡◌, ◌≢◌, ◌<◌, ℕ, zero, suc, Bool, true, false, cond, get_or, replicate, List, [], ◌∷◌, length, Option, Some, None, is_some, Result, Ok, Err, IfOk, IfErr, inl, inr, ⊎_elim, refl, sym, ◌∙◌, ap, subst, arith}
+use Rattle.affinity.specs.declared.geometry.Geometry.{Geometry}
+use Rattle.checkpoint.specs.declared.fault.OpenFault.{OpenFault}
+use Rattle.checkpoint.specs.declared.fault.OpenFault.TheVariants.{Device, TooShort, NotFormatted, BadGeometry, OutOfMemory, BadVersion, BadPiece, BadChain, BadRecord}
+use Rattle.checkpoint.specs.Header.{HasHeader}
+use Rattle.checkpoint.specs.Recovery.{holds}
+use Rattle.checkpoint.specs.Loading.{IsFault}
+use Rattle.checkpoint.specs.Refusals.{fault_of, refused}
+use Rattle.checkpoint.proofs.OneGeometry.{one_geometry, same_geometry}
+use Rattle.checkpoint.proofs.Replays.{same_bytes}
+use Rattle.disk.specs.Device.{AreBytes, IsSynced, Leaves, MayLeave, Medium, Moment, moments}
+use Rattle.disk.specs.Moments.{LeavesOnly, left_since}
+use Rattle.disk.proofs.Leaves.{calm_left, itself}
+use Rattle.disk.proofs.Moments.{leaves_now, same, started, then, weaker}
+use Rattle.journal.specs.Opening.{IsPastSync, IsRefusedUnwritten, IsUnwritten, OpeningLeaves, StandsAs}
+use Rattle.journal.specs.Parts.{IsBad, IsRefusedAlike}
+use Rattle.journal.specs.Steps.{IsAlone, IsFinished, IsStanding, StandsStill, finished_now}
+use Rattle.oplog.specs.Layout.{layout_of, other}
+use Rattle.oplog.specs.Log.{Log}
+use Rattle.oplog.specs.Stands.{named_area}
+use Rattle.plain.specs.State.{State}
+
+-- ---- moments
+
+-- a device of which nothing is loose, and which is only read
+pub still_read : (g : Geometry) (w0 w1 : Medium) → IsSynced w0 → moments w1 ≡ moments w0 → StandsStill g w0 w1
+still_read g w0 w1 calm only =
+    same w0 w0 w1 _ (started w0 _ (λ c left. ap (holds g) (calm_left w0 c calm left))) only
+
+-- one stretch of calls after another, on the bytes that stand for the same
+pub still_then : (g : Geometry) (w0 w1 w2 : Medium) → AreBytes w1.now → StandsStill g w0 w1 → StandsStill g w1 w2 → StandsStill g w0 w2
+still_then g w0 w1 w2 are first second =
+    then w0 w1 w2 _ first
+    (weaker w1 w2 _ _ second (λ c is. is ∙ leaves_now w0 w1 _ first w1.now (itself w1.now w1.loose are)))
+
+pub still_now : (g : Geometry) (w0 w1 : Medium) → AreBytes w1.now → StandsStill g w0 w1 → holds g w1.now ≡ holds g w0.now
+still_now g w0 w1 are moments = leaves_now w0 w1 _ moments w1.now (itself w1.now w1.loose are)
+
+-- what stands for the same by the geometry of the header, and is refused alike
+stands_as : (g : Geometry) (before c : List ℕ) → HasHeader g before → holds g c ≡ holds g before → ((fault : OpenFault) → refused g before ≡ Some fault → HasHeader g c × (refused g c ≡ Some fault)) → StandsAs before c
+stands_as g before c head is alike = record {
+  same = λ h x held.
+      let one = one_geometry g h before head x held in
+      ap (λ (k : Geometry). holds k c) (sym one) ∙ is ∙ ap (λ (k : Geometry). holds k before) one ∙ held;
+  alike = λ h fault head' was.
+      let one = same_geometry g h (sym head ∙ head') in
+      subst (λ (k : Geometry). HasHeader k c × (refused k c ≡ Some fault)) one (alike fault (ap (λ (k : Geometry). refused k before) one ∙ was));
+}
+
+both_leave : (w0 w1 : Medium) (P Q : List ℕ → Type 0) → LeavesOnly w0 w1 P → LeavesOnly w0 w1 Q → LeavesOnly w0 w1 (λ c. P c × Q c)
+both_leave w0 w1 P Q first second = record {
+  later = first.later;
+  each = λ c left. (first.each c left, second.each c left);
+  before = λ t c early left.
+      ⊎_elim (λ (was : left_since w0 t c). inl was) (λ (p : P c). ⊎_elim (λ (was : left_since w0 t c). inl was) (λ (q : Q c). inr (p, q)) (second.before t c early left)) (first.before t c early left);
+}
+
+-- a device that is only read
+pub as_before : (w0 w1 : Medium) → IsSynced w0 → moments w1 ≡ moments w0 → LeavesOnly w0 w1 (StandsAs w0.now)
+as_before w0 w1 calm only =
+    same w0 w0 w1 _
+    (started w0 _
+    (λ c left.
+    let is = calm_left w0 c calm left in
+    record {
+      same = λ h x held. ap (holds h) is ∙ held;
+      alike = λ h fault head was. (subst (λ (l : List ℕ). HasHeader h l) (sym is) head, ap (λ (l : List ℕ). refused h l) is ∙ was);
+    }))
+    only
+
+pub alike_read : (g : Geometry) (w0 w1 : Medium) → HasHeader g w0.now → IsSynced w0 → moments w1 ≡ moments w0 → LeavesOnly w0 w1 (IsRefusedAlike g w0.now)
+alike_read g w0 w1 head calm only =
+    same w0 w0 w1 _
+    (started w0 _
+    (λ c left.
+    let is = calm_left w0 c calm left in
+    record { header = subst (λ (l : List ℕ). HasHeader g l) (sym is) head; refused = ap (λ (l : List ℕ). refused g l) is }))
+    only
+
+pub alike_after : (g : Geometry) (w0 w1 w2 : Medium) → HasHeader g w0.now → IsSynced w0 → moments w1 ≡ moments w0 → LeavesOnly w1 w2 (IsRefusedAlike g w1.now) → LeavesOnly w0 w2 (IsRefusedAlike g w0.now)
+alike_after g w0 w1 w2 head calm only later =
+    then w0 w1 w2 _ (alike_read g w0 w1 head calm only)
+    (weaker w1 w2 _ _ later (λ c is. record { header = is.header; refused = is.refused ∙ ap (λ (l : List ℕ). refused g l) (same_bytes w0 w1 only) }))
+
+-- one that is refused or not
+pub as_alike : (g : Geometry) (w0 w1 : Medium) → HasHeader g w0.now → StandsStill g w0 w1 → LeavesOnly w0 w1 (IsRefusedAlike g w0.now) → LeavesOnly w0 w1 (StandsAs w0.now)
+as_alike g w0 w1 head still alike =
+    weaker w0 w1 _ _ (both_leave w0 w1 _ _ still alike) (λ c is. stands_as g w0.now c head is.0 (λ fault was. (is.1.header, is.1.refused ∙ was)))
+
+-- one that isn't
+pub as_still : (g : Geometry) (w0 w1 : Medium) → HasHeader g w0.now → refused g w0.now ≡ None → StandsStill g w0 w1 → LeavesOnly w0 w1 (StandsAs w0.now)
+as_still g w0 w1 head fine still = weaker w0 w1 _ _ still (λ c is. stands_as g w0.now c head is (λ fault was. none_some (sym fine ∙ was)))
+  where
+    none_some : {T : Type 0} {fault : OpenFault} → None ≡ Some fault → T
+    none_some is = cc
+
+-- after the device was read
+pub still_after : (g : Geometry) (w0 w1 w2 : Medium) → IsSynced w0 → moments w1 ≡ moments w0 → StandsStill g w1 w2 → StandsStill g w0 w2
+still_after g w0 w1 w2 calm only still =
+    then w0 w1 w2 _ (still_read g w0 w1 calm only) (weaker w1 w2 _ _ still (λ c is. is ∙ ap (holds g) (same_bytes w0 w1 only)))
+
+-- ---- refusals
+
+pub unread : (w0 w1 : Medium) → moments w1 ≡ moments w0 → IsUnwritten w0 w1
+unread w0 w1 only = record {
+  now = same_bytes w0 w1 only;
+  later = same w0 w0 w1 _ (started w0 _ (λ c left. left)) only;
+}
+
+pub all_unwritten : (e : OpenFault) (w0 w1 : Medium) → IsUnwritten w0 w1 → IsRefusedUnwritten w0 e w1
+all_unwritten Device w0 w1 is = tt
+all_unwritten TooShort w0 w1 is = is
+all_unwritten NotFormatted w0 w1 is = is
+all_unwritten BadGeometry w0 w1 is = is
+all_unwritten OutOfMemory w0 w1 is = is
+all_unwritten BadVersion w0 w1 is = is
+all_unwritten (BadPiece n) w0 w1 is = is
+all_unwritten BadChain w0 w1 is = is
+all_unwritten (BadRecord h i) w0 w1 is = λ g head named. is
+
+-- a bad record of the other half
+pub bad_behind : (e : OpenFault) (n : ℕ) (w0 w1 : Medium) (g : Geometry) → n < 2 → n ≡ named_area (layout_of g) w0.now → IsBad (other n) e → IsRefusedUnwritten w0 e w1
+bad_behind Device n w0 w1 g is_area named bad = tt
+bad_behind (BadRecord h i) n w0 w1 g is_area named bad = λ k head here. absurd (omega (arith, is_area, bad, here, named))
+bad_behind TooShort n w0 w1 g is_area named bad = absurd bad
+bad_behind NotFormatted n w0 w1 g is_area named bad = absurd bad
+bad_behind BadGeometry n w0 w1 g is_area named bad = absurd bad
+bad_behind OutOfMemory n w0 w1 g is_area named bad = absurd bad
+bad_behind BadVersion n w0 w1 g is_area named bad = absurd bad
+bad_behind (BadPiece k) n w0 w1 g is_area named bad = absurd bad
+bad_behind BadChain n w0 w1 g is_area named bad = absurd bad
+
+-- seen from before the device was only read, or synced
+pub unwritten_from : (e : OpenFault) (w0 w1 w2 : Medium) → w1.now ≡ w0.now → (IsUnwritten w1 w2 → IsUnwritten w0 w2) → IsRefusedUnwritten w1 e w2 → IsRefusedUnwritten w0 e w2
+unwritten_from Device w0 w1 w2 now from is = tt
+unwritten_from TooShort w0 w1 w2 now from is = from is
+unwritten_from NotFormatted w0 w1 w2 now from is = from is
+unwritten_from BadGeometry w0 w1 w2 now from is = from is
+unwritten_from OutOfMemory w0 w1 w2 now from is = from is
+unwritten_from BadVersion w0 w1 w2 now from is = from is
+unwritten_from (BadPiece n) w0 w1 w2 now from is = from is
+unwritten_from BadChain w0 w1 w2 now from is = from is
+unwritten_from (BadRecord h i) w0 w1 w2 now from is =
+    λ g head here. from (is g (subst (λ (c : List ℕ). HasHeader g c) (sym now) head) (here ∙ sym (ap (λ (c : List ℕ). named_area (layout_of g) c) now)))
+
+pub unwritten_then : (w0 w1 w2 : Medium) → AreBytes w0.now → IsSynced w1 → w1.now ≡ w0.now → LeavesOnly w0 w1 (Leaves w0) → IsUnwritten w1 w2 → IsUnwritten w0 w2
+unwritten_then w0 w1 w2 are calm now first is = record {
+  now = is.now ∙ now;
+  later = then w0 w1 w2 _ first (weaker w1 w2 _ _ is.later (λ c left. subst (λ (l : List ℕ). Leaves w0 l) (sym (calm_left w1 c calm left ∙ now)) (itself w0.now w0.loose are)));
+}
+
+-- ---- the first sync
+
+pub never_synced : (w0 w1 : Medium) → LeavesOnly w0 w1 (Leaves w0) → OpeningLeaves w0 w1
+never_synced w0 w1 first = record { synced = w1; first = first; rest = inl refl }
+
+pub synced_then : (w0 w1 w2 : Medium) → IsSynced w1 → w1.now ≡ w0.now → LeavesOnly w0 w1 (Leaves w0) → LeavesOnly w1 w2 (StandsAs w1.now) → OpeningLeaves w0 w2
+synced_then w0 w1 w2 calm now first later = record {
+  synced = w1;
+  first = first;
+  rest = inr (record { calm = calm; now = now; later = subst (λ (c : List ℕ). LeavesOnly w1 w2 (StandsAs c)) now later });
+}
+
+-- ---- what a read leaves
+
+loose_in : List Moment → List Bool
+loose_in [] = []
+loose_in (m ∷ ms) = m.loose
+
+pub still_synced : (w0 w1 : Medium) → moments w1 ≡ moments w0 → IsSynced w0 → IsSynced w1
+unfolding loose_in
+still_synced w0 w1 only calm = ap (λ (ms : List Moment). loose_in ms) only ∙ calm ∙ ap (λ (l : List ℕ). replicate (length l) false) (sym (same_bytes w0 w1 only))
+
+pub same_loose : (w0 w1 : Medium) → moments w1 ≡ moments w0 → w1.loose ≡ w0.loose
+unfolding loose_in
+same_loose w0 w1 only = ap (λ (ms : List Moment). loose_in ms) only
+
+pub leaves_read : (w0 w1 : Medium) → moments w1 ≡ moments w0 → (c : List ℕ) → Leaves w1 c → Leaves w0 c
+leaves_read w0 w1 only c left = subst (λ (l : List Bool). MayLeave w0.now l c) (same_loose w0 w1 only) (subst (λ (l : List ℕ). MayLeave l w1.loose c) (same_bytes w0 w1 only) left)
+
+-- once a cut was finished and the records behind it were run
+pub alone_finished : (log : Log) (w0 w1 w2 : Medium) (y : State) → AreBytes w2.now → StandsStill log.geometry w0 w2 → holds log.geometry w0.now ≡ Some y → IsFinished log w0 w1 → moments w2 ≡ moments w1 → IsAlone (finished_now log) w2
+alone_finished log w0 w1 w2 y are still held finished only =
+    let now = still_now log.geometry w0 w2 are still in
+    record {
+      some = ap is_some (now ∙ held);
+      stands = subst (λ (o : Option State). IsStanding log.geometry (other log.named) (other log.named) o w2) (sym now) (λ c left. finished.stands c (leaves_read w1 w2 only c left));
+    }
+
+-- ---- the answer of a call that is handed on
+
+pub if_ok : {T E : Type 0} (r : Result T E) (P Q : T → Type 0) → ((v : T) → P v → Q v) → IfOk r P → IfOk r Q
+if_ok (Ok v) P Q gives held = gives v held
+if_ok (Err e) P Q gives held = tt
+
+pub if_err : {T E : Type 0} (r : Result T E) (P Q : E → Type 0) → ((e : E) → P e → Q e) → IfErr r P → IfErr r Q
+if_err (Ok v) P Q gives held = tt
+if_err (Err e) P Q gives held = gives e held
+
+-- a record that can't be run is one of the half whose records are run
+pub bad_half : (h : ℕ) (o : Option ℕ) (e : OpenFault) → e ≢ OutOfMemory → IsFault (fault_of (BadRecord h) o None) e → IsBad h e
+bad_half h o Device some is = tt
+bad_half h o OutOfMemory some is = absurd (some refl)
+bad_half h o NotFormatted some is = absurd is
+bad_half h o BadGeometry some is = absurd is
+bad_half h None TooShort some is = cc
+bad_half h (Some i) TooShort some is = cc
+bad_half h None BadVersion some is = cc
+bad_half h (Some i) BadVersion some is = cc
+bad_half h None (BadPiece n) some is = cc
+bad_half h (Some i) (BadPiece n) some is = cc
+bad_half h None BadChain some is = cc
+bad_half h (Some i) BadChain some is = cc
+bad_half h None (BadRecord k j) some is = cc
+bad_half h (Some i) (BadRecord k j) some is = sym (ap (half_in h) is)
+  where
+    half_in : ℕ → Option OpenFault → ℕ
+    half_in d (Some (BadRecord k j)) = k
+    half_in d _ = d

@@ -1,0 +1,28 @@
+use Rattle.std.proofs.Common.{◌≡◌, ℕ, List, subst}
+use Rattle.checkpoint.specs.declared.fault.OpenFault.{OpenFault}
+use Rattle.journal.specs.declared.opening.Parts.{Parts}
+use Rattle.journal.specs.Opening.{IsRefusedUnwritten}
+use Rattle.journal.specs.Parts.{IsMadeOf}
+use Rattle.journal.proofs.Settling.{if_err, if_ok, never_synced, synced_then, unwritten_from, unwritten_then}
+use Rattle.journal.proofs.opening.open_on.Goals as goal
+
+pub returns-in_err-settle-clause-any_moment : goal.returns-in_err-settle-clause-any_moment
+returns-in_err-settle-clause-any_moment g c = λ k. never_synced _ _ (c.settle.ensures.any_moment k)
+
+pub returns-clause-any_moment : goal.returns-clause-any_moment
+returns-clause-any_moment g c = λ k.
+    synced_then (g.D.Disk.medium c.args.disk.now) (g.D.Disk.medium c.settle.new.disk) (g.D.Disk.medium c.open_settled.new.disk) (c.in_ok-settle.ensures.calm k) (c.settle.ensures.now k) (c.settle.ensures.any_moment k) (c.open_settled.ensures.any_moment k)
+
+pub returns-clause-made_of : goal.returns-clause-made_of
+returns-clause-made_of g c =
+    if_ok c.open_settled.result _ _ (λ p made k. subst (λ (l : List ℕ). IsMadeOf l p (g.D.Disk.medium c.open_settled.new.disk)) (c.settle.ensures.now k) (made k)) c.open_settled.ensures.made_of
+
+pub returns-clause-unwritten : goal.returns-clause-unwritten
+returns-clause-unwritten g c =
+    let w0 = g.D.Disk.medium c.args.disk.now in
+    let w1 = g.D.Disk.medium c.settle.new.disk in
+    let w2 = g.D.Disk.medium c.open_settled.new.disk in
+    if_err c.open_settled.result _ _
+    (λ e is k.
+    unwritten_from e w0 w1 w2 (c.settle.ensures.now k) (unwritten_then w0 w1 w2 (g.met.D.Disk.bytes c.args.disk.now) (c.in_ok-settle.ensures.calm k) (c.settle.ensures.now k) (c.settle.ensures.any_moment k)) (is k))
+    c.open_settled.ensures.unwritten

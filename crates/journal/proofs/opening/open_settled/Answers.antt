@@ -1,0 +1,111 @@
+use Rattle.std.proofs.Common.{◌≡◌, List, ℕ, length, None, sym, ◌∙◌, ap, subst}
+use Rattle.std.proofs.lemmas.Result.{err_from_is_err_and}
+use Rattle.affinity.specs.declared.geometry.Geometry.{Geometry}
+use Rattle.checkpoint.specs.Header.{HasHeader}
+use Rattle.checkpoint.specs.Recovery.{holds}
+use Rattle.checkpoint.specs.Refusals.{refused}
+use Rattle.checkpoint.proofs.Replays.{same_bytes}
+use Rattle.disk.specs.Moments.{LeavesOnly}
+use Rattle.journal.specs.Opening.{StandsAs}
+use Rattle.journal.specs.Steps.{StandsStill}
+use Rattle.journal.specs.Stretches.{AreAllMarked}
+use Rattle.journal.proofs.Loaded.{made_of}
+use Rattle.journal.proofs.Rows.{whole_items, whole_put}
+use Rattle.journal.proofs.Settling.{all_unwritten, alike_after, as_alike, as_before, as_still, still_after, still_now, still_synced, still_then, unread, unwritten_from, unwritten_then}
+use Rattle.journal.proofs.opening.open_settled.Goals as goal
+
+pub returns-in_err-g-clause-any_moment : goal.returns-in_err-g-clause-any_moment
+returns-in_err-g-clause-any_moment g c = λ k. as_before _ _ (c.requires.calm k) (c.read_header.ensures.untouched k)
+
+pub returns-in_err-g-clause-unwritten : goal.returns-in_err-g-clause-unwritten
+returns-in_err-g-clause-unwritten g c =
+    let p = err_from_is_err_and c.from_residual.result c.from_residual.ensures.1 in
+    rw (p.1, p.2) (λ k. all_unwritten _ _ _ (unread _ _ (c.read_header.ensures.untouched k)))
+
+pub returns-in_err-parts-clause-any_moment : goal.returns-in_err-parts-clause-any_moment
+returns-in_err-parts-clause-any_moment g c = λ k. as_before _ _ (c.requires.calm k) (c.read_header.ensures.untouched k)
+
+pub returns-in_err-parts-clause-unwritten : goal.returns-in_err-parts-clause-unwritten
+returns-in_err-parts-clause-unwritten g c =
+    let p = err_from_is_err_and c.from_residual-in_err-parts.result c.from_residual-in_err-parts.ensures.1 in
+    rw (p.1, p.2) (λ k. all_unwritten _ _ _ (unread _ _ (c.read_header.ensures.untouched k)))
+
+pub returns-in_err-load_in_turn-clause-any_moment : goal.returns-in_err-load_in_turn-clause-any_moment
+returns-in_err-load_in_turn-clause-any_moment g c = λ k.
+    let w0 = g.D.Disk.medium c.args.disk.now in
+    let w1 = g.D.Disk.medium c.read_header.new.disk in
+    let w2 = g.D.Disk.medium c.load_in_turn.new.disk in
+    let t = c.in_ok-parts.parts.tree.geometry in
+    let only = c.read_header.ensures.untouched k in
+    let head = subst (λ (h : Geometry). HasHeader h w0.now) (sym c.in_ok-parts.ensures.geometry) (c.in_ok-g.ensures.header k) in
+    as_alike t w0 w2 head (still_after t w0 w1 w2 (c.requires.calm k) only (c.load_in_turn.ensures.any_moment k)) (alike_after t w0 w1 w2 head (c.requires.calm k) only (c.load_in_turn.ensures.alike k))
+
+pub returns-in_err-load_in_turn-clause-unwritten : goal.returns-in_err-load_in_turn-clause-unwritten
+returns-in_err-load_in_turn-clause-unwritten g c =
+    let p = err_from_is_err_and c.from_residual-in_err-load_in_turn.result c.from_residual-in_err-load_in_turn.ensures.1 in
+    rw (p.1, p.2)
+    (λ k.
+    let w0 = g.D.Disk.medium c.args.disk.now in
+    let w1 = g.D.Disk.medium c.read_header.new.disk in
+    let w2 = g.D.Disk.medium c.load_in_turn.new.disk in
+    let only = c.read_header.ensures.untouched k in
+    unwritten_from _ w0 w1 w2 (same_bytes w0 w1 only)
+    (unwritten_then w0 w1 w2 (g.met.D.Disk.bytes c.args.disk.now) (still_synced w0 w1 only (c.requires.calm k)) (same_bytes w0 w1 only) (unread w0 w1 only).later)
+    (c.in_err-load_in_turn.ensures.unwritten k))
+
+pub last_point-requires-clause-holds : goal.last_point-requires-clause-holds
+last_point-requires-clause-holds g c = λ k.
+    let w0 = g.D.Disk.medium c.args.disk.now in
+    let w1 = g.D.Disk.medium c.read_header.new.disk in
+    let w2 = g.D.Disk.medium c.load_in_turn.new.disk in
+    let t = c.in_ok-parts.parts.tree.geometry in
+    let only = c.read_header.ensures.untouched k in
+    ap (λ (h : Geometry). holds h w2.now) c.in_ok-load_in_turn.ensures.log
+    ∙ still_now t w1 w2 (g.met.D.Disk.bytes c.load_in_turn.new.disk) (c.load_in_turn.ensures.any_moment k) ∙ c.in_ok-load_in_turn.ensures.was k
+
+pub returns-in_err-last_point-clause-any_moment : goal.returns-in_err-last_point-clause-any_moment
+returns-in_err-last_point-clause-any_moment g c = λ k.
+    let w0 = g.D.Disk.medium c.args.disk.now in
+    let w1 = g.D.Disk.medium c.read_header.new.disk in
+    let w2 = g.D.Disk.medium c.load_in_turn.new.disk in
+    let t = c.in_ok-parts.parts.tree.geometry in
+    let only = c.read_header.ensures.untouched k in
+    let head = subst (λ (h : Geometry). HasHeader h w0.now) (sym c.in_ok-parts.ensures.geometry) (c.in_ok-g.ensures.header k) in
+    let w3 = g.D.Disk.medium c.last_point.new.disk in
+    let fine = sym (ap (λ (l : List ℕ). refused t l) (same_bytes w0 w1 only)) ∙ c.in_ok-load_in_turn.ensures.sound k in
+    let later = subst (λ (h : Geometry). StandsStill h w2 w3) c.in_ok-load_in_turn.ensures.log (c.last_point.ensures.any_moment k) in
+    as_still t w0 w3 head fine (still_after t w0 w1 w3 (c.requires.calm k) only (still_then t w1 w2 w3 (g.met.D.Disk.bytes c.load_in_turn.new.disk) (c.load_in_turn.ensures.any_moment k) later))
+
+pub returns-clause-any_moment : goal.returns-clause-any_moment
+returns-clause-any_moment g c = λ k.
+    let w0 = g.D.Disk.medium c.args.disk.now in
+    let w1 = g.D.Disk.medium c.read_header.new.disk in
+    let w2 = g.D.Disk.medium c.load_in_turn.new.disk in
+    let t = c.in_ok-parts.parts.tree.geometry in
+    let only = c.read_header.ensures.untouched k in
+    let head = subst (λ (h : Geometry). HasHeader h w0.now) (sym c.in_ok-parts.ensures.geometry) (c.in_ok-g.ensures.header k) in
+    let w3 = g.D.Disk.medium c.last_point.new.disk in
+    let fine = sym (ap (λ (l : List ℕ). refused t l) (same_bytes w0 w1 only)) ∙ c.in_ok-load_in_turn.ensures.sound k in
+    let later = subst (λ (h : Geometry). StandsStill h w2 w3) c.in_ok-load_in_turn.ensures.log (c.last_point.ensures.any_moment k) in
+    as_still t w0 w3 head fine (still_after t w0 w1 w3 (c.requires.calm k) only (still_then t w1 w2 w3 (g.met.D.Disk.bytes c.load_in_turn.new.disk) (c.load_in_turn.ensures.any_moment k) later))
+
+pub returns-clause-made_of : goal.returns-clause-made_of
+returns-clause-made_of g c = λ k.
+    let w0 = g.D.Disk.medium c.args.disk.now in
+    let w1 = g.D.Disk.medium c.read_header.new.disk in
+    let w2 = g.D.Disk.medium c.load_in_turn.new.disk in
+    let w3 = g.D.Disk.medium c.last_point.new.disk in
+    let t = c.in_ok-parts.parts.tree.geometry in
+    let only = c.read_header.ensures.untouched k in
+    let geometry : c.load_in_turn.new.tree.geometry ≡ t = c.in_ok-load_in_turn.ensures.geometry in
+    let log : c.load_in_turn.new.halves.geometry ≡ t = c.in_ok-load_in_turn.ensures.log in
+    let head = subst (λ (h : Geometry). HasHeader h w0.now) (sym (geometry ∙ c.in_ok-parts.ensures.geometry)) (c.in_ok-g.ensures.header k) in
+    let fine = ap (λ (h : Geometry). refused h w0.now) geometry ∙ sym (ap (λ (l : List ℕ). refused t l) (same_bytes w0 w1 only)) ∙ c.in_ok-load_in_turn.ensures.sound k in
+    let was = ap (λ (h : Geometry). holds h w0.now) geometry ∙ sym (ap (λ (l : List ℕ). holds t l) (same_bytes w0 w1 only)) ∙ c.in_ok-load_in_turn.ensures.was k in
+    let held = ap (λ (h : Geometry). holds h w2.now) log
+    ∙ still_now t w1 w2 (g.met.D.Disk.bytes c.load_in_turn.new.disk) (c.load_in_turn.ensures.any_moment k) ∙ c.in_ok-load_in_turn.ensures.was k in
+    let items = whole_put c.in_ok-parts.parts.frozen.len c.last_point.new.frozen (whole_items c.in_ok-parts.parts.frozen.len c.load_in_turn.new.frozen c.in_ok-parts.parts.frozen.items)
+    (c.last_point.ensures.size ∙ ap length c.deref_mut-3.ensures.value) (c.last_point.ensures.size ∙ c.deref_mut-3.ensures.len) in
+    let all = subst (λ (h : Geometry). AreAllMarked h c.in_ok-parts.parts.other_marks.items) (sym (log ∙ c.in_ok-parts.ensures.geometry)) c.in_ok-parts.ensures.all in
+    made_of _ c.load_in_turn.new.halves w0 w2 w3 c.last_point.new.frozen (g.met.D.Disk.bytes c.last_point.new.disk) head fine was c.in_ok-last_point.ensures.log (geometry ∙ sym log) items c.last_point.ensures.frozen
+    c.in_ok-load_in_turn.ensures.whole all (c.in_ok-load_in_turn.ensures.alone k) held (c.in_ok-last_point.ensures.pointed k)

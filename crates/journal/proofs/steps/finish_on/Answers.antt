@@ -1,0 +1,67 @@
+use Rattle.std.proofs.Common.{◌≡◌, ◌<◌, ℕ, sym, ◌∙◌, subst, arith, true≢false}
+use Rattle.affinity.specs.declared.geometry.Geometry.{Geometry}
+use Rattle.image.specs.Pieces.{piece_count}
+use Rattle.journal.specs.Stretches.{Imaged}
+use Rattle.journal.proofs.Finishing.{finish_image_moments, finish_moments, finished}
+use Rattle.journal.proofs.StillRefused.{finish_alike, image_alike}
+use Rattle.oplog.proofs.Answered.{on_ok}
+use Rattle.oplog.specs.Changes.{ChangesOnly, IsSameBut}
+use Rattle.oplog.specs.Layout.{layout_of, image, other}
+use Rattle.journal.proofs.steps.finish_on.Goals as goal
+
+along : {A B : Type 0} (P : A → B → Type 0) {a a' : A} {b b' : B} → a ≡ a' → b ≡ b' → P a b → P a' b'
+along P {a} {a'} {b} {b'} first second held = subst (λ y. P a' y) second (subst (λ x. P x b) first held)
+
+pub write_image-requires-clause-unmarked : goal.write_image-requires-clause-unmarked
+write_image-requires-clause-unmarked g c = λ k n few unmarked.
+    absurd (true≢false (sym (c.requires.all n (subst (λ (x : Geometry). n < piece_count x) c.geometry-g.ensures few)) ∙ unmarked))
+
+pub returns-then-is_err-clause-any_moment : goal.returns-then-is_err-clause-any_moment
+returns-then-is_err-clause-any_moment g c = λ k.
+    let writes = along (λ (x : Geometry) (n : ℕ). ChangesOnly (g.D.Disk.medium c.args.disk.now) (g.D.Disk.medium c.write_image.new.disk) (IsSameBut (layout_of x) (image (other n)))) c.geometry-g.ensures c.named-second.ensures.named (c.write_image.ensures.any_moment k) in
+    finish_image_moments c.args.halves.now c.args.bytes.now _ (omega (arith, c.named-second.ensures.named, c.named-second.ensures.half)) (c.requires.unfinished k) _ writes
+
+pub returns-in_err-flip_root-clause-any_moment : goal.returns-in_err-flip_root-clause-any_moment
+returns-in_err-flip_root-clause-any_moment g c = λ k.
+    let writes = along (λ (x : Geometry) (n : ℕ). ChangesOnly (g.D.Disk.medium c.args.disk.now) (g.D.Disk.medium c.write_image.new.disk) (IsSameBut (layout_of x) (image (other n)))) c.geometry-g.ensures c.named-second.ensures.named (c.write_image.ensures.any_moment k) in
+    let imaged = along (λ (x : Geometry) (n : ℕ). Imaged x (other n) c.args.bytes.now (g.D.Disk.medium c.args.disk.now) (g.D.Disk.medium c.write_image.new.disk)) c.geometry-g.ensures c.named-second.ensures.named
+    (on_ok c.write_image.result _ (sym c.is_err.ensures.value ∙ c.if-is_err.false) c.write_image.ensures.written k) in
+    finish_moments c.args.halves.now c.args.bytes.now _ (omega (arith, c.named-second.ensures.named, c.named-second.ensures.half)) (c.requires.unfinished k) _ writes
+    (g.met.D.Disk.bytes c.write_image.new.disk) imaged _ (c.flip_root.ensures.any_moment k)
+
+pub returns-clause-any_moment : goal.returns-clause-any_moment
+returns-clause-any_moment g c = λ k.
+    let writes = along (λ (x : Geometry) (n : ℕ). ChangesOnly (g.D.Disk.medium c.args.disk.now) (g.D.Disk.medium c.write_image.new.disk) (IsSameBut (layout_of x) (image (other n)))) c.geometry-g.ensures c.named-second.ensures.named (c.write_image.ensures.any_moment k) in
+    let imaged = along (λ (x : Geometry) (n : ℕ). Imaged x (other n) c.args.bytes.now (g.D.Disk.medium c.args.disk.now) (g.D.Disk.medium c.write_image.new.disk)) c.geometry-g.ensures c.named-second.ensures.named
+    (on_ok c.write_image.result _ (sym c.is_err.ensures.value ∙ c.if-is_err.false) c.write_image.ensures.written k) in
+    finish_moments c.args.halves.now c.args.bytes.now _ (omega (arith, c.named-second.ensures.named, c.named-second.ensures.half)) (c.requires.unfinished k) _ writes
+    (g.met.D.Disk.bytes c.write_image.new.disk) imaged _ (c.flip_root.ensures.any_moment k)
+
+pub returns-clause-finished : goal.returns-clause-finished
+returns-clause-finished g c = λ k.
+    let writes = along (λ (x : Geometry) (n : ℕ). ChangesOnly (g.D.Disk.medium c.args.disk.now) (g.D.Disk.medium c.write_image.new.disk) (IsSameBut (layout_of x) (image (other n)))) c.geometry-g.ensures c.named-second.ensures.named (c.write_image.ensures.any_moment k) in
+    let imaged = along (λ (x : Geometry) (n : ℕ). Imaged x (other n) c.args.bytes.now (g.D.Disk.medium c.args.disk.now) (g.D.Disk.medium c.write_image.new.disk)) c.geometry-g.ensures c.named-second.ensures.named
+    (on_ok c.write_image.result _ (sym c.is_err.ensures.value ∙ c.if-is_err.false) c.write_image.ensures.written k) in
+    finished c.args.halves.now c.args.bytes.now _ (omega (arith, c.named-second.ensures.named, c.named-second.ensures.half)) (c.requires.unfinished k) _ writes
+    (g.met.D.Disk.bytes c.write_image.new.disk) imaged _ (c.in_ok-flip_root.ensures.flipped k)
+
+pub returns-then-is_err-clause-alike : goal.returns-then-is_err-clause-alike
+returns-then-is_err-clause-alike g c = λ k x reads held.
+    let writes = along (λ (h : Geometry) (n : ℕ). ChangesOnly (g.D.Disk.medium c.args.disk.now) (g.D.Disk.medium c.write_image.new.disk) (IsSameBut (layout_of h) (image (other n)))) c.geometry-g.ensures c.named-second.ensures.named (c.write_image.ensures.any_moment k) in
+    image_alike c.args.halves.now.geometry c.args.halves.now.named (omega (arith, c.named-second.ensures.named, c.named-second.ensures.half)) x _ _ (c.requires.unfinished k).calm held writes
+
+pub returns-in_err-flip_root-clause-alike : goal.returns-in_err-flip_root-clause-alike
+returns-in_err-flip_root-clause-alike g c = λ k x reads held.
+    let writes = along (λ (h : Geometry) (n : ℕ). ChangesOnly (g.D.Disk.medium c.args.disk.now) (g.D.Disk.medium c.write_image.new.disk) (IsSameBut (layout_of h) (image (other n)))) c.geometry-g.ensures c.named-second.ensures.named (c.write_image.ensures.any_moment k) in
+    let imaged = along (λ (h : Geometry) (n : ℕ). Imaged h (other n) c.args.bytes.now (g.D.Disk.medium c.args.disk.now) (g.D.Disk.medium c.write_image.new.disk)) c.geometry-g.ensures c.named-second.ensures.named
+    (on_ok c.write_image.result _ (sym c.is_err.ensures.value ∙ c.if-is_err.false) c.write_image.ensures.written k) in
+    finish_alike c.args.halves.now.geometry c.args.halves.now.named (omega (arith, c.named-second.ensures.named, c.named-second.ensures.half)) x _ _ (c.requires.unfinished k).calm held
+    (g.met.D.Disk.bytes c.write_image.new.disk) c.args.bytes.now reads imaged _ writes (c.flip_root.ensures.any_moment k)
+
+pub returns-clause-alike : goal.returns-clause-alike
+returns-clause-alike g c = λ k x reads held.
+    let writes = along (λ (h : Geometry) (n : ℕ). ChangesOnly (g.D.Disk.medium c.args.disk.now) (g.D.Disk.medium c.write_image.new.disk) (IsSameBut (layout_of h) (image (other n)))) c.geometry-g.ensures c.named-second.ensures.named (c.write_image.ensures.any_moment k) in
+    let imaged = along (λ (h : Geometry) (n : ℕ). Imaged h (other n) c.args.bytes.now (g.D.Disk.medium c.args.disk.now) (g.D.Disk.medium c.write_image.new.disk)) c.geometry-g.ensures c.named-second.ensures.named
+    (on_ok c.write_image.result _ (sym c.is_err.ensures.value ∙ c.if-is_err.false) c.write_image.ensures.written k) in
+    finish_alike c.args.halves.now.geometry c.args.halves.now.named (omega (arith, c.named-second.ensures.named, c.named-second.ensures.half)) x _ _ (c.requires.unfinished k).calm held
+    (g.met.D.Disk.bytes c.write_image.new.disk) c.args.bytes.now reads imaged _ writes (c.flip_root.ensures.any_moment k)

@@ -1,0 +1,48 @@
+-- The steps of an opening: what they ask, and what they leave. No clause of a public function cites this module.
+use Rattle.std.specs.Prelude.{◌≡◌, ℕ, false, List, [], length, Some, None}
+use Rattle.affinity.specs.declared.geometry.Geometry.{Geometry}
+use Rattle.checkpoint.specs.declared.fault.OpenFault.{OpenFault}
+use Rattle.checkpoint.specs.declared.fault.OpenFault.TheVariants.{Device, BadRecord}
+use Rattle.checkpoint.specs.Header.{HasHeader}
+use Rattle.checkpoint.specs.Recovery.{holds}
+use Rattle.checkpoint.specs.Refusals.{refused}
+use Rattle.disk.specs.Device.{Medium}
+use Rattle.image.specs.Pieces.{piece_count}
+use Rattle.journal.specs.declared.opening.Parts.{Parts}
+use Rattle.journal.specs.Keeping.{IsSound}
+use Rattle.oplog.specs.Calls.{HasParts}
+use Rattle.oplog.specs.Layout.{image_size, layout_of}
+use Rattle.oplog.specs.Stands.{in_force, named_area}
+use Rattle.parcel.specs.Tree.{state_in}
+
+-- The device failed, or a record of this half is bad.
+abbrev pub IsBad : ℕ → OpenFault → Type 0
+IsBad half Device = Unit {0}
+IsBad half (BadRecord h i) = h ≡ half
+IsBad half fault = ⊥
+
+-- These bytes have the header of this geometry, and are refused for the same fault as those before, if they were.
+pub record IsRefusedAlike (g : Geometry) (before c : List ℕ) : Type 0 where
+  pub header : HasHeader g c
+  pub refused : refused g c ≡ refused g before
+
+-- What a journal is made of: a log with no record and all its room, and for each piece its marks.
+pub record IsMade (p : Parts) (m : Medium) : Type 0 where
+  pub geometry : p.halves.geometry ≡ p.tree.geometry
+  pub fine : p.halves.failed ≡ false
+  pub together : p.halves.current ≡ p.halves.named
+  pub used : p.halves.used ≡ 0
+  pub whole : HasParts p.halves m
+  pub frozen : length p.frozen.items ≡ image_size p.halves.geometry
+  pub named_marks : length p.named_marks.items ≡ piece_count p.halves.geometry
+  pub other_marks : length p.other_marks.items ≡ piece_count p.halves.geometry
+  pub due : length p.due.items ≡ piece_count p.halves.geometry
+
+-- It was opened from a device with these bytes, and the tree holds the state for which they stand.
+pub record IsMadeOf (c : List ℕ) (p : Parts) (m : Medium) : Type 0 where
+  pub header : HasHeader p.tree.geometry c
+  pub fine : refused p.tree.geometry c ≡ None
+  pub was : holds p.tree.geometry c ≡ Some (state_in p.tree)
+  pub is : holds p.halves.geometry m.now ≡ Some (state_in p.tree)
+  pub emptied : in_force (layout_of p.halves.geometry) (named_area (layout_of p.halves.geometry) m.now) m.now ≡ []
+  pub sound : IsSound p.halves p.frozen.items p.named_marks.items p.other_marks.items p.due.items None m
