@@ -5,19 +5,8 @@ use Rattle.std.specs.List.{list_any, find, AllByRecursion}
 use Rattle.std.proofs.lemmas.Bool.{ltb-true, lt-ltb, false_from_ne_true}
 use Rattle.std.proofs.lemmas.List.Folds.{list_any-append}
 use Rattle.turns.specs.Turns.{overlap, is_free_of, has_room, first_to_go, next_turn, CameBefore}
+pub use Rattle.turns.specs.Order.{Ascend, comes_first, is_clear}
 use Rattle.turns.specs.declared.entries.Turn.{Turn}
-
-abbrev pub Ascend : List Turn → Type 0
-Ascend [] = Unit {0}
-Ascend (t ∷ turns) = AllByRecursion (λ d. t.ticket < d.ticket) turns × Ascend turns
-
--- whether the second came before the first, at a related affinity
-abbrev pub comes_first : Turn → Turn → Bool
-comes_first t d = nat_lt d.ticket t.ticket && overlap t.affinity d.affinity
-
--- whether no held one is at a related affinity, and no waiting one with a smaller ticket
-abbrev pub is_clear : List Turn → List Turn → Turn → Bool
-is_clear held waiting t = is_free_of held t && not (list_any (comes_first t) waiting)
 
 -- those that came before it count by their affinities alone
 all_early : (t : Turn) (ts : List Turn) → CameBefore t.ticket ts

@@ -4,3 +4,10 @@ pub mod Passing
 -- ---- this crate's own
 mod Seating
 mod Examples
+mod Sorting
+mod Chains
+mod Standing
+mod Nearby
+mod Clearing
+mod Earliest
+mod Turning

@@ -11,34 +11,34 @@ use Rattle.turns.specs.declared.entries.Turn.{Turn}
 
 -- ---- how often a slot stands in a row
 
-times-cons_is : (s : ℕ) (t : Turn) (ts : List Turn) → t.slot ≡ s → times s (t ∷ ts) ≡ suc (times s ts)
+pub times-cons_is : (s : ℕ) (t : Turn) (ts : List Turn) → t.slot ≡ s → times s (t ∷ ts) ≡ suc (times s ts)
 times-cons_is s t ts same = rw (eq-eqb t.slot s same) refl
 
-times-cons_other : (s : ℕ) (t : Turn) (ts : List Turn) → t.slot ≢ s → times s (t ∷ ts) ≡ times s ts
+pub times-cons_other : (s : ℕ) (t : Turn) (ts : List Turn) → t.slot ≢ s → times s (t ∷ ts) ≡ times s ts
 times-cons_other s t ts other = rw (ne_eqb t.slot s other) refl
 
-times-append : (s : ℕ) (ts us : List Turn) → times s (ts ++ us) ≡ times s ts + times s us
+pub times-append : (s : ℕ) (ts us : List Turn) → times s (ts ++ us) ≡ times s ts + times s us
 times-append s [] us = omega arith
 times-append s (t ∷ ts) us = elim (eqb_tells t.slot s) [
   | inl e ↦ rw e.0 (omega (arith, times-append s ts us))
   | inr n ↦ rw n.0 (omega (arith, times-append s ts us))
 ]
 
-times-without_same : (s : ℕ) (ts : List Turn) → times s (without_slot s ts) ≡ 0
+pub times-without_same : (s : ℕ) (ts : List Turn) → times s (without_slot s ts) ≡ 0
 times-without_same s [] = refl
 times-without_same s (t ∷ ts) = elim (eqb_tells t.slot s) [
   | inl e ↦ rw e.0 (times-without_same s ts)
   | inr n ↦ rw n.0 (times-cons_other s t (without_slot s ts) n.1 ∙ times-without_same s ts)
 ]
 
-times-without_other : (s r : ℕ) (ts : List Turn) → s ≢ r → times s (without_slot r ts) ≡ times s ts
+pub times-without_other : (s r : ℕ) (ts : List Turn) → s ≢ r → times s (without_slot r ts) ≡ times s ts
 times-without_other s r [] other = refl
 times-without_other s r (t ∷ ts) other = elim (eqb_tells t.slot r) [
   | inl e ↦ rw e.0 (times-without_other s r ts other ∙ sym (times-cons_other s t ts (λ same. other (sym same ∙ e.1))))
   | inr n ↦ rw (n.0, times-without_other s r ts other) refl
 ]
 
-times-filter : (p : Turn → Bool) (s : ℕ) (ts : List Turn) → times s (filter p ts) ≤ times s ts
+pub times-filter : (p : Turn → Bool) (s : ℕ) (ts : List Turn) → times s (filter p ts) ≤ times s ts
 times-filter p s [] = omega arith
 times-filter p s (t ∷ ts) = elim (cases_eq t.slot s) [
   | inl e ↦ elim (cases_Bool (p t)) [
@@ -51,11 +51,11 @@ times-filter p s (t ∷ ts) = elim (cases_eq t.slot s) [
   ]
 ]
 
-times-absent : (s : ℕ) (ts : List Turn) → list_any (has_slot s) ts ≡ false → times s ts ≡ 0
+pub times-absent : (s : ℕ) (ts : List Turn) → list_any (has_slot s) ts ≡ false → times s ts ≡ 0
 times-absent s [] none = refl
 times-absent s (t ∷ ts) none = let k = or_parts (has_slot s t) (list_any (has_slot s) ts) none in rw k.0 (times-absent s ts k.1)
 
-times-there : (s : ℕ) (ts : List Turn) → list_any (has_slot s) ts ≡ true → 1 ≤ times s ts
+pub times-there : (s : ℕ) (ts : List Turn) → list_any (has_slot s) ts ≡ true → 1 ≤ times s ts
 times-there s [] some = absurd (true≢false (sym some))
 times-there s (t ∷ ts) some = elim (eqb_tells t.slot s) [
   | inl e ↦ rw e.0 (omega arith)
@@ -109,7 +109,7 @@ few (suc n) ts once =
     ]
 
 -- those that wait and those that are held are no more than there are slots
-fits : (n : ℕ) (ws hs : List Turn) → AreSeated n ws hs → length ws + length hs ≤ n
+pub fits : (n : ℕ) (ws hs : List Turn) → AreSeated n ws hs → length ws + length hs ≤ n
 fits n ws hs seated =
     let k = few n (ws ++ hs) (λ s. rw (times-append s ws hs) (seated s)) in
     omega (arith, k, length-append ws hs)

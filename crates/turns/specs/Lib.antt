@@ -1,2 +1,6 @@
 pub mod Turns
 pub mod Seats
+pub mod Order
+pub mod Queues
+pub mod Near
+pub mod Kept

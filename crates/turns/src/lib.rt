@@ -1,12 +1,17 @@
 //! Whose turn it is: which of the messages that wait may go, while others are held.
 //!
-//! This is a first version: all that wait stand in one row, and `next` looks at each of them and at
-//! those before it, so its cost grows with how many wait. A queue for each affinity is to take the
-//! row's place, under the same contracts.
+//! Those that wait stand in a queue for each affinity, and those that are held at the number of
+//! theirs. Only the first one of a queue may go, so `next` looks at each queue once: what it costs
+//! grows with the affinities of the geometry, and neither with the slots nor with how many wait.
+//! `arrive`, `go`, `free` and `holder` cost the same however many there are.
 
 #![tactic(auto)]
 
+mod candidates;
+mod clear;
 mod entries;
+mod holders;
+mod queues;
 mod queuing;
 
 pub use entries::Turn;

@@ -5,8 +5,10 @@ ghost use Rattle.affinity.specs.Interval.{IsAffinity};
 ghost use Rattle.turns.specs.Turns.{next_turn, has_slot, has_number, without_slot, without_number, holds_at};
 
 use crate::Turn;
-use crate::entries::{drop_number, drop_slot, next_turn, slot_at};
-use affinity::{Affinity, Geometry};
+use crate::candidates::better;
+use crate::holders::Holders;
+use crate::queues::Queues;
+use affinity::{Affinity, Geometry, Place};
 use std::alloc::{AllocError, Global};
 use std::marker::Model;
 
@@ -16,28 +18,26 @@ use std::marker::Model;
 #[derive(Drop)]
 pub struct Turns {
     geometry: Geometry,
-    waiting: Vec<Turn>,
-    held: Vec<Turn>,
+    waiting: Queues,
+    held: Holders,
     slots: usize,
 }
 
 impl Model for Turns {
-    ghost use Rattle.std.specs.Prelude.{◌≡◌, ◌≤◌, vec_capacity};
+    ghost use Rattle.std.specs.Prelude.{◌≡◌};
     ghost use Rattle.turns.specs.Turns.{Queuing};
-    ghost use Rattle.turns.specs.Seats.{AreSeated};
+    ghost use Rattle.turns.specs.Kept.{AreTurns};
 
     ghost Value = { Queuing };
 
     ghost view = { λ t. record {
       geometry = t.geometry;
-      waiting = t.waiting.items;
-      held = t.held.items;
+      waiting = t.waiting.turns;
+      held = t.held.turns;
       slots = t.slots;
     } };
 
-    // Both rows have room for all slots.
-    ghost invariant = { λ t. (t.slots ≤ vec_capacity t.waiting) × (t.slots ≤ vec_capacity t.held)
-        × AreSeated t.slots t.waiting.items t.held.items };
+    ghost invariant = { λ t. AreTurns t.geometry t.slots t.waiting t.held };
 }
 
 impl Turns {
@@ -50,10 +50,11 @@ impl Turns {
         requires { slots < usize.MAX }
         ensures { IfOk result (λ turns. turns ≡ at_start geometry.now slots) }
     {
+        let numbers = usize::from(Affinity::at(geometry, Place::Serial).end());
         Ok(Turns {
             geometry: *geometry,
-            waiting: Vec::with_capacity(alloc, slots)?,
-            held: Vec::with_capacity(alloc, slots)?,
+            waiting: Queues::new(alloc, numbers, slots)?,
+            held: Holders::new(alloc, numbers)?,
             slots,
         })
     }
@@ -64,7 +65,18 @@ impl Turns {
     pub fn next(&self, room: bool) -> Option<Turn>
         ensures { result ≡ next_turn room self.now.held self.now.waiting }
     {
-        next_turn(room, &self.held, &self.waiting)
+        let mut best = None;
+        for number in 0..self.held.numbers() {
+            best = better(
+                &self.geometry,
+                &self.held,
+                &self.waiting,
+                room,
+                best,
+                number,
+            );
+        }
+        best
     }
 
     /// The slot of the one that is held at an affinity. None where no one is held there.
@@ -72,7 +84,8 @@ impl Turns {
         ensures some { IfSome result (λ slot. list_any (holds_at a.number slot) self.now.held ≡ true) }
         ensures none { IfNone result (list_any (has_number a.number) self.now.held ≡ false) }
     {
-        slot_at(&self.held, a.number())
+        let turn = self.held.at(usize::from(a.number()))?;
+        Some(turn.slot)
     }
 
     /// One more waits, behind all others. Its ticket is above theirs, and no one has its slot.
@@ -83,7 +96,7 @@ impl Turns {
         requires new_slot { list_any (has_slot turn.slot) (self.old.waiting ++ self.old.held) ≡ false }
         ensures { self.new ≡ record self.old { waiting = self.old.waiting ++ turn ∷ [] } }
     {
-        self.waiting.push_reserved(turn);
+        self.waiting.push(turn);
     }
 
     /// The one that `next` gave goes: it waits no longer, and is held. All others stay.
@@ -94,14 +107,14 @@ impl Turns {
         ensures held { HasJoined turn self.old.held self.new.held }
         ensures count { length self.new.held ≡ length self.old.held + 1 }
     {
-        drop_slot(&mut self.waiting, turn.slot);
-        self.held.push_reserved(turn);
+        self.waiting.pop(usize::from(turn.affinity.number()));
+        self.held.hold(turn);
     }
 
     /// What is held at an affinity is held no longer. Nothing changes where nothing is held there.
     pub fn free(&mut self, a: Affinity)
         ensures { self.new ≡ record self.old { held = without_number a.number self.old.held } }
     {
-        drop_number(&mut self.held, a.number());
+        self.held.free(usize::from(a.number()));
     }
 }

@@ -1,0 +1,211 @@
+-- The next one is the first of those that may go at each number.
+use Rattle.std.proofs.Common.{◌≡◌, ◌∙◌, ℕ, suc, ◌+◌, ◌<◌, Bool, true, false, not, ◌&&◌, ◌||◌, List, [], ◌∷◌, find, Option, Some, None, refl, ap, sym, inl, inr, arith, ◌⊎◌}
+use Rattle.std.specs.Prelude.{nat_lt, ◌==◌}
+use Rattle.std.specs.List.{list_any, AllByRecursion}
+use Rattle.std.proofs.lemmas.Bool.{eq-eqb, ne_eqb, eqb-true, ltb-true, lt-ltb, cases_Bool, cases_eq, and_parts, and_from, or_left, or_right, or_parts, true≢false, false_from_ne_true}
+use Rattle.std.proofs.lemmas.Bool.Decides.{leb_tells}
+use Rattle.affinity.specs.Interval.{IsAffinity, contains, server_size}
+use Rattle.affinity.specs.declared.geometry.Geometry.{Geometry}
+use Rattle.turns.specs.Turns.{overlap, is_free_of, has_room, has_number, next_turn}
+use Rattle.turns.specs.Order.{Ascend, comes_first, is_clear, may_go_at, is_earlier, earlier}
+use Rattle.turns.specs.declared.entries.Turn.{Turn}
+use Rattle.turns.proofs.ByTicket.{next_is_first}
+use Rattle.turns.proofs.Nearby.{contains-own, number-below}
+use Rattle.turns.proofs.Clearing.{find-cons, find-skip, find-all, find-passes, has_own}
+
+-- ---- the first one that passes a test
+
+find-same : (p q : Turn → Bool) → ((t : Turn) → p t ≡ q t) → (ts : List Turn) → find p ts ≡ find q ts
+find-same p q same [] = refl
+find-same p q same (t ∷ ts) = elim (cases_Bool (q t)) [
+  | inl k ↦ find-cons p t ts (same t ∙ k) ∙ sym (find-cons q t ts k)
+  | inr k ↦ find-skip p t ts (same t ∙ k) ∙ find-same p q same ts ∙ sym (find-skip q t ts k)
+]
+
+find-none : (p : Turn → Bool) → ((t : Turn) → p t ≡ false) → (ts : List Turn) → find p ts ≡ None
+find-none p never [] = refl
+find-none p never (t ∷ ts) = find-skip p t ts (never t) ∙ find-none p never ts
+
+keeps : (o : Option Turn) (t : Turn) → ((d : Turn) → o ≡ Some d → t.ticket < d.ticket) → earlier (Some t) o ≡ Some t
+keeps None t later = refl
+keeps (Some d) t later =
+    let more = later d refl in
+    rw (false_from_ne_true (nat_lt d.ticket t.ticket) (λ less. let below = ltb-true d.ticket t.ticket less in omega (arith, more, below))) refl
+
+takes : (o : Option Turn) (t : Turn) → ((d : Turn) → o ≡ Some d → t.ticket < d.ticket) → earlier o (Some t) ≡ Some t
+takes None t later = refl
+takes (Some d) t later = rw (lt-ltb t.ticket d.ticket (later d refl)) refl
+
+itself : (t : Turn) → earlier (Some t) (Some t) ≡ Some t
+itself t = rw (false_from_ne_true (nat_lt t.ticket t.ticket) (λ less. let below = ltb-true t.ticket t.ticket less in omega (arith, below))) refl
+
+pub earlier-is : (o : Option Turn) (t : Turn) → is_earlier o t ≡ true → earlier o (Some t) ≡ Some t
+earlier-is o t h = rw h refl
+
+pub earlier-not : (o : Option Turn) (t : Turn) → is_earlier o t ≡ false → earlier o (Some t) ≡ o
+earlier-not o t h = rw h refl
+
+-- of two tests: the earlier one of the first that passes each
+find-either : (p q : Turn → Bool) (ts : List Turn) → Ascend ts → find (λ t. p t || q t) ts ≡ earlier (find p ts) (find q ts)
+find-either p q [] ascends = refl
+find-either p q (t ∷ ts) ascends = elim (cases_Bool (p t)) [
+  | inl k ↦ find-cons (λ u. p u || q u) t ts (or_left (p t) (q t) k) ∙ sym (elim (cases_Bool (q t)) [
+    | inl l ↦ ap (λ (o : Option Turn). earlier o (find q (t ∷ ts))) (find-cons p t ts k)
+        ∙ ap (λ (o : Option Turn). earlier (Some t) o) (find-cons q t ts l) ∙ itself t
+    | inr l ↦ ap (λ (o : Option Turn). earlier o (find q (t ∷ ts))) (find-cons p t ts k)
+        ∙ ap (λ (o : Option Turn). earlier (Some t) o) (find-skip q t ts l)
+        ∙ keeps (find q ts) t (λ d is. find-all (λ u. t.ticket < u.ticket) q ts d ascends.0 is)
+  ])
+  | inr k ↦ elim (cases_Bool (q t)) [
+    | inl l ↦ find-cons (λ u. p u || q u) t ts (or_right (p t) (q t) l) ∙ sym (
+        ap (λ (o : Option Turn). earlier o (find q (t ∷ ts))) (find-skip p t ts k)
+        ∙ ap (λ (o : Option Turn). earlier (find p ts) o) (find-cons q t ts l)
+        ∙ takes (find p ts) t (λ d is. find-all (λ u. t.ticket < u.ticket) p ts d ascends.0 is))
+    | inr l ↦ find-skip (λ u. p u || q u) t ts (ap (λ b. b || q t) k ∙ l) ∙ find-either p q ts ascends.1 ∙ sym (
+        ap (λ (o : Option Turn). earlier o (find q (t ∷ ts))) (find-skip p t ts k)
+        ∙ ap (λ (o : Option Turn). earlier (find p ts) o) (find-skip q t ts l))
+  ]
+]
+
+-- ---- a clear one is the first at its number
+
+pub own_overlap : (g : Geometry) (t d : Turn) → IsAffinity g t.affinity → t.affinity.number ≡ d.affinity.number → overlap t.affinity d.affinity ≡ true
+own_overlap g t d placed same = or_left _ _ (ap (λ n. contains t.affinity n) (sym same) ∙ contains-own g t.affinity placed)
+
+first_in : (g : Geometry) (t : Turn) (p : Turn → Bool) (ts : List Turn) → IsAffinity g t.affinity → Ascend ts → find p ts ≡ Some t
+    → list_any (comes_first t) ts ≡ false → find (has_number t.affinity.number) ts ≡ Some t
+first_in g t p [] placed ascends found none = absurd (cc)
+first_in g t p (d ∷ ts) placed ascends found none = elim (cases_Bool (p d)) [
+  | inl k ↦ (let is = sym (find-cons p d ts k) ∙ found in let same : d ≡ t = cc in
+      find-cons (has_number t.affinity.number) d ts (ap (λ (u : Turn). has_number t.affinity.number u) same ∙ has_own t) ∙ ap (λ (u : Turn). Some u) same)
+  | inr k ↦ (let rest = sym (find-skip p d ts k) ∙ found in
+      let parts = or_parts (comes_first t d) (list_any (comes_first t) ts) none in
+      let later = find-all (λ u. d.ticket < u.ticket) p ts t ascends.0 rest in
+      let other = ne_eqb d.affinity.number t.affinity.number (λ same. true≢false
+      (sym (and_from (nat_lt d.ticket t.ticket) _ (lt-ltb d.ticket t.ticket later) (own_overlap g t d placed (sym same))) ∙ parts.0)) in
+      find-skip (has_number t.affinity.number) d ts other ∙ first_in g t p ts placed ascends.1 rest parts.1)
+]
+
+not_true : (b : Bool) → not b ≡ true → b ≡ false
+not_true true h = absurd (true≢false (sym h))
+not_true false h = refl
+
+pub clear-first : (g : Geometry) (held waiting : List Turn) (t : Turn) (p : Turn → Bool) → AllByRecursion (λ d. IsAffinity g d.affinity) waiting
+    → Ascend waiting → find p waiting ≡ Some t → is_clear held waiting t ≡ true → find (has_number t.affinity.number) waiting ≡ Some t
+clear-first g held waiting t p placed ascends found clear =
+    first_in g t p waiting (find-all (λ d. IsAffinity g d.affinity) p waiting t placed found) ascends found
+    (not_true _ (and_parts (is_free_of held t) _ clear).1)
+
+pub false_and_right : (b : Bool) → (b && false) ≡ false
+false_and_right true = refl
+false_and_right false = refl
+
+or_nothing : (b : Bool) → b ≡ (b || false)
+or_nothing true = refl
+or_nothing false = refl
+
+-- the first one that may go at a number below this one
+abbrev pub first_below : Bool → List Turn → List Turn → ℕ → Option Turn
+first_below room held waiting n = find (λ t. nat_lt t.affinity.number n && (has_room room t && is_clear held waiting t)) waiting
+
+-- ---- the one that may go at a number
+
+some_first : (p q : Turn → Bool) (ts : List Turn) (t : Turn) → find p ts ≡ Some t → q t ≡ true → find (λ u. p u && q u) ts ≡ Some t
+some_first p q [] t found good = absurd (cc)
+some_first p q (d ∷ ts) t found good = elim (cases_Bool (p d)) [
+  | inl k ↦ (let is = sym (find-cons p d ts k) ∙ found in let same : d ≡ t = cc in
+      find-cons (λ u. p u && q u) d ts (and_from (p d) (q d) k (ap q same ∙ good)) ∙ ap (λ (u : Turn). Some u) same)
+  | inr k ↦ find-skip (λ u. p u && q u) d ts (ap (λ b. b && q d) k) ∙ some_first p q ts t (sym (find-skip p d ts k) ∙ found) good
+]
+
+module _ (g : Geometry) (room : Bool) (held waiting : List Turn) (placed : AllByRecursion (λ d. IsAffinity g d.affinity) waiting)
+    (ascends : Ascend waiting) where
+  abbrev goes : Turn → Bool
+  goes t = has_room room t && is_clear held waiting t
+
+  -- where the first one may not go, no one may
+  pub none_at : (n : ℕ) (f : Turn) → find (has_number n) waiting ≡ Some f → (has_room room f && is_clear held waiting f) ≡ false
+      → may_go_at room held waiting n ≡ None
+  none_at n f first not_good = by (may_go_at room held waiting n) refl
+    where
+      by : (o : Option Turn) → may_go_at room held waiting n ≡ o → may_go_at room held waiting n ≡ None
+      by None is = is
+      by (Some u) is =
+          let parts = and_parts (has_number n u) _ (find-passes (λ t. has_number n t && (has_room room t && is_clear held waiting t)) waiting u is) in
+          let clear = (and_parts (has_room room u) (is_clear held waiting u) parts.1).1 in
+          let at = eqb-true u.affinity.number n parts.0 in
+          let here = clear-first g held waiting u (λ t. has_number n t && (has_room room t && is_clear held waiting t)) placed ascends is clear in
+          let there = ap (λ k. find (has_number k) waiting) (sym at) ∙ here in
+          let both = sym first ∙ there in
+          let same : f ≡ u = cc in
+          absurd (true≢false (sym parts.1 ∙ ap (λ (t : Turn). has_room room t && is_clear held waiting t) (sym same) ∙ not_good))
+
+  pub some_at : (n : ℕ) (f : Turn) → find (has_number n) waiting ≡ Some f → (has_room room f && is_clear held waiting f) ≡ true
+      → may_go_at room held waiting n ≡ Some f
+  some_at n f first good = some_first (has_number n) (λ t. has_room room t && is_clear held waiting t) waiting f first good
+
+  -- so the best one stays, where the first one came later, or may not go
+  pub best_stays : (best : Option Turn) (n : ℕ) (f : Turn) → find (has_number n) waiting ≡ Some f
+      → (is_earlier best f ≡ false) ⊎ ((has_room room f && is_clear held waiting f) ≡ false) → best ≡ earlier best (may_go_at room held waiting n)
+  best_stays best n f first (inl late) = elim (cases_Bool (has_room room f && is_clear held waiting f)) [
+    | inl good ↦ sym (ap (λ (o : Option Turn). earlier best o) (some_at n f first good) ∙ earlier-not best f late)
+    | inr not_good ↦ sym (ap (λ (o : Option Turn). earlier best o) (none_at n f first not_good))
+  ]
+  best_stays best n f first (inr not_good) = sym (ap (λ (o : Option Turn). earlier best o) (none_at n f first not_good))
+
+  no_first : (p q : Turn → Bool) (ts : List Turn) → find p ts ≡ None → find (λ u. p u && q u) ts ≡ None
+  no_first p q [] none = refl
+  no_first p q (d ∷ ts) none = elim (cases_Bool (p d)) [
+    | inl k ↦ absurd (let is = sym (find-cons p d ts k) ∙ none in cc)
+    | inr k ↦ find-skip (λ u. p u && q u) d ts (ap (λ b. b && q d) k) ∙ no_first p q ts (sym (find-skip p d ts k) ∙ none)
+  ]
+
+  pub empty_at : (n : ℕ) → find (has_number n) waiting ≡ None → may_go_at room held waiting n ≡ None
+  empty_at n none = no_first (has_number n) (λ t. has_room room t && is_clear held waiting t) waiting none
+
+  -- ---- over all numbers
+
+  pub below-start : None ≡ first_below room held waiting 0
+  below-start = sym (find-none (λ t. nat_lt t.affinity.number 0 && (has_room room t && is_clear held waiting t))
+      (λ t. ap (λ b. b && (has_room room t && is_clear held waiting t)) (never t.affinity.number)) waiting)
+    where
+      never : (n : ℕ) → nat_lt n 0 ≡ false
+      never n = false_from_ne_true (nat_lt n 0) (λ less. let under = ltb-true n 0 less in omega (arith, under))
+
+  less_suc : (a n : ℕ) (b : Bool) → (nat_lt a (n + 1) && b) ≡ ((nat_lt a n && b) || ((a == n) && b))
+  less_suc a n b = elim (leb_tells (suc a) n) [
+    | inl e ↦ rw (e.0, lt-ltb a (n + 1) (omega (arith, e.1)), ne_eqb a n (λ same. omega (arith, same, e.1))) (or_nothing b)
+    | inr e ↦ elim (cases_eq a n) [
+      | inl same ↦ rw (e.0, lt-ltb a (n + 1) (omega (arith, same)), eq-eqb a n same) refl
+      | inr other ↦ rw (
+        e.0,
+        ne_eqb a n other,
+        false_from_ne_true (nat_lt a (n + 1)) (λ less. let under = ltb-true a (n + 1) less in omega (arith, under, other, e.1)),
+      ) refl
+    ]
+  ]
+
+  pub below-step : (n : ℕ) → first_below room held waiting (n + 1) ≡ earlier (first_below room held waiting n) (may_go_at room held waiting n)
+  below-step n =
+      find-same _ (λ t. (nat_lt t.affinity.number n && (has_room room t && is_clear held waiting t))
+      || (has_number n t && (has_room room t && is_clear held waiting t))) (λ t. less_suc t.affinity.number n _) waiting
+      ∙ find-either _ _ waiting ascends
+
+  all_below : (n : ℕ) (ts : List Turn) (p : Turn → Bool) → AllByRecursion (λ t. t.affinity.number < n) ts
+      → find (λ t. nat_lt t.affinity.number n && p t) ts ≡ find p ts
+  all_below n [] p low = refl
+  all_below n (t ∷ ts) p low =
+      let is : (nat_lt t.affinity.number n && p t) ≡ p t = ap (λ b. b && p t) (lt-ltb t.affinity.number n low.0) in
+      elim (cases_Bool (p t)) [
+        | inl k ↦ find-cons (λ t. nat_lt t.affinity.number n && p t) t ts (is ∙ k) ∙ sym (find-cons p t ts k)
+        | inr k ↦ find-skip (λ t. nat_lt t.affinity.number n && p t) t ts (is ∙ k) ∙ all_below n ts p low.1 ∙ sym (find-skip p t ts k)
+      ]
+
+  low : (ts : List Turn) → AllByRecursion (λ d. IsAffinity g d.affinity) ts → AllByRecursion (λ t. t.affinity.number < server_size g) ts
+  low [] h = tt
+  low (t ∷ ts) h = (number-below g t.affinity h.0, low ts h.1)
+
+  pub below-all : first_below room held waiting (server_size g) ≡ next_turn room held waiting
+  below-all =
+      all_below (server_size g) waiting (λ t. has_room room t && is_clear held waiting t) (low waiting placed)
+      ∙ sym (next_is_first room held waiting ascends)

@@ -1,0 +1,63 @@
+-- How those that wait stand in queues, one for the number of each affinity. No public clause cites this module.
+use Rattle.std.specs.Prelude.{◌≡◌, ℕ, suc, ◌<◌, List, [], ◌∷◌, ◌++◌, filter, map, if◌then◌else◌, nat_lt, Option, Some, None}
+use Rattle.std.specs.List.{find}
+use Rattle.arena.specs.Lists.{times as times_on}
+use Rattle.arena.specs.Row.{Row, IsParted, capacity_of, value_at, chain_at}
+use Rattle.turns.specs.Turns.{has_number, without_slot}
+use Rattle.turns.specs.Order.{Ascend}
+use Rattle.turns.specs.declared.entries.Turn.{Turn}
+
+-- what contracts see of the queues: how many there are, how many may wait, and who waits, by tickets
+pub record Waiting : Type 0 where
+  pub numbers : ℕ
+  pub seats : ℕ
+  pub turns : List Turn
+
+-- those that are there
+abbrev pub present : List (Option Turn) → List Turn
+present [] = []
+present (None ∷ places) = present places
+present (Some t ∷ places) = t ∷ present places
+
+-- one more, in front of the first with a greater ticket
+abbrev pub insert : Turn → List Turn → List Turn
+insert t [] = t ∷ []
+insert t (d ∷ turns) = if nat_lt t.ticket d.ticket then t ∷ d ∷ turns else d ∷ insert t turns
+
+abbrev pub by_ticket : List Turn → List Turn
+by_ticket [] = []
+by_ticket (t ∷ turns) = insert t (by_ticket turns)
+
+abbrev pub waiting_in : Row Turn → List Turn
+waiting_in row = by_ticket (present row.values)
+
+-- those in these slots
+abbrev pub turns_in : Row Turn → List ℕ → List Turn
+turns_in row slots = present (map (value_at row) slots)
+
+-- The chain of each number has those that wait at it, in order.
+pub record IsQueued (row : Row Turn) : Type 0 where
+  pub parted : IsParted row
+  pub full : (i : ℕ) → i < capacity_of row → value_at row i ≡ None → 0 < times_on i row.free
+  pub ascends : Ascend (waiting_in row)
+  pub queued : (n : ℕ) → turns_in row (chain_at row n) ≡ filter (has_number n) (waiting_in row)
+
+-- The first one at this number, if there is one, waits no longer.
+abbrev pub IsFirstGone : ℕ → Waiting → Waiting → Type 0
+IsFirstGone n before after =
+    (t : Turn) → find (has_number n) before.turns ≡ Some t → after ≡ record before { turns = without_slot t.slot before.turns }
+
+-- what contracts see of those that are held: how many numbers there are, and who is held, by numbers
+pub record Held : Type 0 where
+  pub numbers : ℕ
+  pub turns : List Turn
+
+-- Each stands at the number of its affinity, where the first place is that of number k.
+abbrev pub StandFrom : ℕ → List (Option Turn) → Type 0
+StandFrom k [] = Unit {0}
+StandFrom k (None ∷ places) = StandFrom (suc k) places
+StandFrom k (Some t ∷ places) = (t.affinity.number ≡ k) × StandFrom (suc k) places
+
+-- This one came in between those that were there.
+abbrev pub IsBetween : Turn → List Turn → List Turn → Type 0
+IsBetween t before after = (low : List Turn) × (high : List Turn) × (before ≡ low ++ high) × (after ≡ low ++ t ∷ high)
