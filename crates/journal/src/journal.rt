@@ -166,7 +166,7 @@ impl<D: Disk> Journal<D> {
             self.failed = true;
             return Err(fault);
         }
-        clear_marks(&mut self.other_marks);
+        clear_marks(&mut self.other_marks); // its image was written
         mem::swap(&mut self.named_marks, &mut self.other_marks);
         Ok(())
     }

@@ -1,6 +1,6 @@
 //! An image as the stretches in which it is written: its head with the first piece, then each other piece.
 ghost use Rattle.std.specs.Prelude.{◌≡◌, ◌+◌, ◌-◌, ◌<◌, ◌≤◌, ℕ, length, OnOk, IsErrOf};
-ghost use Rattle.disk.specs.Device.{CountsFault, overlaid};
+ghost use Rattle.disk.specs.Device.{CountsFault, Syncs, overlaid};
 ghost use Rattle.image.specs.Pieces.{piece_count, piece_size};
 ghost use Rattle.journal.specs.Stretches.{AgreeUnmarked, Imaged, IsPatchedAt, image_in, stretch_size};
 ghost use Rattle.oplog.specs.Changes.{ChangesOnly, IsReady, IsSameBut};
@@ -75,6 +75,16 @@ fn write_run<D: Disk>(
     Ok(())
 }
 
+/// Makes last what was written: at `Ok` a crash leaves it.
+fn make_last<D: Disk>(disk: &mut D) -> Result<(), DiskFault>
+    ensures syncs { D.keeps → Syncs result (D.medium disk.old) (D.medium disk.new) }
+    ensures inside { IsErrOf result DiskFault.OutOfRange → ⊥ }
+    ensures counts { CountsFault result (D.medium disk.old).faults (D.medium disk.new).faults }
+    ensures len { length (D.medium disk.new).now ≡ length (D.medium disk.old).now }
+{
+    disk.sync()
+}
+
 /// Writes the marked stretches of an image, those side by side in one write, and makes them last. All others are on the
 /// device already. `Device` exactly where the device failed.
 pub(crate) fn write_image<D: Disk>(
@@ -109,7 +119,7 @@ pub(crate) fn write_image<D: Disk>(
         at = end;
     }
     write_run(disk, g, area, bytes, from, at)?;
-    disk.sync()?;
+    make_last(disk)?;
     Ok(())
 }
 

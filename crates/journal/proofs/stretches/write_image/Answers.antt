@@ -75,24 +75,24 @@ pub returns-in_err-write_run-2-clause-any_moment : goal.returns-in_err-write_run
 returns-in_err-write_run-2-clause-any_moment g c = λ k.
     patch_moments c.args.g.now c.args.area c.loop-n.from c.loop-n.at c.args.bytes.now (g.D.Disk.medium c.args.disk.now) (g.D.Disk.medium c.loop-n.disk) (g.D.Disk.medium c.write_run-2.new.disk) c.requires.area c.requires.size c.requires.whole (c.loop-n.invariant.so_far k) (c.write_run-2.ensures.any_moment k)
 
-pub returns-in_err-sync-clause-any_moment : goal.returns-in_err-sync-clause-any_moment
-returns-in_err-sync-clause-any_moment g c = λ k.
+pub returns-in_err-make_last-clause-any_moment : goal.returns-in_err-make_last-clause-any_moment
+returns-in_err-make_last-clause-any_moment g c = λ k.
     after_sync _ _ _ _
     (patch_moments c.args.g.now c.args.area c.loop-n.from c.loop-n.at c.args.bytes.now (g.D.Disk.medium c.args.disk.now) (g.D.Disk.medium c.loop-n.disk) (g.D.Disk.medium c.write_run-2.new.disk) c.requires.area c.requires.size c.requires.whole (c.loop-n.invariant.so_far k) (c.write_run-2.ensures.any_moment k))
-    c.sync.result (c.sync.ensures.syncs k)
+    c.make_last.result (c.make_last.ensures.syncs k)
 
 pub returns-clause-any_moment : goal.returns-clause-any_moment
 returns-clause-any_moment g c = λ k.
     after_sync _ _ _ _
     (patch_moments c.args.g.now c.args.area c.loop-n.from c.loop-n.at c.args.bytes.now (g.D.Disk.medium c.args.disk.now) (g.D.Disk.medium c.loop-n.disk) (g.D.Disk.medium c.write_run-2.new.disk) c.requires.area c.requires.size c.requires.whole (c.loop-n.invariant.so_far k) (c.write_run-2.ensures.any_moment k))
-    c.sync.result (c.sync.ensures.syncs k)
+    c.make_last.result (c.make_last.ensures.syncs k)
 
 pub returns-clause-written : goal.returns-clause-written
 returns-clause-written g c = λ k.
     let all : c.loop-n.n ≡ piece_count c.args.g.now = grind (arith, common_steps) in
     let end : c.loop-n.at ≡ image_size c.args.g.now = c.loop-n.invariant.place ∙ ap (stretch_at c.args.g.now) all ∙ stretch_end c.args.g.now in
-    patch_synced c.args.g.now c.args.area c.args.bytes.now (g.D.Disk.medium c.args.disk.now) (g.D.Disk.medium c.write_run-2.new.disk) (g.D.Disk.medium c.sync.new.self) c.requires.area c.requires.size c.requires.whole
+    patch_synced c.args.g.now c.args.area c.args.bytes.now (g.D.Disk.medium c.args.disk.now) (g.D.Disk.medium c.write_run-2.new.disk) (g.D.Disk.medium c.make_last.new.disk) c.requires.area c.requires.size c.requires.whole
     (along_patch c.args.g.now c.args.area c.loop-n.at (image_size c.args.g.now) c.args.bytes.now (g.D.Disk.medium c.args.disk.now) (g.D.Disk.medium c.write_run-2.new.disk) (g.D.Disk.medium c.write_run-2.new.disk) (sym end) refl
     (patched c.args.g.now c.args.area c.loop-n.from c.loop-n.at c.args.bytes.now (g.D.Disk.medium c.args.disk.now) (g.D.Disk.medium c.loop-n.disk) (g.D.Disk.medium c.write_run-2.new.disk) c.requires.area c.requires.size c.requires.whole (c.loop-n.invariant.so_far k) (c.write_run-2.ensures.any_moment k)
     c.loop-n.invariant.order (omega (arith, end)) (c.write_run-2.ensures.same k) (c.in_ok-write_run-2.ensures.written k)))
-    ((c.in_ok-sync.ensures.syncs k).ok)
+    ((c.in_ok-make_last.ensures.syncs k).ok)
