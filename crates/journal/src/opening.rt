@@ -116,14 +116,17 @@ fn replay_behind<D: Disk>(
     requires marks { length marks.now ≡ piece_count halves.old.geometry }
     requires all { AreAllMarked halves.old.geometry marks.now }
     requires calm { D.keeps → IsSynced (D.medium disk.old) }
-    requires holds { D.keeps → NamedHolds halves.old.geometry (D.medium disk.old).now halves.old.named true (state_in tree.old) }
-    ensures any_moment { D.keeps → StandsStill halves.old.geometry (D.medium disk.old) (D.medium disk.new) }
+    requires holds { D.keeps →
+        NamedHolds halves.old.geometry (D.medium disk.old).now halves.old.named true (state_in tree.old) }
+    ensures any_moment { D.keeps →
+        StandsStill halves.old.geometry (D.medium disk.old) (D.medium disk.new) }
     ensures alike { D.keeps →
         LeavesOnly (D.medium disk.old) (D.medium disk.new) (IsRefusedAlike halves.old.geometry (D.medium disk.old).now) }
     ensures alone { OnOk result (D.keeps → IsAlone (finished_now halves.old) (D.medium disk.new)) }
     ensures was { OnOk result (D.keeps →
         holds halves.old.geometry (D.medium disk.old).now ≡ Some (state_in tree.new)) }
-    ensures sound { OnOk result (D.keeps → refused halves.old.geometry (D.medium disk.old).now ≡ None) }
+    ensures sound { OnOk result (D.keeps →
+        refused halves.old.geometry (D.medium disk.old).now ≡ None) }
     ensures refused { IfErr result (λ e. D.keeps → IsRefused (D.medium disk.old).now e) }
     ensures behind { IfErr result (λ e. D.keeps → IsBad (other halves.old.named) e) }
     ensures whole { OnOk result (IsWholeTree tree.new) }
@@ -160,13 +163,15 @@ fn load_in_turn<D: Disk>(
     requires marks { length marks.now ≡ piece_count tree.old.geometry }
     requires all { AreAllMarked tree.old.geometry marks.now }
     requires calm { D.keeps → IsSynced (D.medium disk.old) }
-    ensures any_moment { D.keeps → StandsStill tree.old.geometry (D.medium disk.old) (D.medium disk.new) }
+    ensures any_moment { D.keeps →
+        StandsStill tree.old.geometry (D.medium disk.old) (D.medium disk.new) }
     ensures alike { D.keeps →
         LeavesOnly (D.medium disk.old) (D.medium disk.new) (IsRefusedAlike tree.old.geometry (D.medium disk.old).now) }
     ensures alone { OnOk result (D.keeps → IsAlone halves.new (D.medium disk.new)) }
     ensures was { OnOk result (D.keeps →
         holds tree.old.geometry (D.medium disk.old).now ≡ Some (state_in tree.new)) }
-    ensures sound { OnOk result (D.keeps → refused tree.old.geometry (D.medium disk.old).now ≡ None) }
+    ensures sound { OnOk result (D.keeps →
+        refused tree.old.geometry (D.medium disk.old).now ≡ None) }
     ensures refused { IfErr result (λ e. D.keeps → IsRefused (D.medium disk.old).now e) }
     ensures unwritten { IfErr result (λ e. D.keeps →
         IsRefusedUnwritten (D.medium disk.old) e (D.medium disk.new)) }
@@ -204,8 +209,10 @@ fn last_point<D: Disk>(
     requires marks { length marks.now ≡ piece_count halves.old.geometry }
     requires all { AreAllMarked halves.old.geometry marks.now }
     requires alone { D.keeps → IsAlone halves.old (D.medium disk.old) }
-    requires holds { D.keeps → holds halves.old.geometry (D.medium disk.old).now ≡ Some (state_in tree.now) }
-    ensures any_moment { D.keeps → StandsStill halves.old.geometry (D.medium disk.old) (D.medium disk.new) }
+    requires holds { D.keeps →
+        holds halves.old.geometry (D.medium disk.old).now ≡ Some (state_in tree.now) }
+    ensures any_moment { D.keeps →
+        StandsStill halves.old.geometry (D.medium disk.old) (D.medium disk.new) }
     ensures pointed { OnOk result (D.keeps →
         IsPointed halves.old frozen.new (D.medium disk.old) (D.medium disk.new)) }
     ensures frozen { frozen.new ≡ image_of 2 tree.now.geometry (state_in tree.now) }
@@ -225,7 +232,8 @@ fn open_settled<D: Disk>(alloc: Global, disk: &mut D) -> Result<Parts, OpenFault
     requires calm { D.keeps → IsSynced (D.medium disk.old) }
     ensures any_moment { D.keeps →
         LeavesOnly (D.medium disk.old) (D.medium disk.new) (StandsAs (D.medium disk.old).now) }
-    ensures made_of { IfOk result (λ p. D.keeps → IsMadeOf (D.medium disk.old).now p (D.medium disk.new)) }
+    ensures made_of { IfOk result (λ p. D.keeps →
+        IsMadeOf (D.medium disk.old).now p (D.medium disk.new)) }
     ensures made { IfOk result (λ p. IsMade p (D.medium disk.new)) }
     ensures whole { IfOk result (λ p. IsWholeTree p.tree) }
     ensures refused { IfErr result (λ e. D.keeps → IsRefused (D.medium disk.old).now e) }
@@ -266,7 +274,8 @@ fn open_settled<D: Disk>(alloc: Global, disk: &mut D) -> Result<Parts, OpenFault
 /// Opens any device: the first sync makes last what is loose.
 fn open_on<D: Disk>(alloc: Global, disk: &mut D) -> Result<Parts, OpenFault>
     ensures any_moment { D.keeps → OpeningLeaves (D.medium disk.old) (D.medium disk.new) }
-    ensures made_of { IfOk result (λ p. D.keeps → IsMadeOf (D.medium disk.old).now p (D.medium disk.new)) }
+    ensures made_of { IfOk result (λ p. D.keeps →
+        IsMadeOf (D.medium disk.old).now p (D.medium disk.new)) }
     ensures made { IfOk result (λ p. IsMade p (D.medium disk.new)) }
     ensures whole { IfOk result (λ p. IsWholeTree p.tree) }
     ensures refused { IfErr result (λ e. D.keeps → IsRefused (D.medium disk.old).now e) }
