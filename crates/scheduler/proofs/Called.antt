@@ -1,0 +1,125 @@
+-- What each call answers makes it an event of a legal run.
+use Rattle.std.proofs.Common.{◌≡◌, ℕ, ◌<◌, ◌≤◌, zero, suc, Bool, true, false, List, [], ◌∷◌, length, take, Option, Some, None, Result, Ok, Err, refl, ap, sym, ◌∙◌, arith}
+use Rattle.std.specs.Prelude.{if◌then◌else◌, is_none, nat_lt, not, ◌&&◌}
+use Rattle.std.proofs.lemmas.Bool.{and_from, lt-ltb, not_from_false}
+use Rattle.affinity.specs.declared.geometry.Geometry.{Geometry}
+use Rattle.image.specs.Pieces.{piece_count}
+use Rattle.legal_runs.specs.Events.{Hand, Hands, IsAllowed, answer, arrive, batch, fails, fewer, flip_refusal, is_ended, log, piece_refusal, point_refusal, unless_refused}
+use Rattle.legal_runs.specs.World.{World}
+use Rattle.legal_runs.specs.declared.outcomes.ArriveRefusal.{ArriveRefusal}
+use Rattle.legal_runs.specs.declared.outcomes.CoreFault.{CoreFault}
+use Rattle.legal_runs.specs.declared.outcomes.CoreFault.TheVariants as faults
+use Rattle.legal_runs.specs.declared.outcomes.Outcome.{Outcome}
+use Rattle.legal_runs.specs.declared.outcomes.Outcome.TheVariants as outcomes
+use Rattle.legal_runs.specs.declared.outcomes.PointRefusal.{PointRefusal}
+use Rattle.legal_runs.specs.declared.outcomes.PointRefusal.TheVariants as points
+use Rattle.legal_runs.specs.declared.outcomes.Step.{Step}
+use Rattle.legal_runs.specs.declared.outcomes.Step.TheVariants as steps
+use Rattle.message.specs.declared.Msg.{Msg}
+use Rattle.message.specs.declared.Reply.{Reply}
+use Rattle.scheduler.specs.Calls.{IsCalled, IsLogStep, IsPieceStep, IsPointStep, answered, arrived, log_rose, logged, point_rose, stepped}
+
+abbrev In : World → List Hand → Hands
+In w hands = record { core = w; hands = hands }
+
+module _ (g : Geometry) (old new : World) where
+  pub arrive_called : (m : Msg) (r : Result ℕ ArriveRefusal) → (arrived r, new) ≡ arrive g old m
+      → IsCalled g old new (steps.Arrive m) (arrived r) false
+  arrive_called m r e hands =
+      record { to_write = 0; at_most = omega arith; does = ap (λ (x : Outcome × World). (x.0, In x.1 hands)) (sym e) }
+
+  pub answer_called : (r : Option (ℕ × Reply)) → (answered r, new) ≡ answer old old.logged → IsCalled g old new steps.Answer (answered r) false
+  answer_called r e hands =
+      record { to_write = 0; at_most = omega arith; does = ap (λ (x : Outcome × World). (x.0, In x.1 hands)) (sym e) }
+
+  -- whether a log is refused
+  abbrev log_if : ℕ → Bool → Outcome × World
+  log_if n b = if b then (outcomes.LogFault faults.Failed, old) else (outcomes.Logged (length (take n old.ran)), log g old n)
+
+  pub log_called : (n : ℕ) (r : Result ℕ CoreFault) → IsLogStep g old new n r → IsCalled g old new (steps.Log n) (logged r) (log_rose r)
+  log_called n (Ok count) h hands = record {
+    to_write = 0;
+    at_most = omega arith;
+    does = ap (λ (b : Bool). ((log_if n b).0, In (log_if n b).1 hands)) h.0 ∙ (λ i. (outcomes.Logged (sym h.1 i), In (sym h.2 i) hands));
+  }
+  log_called n (Err faults.Device) h hands = record {
+    touched = and_from (not old.failed) _ (not_from_false old.failed h.0) (lt-ltb 0 (length (batch old n)) (some (length (batch old n)) h.1));
+    core = λ i. (outcomes.LogFault faults.Device, sym h.2 i);
+    hands = refl;
+  }
+    where
+      some : (k : ℕ) → (k ≡ 0 → ⊥) → 0 < k
+      some zero not_none = absurd (not_none refl)
+      some (suc k) not_none = omega arith
+  log_called n (Err faults.Failed) h hands = record {
+    to_write = 0;
+    at_most = omega arith;
+    does = ap (λ (b : Bool). ((log_if n b).0, In (log_if n b).1 hands)) h.0 ∙ (λ i. (outcomes.LogFault faults.Failed, In (sym h.1 i) hands));
+  }
+
+  -- the event of a step that is refused for a reason, if there is one
+  abbrev By : List Hand → Option PointRefusal → Outcome × World → Outcome × Hands
+  By hands why made = ((unless_refused old why made).0, In (unless_refused old why made).1 hands)
+
+  refused : (hands : List Hand) (why : Option PointRefusal) (made : Outcome × World) (refusal : PointRefusal) → why ≡ Some refusal
+      → new ≡ old → By hands why made ≡ (outcomes.PointRefused refusal, In new hands)
+  refused hands why made refusal e same = ap (λ o. By hands o made) e ∙ (λ i. (outcomes.PointRefused refusal, In (sym same i) hands))
+
+  carried : (hands : List Hand) (why : Option PointRefusal) (outcome : Outcome) (made : World) → why ≡ None → new ≡ made
+      → By hands why (outcome, made) ≡ (outcome, In new hands)
+  carried hands why outcome made e is = ap (λ o. By hands o (outcome, made)) e ∙ (λ i. (outcome, In (sym is i) hands))
+
+  pub point_called : (r : Result (Unit {0}) PointRefusal) → IsPointStep old new (point_refusal old) (new ≡ record old { room = g.half }) r
+      → IsCalled g old new steps.Point (stepped (λ _. outcomes.Pointed) r) (point_rose r)
+  point_called (Ok u) h hands = record { to_write = 0; at_most = omega arith; does = carried hands (point_refusal old) outcomes.Pointed _ h.0 h.1 }
+  point_called (Err points.Device) h hands =
+      record { touched = ap is_none h.0; core = λ i. (outcomes.PointRefused points.Device, sym h.1 i); hands = refl }
+  point_called (Err points.Held) h hands = record { to_write = 0; at_most = omega arith; does = refused hands (point_refusal old) _ points.Held h.0 h.1 }
+  point_called (Err points.Failed) h hands = record { to_write = 0; at_most = omega arith; does = refused hands (point_refusal old) _ points.Failed h.0 h.1 }
+  point_called (Err points.Running) h hands = record { to_write = 0; at_most = omega arith; does = refused hands (point_refusal old) _ points.Running h.0 h.1 }
+  point_called (Err points.NotRunning) h hands = record { to_write = 0; at_most = omega arith; does = refused hands (point_refusal old) _ points.NotRunning h.0 h.1 }
+  point_called (Err points.Unfinished) h hands = record { to_write = 0; at_most = omega arith; does = refused hands (point_refusal old) _ points.Unfinished h.0 h.1 }
+
+  abbrev HasCut : Type 0
+  HasCut = (n : ℕ) × (n ≤ piece_count g) × (new ≡ record old { room = g.half; left = Some n })
+
+  pub cut_called : (r : Result (Unit {0}) PointRefusal) → IsPointStep old new (point_refusal old) HasCut r
+      → IsCalled g old new steps.Cut (stepped (λ _. outcomes.Cut) r) (point_rose r)
+  cut_called (Ok u) h hands = record { to_write = h.1.0; at_most = h.1.1; does = carried hands (point_refusal old) outcomes.Cut _ h.0 h.1.2 }
+  cut_called (Err points.Device) h hands =
+      record { touched = ap is_none h.0; core = λ i. (outcomes.PointRefused points.Device, sym h.1 i); hands = refl }
+  cut_called (Err points.Held) h hands = record { to_write = 0; at_most = omega arith; does = refused hands (point_refusal old) _ points.Held h.0 h.1 }
+  cut_called (Err points.Failed) h hands = record { to_write = 0; at_most = omega arith; does = refused hands (point_refusal old) _ points.Failed h.0 h.1 }
+  cut_called (Err points.Running) h hands = record { to_write = 0; at_most = omega arith; does = refused hands (point_refusal old) _ points.Running h.0 h.1 }
+  cut_called (Err points.NotRunning) h hands = record { to_write = 0; at_most = omega arith; does = refused hands (point_refusal old) _ points.NotRunning h.0 h.1 }
+  cut_called (Err points.Unfinished) h hands = record { to_write = 0; at_most = omega arith; does = refused hands (point_refusal old) _ points.Unfinished h.0 h.1 }
+
+  pub piece_called : (r : Result ℕ PointRefusal) → IsPieceStep old new r → IsCalled g old new steps.Piece (stepped outcomes.Left r) (point_rose r)
+  piece_called (Ok n) h hands = record {
+    to_write = 0;
+    at_most = omega arith;
+    does = ap (λ o. By hands o (outcomes.Left (fewer old.left), record old { left = Some (fewer old.left) })) h.0
+        ∙ (λ i. (outcomes.Left (sym h.1 i), In (record old { left = Some (sym h.1 i) }) hands))
+        ∙ (λ i. (outcomes.Left n, In (sym h.2 i) hands));
+  }
+  piece_called (Err points.Device) h hands = record {
+    touched = and_from (is_none (piece_refusal old)) _ (ap is_none h.0) (not_from_false (is_ended old.left) h.1);
+    core = λ i. (outcomes.PointRefused points.Device, sym h.2 i);
+    hands = refl;
+  }
+  piece_called (Err points.Held) h hands = record { to_write = 0; at_most = omega arith; does = refused hands (piece_refusal old) _ points.Held h.0 h.1 }
+  piece_called (Err points.Failed) h hands = record { to_write = 0; at_most = omega arith; does = refused hands (piece_refusal old) _ points.Failed h.0 h.1 }
+  piece_called (Err points.Running) h hands = record { to_write = 0; at_most = omega arith; does = refused hands (piece_refusal old) _ points.Running h.0 h.1 }
+  piece_called (Err points.NotRunning) h hands = record { to_write = 0; at_most = omega arith; does = refused hands (piece_refusal old) _ points.NotRunning h.0 h.1 }
+  piece_called (Err points.Unfinished) h hands = record { to_write = 0; at_most = omega arith; does = refused hands (piece_refusal old) _ points.Unfinished h.0 h.1 }
+
+  pub flip_called : (r : Result (Unit {0}) PointRefusal) → IsPointStep old new (flip_refusal old) (new ≡ record old { left = None }) r
+      → IsCalled g old new steps.Flip (stepped (λ _. outcomes.Flipped) r) (point_rose r)
+  flip_called (Ok u) h hands = record { to_write = 0; at_most = omega arith; does = carried hands (flip_refusal old) outcomes.Flipped _ h.0 h.1 }
+  flip_called (Err points.Device) h hands =
+      record { touched = ap is_none h.0; core = λ i. (outcomes.PointRefused points.Device, sym h.1 i); hands = refl }
+  flip_called (Err points.Held) h hands = record { to_write = 0; at_most = omega arith; does = refused hands (flip_refusal old) _ points.Held h.0 h.1 }
+  flip_called (Err points.Failed) h hands = record { to_write = 0; at_most = omega arith; does = refused hands (flip_refusal old) _ points.Failed h.0 h.1 }
+  flip_called (Err points.Running) h hands = record { to_write = 0; at_most = omega arith; does = refused hands (flip_refusal old) _ points.Running h.0 h.1 }
+  flip_called (Err points.NotRunning) h hands = record { to_write = 0; at_most = omega arith; does = refused hands (flip_refusal old) _ points.NotRunning h.0 h.1 }
+  flip_called (Err points.Unfinished) h hands = record { to_write = 0; at_most = omega arith; does = refused hands (flip_refusal old) _ points.Unfinished h.0 h.1 }

@@ -1,0 +1,2 @@
+-- ---- for the crates above: the calls of a core as events
+pub mod Called

@@ -1,0 +1,11 @@
+//! The core of a server: messages come in, go out as jobs in an order in which no two of them meet, come back, are
+//! logged on a device and answered.
+//!
+//! What each call does is told over the worlds and events of `legal_runs`.
+#![tactic(auto)]
+
+mod granted;
+mod kernel;
+
+pub use granted::Granted;
+pub use kernel::Core;
