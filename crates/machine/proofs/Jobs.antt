@@ -1,0 +1,53 @@
+-- A job that is out, and what comes of it, stay what they are while other events come.
+use Rattle.std.proofs.Common.{◌≡◌, ap, sym, subst, ◌∙◌}
+use Rattle.std.specs.List.{Contains}
+use Rattle.affinity.specs.Path.{are_related}
+use Rattle.affinity.specs.declared.geometry.Geometry.{Geometry}
+use Rattle.legal_runs.specs.World.{Entry, World}
+use Rattle.message.specs.Messages.{place}
+use Rattle.message.specs.declared.Msg.{Msg}
+use Rattle.parcel.proofs.SerialRuns.{serial_run}
+use Rattle.parcel.specs.Fits.{Suits}
+use Rattle.parcel.specs.Run.{Asked, IsRun, Shows}
+use Rattle.parcel.specs.declared.job.Done.{Done}
+use Rattle.plain.proofs.Agree.{agree-sym, agree-trans}
+use Rattle.plain.proofs.Frame.{reads_only}
+use Rattle.plain.specs.Serial.{next_state, reply_to}
+use Rattle.plain.specs.Shares.{AgreeOn}
+use Rattle.scheduler.specs.Jobs.{IsJobOf, IsResultOf}
+
+module _ (g : Geometry) where
+  -- A job that runs becomes its result.
+  pub job_ran : (w : World) (job : Asked) (done : Done) → IsJobOf g w job → IsRun job done → IsResultOf g w done
+  job_ran w job done h run =
+      let k = serial_run job done w.settled run h.lent in
+      let same : ◌≡◌ {A = Geometry × Msg} (job.geometry, job.message) (g, done.message) = λ i. (h.geometry i, sym run.message i) in
+      record {
+        is_out = subst (λ (e : Entry). Contains w.out e) (λ i. (sym run.ticket i, sym run.message i)) h.is_out;
+        suits = subst (λ (p : Geometry × Msg). Suits p.0 p.1 done.parcels) same run.suits;
+        reply = k.reply ∙ ap (λ (p : Geometry × Msg). reply_to p.0 w.settled p.1) same;
+        standing = job.standing;
+        shows = subst (λ (p : Geometry × Msg). Shows p.0 (place p.0 p.1) job.standing done.parcels (next_state p.0 w.settled p.1)) same k.shows;
+      }
+
+  -- The message sees the same in the settled state of both worlds.
+  abbrev pub SeesSame : World → World → Msg → Type 0
+  SeesSame old new m = AgreeOn g (are_related (place g m)) new.settled old.settled
+
+  pub job_stays : (old new : World) (job : Asked) → IsJobOf g old job → SeesSame old new job.message
+      → Contains new.out (job.ticket, job.message) → IsJobOf g new job
+  job_stays old new job h same out =
+      let there = subst (λ (y : Geometry). AgreeOn y (are_related (place y job.message)) new.settled old.settled) (sym h.geometry) same in
+      record { geometry = h.geometry; is_out = out; lent = agree-trans h.lent (agree-sym there) }
+
+  pub result_stays : (old new : World) (done : Done) → IsResultOf g old done → SeesSame old new done.message
+      → Contains new.out (done.ticket, done.message) → IsResultOf g new done
+  result_stays old new done h same out =
+      let k = reads_only g (are_related (place g done.message)) new.settled old.settled done.message same (λ q r. r) in
+      record {
+        is_out = out;
+        suits = h.suits;
+        reply = h.reply ∙ sym k.0;
+        standing = h.standing;
+        shows = agree-trans h.shows (agree-sym k.1);
+      }

@@ -1,0 +1,5 @@
+pub mod Jobs
+pub mod Holding
+pub mod Events
+pub mod Running
+pub mod Living

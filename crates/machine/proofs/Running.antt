@@ -1,0 +1,226 @@
+-- A run of steps, extended by one step, and what a crash of it leaves.
+use Rattle.std.proofs.Common.{◌≡◌, ◌⊎◌, ℕ, zero, suc, ◌+◌, ◌<◌, ◌≤◌, Bool, true, false, List, [], ◌∷◌, ◌++◌, refl, ap, sym, ◌∙◌, subst, length, take, drop, get_or, set, inl, inr, ⊎_elim, add_assoc, add-zero, arith}
+use Rattle.std.specs.Prelude.{count_by, if◌then◌else◌}
+use Rattle.std.proofs.lemmas.List.{map-append, take_more, take_more_set}
+use Rattle.std.proofs.lemmas.List.Sums.{sum_by-append}
+use Rattle.affinity.specs.declared.geometry.Geometry.{Geometry}
+use Rattle.disk.proofs.Moments.{only_now}
+use Rattle.disk.specs.Device.{Leaves, Medium}
+use Rattle.disk.specs.Moments.{LeavesOnly, left_since, moment}
+use Rattle.journal.specs.Journal.{HoldsSome}
+use Rattle.legal_runs.proofs.Arrivals.{answered_by_ticket}
+use Rattle.legal_runs.proofs.Crashes.{left_is_settled}
+use Rattle.legal_runs.proofs.Elements.{contains_in, in_contained}
+use Rattle.legal_runs.proofs.Joining.{runs_join}
+use Rattle.legal_runs.proofs.Lists.{all_weaker}
+use Rattle.legal_runs.proofs.Runs.{run_follows}
+use Rattle.legal_runs.proofs.Sound.{run_sound}
+use Rattle.legal_runs.specs.Crash.{IsLogAfter, in_doubt}
+use Rattle.legal_runs.specs.Events.{Event, Hands, IsAllowed}
+use Rattle.legal_runs.specs.Laws.{AreApart, IsSound}
+use Rattle.legal_runs.specs.Runs.{IsLegal, IsRun, journal, last}
+use Rattle.legal_runs.specs.World.{held}
+use Rattle.legal_runs.specs.declared.outcomes.Outcome.{Outcome}
+use Rattle.legal_runs.specs.declared.outcomes.Step.{Step}
+use Rattle.machine.proofs.Events.{some_of}
+use Rattle.machine.specs.Machine.{Handed, HasRun, HasStages, machine_of}
+use Rattle.machine.specs.Stages.{AreSafe, Stage, StandsForRun, device_after, events_of}
+use Rattle.machine.specs.Steps.{IsStep}
+use Rattle.message.specs.declared.Msg.{Msg}
+use Rattle.plain.specs.Serial.{fold}
+use Rattle.scheduler.specs.Calls.{Counts}
+use Rattle.machine.specs.declared.hands.Hand.{Hand as Holding}
+use Rattle.scheduler.specs.Kept.{Kept, StandsNow, world_of}
+
+-- ---- what a crash of a run leaves
+
+-- These bytes stand for what was settled after so many events, with the first so many of what was in doubt then.
+abbrev StandsAt : Geometry → Hands → List Event → List ℕ → ℕ → Type 0
+StandsAt g w events c j = HoldsSome g (last w (take j events)).core.settled (in_doubt (last w (take j events)).core (drop j events)) c
+
+-- At some such place from event k on.
+record StandsSince (g : Geometry) (w : Hands) (events : List Event) (k : ℕ) (c : List ℕ) : Type 0 where
+  pub at : ℕ
+  pub since : k ≤ at
+  pub within : at ≤ length events
+  pub stands : StandsAt g w events c at
+
+module _ (g : Geometry) where
+  -- what a crash leaves when all events have ended
+  abbrev EndsSo : Hands → Medium → List Stage → Type 0
+  EndsSo w m stages = (c : List ℕ) → Leaves (device_after m stages) c
+      → HoldsSome g (last w (events_of stages)).core.settled (in_doubt (last w (events_of stages)).core []) c
+
+  later : (w : Hands) (event : Event) (events : List Event) (k : ℕ) (c : List ℕ) → StandsSince g event.world events k c
+      → StandsSince g w (event ∷ events) (suc k) c
+  later w event events k c h = record { at = suc h.at; since = omega (arith, h.since); within = omega (arith, h.within); stands = h.stands }
+
+  earlier : (w : Hands) (events : List Event) (k j : ℕ) (c : List ℕ) → j ≤ k → StandsSince g w events k c → StandsSince g w events j c
+  earlier w events k j c le h = record { at = h.at; since = omega (arith, h.since, le); within = h.within; stands = h.stands }
+
+  -- It was left before the run, or at some moment of it.
+  parted : (w : Hands) (m : Medium) (stages : List Stage) → AreSafe g w m stages → (t : ℕ) (c : List ℕ) → t ≤ moment m
+      → left_since (device_after m stages) t c → left_since m t c ⊎ StandsSince g w (events_of stages) 0 c
+  parted w m [] safe t c early since = inl since
+  parted w m (stage ∷ stages) safe t c early since =
+      ⊎_elim
+      (λ mid. ⊎_elim (λ (was : left_since m t c). inl was)
+      (λ now. inr (record { at = 0; since = omega arith; within = omega arith; stands = now })) (safe.0.before t c early mid))
+      (λ (rest : StandsSince g stage.event.world (events_of stages) 0 c).
+      inr (earlier w (stage.event ∷ events_of stages) 1 0 c (omega arith) (later w stage.event (events_of stages) 0 c rest)))
+      (parted stage.event.world stage.medium stages safe.1 t c (omega (arith, early, safe.0.later)) since)
+
+  from_start : (w : Hands) (m : Medium) (stages : List Stage) → AreSafe g w m stages → EndsSo w m stages → (c : List ℕ)
+      → left_since (device_after m stages) (moment m) c → StandsSince g w (events_of stages) 0 c
+  from_start w m [] safe ends c since = record { at = 0; since = omega arith; within = omega arith; stands = ends c (only_now m c since) }
+  from_start w m (stage ∷ stages) safe ends c since =
+      ⊎_elim
+      (λ mid. record { at = 0; since = omega arith; within = omega arith; stands = safe.0.each c mid })
+      (λ (rest : StandsSince g stage.event.world (events_of stages) 0 c).
+      earlier w (stage.event ∷ events_of stages) 1 0 c (omega arith) (later w stage.event (events_of stages) 0 c rest))
+      (parted stage.event.world stage.medium stages safe.1 (moment m) c safe.0.later since)
+
+  from_event : (w : Hands) (m : Medium) (stages : List Stage) → AreSafe g w m stages → EndsSo w m stages → (k : ℕ) (c : List ℕ)
+      → k ≤ length stages → left_since (device_after m stages) (moment (device_after m (take k stages))) c
+      → StandsSince g w (events_of stages) k c
+  from_event w m stages safe ends zero c le since = from_start w m stages safe ends c since
+  from_event w m [] safe ends (suc k) c le since = absurd (omega (arith, le))
+  from_event w m (stage ∷ stages) safe ends (suc k) c le since =
+      later w stage.event (events_of stages) k c
+      (from_event stage.event.world stage.medium stages safe.1 ends k c (omega (arith, le)) since)
+
+  -- So it stands for a state that the run may leave.
+  stands_for_run : (w : Hands) (events : List Event) (k : ℕ) (c : List ℕ) → IsLegal g w events → IsSound g w.core
+      → StandsSince g w events k c → StandsForRun g w events k c
+  stands_for_run w events k c legal sound h =
+      let first = take h.at events in
+      let doubt = in_doubt (last w first).core (drop h.at events) in
+      let log : List Msg = journal w first ++ take h.stands.added doubt in
+      let is_log : IsLogAfter w events h.at log = record { some = h.stands.added; at_most = h.stands.at_most; is = refl } in
+      record {
+        state = fold g (last w first).core.settled (take h.stands.added doubt);
+        is = h.stands.is;
+        left = record {
+          after = h.at;
+          since = h.since;
+          within = h.within;
+          log = log;
+          is_log = is_log;
+          state = sym (left_is_settled g w events h.at log legal sound is_log);
+        };
+      }
+
+  pub left_by_run : (w : Hands) (m : Medium) (stages : List Stage) → IsLegal g w (events_of stages) → IsSound g w.core
+      → AreSafe g w m stages → EndsSo w m stages → (k : ℕ) (c : List ℕ) → k ≤ length stages
+      → left_since (device_after m stages) (moment (device_after m (take k stages))) c → StandsForRun g w (events_of stages) k c
+  left_by_run w m stages legal sound safe ends k c le since =
+      stands_for_run w (events_of stages) k c legal sound (from_event w m stages safe ends k c le since)
+
+  -- ---- one stage more
+
+  safe-push : (w : Hands) (m : Medium) (stages : List Stage) (stage : Stage) → AreSafe g w m stages
+      → LeavesOnly (device_after m stages) stage.medium (HoldsSome g (last w (events_of stages)).core.settled
+      (in_doubt (last w (events_of stages)).core (stage.event ∷ [])))
+      → AreSafe g w m (stages ++ stage ∷ [])
+  safe-push w m [] stage safe one = (one, tt)
+  safe-push w m (s ∷ stages) stage safe one = (safe.0, safe-push s.event.world s.medium stages stage safe.1 one)
+
+after-push : (m : Medium) (stages : List Stage) (stage : Stage) → device_after m (stages ++ stage ∷ []) ≡ stage.medium
+after-push m [] stage = refl
+after-push m (s ∷ stages) stage = after-push s.medium stages stage
+
+-- how many of the events tell that the device failed
+abbrev rises : List Event → ℕ
+rises events = count_by (λ e. e.rose) events
+
+rises-push : (events : List Event) (event : Event) → rises (events ++ event ∷ []) ≡ rises events + rises (event ∷ [])
+rises-push events event = sum_by-append (λ (e : Event). if e.rose then 1 else 0) events (event ∷ [])
+
+counted : (b : Bool) (event : Event) → event.rose ≡ b → (old new : ℕ) → Counts b old new → new ≡ old + rises (event ∷ [])
+counted true event e old new h = h ∙ ap (λ (b : Bool). old + (0 + (if b then 1 else 0))) (sym e)
+counted false event e old new h = h ∙ sym (add-zero old) ∙ ap (λ (b : Bool). old + (0 + (if b then 1 else 0))) (sym e)
+
+pub no_stages : (keeps : Type 0) (m : Handed) → HasStages keeps m m [] []
+no_stages keeps m = record {
+  stages = [];
+  run = record { legal = tt; of_steps = refl; with_outcomes = refl; ends = refl };
+  device = refl;
+  failures = sym (add-zero m.core.medium.faults);
+  geometry = refl;
+  any_moment = λ kept. tt;
+}
+
+pub more_stages : (keeps : Type 0) (old now new : Handed) (asked : List Step) (came : List Outcome) (step : Step) (outcome : Outcome)
+    → HasStages keeps old now asked came → IsStep keeps now new step outcome
+    → HasStages keeps old new (asked ++ step ∷ []) (came ++ outcome ∷ [])
+more_stages keeps old now new asked came step outcome h k =
+    let g = old.core.geometry in
+    let event : Event = record { step = step; outcome = outcome; rose = k.rose; world = machine_of new } in
+    let stage : Stage = record { event = event; medium = new.core.medium } in
+    let events = events_of h.stages in
+    let device = device_after old.core.medium h.stages in
+    let here : last (machine_of old) events ≡ machine_of now = h.run.ends in
+    let allowed : IsAllowed g (last (machine_of old) events) event =
+    subst (λ (x : Hands). IsAllowed g x event) (sym here)
+    (subst (λ (y : Geometry). IsAllowed y (machine_of now) event) h.geometry k.allowed) in
+    let joined = runs_join g (machine_of old) events (event ∷ []) h.run.legal (allowed, tt) in
+    let pushed : events_of (h.stages ++ stage ∷ []) ≡ events ++ event ∷ [] = map-append (λ (s : Stage). s.event) h.stages (stage ∷ []) in
+    let run : IsRun g (machine_of old) (machine_of new) (asked ++ step ∷ []) (came ++ outcome ∷ []) (events ++ event ∷ []) = record {
+      legal = joined.legal;
+      of_steps = map-append (λ (e : Event). e.step) events (event ∷ []) ∙ ap (λ (l : List Step). l ++ step ∷ []) h.run.of_steps;
+      with_outcomes = map-append (λ (e : Event). e.outcome) events (event ∷ []) ∙ ap (λ (l : List Outcome). l ++ outcome ∷ []) h.run.with_outcomes;
+      ends = joined.last_is;
+    } in
+    record {
+      stages = h.stages ++ stage ∷ [];
+      run = subst (IsRun g (machine_of old) (machine_of new) (asked ++ step ∷ []) (came ++ outcome ∷ [])) (sym pushed) run;
+      device = after-push old.core.medium h.stages stage;
+      failures = counted k.rose event refl now.core.medium.faults new.core.medium.faults k.failures
+          ∙ ap (λ (n : ℕ). n + rises (event ∷ [])) h.failures
+          ∙ add_assoc old.core.medium.faults (rises events) (rises (event ∷ []))
+          ∙ ap (λ (n : ℕ). old.core.medium.faults + n) (sym (rises-push events event) ∙ ap rises (sym pushed));
+      geometry = k.geometry ∙ h.geometry;
+      any_moment = λ kept. safe-push g (machine_of old) old.core.medium h.stages stage (h.any_moment kept)
+          (subst (λ (x : Hands). LeavesOnly device new.core.medium (HoldsSome g x.core.settled (in_doubt x.core (event ∷ [])))) (sym here)
+          (subst (λ (y : Geometry). LeavesOnly device new.core.medium (HoldsSome y (world_of now.core).settled (in_doubt (world_of now.core) (event ∷ []))))
+          h.geometry
+          (subst (λ (m : Medium). LeavesOnly m new.core.medium (HoldsSome now.core.geometry (world_of now.core).settled
+          (in_doubt (world_of now.core) (event ∷ [])))) (sym h.device) (k.any_moment kept))));
+    }
+
+-- ---- the whole run
+
+pub has_run : (keeps : Type 0) (old new : Handed) (asked : List Step) (came : List Outcome)
+    → IsSound old.core.geometry (world_of old.core) → HasStages keeps old new asked came
+    → (new.core.failed ≡ false → new.core.doubt ≡ []) → (keeps → StandsNow new.core) → HasRun keeps old new asked came
+has_run keeps old new asked came sound h none stands =
+    let g = old.core.geometry in
+    let w = machine_of old in
+    let events = events_of h.stages in
+    let ends : keeps → EndsSo g w old.core.medium h.stages = λ kept c left.
+    subst (λ (x : Hands). HoldsSome g x.core.settled (in_doubt x.core []) c) (sym h.run.ends)
+    (subst (λ (y : Geometry). HoldsSome y (world_of new.core).settled (in_doubt (world_of new.core) []) c) h.geometry
+    (some_of new.core.geometry (world_of new.core).settled new.core.failed new.core.doubt [] c none
+    (stands kept c (subst (λ (m : Medium). Leaves m c) h.device left)))) in
+    record {
+      ran = h;
+      crash = λ kept k c le since. left_by_run g w old.core.medium h.stages h.run.legal sound (h.any_moment kept) (ends kept) k c le
+          (subst (λ (m : Medium). left_since m (moment (device_after old.core.medium (take k h.stages))) c) (sym h.device) since);
+      apart = all_weaker (λ (event : Event). IsSound g event.world.core) (λ (event : Event). AreApart g (held event.world.core))
+          (λ event k. k.apart) events (run_sound g w events h.run.legal sound);
+      in_log_order = sym (run_follows g w events h.run.legal sound).told;
+      in_ticket_order = λ idle reply is. contains_in _ reply
+          (answered_by_ticket g w events h.run.legal sound idle reply (in_contained _ reply is));
+    }
+
+-- The next step of a list, whose hands are these by another name.
+pub next_stages : (keeps : Type 0) (old : Handed) (core : Kept) (hands lent : List Holding) (new : Handed) (asked : List Step) (i : ℕ) (d : Step)
+    (came : List Outcome) (outcome : Outcome) → lent ≡ hands → i < length asked → i < length came
+    → HasStages keeps old (record { core = core; hands = hands }) (take i asked) (take i came)
+    → IsStep keeps (record { core = core; hands = lent }) new (get_or asked i d) outcome
+    → HasStages keeps old new (take (i + 1) asked) (take (i + 1) (set came i outcome))
+next_stages keeps old core hands lent new asked i d came outcome same in_asked in_came h k =
+    let step = subst (λ (l : List Holding). IsStep keeps (record { core = core; hands = l }) new (get_or asked i d) outcome) same k in
+    let more = more_stages keeps old (record { core = core; hands = hands }) new (take i asked) (take i came) (get_or asked i d) outcome h step in
+    subst (λ (ss : List Step). HasStages keeps old new ss (take (i + 1) (set came i outcome))) (sym (take_more asked i d in_asked))
+    (subst (λ (os : List Outcome). HasStages keeps old new (take i asked ++ get_or asked i d ∷ []) os) (sym (take_more_set came i outcome in_came)) more)

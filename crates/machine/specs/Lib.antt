@@ -1,0 +1,5 @@
+pub mod Stages
+pub mod Hands
+pub mod Machine
+pub mod Steps
+pub mod Lives

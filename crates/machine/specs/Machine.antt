@@ -1,0 +1,83 @@
+-- A machine as contracts see it: a core, and what its hands have.
+use Rattle.std.specs.Prelude.{◌≡◌, ℕ, ◌+◌, ◌≤◌, List, map, count_by, take, length, slice_index_or, Option, Some, None}
+use Rattle.std.specs.List.{AllByRecursion, Contains}
+use Rattle.affinity.specs.declared.geometry.Geometry.{Geometry}
+use Rattle.disk.specs.Moments.{moment, left_since}
+use Rattle.legal_runs.specs.Events.{Event, Hand, Hands, Empty, Job, Result}
+use Rattle.legal_runs.specs.Laws.{AreApart, IsIdle, IsSound, said}
+use Rattle.legal_runs.specs.Runs.{IsRun, answered, arrived, went}
+use Rattle.legal_runs.specs.World.{World, entries, held}
+use Rattle.legal_runs.specs.declared.outcomes.Outcome.{Outcome}
+use Rattle.legal_runs.specs.declared.outcomes.Step.{Step}
+use Rattle.machine.specs.Stages.{Stage, AreSafe, StandsForRun, device_after, events_of}
+use Rattle.machine.specs.declared.hands.Hand.{Hand as Holding}
+use Rattle.machine.specs.declared.hands.Hand.TheVariants as has
+use Rattle.message.specs.declared.Reply.{Reply}
+use Rattle.plain.specs.Order.{by_ticket, told}
+use Rattle.scheduler.specs.Jobs.{IsJobOf, IsResultOf}
+use Rattle.scheduler.specs.Kept.{Kept, world_of}
+
+pub record Handed : Type 0 where
+  pub core : Kept
+  pub hands : List Holding
+
+abbrev pub hand_of : Holding → Hand
+hand_of has.Empty = Empty
+hand_of (has.Job job) = Job job.ticket
+hand_of (has.Result done) = Result done.ticket
+
+-- the machine of the definitions
+abbrev pub machine_of : Handed → Hands
+machine_of m = record { core = world_of m.core; hands = map hand_of m.hands }
+
+-- ---- what every machine keeps
+
+-- It has the job of a message that is out, or what came of it.
+abbrev pub IsHandOf : Geometry → World → Holding → Type 0
+IsHandOf g w has.Empty = Unit {0}
+IsHandOf g w (has.Job job) = IsJobOf g w job
+IsHandOf g w (has.Result done) = IsResultOf g w done
+
+-- the ticket of the message that it has
+abbrev pub ticket_in : Holding → Option ℕ
+ticket_in has.Empty = None
+ticket_in (has.Job job) = Some job.ticket
+ticket_in (has.Result done) = Some done.ticket
+
+abbrev pub hand_at : List Holding → ℕ → Holding
+hand_at hands i = slice_index_or hands i has.Empty
+
+pub record HoldsJobs (g : Geometry) (w : World) (hands : List Holding) : Type 0 where
+  pub sound : IsSound g w
+  pub each : (i : ℕ) → IsHandOf g w (hand_at hands i)
+  -- no message is in two hands
+  pub once : (i k ticket : ℕ) → ticket_in (hand_at hands i) ≡ Some ticket → ticket_in (hand_at hands k) ≡ Some ticket → i ≡ k
+
+-- ---- runs
+
+-- These steps had these outcomes, and led from one machine to the other.
+pub record HasStages (keeps : Type 0) (old new : Handed) (asked : List Step) (came : List Outcome) : Type 0 where
+  pub stages : List Stage
+  pub run : IsRun old.core.geometry (machine_of old) (machine_of new) asked came (events_of stages)
+  pub device : device_after old.core.medium stages ≡ new.core.medium
+  -- the device failed as often as the events tell
+  pub failures : new.core.medium.faults ≡ old.core.medium.faults + count_by (λ e. e.rose) (events_of stages)
+  pub geometry : new.core.geometry ≡ old.core.geometry
+  -- what a crash leaves at each moment of each event
+  pub any_moment : keeps → AreSafe old.core.geometry (machine_of old) old.core.medium stages
+
+-- What a machine promises of a run of steps, sensible or not.
+pub record HasRun (keeps : Type 0) (old new : Handed) (asked : List Step) (came : List Outcome) : Type 0 where
+  pub ran : HasStages keeps old new asked came
+  -- For every k: a crash at any moment since event k ended leaves a device that stands for a state which the run may leave.
+  pub crash : keeps → (k : ℕ) (c : List ℕ) → k ≤ length ran.stages
+      → left_since new.core.medium (moment (device_after old.core.medium (take k ran.stages))) c
+      → StandsForRun old.core.geometry (machine_of old) (events_of ran.stages) k c
+  -- In each world no two of the messages that are held are at related places.
+  pub apart : AllByRecursion (λ (event : Event). AreApart old.core.geometry (held event.world.core)) (events_of ran.stages)
+  -- What was logged is replied what the serial server replies, in log order.
+  pub in_log_order : said (went (machine_of old) (events_of ran.stages))
+      ≡ told old.core.geometry (world_of old.core).settled (entries (went (machine_of old) (events_of ran.stages)))
+  -- Where nothing waited or was held, each answer is also the one where all that arrived come by ticket.
+  pub in_ticket_order : IsIdle (world_of old.core) → (reply : ℕ × Reply) → Contains (answered (events_of ran.stages)) reply
+      → Contains (told old.core.geometry (world_of old.core).settled (by_ticket (arrived (events_of ran.stages)))) reply

@@ -1,0 +1,35 @@
+-- A run on a device, stage by stage: each event with the device as it left it, and what a crash leaves meanwhile.
+use Rattle.std.specs.Prelude.{◌≡◌, ℕ, List, [], ◌∷◌, map, Some}
+use Rattle.affinity.specs.declared.geometry.Geometry.{Geometry}
+use Rattle.checkpoint.specs.Recovery.{holds}
+use Rattle.disk.specs.Device.{Medium}
+use Rattle.disk.specs.Moments.{LeavesOnly}
+use Rattle.journal.specs.Journal.{HoldsSome}
+use Rattle.legal_runs.specs.Crash.{IsLeftSince, in_doubt}
+use Rattle.legal_runs.specs.Events.{Event, Hands}
+use Rattle.plain.specs.State.{State}
+
+pub record Stage : Type 0 where
+  pub event : Event
+  pub medium : Medium
+
+abbrev pub events_of : List Stage → List Event
+events_of stages = map (λ s. s.event) stages
+
+-- the device after these stages
+abbrev pub device_after : Medium → List Stage → Medium
+device_after m [] = m
+device_after m (stage ∷ stages) = device_after stage.medium stages
+
+-- A crash at any moment of an event leaves the state that was settled before it, with the first so many of the messages in
+-- doubt: of those that the event is to append, or, in a failed world, of those that were to be appended when it failed.
+abbrev pub AreSafe : Geometry → Hands → Medium → List Stage → Type 0
+AreSafe g w m [] = Unit {0}
+AreSafe g w m (stage ∷ stages) =
+    LeavesOnly m stage.medium (HoldsSome g w.core.settled (in_doubt w.core (stage.event ∷ []))) × AreSafe g stage.event.world stage.medium stages
+
+-- These bytes stand for a state that a crash of a run may leave, if it comes when k events or more have ended.
+pub record StandsForRun (g : Geometry) (start : Hands) (events : List Event) (k : ℕ) (c : List ℕ) : Type 0 where
+  pub state : State
+  pub is : holds g c ≡ Some state
+  pub left : IsLeftSince g start events k state

@@ -1,0 +1,158 @@
+//! One step of a machine.
+ghost use Rattle.std.specs.Prelude.{◌≡◌};
+ghost use Rattle.legal_runs.specs.declared.outcomes.Step.TheVariants as steps;
+ghost use Rattle.machine.specs.Machine.{HoldsJobs};
+ghost use Rattle.machine.specs.Steps.{IsCoreStep, IsStep};
+ghost use Rattle.scheduler.specs.Kept.{world_of};
+
+use crate::hands::{Hand, first_empty, run_in, take_result};
+use disk::Disk;
+use legal_runs::{Outcome, Step};
+use message::Msg;
+use scheduler::{Core, Granted};
+
+/// Makes one step, and tells what came of it.
+pub(crate) fn make_step<D: Disk>(core: &mut Core<D>, hands: &mut [Hand], step: &Step) -> Outcome
+    requires { HoldsJobs core.old.geometry (world_of core.old) hands.old }
+    ensures step { IsStep D.keeps (record { core = core.old; hands = hands.old }) (record { core = core.new; hands = hands.new }) step.now result }
+    ensures holds { HoldsJobs core.new.geometry (world_of core.new) hands.new }
+{
+    match *step {
+        Step::Arrive(message) => take_in(core, &message),
+        Step::Grant => grant(core, hands),
+        Step::Run(hand) => run_job(core, hands, hand),
+        Step::Back(hand) => give_back(core, hands, hand),
+        Step::Log(count) => log(core, count),
+        Step::Answer => answer(core),
+        Step::Point => point(core),
+        Step::Cut => cut(core),
+        Step::Piece => piece(core),
+        Step::Flip => flip(core),
+    }
+}
+
+// ---- with the hands
+
+// Lets the eligible message with the least ticket go to the least empty hand.
+fn grant<D: Disk>(core: &mut Core<D>, hands: &mut [Hand]) -> Outcome
+    requires { HoldsJobs core.old.geometry (world_of core.old) hands.old }
+    ensures step { IsStep D.keeps (record { core = core.old; hands = hands.old }) (record { core = core.new; hands = hands.new }) steps.Grant result }
+    ensures holds { HoldsJobs core.new.geometry (world_of core.new) hands.new }
+{
+    core.stands();
+    let Some(hand) = first_empty(hands) else {
+        return Outcome::Idle;
+    };
+    match core.grant() {
+        Granted::Job(job) => {
+            let ticket = job.ticket();
+            hands[hand] = Hand::Job(job);
+            Outcome::Granted(hand, ticket)
+        }
+        Granted::NoneEligible => Outcome::NoneEligible,
+        Granted::NoRoom => Outcome::NoRoom,
+        Granted::Failed => Outcome::Failed,
+    }
+}
+
+// Runs the job in a hand. The core is left alone.
+fn run_job<D: Disk>(core: &Core<D>, hands: &mut [Hand], hand: usize) -> Outcome
+    requires { HoldsJobs core.now.geometry (world_of core.now) hands.old }
+    ensures step { IsStep D.keeps (record { core = core.now; hands = hands.old }) (record { core = core.now; hands = hands.new }) (steps.Run hand) result }
+    ensures holds { HoldsJobs core.now.geometry (world_of core.now) hands.new }
+{
+    core.stands();
+    if hand >= hands.len() {
+        return Outcome::Idle;
+    }
+    if run_in(&mut hands[hand]) {
+        Outcome::Ran
+    } else {
+        Outcome::Idle
+    }
+}
+
+// Gives back the result in a hand.
+fn give_back<D: Disk>(core: &mut Core<D>, hands: &mut [Hand], hand: usize) -> Outcome
+    requires { HoldsJobs core.old.geometry (world_of core.old) hands.old }
+    ensures step { IsStep D.keeps (record { core = core.old; hands = hands.old }) (record { core = core.new; hands = hands.new }) (steps.Back hand) result }
+    ensures holds { HoldsJobs core.new.geometry (world_of core.new) hands.new }
+{
+    core.stands();
+    if hand >= hands.len() {
+        return Outcome::Idle;
+    }
+    let Some(done) = take_result(&mut hands[hand]) else {
+        return Outcome::Idle;
+    };
+    let ticket = done.ticket();
+    core.give_back(done);
+    Outcome::Back(ticket)
+}
+
+// ---- of the core alone
+
+fn take_in<D: Disk>(core: &mut Core<D>, message: &Msg) -> Outcome
+    ensures { IsCoreStep D.keeps core.old core.new (steps.Arrive message.now) result }
+{
+    core.stands();
+    match core.arrive(message) {
+        Ok(ticket) => Outcome::Ticket(ticket),
+        Err(refusal) => Outcome::ArriveRefused(refusal),
+    }
+}
+
+fn log<D: Disk>(core: &mut Core<D>, count: usize) -> Outcome
+    ensures { IsCoreStep D.keeps core.old core.new (steps.Log count) result }
+{
+    match core.log(count) {
+        Ok(logged) => Outcome::Logged(logged),
+        Err(fault) => Outcome::LogFault(fault),
+    }
+}
+
+fn answer<D: Disk>(core: &mut Core<D>) -> Outcome
+    ensures { IsCoreStep D.keeps core.old core.new steps.Answer result }
+{
+    core.stands();
+    match core.answer() {
+        Some((ticket, reply)) => Outcome::Answered(ticket, reply),
+        None => Outcome::Idle,
+    }
+}
+
+fn point<D: Disk>(core: &mut Core<D>) -> Outcome
+    ensures { IsCoreStep D.keeps core.old core.new steps.Point result }
+{
+    match core.point() {
+        Ok(()) => Outcome::Pointed,
+        Err(refusal) => Outcome::PointRefused(refusal),
+    }
+}
+
+fn cut<D: Disk>(core: &mut Core<D>) -> Outcome
+    ensures { IsCoreStep D.keeps core.old core.new steps.Cut result }
+{
+    match core.cut() {
+        Ok(()) => Outcome::Cut,
+        Err(refusal) => Outcome::PointRefused(refusal),
+    }
+}
+
+fn piece<D: Disk>(core: &mut Core<D>) -> Outcome
+    ensures { IsCoreStep D.keeps core.old core.new steps.Piece result }
+{
+    match core.piece() {
+        Ok(left) => Outcome::Left(left),
+        Err(refusal) => Outcome::PointRefused(refusal),
+    }
+}
+
+fn flip<D: Disk>(core: &mut Core<D>) -> Outcome
+    ensures { IsCoreStep D.keeps core.old core.new steps.Flip result }
+{
+    match core.flip() {
+        Ok(()) => Outcome::Flipped,
+        Err(refusal) => Outcome::PointRefused(refusal),
+    }
+}
