@@ -1,6 +1,5 @@
 -- Why a device is refused whose named area is sound.
 use Rattle.std.proofs.Common.{◌≡◌, ◌<◌, ◌≤◌, ◌==◌, ℕ, Bool, true, false, not, List, [], length, Option, Some, None, is_some, refl, sym, ◌∙◌, ap}
-use Rattle.std.specs.Prelude.{if◌then◌else◌}
 use Rattle.affinity.specs.declared.geometry.Geometry.{Geometry}
 use Rattle.checkpoint.specs.declared.fault.OpenFault.{OpenFault}
 use Rattle.checkpoint.specs.declared.fault.OpenFault.TheVariants.{BadVersion, BadPiece, BadRecord}
@@ -11,7 +10,7 @@ use Rattle.checkpoint.specs.Refusals.{fault_if, fault_of, first_bad_piece, first
 use Rattle.checkpoint.proofs.Refusing.{behind, named_sound, past_chain}
 use Rattle.checkpoint.proofs.Walked.{image_bytes, no_bad_piece}
 use Rattle.disk.specs.Device.{AreBytes}
-use Rattle.image.specs.Image.{has_head, read}
+use Rattle.image.specs.Image.{read}
 use Rattle.image.proofs.Walk.{read_is_good}
 use Rattle.oplog.specs.Front.{chain, front}
 use Rattle.oplog.specs.Layout.{device_size, image, layout_of, other, part}

@@ -1,5 +1,5 @@
 -- A device that stands for a state has the header of one geometry.
-use Rattle.std.proofs.Common.{◌≡◌, ◌&&◌, nat_le, length, ℕ, zero, suc, ◌<◌, Bool, true, false, cond, List, [], take, drop, Option, Some, None, refl, sym, ◌∙◌, arith}
+use Rattle.std.proofs.Common.{◌≡◌, ◌&&◌, nat_le, length, ℕ, zero, suc, Bool, true, false, cond, List, [], take, drop, Option, Some, None, refl, sym, ◌∙◌, arith}
 use Rattle.std.proofs.lemmas.Slice.Eq.{bytes_eq-Decides}
 use Rattle.affinity.specs.declared.geometry.Geometry.{Geometry}
 use Rattle.affinity.specs.Geometry.{numbers_of}

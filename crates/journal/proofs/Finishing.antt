@@ -1,8 +1,8 @@
 -- What a crash leaves at each moment while a cut that was in progress is finished, and what stands at its end.
-use Rattle.std.proofs.Common.{◌≡◌, ◌<◌, ℕ, true, false, eqb, cond, not, ◌&&◌, nat_le, List, ◌++◌, length, Option, None, sym, ◌∙◌, ap, arith}
+use Rattle.std.proofs.Common.{◌≡◌, ◌<◌, ℕ, true, false, eqb, cond, not, ◌&&◌, nat_le, List, ◌++◌, Option, None, sym, ◌∙◌, ap, arith}
 use Rattle.checkpoint.specs.Header.{is_header}
 use Rattle.checkpoint.specs.Recovery.{holds, means}
-use Rattle.disk.specs.Device.{AreBytes, Leaves, Medium}
+use Rattle.disk.specs.Device.{AreBytes, Medium}
 use Rattle.disk.specs.Moments.{LeavesOnly}
 use Rattle.disk.proofs.Leaves.{calm_left, itself}
 use Rattle.disk.proofs.Moments.{leaves_now, then, weaker}
@@ -15,7 +15,7 @@ use Rattle.oplog.specs.Crash.{StandsBy, StandsEitherWay}
 use Rattle.oplog.specs.Front.{chain, front}
 use Rattle.oplog.specs.Layout.{layout_of, device_size, half, header, image, other}
 use Rattle.oplog.specs.Log.{Log}
-use Rattle.oplog.specs.Stands.{current_of, is_laid_out, named_area, stands_as}
+use Rattle.oplog.specs.Stands.{is_laid_out, named_area, stands_as}
 use Rattle.oplog.proofs.AfterCrash.{flip_by_area, image_by_area, torn_root_stands}
 use Rattle.oplog.proofs.Kept.{run-append}
 use Rattle.plain.specs.State.{State}

@@ -1,5 +1,5 @@
 -- What a crash leaves while a device is opened, from step to step, and what a refusal leaves.
-use Rattle.std.proofs.Common.{◌≡◌, ◌≢◌, ◌<◌, ℕ, zero, suc, Bool, true, false, cond, get_or, replicate, List, [], ◌∷◌, length, Option, Some, None, is_some, Result, Ok, Err, IfOk, IfErr, inl, inr, ⊎_elim, refl, sym, ◌∙◌, ap, subst, arith}
+use Rattle.std.proofs.Common.{◌≡◌, ◌≢◌, ◌<◌, ℕ, Bool, false, replicate, List, [], ◌∷◌, length, Option, Some, None, is_some, Result, Ok, Err, IfOk, IfErr, inl, inr, ⊎_elim, refl, sym, ◌∙◌, ap, subst, arith}
 use Rattle.affinity.specs.declared.geometry.Geometry.{Geometry}
 use Rattle.checkpoint.specs.declared.fault.OpenFault.{OpenFault}
 use Rattle.checkpoint.specs.declared.fault.OpenFault.TheVariants.{Device, TooShort, NotFormatted, BadGeometry, OutOfMemory, BadVersion, BadPiece, BadChain, BadRecord}
@@ -13,7 +13,7 @@ use Rattle.disk.specs.Device.{AreBytes, IsSynced, Leaves, MayLeave, Medium, Mome
 use Rattle.disk.specs.Moments.{LeavesOnly, left_since}
 use Rattle.disk.proofs.Leaves.{calm_left, itself}
 use Rattle.disk.proofs.Moments.{leaves_now, same, started, then, weaker}
-use Rattle.journal.specs.Opening.{IsPastSync, IsRefusedUnwritten, IsUnwritten, OpeningLeaves, StandsAs}
+use Rattle.journal.specs.Opening.{IsRefusedUnwritten, IsUnwritten, OpeningLeaves, StandsAs}
 use Rattle.journal.specs.Parts.{IsBad, IsRefusedAlike}
 use Rattle.journal.specs.Steps.{IsAlone, IsFinished, IsStanding, StandsStill, finished_now}
 use Rattle.oplog.specs.Layout.{layout_of, other}

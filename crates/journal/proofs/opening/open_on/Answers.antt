@@ -1,7 +1,4 @@
-use Rattle.std.proofs.Common.{◌≡◌, ℕ, List, subst}
-use Rattle.checkpoint.specs.declared.fault.OpenFault.{OpenFault}
-use Rattle.journal.specs.declared.opening.Parts.{Parts}
-use Rattle.journal.specs.Opening.{IsRefusedUnwritten}
+use Rattle.std.proofs.Common.{ℕ, List, subst}
 use Rattle.journal.specs.Parts.{IsMadeOf}
 use Rattle.journal.proofs.Settling.{if_err, if_ok, never_synced, synced_then, unwritten_from, unwritten_then}
 use Rattle.journal.proofs.opening.open_on.Goals as goal
