@@ -3,7 +3,8 @@
 //! A device holds the state of its named image with the records in force run on it; `specs/Recovery.antt` says so of
 //! its bytes, and `specs/Refusals.antt` says which devices are refused and why. `format` makes a device that stands
 //! for the empty state, and a crash at any moment of it leaves the old device, one that isn't formatted, or that one.
-//! `inspect` tells what a device holds, or why it is refused, and only reads it.
+//! `inspect` tells what a device holds, or why it is refused, and only reads it. `step` is the serial step of a whole
+//! tree, by which the records in force are run.
 #![tactic(auto)]
 
 mod fault;
@@ -21,3 +22,4 @@ pub use fault::{FormatError, FormatFault, OpenError, OpenFault};
 pub use formatting::format;
 pub use inspecting::{Shown, inspect};
 pub use oplog::layout::device_len;
+pub use stepping::step;

@@ -8,8 +8,9 @@ use affinity::place_of;
 use message::{Msg, Reply, know_message};
 use parcel::{Job, Tree, run};
 
-/// Runs a message that is in range on the whole tree, and gives its reply: the serial step of the tree's state.
-pub(crate) fn step(tree: &mut Tree, m: Msg) -> Reply
+/// Runs a message that is in range on the whole tree, and gives its reply: the serial step of the tree's state. Nothing of
+/// the tree may be out. It takes no memory.
+pub fn step(tree: &mut Tree, m: Msg) -> Reply
     requires whole { IsWholeTree tree.old }
     requires range { is_in_range tree.old.geometry m ≡ true }
     ensures reply { result ≡ reply_to tree.old.geometry (state_in tree.old) m }
