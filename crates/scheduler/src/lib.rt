@@ -6,6 +6,7 @@
 
 mod granted;
 mod kernel;
+pub mod laws;
 
 pub use granted::Granted;
 pub use kernel::Core;

@@ -1,0 +1,11 @@
+use Rattle.scheduler.proofs.Staying.{job_stays, ran_gives, result_stays}
+use Rattle.scheduler.proofs.laws.jobs_stay.Goals as goal
+
+pub returns-clause-ran : goal.returns-clause-ran
+returns-clause-ran c = ran_gives
+
+pub returns-clause-job : goal.returns-clause-job
+returns-clause-job c = job_stays
+
+pub returns-clause-result : goal.returns-clause-result
+returns-clause-result c = result_stays
