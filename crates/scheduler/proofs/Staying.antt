@@ -1,5 +1,5 @@
 -- What is out sees the settled state at its place as it was, whatever else comes.
-use Rattle.std.proofs.Common.{◌≡◌, ℕ, true, false, List, [], ◌∷◌, ◌++◌, take, drop, refl, ap, sym, subst, ◌∙◌, inl, inr, ⊎_elim}
+use Rattle.std.proofs.Common.{◌≡◌, false, List, [], ◌∷◌, ◌++◌, take, drop, ap, sym, subst, ◌∙◌, inr, ⊎_elim}
 use Rattle.std.specs.List.{AllByRecursion, Contains}
 use Rattle.std.proofs.lemmas.List.{take-append-drop}
 use Rattle.affinity.specs.Path.{are_related}
@@ -10,17 +10,15 @@ use Rattle.legal_runs.proofs.Lists.{all_front, before_back}
 use Rattle.legal_runs.proofs.Moves.{Answers, Arrives, Backs, Grants, Logs, Move, Passed, Stays, moves}
 use Rattle.legal_runs.proofs.Sound.{row_of}
 use Rattle.legal_runs.proofs.Told.{IsIn}
-use Rattle.legal_runs.specs.Events.{Event, Hands, IsAllowed, batch, log}
+use Rattle.legal_runs.specs.Events.{Event, Hands, IsAllowed}
 use Rattle.legal_runs.specs.Laws.{AreApart, IsSound}
-use Rattle.legal_runs.specs.World.{Entry, Replied, World, entries, held, touches}
+use Rattle.legal_runs.specs.World.{Entry, World, entries, touches}
 use Rattle.message.specs.Messages.{place}
 use Rattle.parcel.proofs.SerialRuns.{serial_run}
 use Rattle.parcel.specs.Fits.{Suits}
 use Rattle.parcel.specs.Run.{Asked, IsRun, Shows}
 use Rattle.parcel.specs.RunLaws.{IsSerialStepOf}
 use Rattle.parcel.specs.declared.job.Done.{Done}
-use Rattle.parcel.specs.declared.parts.Parcels.{Parcels}
-use Rattle.parcel.specs.declared.parts.Standing.{Standing}
 use Rattle.plain.proofs.Agree.{agree-refl, agree-sym, agree-trans}
 use Rattle.plain.proofs.Frame.{left_alone, reads_only}
 use Rattle.plain.specs.Order.{messages}

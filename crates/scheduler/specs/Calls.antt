@@ -1,8 +1,8 @@
 -- What the calls of a core answer and make of its world, and which events they are.
-use Rattle.std.specs.Prelude.{◌≡◌, ℕ, ◌+◌, ◌-◌, Bool, true, false, List, [], ◌∷◌, take, length, Option, Some, None, is_none, Result, Ok, Err}
+use Rattle.std.specs.Prelude.{◌≡◌, ℕ, ◌+◌, Bool, true, false, List, take, length, Option, Some, None, Result, Ok, Err}
 use Rattle.affinity.specs.declared.geometry.Geometry.{Geometry}
 use Rattle.legal_runs.specs.Eligible.{next_eligible}
-use Rattle.legal_runs.specs.Events.{Event, Hand, IsAllowed, batch, fails, fewer, grant, is_ended, log, no_grant, piece_refusal}
+use Rattle.legal_runs.specs.Events.{Hand, IsAllowed, batch, fails, fewer, grant, is_ended, log, no_grant, piece_refusal}
 use Rattle.legal_runs.specs.World.{Entry, World}
 use Rattle.legal_runs.specs.declared.outcomes.ArriveRefusal.{ArriveRefusal}
 use Rattle.legal_runs.specs.declared.outcomes.CoreFault.{CoreFault}
