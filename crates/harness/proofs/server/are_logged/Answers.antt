@@ -1,0 +1,11 @@
+use Rattle.std.proofs.Common.{ℕ, get_or, subst}
+use Rattle.std.proofs.lemmas.List.{get_or_default}
+use borrow.Author.Count.{below_more}
+use Rattle.message.specs.declared.Msg.{Msg}
+use Rattle.oplog.specs.Logged.{IsLogged}
+use Rattle.harness.proofs.server.are_logged.Goals as goal
+
+pub loop-m-preserved : goal.loop-m-preserved
+loop-m-preserved c =
+    below_more (λ (k : ℕ). (d : Msg) → IsLogged c.args.g.now (get_or c.args.messages.now k d)) c.loop-m.m-index c.loop-m.invariant
+    (λ d. subst (λ (m : Msg). IsLogged c.args.g.now m) (get_or_default c.args.messages.now c.loop-m.m-index _ d c.loop-m-test.true) (c.is_logged.ensures c.if-not-is_logged.false))

@@ -1,0 +1,9 @@
+use Rattle.std.proofs.Common.{◌≡◌}
+use Rattle.parcel.specs.Tree.{IsWholeTree}
+use Rattle.harness.proofs.telling.told.Given as goal
+
+abbrev pub invariant-loop-m : goal.invariant-loop-m
+invariant-loop-m l = record {
+  whole : IsWholeTree l.tree;
+  geometry : l.tree.geometry ≡ l.initial.tree.geometry;
+}

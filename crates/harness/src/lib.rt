@@ -1,0 +1,18 @@
+//! What tests of durable crates share: trials on a device that fails, stops and crashes at each of its calls.
+//!
+//! A `Trial` does something on a device in memory. `sweep` lets it meet a fault at each call of the device in turn, and a
+//! crash of each kind behind it, opens what is left, once whole and once stopped at each call of that too, and looks
+//! whether what a server tells then is allowed. What it should tell comes from the serial server, by `expected`.
+#![tactic(auto)]
+
+mod counting;
+mod crashes;
+mod server;
+mod telling;
+mod trials;
+
+pub use counting::{Counting, Counts};
+pub use crashes::{KINDS, MIXED, NEW, OLD, torn};
+pub use server::{Act, Halt, Server, device_with};
+pub use telling::{Questions, expected, messages_of, told};
+pub use trials::{Crash, Ended, Found, Progress, Trial, Wrong, find, sweep};

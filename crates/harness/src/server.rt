@@ -1,0 +1,214 @@
+//! A server over a journal, for tests: what it holds, and its log.
+ghost use Rattle.std.specs.Prelude.{◌≡◌, IsTrue};
+ghost use Rattle.std.proofs.Props.{props};
+ghost use Rattle.oplog.specs.Logged.{AreLogged, IsLogged};
+ghost use Rattle.parcel.specs.Tree.{IsWholeTree};
+
+use crate::{Counting, Counts, Questions, Wrong, told};
+use affinity::{Geometry, changing, place_of};
+use checkpoint::{OpenFault, device_len, format, step};
+use disk::{Disk, MemDisk};
+use journal::{Journal, open};
+use message::{Msg, Reply};
+use parcel::Tree;
+use std::alloc::{AllocError, Global};
+
+/// What is done to a server.
+#[derive(Clone, Copy, Drop)]
+pub enum Act {
+    /// These changes are carried out, and logged in one batch.
+    Log(&'static [&'static str]),
+    Point,
+    Cut,
+
+    /// One piece of a cut is written.
+    Piece,
+
+    /// All pieces of a cut that are left are written, and it is ended.
+    End,
+}
+
+impl Act {
+    /// The lines of its changes.
+    pub fn changes(&self) -> &'static [&'static str] {
+        match self {
+            Act::Log(lines) => lines,
+            _ => &[],
+        }
+    }
+}
+
+fn is_logged(g: &Geometry, m: &Msg) -> bool
+    ensures { IsTrue result → IsLogged g.now m.now }
+{
+    changing(m.kind()) && place_of(g, m.kind(), m.numbers()).is_some()
+}
+
+/// Whether the log keeps each of these.
+fn are_logged(g: &Geometry, messages: &[Msg]) -> bool
+    ensures { IsTrue result → AreLogged g.now messages.now }
+{
+    for m in messages {
+        if !is_logged(g, m) {
+            return false;
+        }
+    }
+    true
+}
+
+/// Why a server doesn't do what it was asked.
+#[derive(Clone, Copy, Debug, PartialEq, Eq)]
+pub enum Halt {
+    /// It can't do that now.
+    Unfit,
+
+    /// The device failed.
+    Failed,
+}
+
+/// A server: what it holds, and its journal. It runs messages one after the other, in the place of the core.
+#[derive(Drop)]
+pub struct Server<D: Disk> {
+    journal: Journal<Counting<D>>,
+    tree: Tree,
+    ghost whole: { IsWholeTree tree } by { Prim.hlevel props },
+    ghost same: { tree.geometry ≡ journal.geometry },
+}
+
+impl<D: Disk> Server<D> {
+    /// Opens a device; where it is refused, the device and why.
+    pub fn open(alloc: Global, device: D) -> Result<Server<D>, (D, OpenFault)> {
+        match open(alloc, Counting::new(device)) {
+            Ok((journal, tree)) => Ok(Server { journal, tree }),
+            Err(e) => Err((e.disk.into_inner(), e.fault)),
+        }
+    }
+
+    /// Carries these changes out, and logs them in one batch. After a fault the server is of no more use.
+    pub fn log(&mut self, messages: &[Msg]) -> Result<(), Halt> {
+        let g = self.journal.geometry();
+        let is_fit = are_logged(&g, messages) && messages.len() <= self.journal.room();
+        if !is_fit || !carry_out(&mut self.tree, messages) || self.journal.failed() {
+            return Err(Halt::Unfit);
+        }
+        self.journal.log(messages).map_err(|_| Halt::Failed)
+    }
+
+    /// Makes a point in Serial.
+    pub fn point(&mut self) -> Result<(), Halt> {
+        if self.journal.failed() || self.journal.left().is_some() {
+            return Err(Halt::Unfit);
+        }
+        self.journal.point(&self.tree).map_err(|_| Halt::Failed)
+    }
+
+    /// Begins a cut.
+    pub fn cut(&mut self) -> Result<(), Halt> {
+        if self.journal.failed() || self.journal.left().is_some() {
+            return Err(Halt::Unfit);
+        }
+        self.journal.cut(&self.tree).map_err(|_| Halt::Failed)
+    }
+
+    /// Writes a piece of a cut, and tells how many are left.
+    pub fn piece(&mut self) -> Result<usize, Halt> {
+        if self.journal.failed() || self.journal.left().is_none() {
+            return Err(Halt::Unfit);
+        }
+        self.journal.piece().map_err(|_| Halt::Failed)
+    }
+
+    /// Ends a cut of which no piece is left.
+    pub fn flip(&mut self) -> Result<(), Halt> {
+        if self.journal.failed() || self.journal.left() != Some(0) {
+            return Err(Halt::Unfit);
+        }
+        self.journal.flip().map_err(|_| Halt::Failed)
+    }
+
+    /// Writes what is left of a cut, and ends it.
+    pub fn end(&mut self) -> Result<(), Halt> {
+        let Some(left) = self.journal.left() else {
+            return Err(Halt::Unfit);
+        };
+        for _ in 0..left {
+            self.piece()?;
+        }
+        self.flip()
+    }
+
+    /// Does one act; the messages are those of its changes.
+    pub fn act(&mut self, act: &Act, messages: &[Msg]) -> Result<(), Halt> {
+        match act {
+            Act::Log(_) => self.log(messages),
+            Act::Point => self.point(),
+            Act::Cut => self.cut(),
+            Act::Piece => self.piece().map(|_| ()),
+            Act::End => self.end(),
+        }
+    }
+
+    /// How many records can still be logged.
+    pub fn room(&self) -> usize {
+        self.journal.room()
+    }
+
+    /// How many pieces of a cut are left, while one is in progress.
+    pub fn left(&self) -> Option<usize> {
+        self.journal.left()
+    }
+
+    /// Whether the device has failed in a call.
+    pub fn failed(&self) -> bool {
+        self.journal.failed()
+    }
+
+    /// The reply lines to these questions.
+    pub fn told(&mut self, alloc: Global, questions: &Questions) -> Result<Vec<u8>, AllocError> {
+        told(alloc, &mut self.tree, questions)
+    }
+
+    /// The device, and how often it was called since it was opened.
+    pub fn into_device(self) -> (D, Counts) {
+        let device = self.journal.into_disk();
+        let counts = device.counts();
+        (device.into_inner(), counts)
+    }
+}
+
+/// Runs these messages, and tells whether all were done.
+fn carry_out(tree: &mut Tree, messages: &[Msg]) -> bool
+    requires whole { IsWholeTree tree.old }
+    ensures whole { IsWholeTree tree.new }
+    ensures geometry { tree.new.geometry ≡ tree.old.geometry }
+{
+    let g = tree.geometry();
+    for m in messages {
+        if place_of(&g, m.kind(), m.numbers()).is_none() || step(tree, *m) != Reply::Done {
+            return false;
+        }
+    }
+    true
+}
+
+/// A device that was formatted, with other bytes at some places.
+pub fn device_with(
+    alloc: Global,
+    numbers: [u16; 8],
+    changes: &[(usize, u8)],
+) -> Result<MemDisk, Wrong> {
+    let Ok(g) = Geometry::new(numbers) else {
+        return Err(Wrong::Unfit);
+    };
+    let disk = MemDisk::new(alloc, device_len(&g))?;
+    let Ok(disk) = format(alloc, disk, g) else {
+        return Err(Wrong::OutOfMemory);
+    };
+    let mut bytes = disk.bytes().to_vec(alloc)?;
+    for (at, byte) in changes {
+        if let Some(there) = bytes.get_mut(*at) {
+            *there = *byte;
+        }
+    }
+    Ok(MemDisk::of_bytes(alloc, bytes)?)
+}

@@ -1,0 +1,138 @@
+//! All that a server tells of what it holds, and what it should tell.
+ghost use Rattle.std.specs.Prelude.{◌≡◌};
+ghost use Rattle.parcel.specs.Tree.{IsWholeTree};
+
+use crate::Wrong;
+use affinity::{Geometry, place_of};
+use checkpoint::step;
+use message::{LONGEST_REPLY, Msg, Refusal, Reply, parse_line, write_reply};
+use parcel::Tree;
+use plain::serve_plain;
+use std::alloc::{AllocError, Global};
+
+/// What a server is asked so that it tells all that it holds: `summary` first, then of each volume `usage`, `list` and
+/// `label`, and each block of each of its files.
+#[derive(Drop)]
+pub struct Questions {
+    lines: Vec<u8>,
+    messages: Vec<Msg>,
+}
+
+impl Questions {
+    /// Those for a server of this geometry.
+    pub fn new(alloc: Global, g: &Geometry) -> Result<Questions, AllocError> {
+        let mut questions = Questions {
+            lines: Vec::new(alloc),
+            messages: Vec::new(alloc),
+        };
+        questions.ask("summary")?;
+        for a in 0..g.aggregates {
+            for v in 0..g.volumes {
+                questions.ask_volume(alloc, g, a, v)?;
+            }
+        }
+        Ok(questions)
+    }
+
+    fn ask_volume(
+        &mut self,
+        alloc: Global,
+        g: &Geometry,
+        a: u16,
+        v: u16,
+    ) -> Result<(), AllocError> {
+        for keyword in ["usage", "list", "label"] {
+            let line = format!(in alloc; "{keyword} {a} {v}")?;
+            self.ask(line.as_str())?;
+        }
+        for f in 0..g.files {
+            self.ask_file(alloc, g, [a, v, f])?;
+        }
+        Ok(())
+    }
+
+    fn ask_file(&mut self, alloc: Global, g: &Geometry, file: [u16; 3]) -> Result<(), AllocError> {
+        let [a, v, f] = file;
+        for b in 0..g.blocks {
+            let line = format!(in alloc; "read {a} {v} {f} {b}")?;
+            self.ask(line.as_str())?;
+        }
+        Ok(())
+    }
+
+    fn ask(&mut self, line: &str) -> Result<(), AllocError> {
+        if let Some(message) = parse_line(line.as_bytes()) {
+            self.lines.extend_from_slice(line.as_bytes())?;
+            self.lines.push(b'\n')?;
+            self.messages.push(message)?;
+        }
+        Ok(())
+    }
+}
+
+/// The messages that these lines spell. `Unfit` where one is no message.
+pub fn messages_of(alloc: Global, lines: &[&str]) -> Result<Vec<Msg>, Wrong> {
+    let mut messages = Vec::new(alloc);
+    for line in lines {
+        let Some(message) = parse_line(line.as_bytes()) else {
+            return Err(Wrong::Unfit);
+        };
+        messages.push(message)?;
+    }
+    Ok(messages)
+}
+
+/// What a whole tree replies to a message, which runs on it.
+fn reply_of(tree: &mut Tree, m: Msg) -> Reply
+    requires whole { IsWholeTree tree.old }
+    ensures whole { IsWholeTree tree.new }
+    ensures geometry { tree.new.geometry ≡ tree.old.geometry }
+{
+    let g = tree.geometry();
+    if place_of(&g, m.kind(), m.numbers()).is_none() {
+        return Reply::Refused(Refusal::Range);
+    }
+    step(tree, m)
+}
+
+/// The reply lines of a whole tree to these questions.
+pub fn told(alloc: Global, tree: &mut Tree, questions: &Questions) -> Result<Vec<u8>, AllocError>
+    requires whole { IsWholeTree tree.old }
+    ensures whole { IsWholeTree tree.new }
+    ensures geometry { tree.new.geometry ≡ tree.old.geometry }
+{
+    let mut told = Vec::new(alloc);
+    let mut line = [0; LONGEST_REPLY];
+    for m in questions.messages.as_slice() {
+        let reply = reply_of(tree, *m);
+        let size = write_reply(&reply, &mut line);
+        told.extend_from_slice(&line[..size])?;
+    }
+    Ok(told)
+}
+
+/// What the serial server tells to these questions once it has carried out these lines, from the empty state on. `Unfit`
+/// where one of them isn't done.
+pub fn expected(
+    alloc: Global,
+    g: &Geometry,
+    lines: &[&str],
+    questions: &Questions,
+) -> Result<Vec<u8>, Wrong> {
+    let mut input = Vec::new(alloc);
+    let mut done = Vec::new(alloc);
+    for line in lines {
+        input.extend_from_slice(line.as_bytes())?;
+        input.push(b'\n')?;
+        done.extend_from_slice(b"done\n")?;
+    }
+    input.extend_from_slice(questions.lines.as_slice())?;
+    let mut output = Vec::new(alloc);
+    if serve_plain(alloc, g, input.as_slice(), &mut output).is_err() {
+        return Err(Wrong::OutOfMemory);
+    }
+    match output.as_slice().strip_prefix(done.as_slice()) {
+        Some(told) => Ok(told.to_vec(alloc)?),
+        None => Err(Wrong::Unfit),
+    }
+}

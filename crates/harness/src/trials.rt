@@ -1,0 +1,319 @@
+//! Trials on a device that fails, stops and crashes at each of its calls.
+ghost use Rattle.std.specs.Prelude.{◌<◌};
+
+use crate::crashes::{KINDS, torn};
+use crate::telling::{Questions, told};
+use checkpoint::{OpenFault, Shown, inspect};
+use disk::MemDisk;
+use journal::open;
+use message::{LONGEST_REPLY, write_reply};
+use std::alloc::{AllocError, AllocFailed, Global};
+
+/// More calls of the device than a trial makes.
+const MOST_CALLS: u64 = 10_000;
+
+/// How far a trial came.
+#[derive(Clone, Copy, Debug, PartialEq, Eq)]
+pub struct Progress {
+    /// How many of its changes were answered: these are there after each crash.
+    pub answered: usize,
+
+    /// How many of its changes may be there.
+    pub begun: usize,
+
+    /// Whether it ended with no fault of the device.
+    pub is_whole: bool,
+}
+
+/// What a trial leaves.
+#[derive(Drop)]
+pub struct Ended {
+    /// The device, in whatever state it is.
+    pub device: MemDisk,
+    pub progress: Progress,
+}
+
+/// What is found on a device that is opened.
+#[derive(Debug, Drop, PartialEq, Eq)]
+pub enum Found {
+    /// It is opened, and the server tells this.
+    Tells(Vec<u8>),
+    /// It is refused.
+    Refuses(OpenFault),
+}
+
+/// Something that is done on a device which may fail at any of its calls.
+pub trait Trial {
+    /// What a server is asked that is found on the device.
+    fn questions(&self) -> &Questions;
+
+    /// The device on which it begins.
+    fn device(&self, alloc: Global) -> Result<MemDisk, Wrong>;
+
+    /// Does it on this device, until it ends or a call says that the device has failed.
+    fn run(&self, alloc: Global, device: MemDisk) -> Result<Ended, Wrong>;
+
+    /// Whether this may be found after a trial that came so far and a crash.
+    fn allows(&self, progress: &Progress, found: &Found) -> bool;
+}
+
+/// A fault of a device and the crash behind it.
+#[derive(Clone, Copy, Debug, PartialEq, Eq)]
+pub struct Crash {
+    /// The number of the call that failed, from 1 on, with all later ones.
+    pub call: u64,
+
+    /// The kind of crash. `KINDS`: there was none, and later calls went on.
+    pub kind: usize,
+}
+
+/// What is wrong with a trial.
+#[derive(Clone, Copy, Debug, PartialEq, Eq)]
+pub enum Wrong {
+    /// There was no memory.
+    OutOfMemory,
+
+    /// It asks for something that no such server does, as its rows don't fit.
+    Unfit,
+
+    /// It doesn't end.
+    Endless,
+
+    /// A fault of the device wasn't told, or one that wasn't there.
+    Untold(Crash),
+
+    /// After the crash something was found that isn't allowed.
+    Found(Crash),
+
+    /// After the crash a device that isn't opened yet is told of otherwise than one that is.
+    Shown(Crash),
+
+    /// After the first crash, opening met the second one, and then something else was found than without it.
+    Reopened(Crash, Crash),
+}
+
+impl From<AllocError> for Wrong {
+    fn from(_e: AllocError) -> Wrong {
+        Wrong::OutOfMemory
+    }
+}
+
+impl<T: Drop> From<AllocFailed<T>> for Wrong {
+    fn from(_e: AllocFailed<T>) -> Wrong {
+        Wrong::OutOfMemory
+    }
+}
+
+/// Opens a device, and gives what is found on it, and the device.
+pub fn find(
+    alloc: Global,
+    device: MemDisk,
+    questions: &Questions,
+) -> Result<(Found, MemDisk), Wrong> {
+    match open(alloc, device) {
+        Ok((journal, mut tree)) => {
+            let told = told(alloc, &mut tree, questions)?;
+            Ok((Found::Tells(told), journal.into_disk()))
+        }
+        Err(e) if e.fault == OpenFault::OutOfMemory => Err(Wrong::OutOfMemory),
+        Err(e) => Ok((Found::Refuses(e.fault), e.disk)),
+    }
+}
+
+/// A device of these bytes.
+fn device_of(alloc: Global, bytes: &[u8]) -> Result<MemDisk, AllocError> {
+    MemDisk::of_bytes(alloc, bytes.to_vec(alloc)?)
+}
+
+/// What is told of a device that isn't opened agrees with what is found once it is.
+fn agrees(shown: &Shown, told: &[u8]) -> bool {
+    let mut line = [0; LONGEST_REPLY];
+    let size = write_reply(&shown.summary, &mut line);
+    told.starts_with(&line[..size])
+}
+
+/// Whether a device of these bytes is told of, before it is opened and afterwards, as what is found on it says.
+fn is_shown(alloc: Global, bytes: &[u8], opened: &[u8], found: &Found) -> Result<bool, Wrong> {
+    let before = inspect(alloc, device_of(alloc, bytes)?);
+    match (before, found) {
+        (Ok((before, _)), Found::Tells(told)) => {
+            let Ok((after, _)) = inspect(alloc, device_of(alloc, opened)?) else {
+                return Ok(false);
+            };
+            let is_new = after.records == 0 && after.version == 2;
+            Ok(is_new && agrees(&before, told.as_slice()) && agrees(&after, told.as_slice()))
+        }
+        (Err(e), Found::Refuses(fault)) => Ok(e.fault == *fault),
+        _ => Ok(false),
+    }
+}
+
+/// Whether it was opened, where the same was found again.
+fn same_again(is_same: bool, is_opened: bool, first: Crash, second: Crash) -> Result<bool, Wrong> {
+    if is_same {
+        Ok(is_opened)
+    } else {
+        Err(Wrong::Reopened(first, second))
+    }
+}
+
+/// Opens a device of these bytes that stops at its n-th call, and opens it again behind a crash of each kind: the same is
+/// found each time. Whether it was opened, or refused, before that call.
+fn reopen_at(
+    alloc: Global,
+    questions: &Questions,
+    first: Crash,
+    seen: &Seen,
+    n: u64,
+) -> Result<bool, Wrong>
+    requires { 0 < n }
+{
+    let mut last: Vec<u8> = Vec::new(alloc);
+    for kind in 0..KINDS {
+        let second = Crash { call: n, kind };
+        let mut device = device_of(alloc, seen.bytes.as_slice())?;
+        device.stop_at(n);
+        let (stopped, device) = find(alloc, device, questions)?;
+        if device.calls() < n {
+            return same_again(stopped == seen.found, true, first, second);
+        }
+        let is_told = stopped == Found::Refuses(OpenFault::Device);
+        same_again(is_told, false, first, second)?;
+        let device = device.crash(torn(alloc, kind)?);
+        if device.bytes() == last.as_slice() {
+            // Nothing is loose.
+            if kind == 1 {
+                break;
+            }
+            continue;
+        }
+        last = device.bytes().to_vec(alloc)?;
+        if last != seen.bytes {
+            let (again, _) = find(alloc, device, questions)?;
+            same_again(again == seen.found, false, first, second)?;
+        }
+    }
+    Ok(false)
+}
+
+/// Opens a device of these bytes stopped at each of its calls.
+fn reopen(alloc: Global, questions: &Questions, first: Crash, seen: &Seen) -> Result<(), Wrong> {
+    for n in 1..MOST_CALLS {
+        if reopen_at(alloc, questions, first, seen, n)? {
+            return Ok(());
+        }
+    }
+    Err(Wrong::Endless)
+}
+
+/// The bytes that a crash left, and what is found on them.
+#[derive(Drop)]
+struct Seen {
+    bytes: Vec<u8>,
+    found: Found,
+}
+
+/// A trial and what was found in it so far.
+#[derive(Drop)]
+struct Stops<'a, T: Trial> {
+    alloc: Global,
+    trial: &'a T,
+    seen: Vec<Seen>,
+}
+
+impl<T: Trial> Stops<'_, T> {
+    /// What is found on the device that a crash left is allowed.
+    fn look(&mut self, progress: &Progress, first: Crash, device: MemDisk) -> Result<(), Wrong> {
+        for seen in self.seen.as_slice() {
+            if seen.bytes.as_slice() == device.bytes() {
+                return self.judge(progress, first, &seen.found);
+            }
+        }
+        let bytes = device.bytes().to_vec(self.alloc)?;
+        let questions = self.trial.questions();
+        let (found, opened) = find(self.alloc, device, questions)?;
+        self.judge(progress, first, &found)?;
+        if !is_shown(self.alloc, bytes.as_slice(), opened.bytes(), &found)? {
+            return Err(Wrong::Shown(first));
+        }
+        let seen = Seen { bytes, found };
+        reopen(self.alloc, questions, first, &seen)?;
+        self.seen.push(seen)?;
+        Ok(())
+    }
+
+    fn judge(&self, progress: &Progress, first: Crash, found: &Found) -> Result<(), Wrong> {
+        if self.trial.allows(progress, found) {
+            Ok(())
+        } else {
+            Err(Wrong::Found(first))
+        }
+    }
+
+    /// Makes the trial on a device of which this call fails, and tells of a fault that isn't answered.
+    fn make(&self, first: Crash) -> Result<Ended, Wrong>
+        requires { 0 < first.call }
+    {
+        let mut device = self.trial.device(self.alloc)?;
+        if first.kind < KINDS {
+            device.stop_at(first.call);
+        } else {
+            device.fail_at(first.call);
+        }
+        let ended = self.trial.run(self.alloc, device)?;
+        if ended.progress.is_whole == (ended.device.calls() < first.call) {
+            Ok(ended)
+        } else {
+            Err(Wrong::Untold(first))
+        }
+    }
+
+    /// Makes the trial on a device that stops at this call, with a crash of each kind behind it. Whether it ended before
+    /// that call.
+    fn stop(&mut self, call: u64) -> Result<bool, Wrong>
+        requires { 0 < call }
+    {
+        let mut last: Vec<u8> = Vec::new(self.alloc);
+        let mut is_whole = false;
+        for kind in 0..KINDS {
+            let first = Crash { call, kind };
+            let Ended { device, progress } = self.make(first)?;
+            is_whole = progress.is_whole;
+            let device = device.crash(torn(self.alloc, kind)?);
+            if kind == 1 && device.bytes() == last.as_slice() {
+                break; // nothing is loose
+            }
+            last = device.bytes().to_vec(self.alloc)?;
+            self.look(&progress, first, device)?;
+        }
+        Ok(is_whole)
+    }
+
+    /// Makes the trial on a device of which this call fails alone, and opens it with no crash.
+    fn fail(&mut self, call: u64) -> Result<(), Wrong>
+        requires { 0 < call }
+    {
+        let first = Crash { call, kind: KINDS };
+        let Ended { device, progress } = self.make(first)?;
+        let (found, _) = find(self.alloc, device, self.trial.questions())?;
+        self.judge(&progress, first, &found)
+    }
+}
+
+/// Makes a trial once for each call of the device, which fails alone or stops it there, and each kind of crash behind
+/// such a stop. What is left is opened, also stopped at each call and behind each kind of crash again. Gives how many
+/// calls the trial makes with no fault.
+pub fn sweep<T: Trial>(alloc: Global, trial: &T) -> Result<u64, Wrong> {
+    let mut stops = Stops {
+        alloc,
+        trial,
+        seen: Vec::new(alloc),
+    };
+    for n in 1..MOST_CALLS {
+        if stops.stop(n)? {
+            return Ok(n - 1);
+        }
+        stops.fail(n)?;
+    }
+    Err(Wrong::Endless)
+}
