@@ -1,0 +1,129 @@
+//! Trials of a server over a journal: what is done to it is a script.
+use affinity::Geometry;
+use checkpoint::OpenFault;
+use disk::MemDisk;
+use harness::{
+    Act, Ended, Found, Halt, Progress, Questions, Server, Trial, Wrong, device_with, expected,
+    messages_of,
+};
+use std::alloc::Global;
+use std::process::Abort;
+
+/// One volume of two files of four blocks, in two stripes that hold two blocks each, and four records in a half.
+/// Neighboring blocks of a file lie in different stripes.
+pub(crate) const SMALL: [u16; 8] = [1, 1, 2, 1, 2, 4, 2, 4];
+
+/// One volume of one file of four blocks, each in a stripe of its own, and eight records in a half.
+pub(crate) const FLAT: [u16; 8] = [1, 1, 4, 1, 1, 4, 1, 8];
+
+pub(crate) fn holds(rt: &impl Abort, fact: bool) {
+    assert!(rt; fact);
+}
+
+pub(crate) fn counts(rt: &impl Abort, got: u64, want: u64) {
+    assert_eq!(rt; got, want);
+}
+
+/// A device, what leads to the state that it stands for, and what is done to a server on it.
+#[derive(Drop)]
+pub(crate) struct Script {
+    pub(crate) numbers: [u16; 8],
+
+    /// Where the device isn't as it was formatted.
+    pub(crate) changes: &'static [(usize, u8)],
+    pub(crate) before: &'static [&'static str],
+    pub(crate) acts: &'static [Act],
+}
+
+/// A script with what may be found on its device: after its first so many changes, the server tells that.
+#[derive(Drop)]
+pub(crate) struct Play<'a> {
+    script: &'a Script,
+    questions: Questions,
+    tellings: Vec<Vec<u8>>,
+}
+
+impl Play<'_> {
+    pub(crate) fn new(alloc: Global, script: &Script) -> Result<Play<'_>, Wrong> {
+        let Ok(g) = Geometry::new(script.numbers) else {
+            return Err(Wrong::Unfit);
+        };
+        let questions = Questions::new(alloc, &g)?;
+        let mut lines = script.before.to_vec(alloc)?;
+        let mut tellings = Vec::new(alloc);
+        tellings.push(expected(alloc, &g, lines.as_slice(), &questions)?)?;
+        for act in script.acts {
+            for line in act.changes() {
+                lines.push(*line)?;
+                tellings.push(expected(alloc, &g, lines.as_slice(), &questions)?)?;
+            }
+        }
+        Ok(Play {
+            script,
+            questions,
+            tellings,
+        })
+    }
+}
+
+/// What was done of a script, in which a call failed or none did.
+fn progress_of(answered: usize, begun: usize, is_whole: bool) -> Progress {
+    Progress {
+        answered,
+        begun,
+        is_whole,
+    }
+}
+
+/// Does all of a script, until the device fails.
+fn act_all(alloc: Global, server: &mut Server<MemDisk>, acts: &[Act]) -> Result<Progress, Wrong> {
+    let mut answered = 0usize;
+    for act in acts {
+        let messages = messages_of(alloc, act.changes())?;
+        let begun = answered.saturating_add(messages.len());
+        match server.act(act, messages.as_slice()) {
+            Ok(()) => answered = begun,
+            Err(Halt::Failed) if server.failed() => return Ok(progress_of(answered, begun, false)),
+            Err(_) => return Err(Wrong::Unfit),
+        }
+    }
+    Ok(progress_of(answered, answered, true))
+}
+
+impl Trial for Play<'_> {
+    fn questions(&self) -> &Questions {
+        &self.questions
+    }
+
+    fn device(&self, alloc: Global) -> Result<MemDisk, Wrong> {
+        device_with(alloc, self.script.numbers, self.script.changes)
+    }
+
+    fn run(&self, alloc: Global, device: MemDisk) -> Result<Ended, Wrong> {
+        match Server::open(alloc, device) {
+            Ok(mut server) => {
+                let progress = act_all(alloc, &mut server, self.script.acts)?;
+                let (device, _) = server.into_device();
+                Ok(Ended { device, progress })
+            }
+            Err((device, OpenFault::Device)) => Ok(Ended {
+                device,
+                progress: progress_of(0, 0, false),
+            }),
+            Err(_) => Err(Wrong::Unfit),
+        }
+    }
+
+    fn allows(&self, progress: &Progress, found: &Found) -> bool {
+        let Found::Tells(found) = found else {
+            return false;
+        };
+        for (count, telling) in self.tellings.iter().enumerate() {
+            let is_allowed = progress.answered <= count && count <= progress.begun;
+            if is_allowed && telling == found {
+                return true;
+            }
+        }
+        false
+    }
+}

@@ -1,0 +1,203 @@
+//! How often each call of a journal calls the device, and how many bytes it writes.
+use crate::acting::{SMALL, counts, holds};
+use checkpoint::inspect;
+use disk::MemDisk;
+use harness::{Act, Counts, Halt, NEW, OLD, Server, Wrong, device_with, messages_of, torn};
+use message::{Msg, Reply};
+use std::alloc::Global;
+use std::process::Abort;
+use std::test::Fail;
+
+/// What is done, and then the writes, the syncs and the bytes that it takes. A half has four gates behind 64 bytes, and an
+/// image 2,208 bytes: a head of 64, a volume's piece of 64 and two stripes' of 1,040.
+const ACTS: [(Act, [u64; 3]); 18] = [
+    (Act::Log(&[]), [0, 0, 0]),
+    (Act::Log(&["makevol 0 0"]), [2, 2, 521]),
+    (
+        Act::Log(&["create 0 0 0", "seal 0 0", "unseal 0 0"]),
+        [2, 2, 1563],
+    ),
+    // Into area 0, of which all is out of date.
+    (Act::Point, [3, 3, 68 + 2208 + 1]),
+    // The volume's piece, with the head.
+    (Act::Point, [3, 3, 68 + 128 + 1]),
+    // Nothing has changed since.
+    (Act::Point, [2, 3, 68 + 1]),
+    // The volume's piece and its last stripe's, which don't lie side by side.
+    (
+        Act::Log(&["setlabel 0 0 07", "write 0 0 0 1 61"]),
+        [2, 2, 1042],
+    ),
+    (Act::Point, [4, 3, 68 + 128 + 1040 + 1]),
+    // All pieces: the one that is written now lies between those two, which this area lacks too.
+    (Act::Log(&["write 0 0 0 0 62"]), [2, 2, 521]),
+    (Act::Point, [3, 3, 68 + 2208 + 1]),
+    (Act::Cut, [2, 2, 68 + 1]),
+    // The one piece that has changed since this area was written, a stripe's.
+    (Act::Piece, [1, 0, 1040]),
+    (Act::Piece, [0, 0, 0]),
+    (Act::End, [1, 2, 1]),
+    (Act::Cut, [2, 2, 68 + 1]),
+    (Act::Piece, [0, 0, 0]),
+    (Act::Log(&["delete 0 0 0"]), [2, 2, 521]),
+    (Act::End, [1, 2, 1]),
+];
+
+/// The calls that opening a new device and the first so many of the acts make.
+fn counts_of(alloc: Global, acts: usize) -> Result<Counts, Wrong> {
+    let Ok(mut server) = Server::open(alloc, device_with(alloc, SMALL, &[])?) else {
+        return Err(Wrong::Unfit);
+    };
+    for (act, _) in ACTS.iter().take(acts) {
+        let messages = messages_of(alloc, act.changes())?;
+        if server.act(act, messages.as_slice()).is_err() {
+            return Err(Wrong::Unfit);
+        }
+    }
+    Ok(server.into_device().1)
+}
+
+/// So many writes, syncs and bytes more, and no read.
+fn are_more(rt: &impl Abort, before: &Counts, after: &Counts, more: [u64; 3]) {
+    let [writes, syncs, written] = more;
+    counts(rt, after.reads, before.reads);
+    counts(rt, after.writes, before.writes.saturating_add(writes));
+    counts(rt, after.syncs, before.syncs.saturating_add(syncs));
+    counts(rt, after.written, before.written.saturating_add(written));
+}
+
+#[test]
+fn each_act_takes_few_calls(rt: HostRuntime) -> Result<(), Fail> {
+    let mut before = counts_of(rt.alloc(), 0)?;
+    for (number, (_, more)) in ACTS.iter().enumerate() {
+        let after = counts_of(rt.alloc(), number + 1)?;
+        are_more(&rt, &before, &after, *more);
+        before = after;
+    }
+    Ok(())
+}
+
+/// What opening a device with these changes takes: writes, syncs and bytes.
+fn opening_takes(
+    rt: &impl Abort,
+    alloc: Global,
+    changes: &[(usize, u8)],
+    want: [u64; 3],
+) -> Result<(), Wrong> {
+    let Ok(server) = Server::open(alloc, device_with(alloc, SMALL, changes)?) else {
+        return Err(Wrong::Unfit);
+    };
+    let (_, after) = server.into_device();
+    let before = Counts {
+        reads: after.reads,
+        writes: 0,
+        syncs: 0,
+        written: 0,
+    };
+    are_more(rt, &before, &after, want);
+    Ok(())
+}
+
+#[test]
+fn opening_takes_few_calls(rt: HostRuntime) -> Result<(), Fail> {
+    // A sync, and a point of the whole image.
+    opening_takes(&rt, rt.alloc(), &[], [3, 4, 68 + 2208 + 1])?;
+    // A cut is ended before, by an image and the root byte.
+    let ended = 2 * (2208 + 1) + 68;
+    opening_takes(&rt, rt.alloc(), &[(128, 1)], [5, 6, ended])?;
+    Ok(())
+}
+
+/// The numbers of the small server, with 128 records in a half.
+const LONG: [u16; 8] = [1, 1, 2, 1, 2, 4, 2, 128];
+
+/// A message that makes the volume, and others that seal it again and again.
+fn seals(alloc: Global, count: usize) -> Result<Vec<Msg>, Wrong> {
+    let mut messages = vec![in alloc; Msg::Seal(0, 0); count]?;
+    if let Some(first) = messages.first_mut() {
+        *first = Msg::MakeVol(0, 0);
+    }
+    Ok(messages)
+}
+
+/// How many calls opening the long device makes.
+fn calls_of_opening(alloc: Global) -> Result<u64, Wrong> {
+    match Server::open(alloc, device_with(alloc, LONG, &[])?) {
+        Ok(server) => Ok(server.into_device().0.calls()),
+        Err(_) => Err(Wrong::Unfit),
+    }
+}
+
+/// Whether so many messages are logged in one batch on a device that stops at the n-th call of that, and the device.
+fn logged_until(alloc: Global, count: usize, n: u64) -> Result<(bool, MemDisk), Wrong> {
+    let mut device = device_with(alloc, LONG, &[])?;
+    device.stop_at(calls_of_opening(alloc)?.saturating_add(n.max(1)));
+    let Ok(mut server) = Server::open(alloc, device) else {
+        return Err(Wrong::Unfit);
+    };
+    let messages = seals(alloc, count)?;
+    let logged = server.log(messages.as_slice());
+    if logged == Err(Halt::Unfit) || logged.is_err() != server.failed() {
+        return Err(Wrong::Unfit);
+    }
+    Ok((logged.is_ok(), server.into_device().0))
+}
+
+/// Where the device stops at the n-th call of a log of so many messages, so many of them are in force behind a crash of
+/// this kind.
+fn leaves(
+    rt: &impl Abort,
+    alloc: Global,
+    count: usize,
+    n: u64,
+    kind: usize,
+    records: usize,
+) -> Result<(), Wrong> {
+    let (_, device) = logged_until(alloc, count, n)?;
+    let Ok((shown, _)) = inspect(alloc, device.crash(torn(alloc, kind)?)) else {
+        return Err(Wrong::Unfit);
+    };
+    let volumes = u32::from(records > 0);
+    let summary = Reply::Summary {
+        volumes,
+        files: 0,
+        blocks: 0,
+    };
+    holds(rt, shown.records == records && shown.summary == summary);
+    Ok(())
+}
+
+#[test]
+fn a_batch_is_four_calls(rt: HostRuntime) -> Result<(), Fail> {
+    for (count, calls) in [(0, 0), (1, 4), (3, 4), (64, 4), (65, 8), (70, 8), (128, 8)] {
+        let (is_logged, _) = logged_until(rt.alloc(), count, calls + 1)?;
+        holds(&rt, is_logged);
+        if calls > 0 {
+            let (is_logged, _) = logged_until(rt.alloc(), count, calls)?;
+            holds(&rt, !is_logged);
+        }
+    }
+    Ok(())
+}
+
+/// How many of 70 messages are in force where the device stopped at a call, with all old bytes, and with all new ones.
+/// The seventh call writes the gates of the second batch.
+const LEFT: [(u64, usize, usize); 8] = [
+    (1, 0, 0),
+    (2, 0, 0),
+    (3, 0, 64),
+    (4, 0, 64),
+    (5, 64, 64),
+    (6, 64, 64),
+    (7, 64, 70),
+    (8, 64, 70),
+];
+
+#[test]
+fn a_long_log_is_two_batches(rt: HostRuntime) -> Result<(), Fail> {
+    for (n, old, new) in LEFT {
+        leaves(&rt, rt.alloc(), 70, n, OLD, old)?;
+        leaves(&rt, rt.alloc(), 70, n, NEW, new)?;
+    }
+    Ok(())
+}

@@ -1,0 +1,241 @@
+//! Devices that are opened, and such as are refused.
+use crate::acting::{SMALL, holds};
+use affinity::Geometry;
+use checkpoint::{OpenFault, inspect};
+use disk::MemDisk;
+use harness::{
+    Ended, Found, Progress, Questions, Server, Trial, Wrong, device_with, expected, find, sweep,
+};
+use message::Reply;
+use std::alloc::Global;
+use std::process::Abort;
+use std::test::Fail;
+
+/// Where a device isn't as it was formatted, and why it is refused.
+const REFUSED: [(&[(usize, u8)], OpenFault); 21] = [
+    (&[(0, 0)], OpenFault::NotFormatted),
+    (&[(1, 0)], OpenFault::NotFormatted),
+    (&[(8, 5)], OpenFault::BadGeometry),
+    (&[(24, 1)], OpenFault::BadGeometry),
+    (&[(22, 5)], OpenFault::TooShort),
+    (&[(64, 1)], OpenFault::BadVersion),
+    (&[(4424, 0)], OpenFault::BadVersion),
+    (&[(4424, 3)], OpenFault::BadVersion),
+    (&[(4424, 9)], OpenFault::BadVersion),
+    (&[(4425, 1)], OpenFault::BadVersion),
+    (&[(4488, 2)], OpenFault::BadPiece(0)),
+    (&[(4424, 1), (4488, 1), (4504, 1)], OpenFault::BadPiece(0)),
+    (&[(4552, 1)], OpenFault::BadPiece(1)),
+    (&[(5592, 2)], OpenFault::BadPiece(2)),
+    (&[(128, 1), (2276, 1)], OpenFault::BadChain),
+    (&[(192, 1)], OpenFault::BadRecord(0, 0)),
+    (&[(192, 1), (196, 9)], OpenFault::BadRecord(0, 0)),
+    (&[(192, 1), (196, 2)], OpenFault::BadRecord(0, 0)),
+    (
+        &[(192, 1), (193, 1), (196, 1), (716, 1)],
+        OpenFault::BadRecord(0, 1),
+    ),
+    // The first fault in the order of the tests is told.
+    (&[(4488, 2), (128, 1), (2276, 1)], OpenFault::BadPiece(0)),
+    (&[(128, 1), (2276, 1), (192, 1)], OpenFault::BadChain),
+];
+
+/// It is refused for this, and told of so too, and it stays as it was.
+fn is_refused(
+    rt: &impl Abort,
+    alloc: Global,
+    device: MemDisk,
+    fault: OpenFault,
+) -> Result<(), Wrong> {
+    let bytes = device.bytes().to_vec(alloc)?;
+    let device = match Server::open(alloc, device) {
+        Ok(_) => return Err(Wrong::Unfit),
+        Err((device, told)) => {
+            holds(rt, told == fault);
+            device
+        }
+    };
+    holds(rt, device.bytes() == bytes.as_slice());
+    match inspect(alloc, device) {
+        Ok(_) => holds(rt, false),
+        Err(e) => holds(rt, e.fault == fault),
+    }
+    Ok(())
+}
+
+#[test]
+fn damage_is_told(rt: HostRuntime) -> Result<(), Fail> {
+    for (changes, fault) in REFUSED {
+        let device = device_with(rt.alloc(), SMALL, changes)?;
+        is_refused(&rt, rt.alloc(), device, fault)?;
+    }
+    Ok(())
+}
+
+#[test]
+fn a_short_device_is_refused(rt: HostRuntime) -> Result<(), Fail> {
+    let whole = device_with(rt.alloc(), SMALL, &[])?;
+    for len in [127, 8839] {
+        let bytes = whole.bytes().iter().take(len).copied();
+        let device = MemDisk::of_bytes(rt.alloc(), bytes.collect(rt.alloc())?)?;
+        is_refused(&rt, rt.alloc(), device, OpenFault::TooShort)?;
+    }
+    Ok(())
+}
+
+/// Where a device isn't as it was formatted, what leads to the state that it stands for, and the area that is named once
+/// it is opened: the one that wasn't before, but behind a cut the same.
+const OPENED: [(&[(usize, u8)], &[&str], usize); 11] = [
+    (&[], &[], 1),
+    (&[(64, 7)], &[], 1),
+    (&[(4424, 1)], &[], 1),
+    (&[(4424, 1), (4488, 1)], &["makevol 0 0"], 1),
+    (
+        &[(4488, 1), (4504, 1)],
+        &["makevol 0 0", "setlabel 0 0 01"],
+        1,
+    ),
+    (&[(192, 1), (196, 1)], &["makevol 0 0"], 1),
+    // A gate that isn't open ends the front.
+    (&[(192, 77), (193, 1), (196, 1), (716, 1)], &[], 1),
+    // The other half counts behind a chain alone.
+    (&[(2340, 1), (2344, 1)], &[], 1),
+    (&[(128, 1), (2340, 1), (2344, 1)], &["makevol 0 0"], 0),
+    (&[(128, 1)], &[], 0),
+    (
+        &[
+            (4424, 1),
+            (4488, 1),
+            (128, 1),
+            (192, 1),
+            (196, 3),
+            (2340, 1),
+            (2344, 5),
+        ],
+        &["makevol 0 0", "create 0 0 0", "seal 0 0"],
+        0,
+    ),
+];
+
+/// A device is opened, and holds that.
+fn is_opened(
+    rt: &impl Abort,
+    alloc: Global,
+    changes: &[(usize, u8)],
+    lines: &[&str],
+    area: usize,
+) -> Result<(), Wrong> {
+    let Ok(g) = Geometry::new(SMALL) else {
+        return Err(Wrong::Unfit);
+    };
+    let questions = Questions::new(alloc, &g)?;
+    let wanted = expected(alloc, &g, lines, &questions)?;
+    let Ok(mut server) = Server::open(alloc, device_with(alloc, SMALL, changes)?) else {
+        return Err(Wrong::Unfit);
+    };
+    holds(rt, server.told(alloc, &questions)? == wanted);
+    holds(
+        rt,
+        !server.failed() && server.left().is_none() && server.room() == 4,
+    );
+    let (device, _) = server.into_device();
+    let Ok((shown, _)) = inspect(alloc, device) else {
+        return Err(Wrong::Unfit);
+    };
+    holds(
+        rt,
+        shown.area == area && shown.records == 0 && shown.version == 2,
+    );
+    holds(rt, shown.geometry == g);
+    Ok(())
+}
+
+#[test]
+fn what_a_device_stands_for_is_opened(rt: HostRuntime) -> Result<(), Fail> {
+    for (changes, lines, area) in OPENED {
+        is_opened(&rt, rt.alloc(), changes, lines, area)?;
+    }
+    Ok(())
+}
+
+/// A cut was in progress, and the record behind it is none.
+const BAD_BEHIND: [(usize, u8); 2] = [(128, 1), (2340, 1)];
+
+/// The opening of that device.
+#[derive(Drop)]
+struct Refusal {
+    questions: Questions,
+}
+
+impl Trial for Refusal {
+    fn questions(&self) -> &Questions {
+        &self.questions
+    }
+
+    fn device(&self, alloc: Global) -> Result<MemDisk, Wrong> {
+        device_with(alloc, SMALL, &BAD_BEHIND)
+    }
+
+    fn run(&self, alloc: Global, device: MemDisk) -> Result<Ended, Wrong> {
+        let (found, device) = find(alloc, device, &self.questions)?;
+        let progress = Progress {
+            answered: 0,
+            begun: 0,
+            is_whole: found != Found::Refuses(OpenFault::Device),
+        };
+        Ok(Ended { device, progress })
+    }
+
+    fn allows(&self, _progress: &Progress, found: &Found) -> bool {
+        *found == Found::Refuses(OpenFault::BadRecord(1, 0))
+    }
+}
+
+#[test]
+fn a_bad_record_behind_a_cut_stays_one(rt: HostRuntime) -> Result<(), Fail> {
+    let questions = Questions::new(rt.alloc(), &Geometry::new(SMALL)?)?;
+    let trial = Refusal { questions };
+    sweep(rt.alloc(), &trial)?;
+    let device = trial.device(rt.alloc())?;
+    let Ended { device, progress } = trial.run(rt.alloc(), device)?;
+    // The cut was ended: area 1 is named, whose half is no other's.
+    holds(&rt, progress.is_whole);
+    holds(&rt, device.bytes().get(64) == Some(&1));
+    holds(&rt, device.bytes().get(6632) == Some(&2));
+    is_refused(&rt, rt.alloc(), device, OpenFault::BadRecord(1, 0))?;
+    Ok(())
+}
+
+/// It passes too where any one request for memory is refused.
+#[test]
+fn a_device_is_opened_at_the_next_try(rt: HostRuntime) -> Result<(), Fail> {
+    let alloc = rt.alloc();
+    let device = device_with(alloc, SMALL, &[(192, 1), (196, 1)])?;
+    let bytes = device.bytes().to_vec(alloc)?;
+    let server = match Server::open(alloc, device) {
+        Ok(server) => server,
+        Err((device, fault)) => {
+            holds(&rt, fault == OpenFault::OutOfMemory);
+            holds(&rt, device.bytes() == bytes.as_slice());
+            // A sync, and a read of the header.
+            holds(&rt, device.calls() <= 2);
+            match Server::open(alloc, device) {
+                Ok(server) => server,
+                Err((_, fault)) => return Err(fault.into()),
+            }
+        }
+    };
+    let (device, _) = server.into_device();
+    match inspect(alloc, device) {
+        Ok((shown, _)) => {
+            let one = Reply::Summary {
+                volumes: 1,
+                files: 0,
+                blocks: 0,
+            };
+            holds(&rt, shown.summary == one);
+            Ok(())
+        }
+        Err(e) => Err(e.fault.into()),
+    }
+}
