@@ -1,0 +1,7 @@
+-- ---- for the crates above: stretches of a run, and what is known of lines
+pub mod Crashes
+pub mod Chain
+pub mod Serial
+pub mod Served
+-- ---- this crate's own
+mod Examples

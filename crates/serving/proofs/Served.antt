@@ -1,0 +1,187 @@
+-- What a server has written when it ends, beside the serial server.
+use Rattle.std.proofs.Common.{◌≡◌, ◌≢◌, ℕ, ◌-◌, ◌^◌, Bool, true, false, List, [], ◌∷◌, ◌++◌, Option, Some, None, ap, sym, ◌∙◌, subst, length, map, take, inr, ⊎_elim, append_assoc, append-nil}
+use Rattle.std.specs.Prelude.{IfSome, Ok, Err}
+use Rattle.std.specs.Io.KnownBytes.{IsAtEnd}
+use Rattle.std.proofs.lemmas.Bool.{true≢false}
+use Rattle.std.proofs.lemmas.List.Elements.{recursion_from_All}
+use Rattle.std.proofs.lemmas.Option.{none-some, same_Some}
+use Rattle.affinity.specs.declared.geometry.Geometry.{Geometry}
+use Rattle.disk.proofs.Moments.{weaker}
+use Rattle.legal_runs.proofs.Arrivals.{answered_by_ticket, arrived_by_ticket, settled_by_ticket}
+use Rattle.legal_runs.proofs.Idle.{idle_sound}
+use Rattle.legal_runs.proofs.Told.{IsIn}
+use Rattle.legal_runs.specs.Events.{Hands}
+use Rattle.legal_runs.specs.Laws.{IsIdle, IsSound}
+use Rattle.legal_runs.specs.World.{Entry}
+use Rattle.legal_runs.specs.Runs.{arrived}
+use Rattle.message.proofs.ReaderLemmas.{lines-first}
+use Rattle.message.specs.Grammar.{message_of}
+use Rattle.message.specs.Lines.{lines}
+use Rattle.message.specs.Messages.{is_in_range}
+use Rattle.message.specs.Reader.{GivesLine, LosesFront, behind_first_line}
+use Rattle.message.specs.declared.Msg.{Msg}
+use Rattle.message.specs.declared.Reply.{Reply}
+use Rattle.plain.specs.Order.{by_ticket, messages, told}
+use Rattle.plain.specs.Output.{AnswersWholeLines, joined, output_lines, state_after_lines, with_newlines}
+use Rattle.plain.specs.Progress.{AreTaken, Takes}
+use Rattle.plain.specs.Serial.{fold}
+use Rattle.plain.specs.State.{State}
+use Rattle.scheduler.specs.Kept.{world_of}
+use Rattle.serving.specs.Ends.{AreFirst, AreServed, EndsSo, HasServed, StandsFor, settled}
+use Rattle.serving.specs.Going.{Goes, IsServing}
+use Rattle.serving.specs.Lines.{AreKnown, Line, asked, text, ticketed}
+use Rattle.serving.specs.Runs.{Floor, IsLeftBy, machine_of}
+use Rattle.serving.specs.declared.fault.ServeFault.TheVariants as faults
+use Rattle.serving.proofs.Crashes.{left_since_start}
+use Rattle.serving.proofs.Serial.{AreTold, all_said, asked_leads_there, messages-ticketed, said_is_serial}
+
+module _ (keeps : Type 0) (start now : Floor) (idle : IsIdle (world_of start.core)) where
+  abbrev g : Geometry
+  g = start.core.geometry
+
+  abbrev x : State
+  x = settled start.core
+
+  sound : IsSound g (world_of start.core)
+  sound = idle_sound (world_of start.core) idle g
+
+  -- ---- of a run
+
+  module _ (taken : List (List ℕ)) (said row : List Line) (s : IsServing keeps start now taken said row) where
+    by_line : by_ticket (arrived s.passes.events) ≡ ticketed start.core.next (asked g taken)
+    by_line = arrived_by_ticket g (machine_of start) s.passes.events s.passes.legal ∙ s.passes.come_are
+
+    all_told : AreTold g s.told x start.core.next (asked g taken)
+    all_told p is = inr (subst (λ (es : List Entry). IsIn p (told g x es)) by_line
+        (answered_by_ticket g (machine_of start) s.passes.events s.passes.legal sound idle p
+        (subst (IsIn p) (sym s.passes.told_are) is)))
+
+    leads : IsIdle (world_of now.core) → settled now.core ≡ state_after_lines g x taken
+    leads ends =
+        let e = s.passes.ends in
+        ap (λ (w : Hands). w.core.settled) (sym e)
+        ∙ settled_by_ticket g (machine_of start) s.passes.events s.passes.legal sound idle (subst (λ (w : Hands). IsIdle w.core) (sym e) ends)
+        ∙ ap (λ (es : List Entry). fold g x (messages es)) by_line
+        ∙ ap (fold g x) (messages-ticketed start.core.next (asked g taken))
+        ∙ asked_leads_there g x taken
+
+    begins : (more : List (List ℕ)) → map text said ≡ take (length said) (output_lines g x (taken ++ more))
+    begins more = said_is_serial g s.told x start.core.next taken more said row all_told s.known s.answered
+
+  -- all that was taken is answered
+  served : (taken : List (List ℕ)) (said : List Line) → IsServing keeps start now taken said [] → IsIdle (world_of now.core)
+      → AreServed g x (settled now.core) taken (joined (map text said))
+  served taken said s ends = record {
+    output = ap joined (all_said g s.told x start.core.next taken said (all_told taken said [] s) s.known s.answered);
+    state = leads taken said [] s ends;
+  }
+
+  -- ---- the ends
+
+  pub ends_whole : (input left : Option (List ℕ)) (ended : Bool) (before written : Option (List ℕ)) → Goes keeps start now [] input left ended before written
+      → IsIdle (world_of now.core) → IsAtEnd left → EndsSo start.core now.core input left before written (Ok tt)
+  ends_whole None left ended before written h ends at_end = (ends, at_end, tt)
+  ends_whole (Some input) None ended before written h ends at_end = absurd (none-some h.takes.0 h.takes.1)
+  ends_whole (Some input) (Some bs) ended before written h ends at_end =
+      let rest = h.takes.0 in
+      let none : rest ≡ [] = sym (same_Some bs rest h.takes.1) ∙ at_end in
+      let all : lines input ≡ h.taken = h.takes.2.to_come ∙ ap (λ l. h.taken ++ lines l) none ∙ append-nil h.taken in (
+        ends,
+        at_end,
+        (
+          joined (map text h.said),
+          h.output,
+          subst (λ (ls : List (List ℕ)). AreServed g x (settled now.core) ls (joined (map text h.said))) (sym all)
+              (served h.taken h.said h.serving ends),
+        ),
+      )
+
+  pub ends_at_read : (input left behind before written : Option (List ℕ)) → Goes keeps start now [] input left false before written
+      → IsIdle (world_of now.core) → IfSome left (λ bs. LosesFront bs behind)
+      → EndsSo start.core now.core input behind before written (Err faults.Read)
+  ends_at_read None left behind before written h ends lost = (ends, tt)
+  ends_at_read (Some input) None behind before written h ends lost = absurd (none-some h.takes.0 h.takes.1)
+  ends_at_read (Some input) (Some bs) behind before written h ends lost =
+      let t : AreTaken input h.takes.0 false h.taken = h.takes.2 in
+      let parts : input ≡ with_newlines h.taken ++ lost.got ++ lost.rest =
+      ⊎_elim (λ e. absurd (true≢false (sym e)))
+      (λ whole. whole ∙ ap (λ z. with_newlines h.taken ++ z) (sym (same_Some bs h.takes.0 h.takes.1) ∙ lost.parts)
+      ∙ sym (append_assoc (with_newlines h.taken) lost.got lost.rest)) t.whole in
+      let k = served h.taken h.said h.serving ends in
+      let output : AnswersWholeLines g x behind input (joined (map text h.said)) = record {
+        whole = h.taken;
+        begun = lost.got;
+        rest = lost.rest;
+        parts = parts;
+        left_is = lost.left_is;
+        are_lines = t.are_lines;
+        no_line = recursion_from_All (λ b. b ≢ 10) lost.got lost.within_line;
+        answered = k.output;
+      } in
+      (ends, (joined (map text h.said), h.output, record { output = output; state = k.state }))
+
+  pub ends_exhausted : (input left behind : Option (List ℕ)) (ended : Bool) (before written : Option (List ℕ)) (line : List ℕ) (m : Msg)
+      → Goes keeps start now [] input left ended before written → IsIdle (world_of now.core) → now.core.next ≡ 2 ^ 64 - 1
+      → IfSome left (λ bs. GivesLine line bs behind) → message_of line ≡ Some m → is_in_range g m ≡ true
+      → EndsSo start.core now.core input behind before written (Err faults.Exhausted)
+  ends_exhausted None left behind ended before written line m h ends next found is in_range = (ends, next, tt)
+  ends_exhausted (Some input) None behind ended before written line m h ends next found is in_range = absurd (none-some h.takes.0 h.takes.1)
+  ends_exhausted (Some input) (Some bs) behind ended before written line m h ends next found is in_range =
+      let same = same_Some bs h.takes.0 h.takes.1 in
+      let parts : lines input ≡ h.taken ++ line ∷ lines (behind_first_line bs) =
+      h.takes.2.to_come ∙ ap (λ z. h.taken ++ lines z) (sym same) ∙ ap (λ z. h.taken ++ z) (lines-first bs found.more)
+      ∙ ap (λ z. h.taken ++ z ∷ lines (behind_first_line bs)) (sym found.line_is) in (
+        ends,
+        next,
+        (
+          joined (map text h.said),
+          h.output,
+          record {
+            before = h.taken;
+            line = line;
+            behind = lines (behind_first_line bs);
+            parts = parts;
+            message = m;
+            is_message = is;
+            in_range = in_range;
+            served = served h.taken h.said h.serving ends;
+          },
+        ),
+      )
+
+  pub ends_at_device : (row : List Line) (input left : Option (List ℕ)) (ended : Bool) (before written : Option (List ℕ))
+      → Goes keeps start now row input left ended before written → now.core.failed ≡ true
+      → EndsSo start.core now.core input left before written (Err faults.Device)
+  ends_at_device row None left ended before written h failed = (failed, tt)
+  ends_at_device row (Some input) left ended before written h failed =
+      let all = begins h.taken h.said row h.serving (lines h.takes.0)
+      ∙ ap (λ ls. take (length h.said) (output_lines g x ls)) (sym h.takes.2.to_come) in
+      (failed, (joined (map text h.said), h.output, (length h.said, ap joined all)))
+
+  first_taken : (input left : Option (List ℕ)) (ended : Bool) (taken : List (List ℕ)) → Takes input left ended taken → AreFirst input taken
+  first_taken None left ended taken t = tt
+  first_taken (Some input) left ended taken t = (lines t.0, t.2.to_come)
+
+  pub has_served : (row : List Line) (input left : Option (List ℕ)) (ended : Bool) (before written : Option (List ℕ))
+      → Goes keeps start now row input left ended before written → HasServed keeps start now.core row input before written
+  has_served row input left ended before written h =
+      let p = h.serving.passes in
+      record {
+        taken = h.taken;
+        events = p.events;
+        run = record {
+          first = first_taken input left ended h.taken h.takes;
+          legal = p.legal;
+          lent = now.lent;
+          ends = p.ends;
+          geometry = p.geometry;
+          arrived_are = p.come_are;
+          crash = λ kept. weaker start.core.medium now.core.medium (IsLeftBy g (machine_of start) p.events)
+              (StandsFor g (machine_of start) p.events) (p.crash kept)
+              (λ c left. record { state = left.state; is = left.is; left = left_since_start g (machine_of start) p.events left.state p.legal sound left.left });
+        };
+        said = h.said;
+        known = subst (λ (l : List (ℕ × Reply)). AreKnown g l start.core.next h.taken (h.said ++ row)) (sym p.told_are) h.serving.known;
+        are_answered = h.serving.answered;
+        output = h.output;
+      }

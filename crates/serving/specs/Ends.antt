@@ -1,0 +1,98 @@
+-- What a server has done when it ends.
+use Rattle.std.specs.Prelude.{◌≡◌, ◌-◌, ◌^◌, ℕ, true, List, ◌∷◌, ◌++◌, map, Option, Some, None, Result, Ok, Err}
+use Rattle.std.specs.Io.KnownBytes.{Appends, IsAtEnd}
+use Rattle.std.specs.List.{AllByRecursion}
+use Rattle.affinity.specs.declared.geometry.Geometry.{Geometry}
+use Rattle.checkpoint.specs.Recovery.{holds}
+use Rattle.disk.specs.Moments.{LeavesOnly}
+use Rattle.legal_runs.specs.Crash.{IsLeftSince}
+use Rattle.legal_runs.specs.Events.{Event, Hands}
+use Rattle.legal_runs.specs.Laws.{IsIdle}
+use Rattle.legal_runs.specs.Runs.{IsLegal, answered, arrived, last}
+use Rattle.message.specs.Grammar.{message_of}
+use Rattle.message.specs.Lines.{lines}
+use Rattle.message.specs.Messages.{is_in_range}
+use Rattle.message.specs.declared.Msg.{Msg}
+use Rattle.parcel.specs.Run.{Asked}
+use Rattle.plain.specs.Output.{AnswersWholeLines, IsBeginning, Writes, joined, output_lines, state_after_lines}
+use Rattle.plain.specs.State.{State}
+use Rattle.scheduler.specs.Kept.{Kept, world_of}
+use Rattle.serving.specs.Lines.{AreKnown, Line, asked, is_answered, text, ticketed}
+use Rattle.serving.specs.Runs.{Floor, machine_of}
+use Rattle.serving.specs.declared.fault.ServeFault.{ServeFault}
+use Rattle.serving.specs.declared.fault.ServeFault.TheVariants as faults
+
+-- ---- the serial server's output and state, for a server that began in one state and settled another
+
+-- These lines were answered as the serial server answers them, and lead where they lead there.
+pub record AreServed (g : Geometry) (start now : State) (ls : List (List ℕ)) (written : List ℕ) : Type 0 where
+  pub output : written ≡ joined (output_lines g start ls)
+  pub state : now ≡ state_after_lines g start ls
+
+-- So were just the whole lines of what was taken of the input.
+pub record ServesWholeLines (g : Geometry) (start now : State) (left : Option (List ℕ)) (input written : List ℕ) : Type 0 where
+  pub output : AnswersWholeLines g start left input written
+  pub state : now ≡ state_after_lines g start output.whole
+
+-- So were just the lines before one whose message is in range.
+pub record ServesLinesBefore (g : Geometry) (start now : State) (input written : List ℕ) : Type 0 where
+  pub before : List (List ℕ)
+  pub line : List ℕ
+  pub behind : List (List ℕ)
+  pub parts : lines input ≡ before ++ line ∷ behind
+  pub message : Msg
+  pub is_message : message_of line ≡ Some message
+  pub in_range : is_in_range g message ≡ true
+  pub served : AreServed g start now before written
+
+-- ---- the run behind it
+
+-- the lines are the first of the input, where it is known
+abbrev pub AreFirst : Option (List ℕ) → List (List ℕ) → Type 0
+AreFirst None taken = Unit {0}
+AreFirst (Some input) taken = (more : List (List ℕ)) × (lines input ≡ taken ++ more)
+
+-- These bytes stand for a state that a crash of the run may leave.
+pub record StandsFor (g : Geometry) (start : Hands) (events : List Event) (bytes : List ℕ) : Type 0 where
+  pub state : State
+  pub is : holds g bytes ≡ Some state
+  pub left : IsLeftSince g start events 0 state
+
+-- From the start there is a legal run to the core at the end, whose tickets go in order to the messages in range of the first
+-- lines of the input. A crash meanwhile leaves what a crash of that run may leave.
+pub record HasRun (keeps : Type 0) (start : Floor) (new : Kept) (input : Option (List ℕ)) (taken : List (List ℕ)) (events : List Event) : Type 0 where
+  pub first : AreFirst input taken
+  pub legal : IsLegal start.core.geometry (machine_of start) events
+  pub lent : List (Option Asked)
+  pub ends : last (machine_of start) events ≡ machine_of (record { core = new; lent = lent })
+  pub geometry : new.geometry ≡ start.core.geometry
+  pub arrived_are : arrived events ≡ ticketed start.core.next (asked start.core.geometry taken)
+  pub crash : keeps → LeavesOnly start.core.medium new.medium (StandsFor start.core.geometry (machine_of start) events)
+
+-- Behind what was written there is such a run: each line that was written is of a line that is no message or is out of range, or
+-- of one that was answered in the run. These lines that were read are not answered in the output.
+pub record HasServed (keeps : Type 0) (start : Floor) (new : Kept) (row : List Line) (input before written : Option (List ℕ)) : Type 0 where
+  pub taken : List (List ℕ)
+  pub events : List Event
+  pub run : HasRun keeps start new input taken events
+  pub said : List Line
+  pub known : AreKnown start.core.geometry (answered events) start.core.next taken (said ++ row)
+  pub are_answered : AllByRecursion (λ line. is_answered line ≡ true) said
+  pub output : Appends before written (joined (map text said))
+
+-- ---- what each answer says of the core before and after, of the input and what is left of it, and of what was written
+
+abbrev pub settled : Kept → State
+settled core = (world_of core).settled
+
+abbrev pub EndsSo : Kept → Kept → Option (List ℕ) → Option (List ℕ) → Option (List ℕ) → Option (List ℕ) → Result (Unit {0}) ServeFault → Type 0
+EndsSo old new input left before written (Ok _) = IsIdle (world_of new) × IsAtEnd left
+    × Writes input before written (λ bytes w. AreServed old.geometry (settled old) (settled new) (lines bytes) w)
+EndsSo old new input left before written (Err faults.Read) = IsIdle (world_of new)
+    × Writes input before written (ServesWholeLines old.geometry (settled old) (settled new) left)
+EndsSo old new input left before written (Err faults.Exhausted) = IsIdle (world_of new) × (new.next ≡ 2 ^ 64 - 1)
+    × Writes input before written (ServesLinesBefore old.geometry (settled old) (settled new))
+EndsSo old new input left before written (Err faults.Device) = (new.failed ≡ true) × Writes input before written (IsBeginning old.geometry (settled old))
+EndsSo old new input left before written (Err faults.Write) = Unit {0}
+EndsSo old new input left before written (Err faults.NoWorkers) = (new ≡ old) × (left ≡ input) × (written ≡ before)
+EndsSo old new input left before written (Err faults.OutOfMemory) = (new ≡ old) × (left ≡ input) × (written ≡ before)

@@ -1,0 +1,29 @@
+-- How far a server has come: the lines that it has read, those of them that it has answered in the output, and the run behind them.
+use Rattle.std.specs.Prelude.{◌≡◌, ℕ, Bool, true, List, ◌++◌, map, Option}
+use Rattle.std.specs.Io.KnownBytes.{Appends}
+use Rattle.std.specs.List.{AllByRecursion}
+use Rattle.message.specs.declared.Reply.{Reply}
+use Rattle.plain.specs.Output.{joined}
+use Rattle.plain.specs.Progress.{Takes}
+use Rattle.serving.specs.Lines.{AreKnown, Line, asked, is_answered, text, ticketed}
+use Rattle.serving.specs.Runs.{Floor, Passes}
+
+-- From its start the server has come to this floor. It has taken these lines, of which the first ones are answered in the
+-- output, and the others are the row.
+pub record IsServing (keeps : Type 0) (start now : Floor) (taken : List (List ℕ)) (said row : List Line) : Type 0 where
+  -- each ticket that was answered, with its reply
+  pub told : List (ℕ × Reply)
+  -- the lines have given their messages to the core, in order
+  pub passes : Passes keeps start now (ticketed start.core.next (asked start.core.geometry taken)) told
+  -- this is known of each line, and each that is answered in the output was answered in the run
+  pub known : AreKnown start.core.geometry told start.core.next taken (said ++ row)
+  pub answered : AllByRecursion (λ line. is_answered line ≡ true) said
+
+-- From its start the server has come to this floor and this row of lines. It has taken lines of the input, of which this is
+-- left, and it has written the answers to those that are not in the row.
+pub record Goes (keeps : Type 0) (start now : Floor) (row : List Line) (input left : Option (List ℕ)) (ended : Bool) (before written : Option (List ℕ)) : Type 0 where
+  pub taken : List (List ℕ)
+  pub said : List Line
+  pub takes : Takes input left ended taken
+  pub serving : IsServing keeps start now taken said row
+  pub output : Appends before written (joined (map text said))

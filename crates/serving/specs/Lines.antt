@@ -1,0 +1,73 @@
+-- Which lines take a ticket, and what is known of each line that was read.
+use Rattle.std.specs.Prelude.{◌≡◌, ℕ, ◌+◌, Bool, true, false, List, [], ◌∷◌, ◌++◌, if◌then◌else◌, Option, Some, None}
+use Rattle.std.specs.List.{Contains}
+use Rattle.affinity.specs.declared.geometry.Geometry.{Geometry}
+use Rattle.legal_runs.specs.World.{Entry}
+use Rattle.message.specs.declared.Msg.{Msg}
+use Rattle.message.specs.declared.Reply.{Reply}
+use Rattle.message.specs.declared.Reply.TheVariants.{Refused}
+use Rattle.message.specs.declared.Refusal.TheVariants.{Range}
+use Rattle.message.specs.Grammar.{message_of}
+use Rattle.message.specs.Messages.{is_in_range}
+use Rattle.message.specs.Replies.{reply_line, no_message}
+
+-- ---- the messages that take tickets
+
+-- the message of a line, if it is one and is in range: no other line takes a ticket
+abbrev pub asked_in : Geometry → Option Msg → List Msg
+asked_in g None = []
+asked_in g (Some m) = if is_in_range g m then m ∷ [] else []
+
+abbrev pub asked : Geometry → List (List ℕ) → List Msg
+asked g [] = []
+asked g (line ∷ ls) = asked_in g (message_of line) ++ asked g ls
+
+-- with the tickets from n on
+abbrev pub ticketed : ℕ → List Msg → List Entry
+ticketed n [] = []
+ticketed n (m ∷ ms) = (n, m) ∷ ticketed (n + 1) ms
+
+-- the ticket behind theirs
+abbrev pub next_ticket : ℕ → List Msg → ℕ
+next_ticket n [] = n
+next_ticket n (m ∷ ms) = next_ticket (n + 1) ms
+
+-- ---- what is known of a line
+
+pub data Line : Type 0 where
+  -- It is no message.
+  NoMessage : Line
+  -- It is a message with a number that is out of range.
+  OutOfRange : Line
+  -- It is the message with this ticket, which is not answered yet.
+  Unanswered : (ticket : ℕ) → Line
+  -- It is the message with this ticket, and this is its reply.
+  Answered : (ticket : ℕ) → (reply : Reply) → Line
+
+-- This is known of the line of a message, or of none. Its ticket is n, if it takes one, and the reply to it is among these.
+abbrev pub IsKnown : Geometry → List (ℕ × Reply) → ℕ → Option Msg → Line → Type 0
+IsKnown g replies n None NoMessage = Unit {0}
+IsKnown g replies n (Some m) OutOfRange = is_in_range g m ≡ false
+IsKnown g replies n (Some m) (Unanswered ticket) = (is_in_range g m ≡ true) × (ticket ≡ n)
+IsKnown g replies n (Some m) (Answered ticket reply) = (is_in_range g m ≡ true) × (ticket ≡ n) × Contains replies (ticket, reply)
+IsKnown g replies n _ _ = ⊥
+
+-- This is known of the lines. The first of them that takes a ticket takes n, and each further one the next.
+abbrev pub AreKnown : Geometry → List (ℕ × Reply) → ℕ → List (List ℕ) → List Line → Type 0
+AreKnown g replies n [] [] = Unit {0}
+AreKnown g replies n (line ∷ ls) (known ∷ row) =
+    IsKnown g replies n (message_of line) known × AreKnown g replies (next_ticket n (asked_in g (message_of line))) ls row
+AreKnown g replies n _ _ = ⊥
+
+-- ---- what a line is answered
+
+abbrev pub is_answered : Line → Bool
+is_answered (Unanswered ticket) = false
+is_answered _ = true
+
+-- the line of the output. None is written for a line that is not answered yet.
+abbrev pub text : Line → List ℕ
+text NoMessage = no_message
+text OutOfRange = reply_line (Refused Range)
+text (Unanswered ticket) = []
+text (Answered ticket reply) = reply_line reply

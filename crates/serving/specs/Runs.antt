@@ -1,0 +1,61 @@
+-- A stretch of a server's run: its core and what it has lent, before and after, and what a crash meanwhile may leave.
+use Rattle.std.specs.Prelude.{◌≡◌, ◌⊎◌, ◌≤◌, ℕ, List, [], ◌∷◌, map, length, take, Option, Some, None}
+use Rattle.affinity.specs.declared.geometry.Geometry.{Geometry}
+use Rattle.checkpoint.specs.Recovery.{holds}
+use Rattle.disk.specs.Moments.{LeavesOnly}
+use Rattle.legal_runs.specs.Crash.{in_doubt}
+use Rattle.legal_runs.specs.Events.{Event, Hand, Hands, Empty, Job}
+use Rattle.legal_runs.specs.Runs.{IsLegal, answered, arrived, last}
+use Rattle.legal_runs.specs.World.{Entry, World}
+use Rattle.message.specs.declared.Reply.{Reply}
+use Rattle.parcel.specs.Run.{Asked}
+use Rattle.plain.specs.Serial.{fold}
+use Rattle.plain.specs.State.{State}
+use Rattle.scheduler.specs.Kept.{Kept, world_of}
+
+-- ---- what a crash may leave of a run, at some moment of it
+
+-- In a world from which these events come: some of the messages in doubt are run from the settled state.
+pub record IsSome (g : Geometry) (w : World) (events : List Event) (x : State) : Type 0 where
+  pub some : ℕ
+  pub at_most : some ≤ length (in_doubt w events)
+  pub state : x ≡ fold g w.settled (take some (in_doubt w events))
+
+-- So it is in one of the worlds of the run.
+abbrev pub IsLeftIn : Geometry → Hands → List Event → State → Type 0
+IsLeftIn g w [] x = IsSome g w.core [] x
+IsLeftIn g w (event ∷ events) x = IsSome g w.core (event ∷ events) x ⊎ IsLeftIn g event.world events x
+
+-- These bytes stand for such a state.
+pub record IsLeftBy (g : Geometry) (w : Hands) (events : List Event) (bytes : List ℕ) : Type 0 where
+  pub state : State
+  pub is : holds g bytes ≡ Some state
+  pub left : IsLeftIn g w events state
+
+-- ---- the core and the places
+
+-- the core, and the job that is lent at each place
+pub record Floor : Type 0 where
+  pub core : Kept
+  pub lent : List (Option Asked)
+
+abbrev pub hand_of : Option Asked → Hand
+hand_of None = Empty
+hand_of (Some job) = Job job.ticket
+
+-- each place is a hand
+abbrev pub machine_of : Floor → Hands
+machine_of f = record { core = world_of f.core; hands = map hand_of f.lent }
+
+-- ---- a stretch of a run
+
+-- From one floor to the other there is a legal run, in which these messages arrive and these are answered. A crash during it
+-- leaves what a crash of that run may leave.
+pub record Passes (keeps : Type 0) (old new : Floor) (come : List Entry) (told : List (ℕ × Reply)) : Type 0 where
+  pub events : List Event
+  pub legal : IsLegal old.core.geometry (machine_of old) events
+  pub ends : last (machine_of old) events ≡ machine_of new
+  pub geometry : new.core.geometry ≡ old.core.geometry
+  pub come_are : arrived events ≡ come
+  pub told_are : answered events ≡ told
+  pub crash : keeps → LeavesOnly old.core.medium new.core.medium (IsLeftBy old.core.geometry (machine_of old) events)

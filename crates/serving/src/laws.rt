@@ -1,0 +1,75 @@
+//! What holds of a server that runs many messages at once: laws of the definitions alone. No function here does anything; its
+//! contract is the law.
+
+ghost use Rattle.std.specs.Prelude.{◌≡◌, ◌++◌, ◌-◌, ◌^◌, ℕ, Bool, true, false, List, [], length, map, take, Option, Some, None, Ok, Err, IfSome};
+ghost use Rattle.std.specs.Io.KnownBytes.{IsAtEnd};
+ghost use Rattle.std.specs.List.{AllByRecursion, Contains};
+ghost use Rattle.affinity.specs.declared.geometry.Geometry.{Geometry};
+ghost use Rattle.legal_runs.specs.Crash.{IsLeftSince};
+ghost use Rattle.legal_runs.specs.Events.{Event, Hands};
+ghost use Rattle.legal_runs.specs.Laws.{IsIdle, IsSound};
+ghost use Rattle.legal_runs.specs.Runs.{IsLegal};
+ghost use Rattle.legal_runs.specs.World.{Entry};
+ghost use Rattle.message.specs.Grammar.{message_of};
+ghost use Rattle.message.specs.Messages.{is_in_range};
+ghost use Rattle.message.specs.Reader.{GivesLine, LosesFront};
+ghost use Rattle.message.specs.declared.Msg.{Msg};
+ghost use Rattle.message.specs.declared.Reply.{Reply};
+ghost use Rattle.plain.specs.Order.{told};
+ghost use Rattle.plain.specs.Output.{output_lines, state_after_lines};
+ghost use Rattle.plain.specs.Serial.{fold};
+ghost use Rattle.plain.specs.State.{State};
+ghost use Rattle.scheduler.specs.Kept.{world_of};
+ghost use Rattle.serving.specs.Ends.{EndsSo, HasServed};
+ghost use Rattle.serving.specs.Going.{Goes};
+ghost use Rattle.serving.specs.Lines.{AreKnown, Line, asked, is_answered, text, ticketed};
+ghost use Rattle.serving.specs.Runs.{Floor, IsLeftIn, Passes};
+ghost use Rattle.serving.specs.declared.fault.ServeFault.TheVariants as faults;
+
+use disk::Disk;
+
+/// Lines whose messages were told what the serial server tells them by ticket are answered as the serial server answers them,
+/// as far as they are answered; and their messages lead where the lines lead there.
+pub fn known_lines_are_serial()
+    ensures output { (g : Geometry) (x : State) (n : ℕ) (ls : List (List ℕ)) (replies : List (ℕ × Reply)) (said row : List Line)
+        → ((reply : ℕ × Reply) → Contains replies reply → Contains (told g x (ticketed n (asked g ls))) reply)
+        → AreKnown g replies n ls (said ++ row) → AllByRecursion (λ line. is_answered line ≡ true) said
+        → map text said ≡ take (length said) (output_lines g x ls) }
+    ensures state { (g : Geometry) (x : State) (ls : List (List ℕ)) → fold g x (asked g ls) ≡ state_after_lines g x ls }
+{}
+
+/// What a crash may leave in one of the worlds of a legal run is what one may leave of the run.
+pub fn what_is_left_in_a_run_is_left_by_it()
+    ensures { (g : Geometry) (old : Hands) (events : List Event) (x : State) → IsLegal g old events → IsSound g old.core
+        → IsLeftIn g old events x → IsLeftSince g old events 0 x }
+{}
+
+/// A stretch of a run that goes on where another ended makes one stretch with it.
+pub fn stretches_join<D: Disk>()
+    ensures { (old mid new : Floor) (come more : List Entry) (replies others : List (ℕ × Reply)) → Passes D.keeps old mid come replies
+        → Passes D.keeps mid new more others → Passes D.keeps old new (come ++ more) (replies ++ others) }
+{}
+
+/// A server that began with nothing in it has written what the serial server writes, however many messages ran at once: all of
+/// it where it has come to the end, the answers to the whole lines that were read where a read failed, those to the lines
+/// before one that found no ticket, and at every moment a beginning of it in whole lines. Where nothing waits or is held in the
+/// end, it has settled what the serial server reaches. Behind each line that was written there is a legal run.
+pub fn serving_ends_as_the_serial_server<D: Disk>()
+    ensures whole { (start now : Floor) (input left : Option (List ℕ)) (ended : Bool) (before written : Option (List ℕ))
+        → IsIdle (world_of start.core) → Goes D.keeps start now [] input left ended before written → IsIdle (world_of now.core)
+        → IsAtEnd left → EndsSo start.core now.core input left before written (Ok tt) }
+    ensures read { (start now : Floor) (input left behind before written : Option (List ℕ)) → IsIdle (world_of start.core)
+        → Goes D.keeps start now [] input left false before written → IsIdle (world_of now.core)
+        → IfSome left (λ bs. LosesFront bs behind) → EndsSo start.core now.core input behind before written (Err faults.Read) }
+    ensures exhausted { (start now : Floor) (input left behind : Option (List ℕ)) (ended : Bool) (before written : Option (List ℕ))
+        (line : List ℕ) (m : Msg) → IsIdle (world_of start.core) → Goes D.keeps start now [] input left ended before written
+        → IsIdle (world_of now.core) → now.core.next ≡ 2 ^ 64 - 1 → IfSome left (λ bs. GivesLine line bs behind)
+        → message_of line ≡ Some m → is_in_range start.core.geometry m ≡ true
+        → EndsSo start.core now.core input behind before written (Err faults.Exhausted) }
+    ensures device { (start now : Floor) (row : List Line) (input left : Option (List ℕ)) (ended : Bool) (before written : Option (List ℕ))
+        → IsIdle (world_of start.core) → Goes D.keeps start now row input left ended before written → now.core.failed ≡ true
+        → EndsSo start.core now.core input left before written (Err faults.Device) }
+    ensures run { (start now : Floor) (row : List Line) (input left : Option (List ℕ)) (ended : Bool) (before written : Option (List ℕ))
+        → IsIdle (world_of start.core) → Goes D.keeps start now row input left ended before written
+        → HasServed D.keeps start now.core row input before written }
+{}

@@ -1,0 +1,11 @@
+//! Serving lines: what a server that runs many messages at once has written when it ends, and that it is what the serial
+//! server writes.
+//!
+//! The definitions stand in `specs/`, and the laws that they obey are the contracts of the functions of `laws`, which do
+//! nothing.
+#![tactic(auto)]
+
+mod fault;
+pub mod laws;
+
+pub use fault::ServeFault;
