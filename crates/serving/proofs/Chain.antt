@@ -7,10 +7,11 @@ use Rattle.legal_runs.specs.Events.{Hands}
 use Rattle.legal_runs.specs.Runs.{IsLegal, last}
 use Rattle.legal_runs.specs.World.{Entry}
 use Rattle.message.specs.declared.Reply.{Reply}
-use Rattle.serving.specs.Runs.{Floor, IsLeftBy, Passes, machine_of}
+use Rattle.machine.specs.Machine.{Handed, machine_of}
+use Rattle.serving.specs.Runs.{IsLeftBy, Passes}
 use Rattle.serving.proofs.Crashes.{left_by_first, left_by_second}
 
-pub passes_on : (keeps : Type 0) (old mid new : Floor) (come more : List Entry) (told others : List (ℕ × Reply))
+pub passes_on : (keeps : Type 0) (old mid new : Handed) (come more : List Entry) (told others : List (ℕ × Reply))
     → Passes keeps old mid come told → Passes keeps mid new more others → Passes keeps old new (come ++ more) (told ++ others)
 passes_on keeps old mid new come more told others h k =
     let g = old.core.geometry in

@@ -27,15 +27,17 @@ use Rattle.plain.specs.Progress.{AreTaken, Takes}
 use Rattle.plain.specs.Serial.{fold}
 use Rattle.plain.specs.State.{State}
 use Rattle.scheduler.specs.Kept.{world_of}
-use Rattle.serving.specs.Ends.{AreFirst, AreServed, EndsSo, HasServed, StandsFor, settled}
+use Rattle.serving.specs.Ends.{AreFirst, AreServed, EndsSo, HasServed, settled}
 use Rattle.serving.specs.Going.{Goes, IsServing}
 use Rattle.serving.specs.Lines.{AreKnown, Line, asked, text, ticketed}
-use Rattle.serving.specs.Runs.{Floor, IsLeftBy, machine_of}
+use Rattle.machine.specs.Machine.{Handed, machine_of}
+use Rattle.machine.specs.Stages.{StandsForRun}
+use Rattle.serving.specs.Runs.{IsLeftBy}
 use Rattle.serving.specs.declared.fault.ServeFault.TheVariants as faults
 use Rattle.serving.proofs.Crashes.{left_since_start}
 use Rattle.serving.proofs.Serial.{AreTold, all_said, asked_leads_there, messages-ticketed, said_is_serial}
 
-module _ (keeps : Type 0) (start now : Floor) (idle : IsIdle (world_of start.core)) where
+module _ (keeps : Type 0) (start now : Handed) (idle : IsIdle (world_of start.core)) where
   abbrev g : Geometry
   g = start.core.geometry
 
@@ -172,12 +174,12 @@ module _ (keeps : Type 0) (start now : Floor) (idle : IsIdle (world_of start.cor
         run = record {
           first = first_taken input left ended h.taken h.takes;
           legal = p.legal;
-          lent = now.lent;
+          hands = now.hands;
           ends = p.ends;
           geometry = p.geometry;
           arrived_are = p.come_are;
           crash = λ kept. weaker start.core.medium now.core.medium (IsLeftBy g (machine_of start) p.events)
-              (StandsFor g (machine_of start) p.events) (p.crash kept)
+              (StandsForRun g (machine_of start) p.events 0) (p.crash kept)
               (λ c left. record { state = left.state; is = left.is; left = left_since_start g (machine_of start) p.events left.state p.legal sound left.left });
         };
         said = h.said;

@@ -3,22 +3,21 @@ use Rattle.std.specs.Prelude.{◌≡◌, ◌-◌, ◌^◌, ℕ, true, List, ◌�
 use Rattle.std.specs.Io.KnownBytes.{Appends, IsAtEnd}
 use Rattle.std.specs.List.{AllByRecursion}
 use Rattle.affinity.specs.declared.geometry.Geometry.{Geometry}
-use Rattle.checkpoint.specs.Recovery.{holds}
 use Rattle.disk.specs.Moments.{LeavesOnly}
-use Rattle.legal_runs.specs.Crash.{IsLeftSince}
-use Rattle.legal_runs.specs.Events.{Event, Hands}
+use Rattle.legal_runs.specs.Events.{Event}
 use Rattle.legal_runs.specs.Laws.{IsIdle}
 use Rattle.legal_runs.specs.Runs.{IsLegal, answered, arrived, last}
+use Rattle.machine.specs.Machine.{Handed, machine_of}
+use Rattle.machine.specs.Stages.{StandsForRun}
+use Rattle.machine.specs.declared.hands.Hand.{Hand}
 use Rattle.message.specs.Grammar.{message_of}
 use Rattle.message.specs.Lines.{lines}
 use Rattle.message.specs.Messages.{is_in_range}
 use Rattle.message.specs.declared.Msg.{Msg}
-use Rattle.parcel.specs.Run.{Asked}
 use Rattle.plain.specs.Output.{AnswersWholeLines, IsBeginning, Writes, joined, output_lines, state_after_lines}
 use Rattle.plain.specs.State.{State}
 use Rattle.scheduler.specs.Kept.{Kept, world_of}
 use Rattle.serving.specs.Lines.{AreKnown, Line, asked, is_answered, text, ticketed}
-use Rattle.serving.specs.Runs.{Floor, machine_of}
 use Rattle.serving.specs.declared.fault.ServeFault.{ServeFault}
 use Rattle.serving.specs.declared.fault.ServeFault.TheVariants as faults
 
@@ -52,26 +51,20 @@ abbrev pub AreFirst : Option (List ℕ) → List (List ℕ) → Type 0
 AreFirst None taken = Unit {0}
 AreFirst (Some input) taken = (more : List (List ℕ)) × (lines input ≡ taken ++ more)
 
--- These bytes stand for a state that a crash of the run may leave.
-pub record StandsFor (g : Geometry) (start : Hands) (events : List Event) (bytes : List ℕ) : Type 0 where
-  pub state : State
-  pub is : holds g bytes ≡ Some state
-  pub left : IsLeftSince g start events 0 state
-
 -- From the start there is a legal run to the core at the end, whose tickets go in order to the messages in range of the first
 -- lines of the input. A crash meanwhile leaves what a crash of that run may leave.
-pub record HasRun (keeps : Type 0) (start : Floor) (new : Kept) (input : Option (List ℕ)) (taken : List (List ℕ)) (events : List Event) : Type 0 where
+pub record HasRun (keeps : Type 0) (start : Handed) (new : Kept) (input : Option (List ℕ)) (taken : List (List ℕ)) (events : List Event) : Type 0 where
   pub first : AreFirst input taken
   pub legal : IsLegal start.core.geometry (machine_of start) events
-  pub lent : List (Option Asked)
-  pub ends : last (machine_of start) events ≡ machine_of (record { core = new; lent = lent })
+  pub hands : List Hand
+  pub ends : last (machine_of start) events ≡ machine_of (record { core = new; hands = hands })
   pub geometry : new.geometry ≡ start.core.geometry
   pub arrived_are : arrived events ≡ ticketed start.core.next (asked start.core.geometry taken)
-  pub crash : keeps → LeavesOnly start.core.medium new.medium (StandsFor start.core.geometry (machine_of start) events)
+  pub crash : keeps → LeavesOnly start.core.medium new.medium (StandsForRun start.core.geometry (machine_of start) events 0)
 
 -- Behind what was written there is such a run: each line that was written is of a line that is no message or is out of range, or
 -- of one that was answered in the run. These lines that were read are not answered in the output.
-pub record HasServed (keeps : Type 0) (start : Floor) (new : Kept) (row : List Line) (input before written : Option (List ℕ)) : Type 0 where
+pub record HasServed (keeps : Type 0) (start : Handed) (new : Kept) (row : List Line) (input before written : Option (List ℕ)) : Type 0 where
   pub taken : List (List ℕ)
   pub events : List Event
   pub run : HasRun keeps start new input taken events

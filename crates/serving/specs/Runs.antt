@@ -1,17 +1,20 @@
--- A stretch of a server's run: its core and what it has lent, before and after, and what a crash meanwhile may leave.
+-- A stretch of a server's run: its machine, which is the core with what is lent, before and after, and what a crash meanwhile may leave.
 use Rattle.std.specs.Prelude.{◌≡◌, ◌⊎◌, ◌≤◌, ℕ, List, [], ◌∷◌, map, length, take, Option, Some, None}
 use Rattle.affinity.specs.declared.geometry.Geometry.{Geometry}
 use Rattle.checkpoint.specs.Recovery.{holds}
 use Rattle.disk.specs.Moments.{LeavesOnly}
 use Rattle.legal_runs.specs.Crash.{in_doubt}
-use Rattle.legal_runs.specs.Events.{Event, Hand, Hands, Empty, Job}
+use Rattle.legal_runs.specs.Events.{Event, Hands}
 use Rattle.legal_runs.specs.Runs.{IsLegal, answered, arrived, last}
 use Rattle.legal_runs.specs.World.{Entry, World}
+use Rattle.machine.specs.Machine.{Handed, machine_of}
+use Rattle.machine.specs.declared.hands.Hand.{Hand}
+use Rattle.machine.specs.declared.hands.Hand.TheVariants as has
 use Rattle.message.specs.declared.Reply.{Reply}
 use Rattle.parcel.specs.Run.{Asked}
 use Rattle.plain.specs.Serial.{fold}
 use Rattle.plain.specs.State.{State}
-use Rattle.scheduler.specs.Kept.{Kept, world_of}
+use Rattle.scheduler.specs.Kept.{Kept}
 
 -- ---- what a crash may leave of a run, at some moment of it
 
@@ -34,24 +37,19 @@ pub record IsLeftBy (g : Geometry) (w : Hands) (events : List Event) (bytes : Li
 
 -- ---- the core and the places
 
--- the core, and the job that is lent at each place
-pub record Floor : Type 0 where
-  pub core : Kept
-  pub lent : List (Option Asked)
-
+-- each place is a hand: empty where nothing is lent, and else with the job that is lent there
 abbrev pub hand_of : Option Asked → Hand
-hand_of None = Empty
-hand_of (Some job) = Job job.ticket
+hand_of None = has.Empty
+hand_of (Some job) = has.Job job
 
--- each place is a hand
-abbrev pub machine_of : Floor → Hands
-machine_of f = record { core = world_of f.core; hands = map hand_of f.lent }
+abbrev pub with_lent : Kept → List (Option Asked) → Handed
+with_lent core lent = record { core = core; hands = map hand_of lent }
 
 -- ---- a stretch of a run
 
--- From one floor to the other there is a legal run, in which these messages arrive and these are answered. A crash during it
+-- From one machine to the other there is a legal run, in which these messages arrive and these are answered. A crash during it
 -- leaves what a crash of that run may leave.
-pub record Passes (keeps : Type 0) (old new : Floor) (come : List Entry) (told : List (ℕ × Reply)) : Type 0 where
+pub record Passes (keeps : Type 0) (old new : Handed) (come : List Entry) (told : List (ℕ × Reply)) : Type 0 where
   pub events : List Event
   pub legal : IsLegal old.core.geometry (machine_of old) events
   pub ends : last (machine_of old) events ≡ machine_of new

@@ -23,7 +23,8 @@ ghost use Rattle.scheduler.specs.Kept.{world_of};
 ghost use Rattle.serving.specs.Ends.{EndsSo, HasServed};
 ghost use Rattle.serving.specs.Going.{Goes};
 ghost use Rattle.serving.specs.Lines.{AreKnown, Line, asked, is_answered, text, ticketed};
-ghost use Rattle.serving.specs.Runs.{Floor, IsLeftIn, Passes};
+ghost use Rattle.machine.specs.Machine.{Handed};
+ghost use Rattle.serving.specs.Runs.{IsLeftIn, Passes};
 ghost use Rattle.serving.specs.declared.fault.ServeFault.TheVariants as faults;
 
 use disk::Disk;
@@ -46,7 +47,7 @@ pub fn what_is_left_in_a_run_is_left_by_it()
 
 /// A stretch of a run that goes on where another ended makes one stretch with it.
 pub fn stretches_join<D: Disk>()
-    ensures { (old mid new : Floor) (come more : List Entry) (replies others : List (ℕ × Reply)) → Passes D.keeps old mid come replies
+    ensures { (old mid new : Handed) (come more : List Entry) (replies others : List (ℕ × Reply)) → Passes D.keeps old mid come replies
         → Passes D.keeps mid new more others → Passes D.keeps old new (come ++ more) (replies ++ others) }
 {}
 
@@ -55,21 +56,21 @@ pub fn stretches_join<D: Disk>()
 /// before one that found no ticket, and at every moment a beginning of it in whole lines. Where nothing waits or is held in the
 /// end, it has settled what the serial server reaches. Behind each line that was written there is a legal run.
 pub fn serving_ends_as_the_serial_server<D: Disk>()
-    ensures whole { (start now : Floor) (input left : Option (List ℕ)) (ended : Bool) (before written : Option (List ℕ))
+    ensures whole { (start now : Handed) (input left : Option (List ℕ)) (ended : Bool) (before written : Option (List ℕ))
         → IsIdle (world_of start.core) → Goes D.keeps start now [] input left ended before written → IsIdle (world_of now.core)
         → IsAtEnd left → EndsSo start.core now.core input left before written (Ok tt) }
-    ensures read { (start now : Floor) (input left behind before written : Option (List ℕ)) → IsIdle (world_of start.core)
+    ensures read { (start now : Handed) (input left behind before written : Option (List ℕ)) → IsIdle (world_of start.core)
         → Goes D.keeps start now [] input left false before written → IsIdle (world_of now.core)
         → IfSome left (λ bs. LosesFront bs behind) → EndsSo start.core now.core input behind before written (Err faults.Read) }
-    ensures exhausted { (start now : Floor) (input left behind : Option (List ℕ)) (ended : Bool) (before written : Option (List ℕ))
+    ensures exhausted { (start now : Handed) (input left behind : Option (List ℕ)) (ended : Bool) (before written : Option (List ℕ))
         (line : List ℕ) (m : Msg) → IsIdle (world_of start.core) → Goes D.keeps start now [] input left ended before written
         → IsIdle (world_of now.core) → now.core.next ≡ 2 ^ 64 - 1 → IfSome left (λ bs. GivesLine line bs behind)
         → message_of line ≡ Some m → is_in_range start.core.geometry m ≡ true
         → EndsSo start.core now.core input behind before written (Err faults.Exhausted) }
-    ensures device { (start now : Floor) (row : List Line) (input left : Option (List ℕ)) (ended : Bool) (before written : Option (List ℕ))
+    ensures device { (start now : Handed) (row : List Line) (input left : Option (List ℕ)) (ended : Bool) (before written : Option (List ℕ))
         → IsIdle (world_of start.core) → Goes D.keeps start now row input left ended before written → now.core.failed ≡ true
         → EndsSo start.core now.core input left before written (Err faults.Device) }
-    ensures run { (start now : Floor) (row : List Line) (input left : Option (List ℕ)) (ended : Bool) (before written : Option (List ℕ))
+    ensures run { (start now : Handed) (row : List Line) (input left : Option (List ℕ)) (ended : Bool) (before written : Option (List ℕ))
         → IsIdle (world_of start.core) → Goes D.keeps start now row input left ended before written
         → HasServed D.keeps start now.core row input before written }
 {}
