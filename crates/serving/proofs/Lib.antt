@@ -1,6 +1,8 @@
 -- ---- for the crates above: stretches of a run, and what is known of lines
 pub mod Crashes
 pub mod Chain
+pub mod Stretches
+pub mod Returning
 pub mod Serial
 pub mod Served
 -- ---- this crate's own

@@ -1,4 +1,5 @@
 pub mod Lines
 pub mod Runs
 pub mod Going
+pub mod Steps
 pub mod Ends

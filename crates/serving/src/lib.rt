@@ -7,5 +7,7 @@
 
 mod fault;
 pub mod laws;
+mod lending;
+mod steps;
 
 pub use fault::ServeFault;

@@ -1,0 +1,97 @@
+-- What comes back from the bench: the job of a place has run, and its result is given back.
+use Rattle.std.proofs.Common.{◌≡◌, ℕ, ◌<◌, zero, suc, Bool, true, false, List, [], ◌∷◌, ◌++◌, Option, Some, None, refl, ap, sym, ◌∙◌, subst, length, map, set, arith}
+use Rattle.std.specs.Prelude.{option_map, slice_get, get_or, slice_set}
+use Rattle.std.proofs.lemmas.Option.{slice_get-get_or, slice_get-map}
+use Rattle.std.proofs.lemmas.List.{get_or-set_same, length-map}
+use Rattle.disk.specs.Device.{Medium}
+use Rattle.legal_runs.specs.Events.{give_back, out_with}
+use Rattle.legal_runs.specs.World.{Entry, World}
+use Rattle.legal_runs.specs.declared.outcomes.Outcome.TheVariants as outcomes
+use Rattle.legal_runs.specs.declared.outcomes.Step.TheVariants as steps
+use Rattle.machine.proofs.Events.{a_job, back_holds, back_step, was_result}
+use Rattle.machine.specs.Machine.{Handed}
+use Rattle.machine.specs.Steps.{IsStep}
+use Rattle.machine.specs.declared.hands.Hand.{Hand}
+use Rattle.machine.specs.declared.hands.Hand.TheVariants as has
+use Rattle.parcel.specs.Run.{Asked, IsRun}
+use Rattle.parcel.specs.declared.job.Done.{Done}
+use Rattle.scheduler.specs.Jobs.{IsResultOf}
+use Rattle.scheduler.specs.Kept.{Kept, StandsNow, world_of}
+use Rattle.serving.specs.Runs.{Passes, hand_of, with_lent}
+use Rattle.serving.specs.Steps.{Holds, KeepsOn}
+use Rattle.serving.proofs.Chain.{passes_on}
+use Rattle.serving.proofs.Stretches.{quiet_goes_on, step_passes}
+use Rattle.workers.specs.Rule.{lent_at}
+
+-- ---- hands and places
+
+pub hands-set : (lent : List (Option Asked)) (k : ℕ) (o : Option Asked) → map hand_of (set lent k o) ≡ set (map hand_of lent) k (hand_of o)
+hands-set [] zero o = refl
+hands-set [] (suc k) o = refl
+hands-set (x ∷ lent) zero o = refl
+hands-set (x ∷ lent) (suc k) o = ap (λ (l : List Hand). hand_of x ∷ l) (hands-set lent k o)
+
+set-twice : (hands : List Hand) (k : ℕ) (a b : Hand) → set (set hands k a) k b ≡ set hands k b
+set-twice [] zero a b = refl
+set-twice [] (suc k) a b = refl
+set-twice (x ∷ hands) zero a b = refl
+set-twice (x ∷ hands) (suc k) a b = ap (λ (l : List Hand). x ∷ l) (set-twice hands k a b)
+
+read_at : {A : Type 0} (xs : List A) (k : ℕ) (d x : A) → k < length xs → get_or xs k d ≡ x → slice_get xs k ≡ Some x
+read_at xs k d x lt e = slice_get-get_or xs k d lt ∙ ap (λ (y : _). Some y) e
+
+pub set-length : {A : Type 0} (xs : List A) (k : ℕ) (x : A) → length (set xs k x) ≡ length xs
+set-length [] zero x = refl
+set-length [] (suc k) x = refl
+set-length (y ∷ xs) zero x = refl
+set-length (y ∷ xs) (suc k) x = ap suc (set-length xs k x)
+
+-- ---- a result
+
+module _ (keeps : Type 0) (core : Kept) (lent : List (Option Asked)) (none : core.failed ≡ false → core.doubt ≡ [])
+    (stands : keeps → StandsNow core) (h : Holds (with_lent core lent)) (k : ℕ) (within : k < length lent) (job : Asked) (done : Done)
+    (is : lent_at lent k ≡ Some job) (run : IsRun job done) where
+  abbrev hands : List Hand
+  hands = map hand_of lent
+
+  abbrev ran : List Hand
+  ran = set hands k (has.Result done)
+
+  job_there : slice_get hands k ≡ Some (has.Job job)
+  job_there = slice_get-map hand_of lent k ∙ ap (option_map hand_of) (read_at lent k None (Some job) within is)
+
+  moved : IsStep keeps (record { core = core; hands = hands }) (record { core = core; hands = ran }) (steps.Run k) outcomes.Ran
+      × Holds (record { core = core; hands = ran })
+  moved = a_job keeps core hands none stands h k (has.Job job) (has.Result done) true job_there (refl, (done, refl, run)) refl
+
+  result_there : slice_get ran k ≡ Some (has.Result done)
+  result_there =
+      let many = length-map lent hand_of in
+      let long = set-length hands k (has.Result done) in
+      read_at ran k has.Empty (has.Result done) (omega (arith, within, many, long))
+      (get_or-set_same hands k (has.Result done) has.Empty (omega (arith, within, many)))
+
+  pub came_back : IsResultOf core.geometry (world_of core) done
+  came_back = was_result keeps core ran none stands moved.1 k done result_there
+
+  module _ (new : Kept) (geometry : new.geometry ≡ core.geometry) (same : new.medium ≡ core.medium) (found : Entry × List Entry)
+      (one_out : out_with (world_of core) done.ticket ≡ Some found) (told : found.0 ≡ (done.ticket, done.message))
+      (world : world_of new ≡ give_back core.geometry (world_of core) found) where
+    abbrev at : List Hand → Kept → Handed
+    at l c = record { core = c; hands = l }
+
+    emptied : set ran k has.Empty ≡ map hand_of (set lent k None)
+    emptied = set-twice hands k (has.Result done) has.Empty ∙ sym (hands-set lent k None)
+
+    passes : Passes keeps (at hands core) (at (set ran k has.Empty) new) [] []
+    passes = passes_on keeps (at hands core) (at ran core) (at (set ran k has.Empty) new) [] [] [] []
+        (step_passes keeps (at hands core) (at ran core) (steps.Run k) outcomes.Ran moved.0)
+        (step_passes keeps (at ran core) (at (set ran k has.Empty) new) (steps.Back k) (outcomes.Back done.ticket)
+        (back_step keeps core ran none stands moved.1 k done result_there new geometry same found one_out told world))
+
+    pub gives_back : KeepsOn keeps (with_lent core lent) (with_lent new (set lent k None))
+    gives_back = subst (λ (l : List Hand). KeepsOn keeps (at hands core) (at l new)) emptied
+        (record {
+          holds = back_holds keeps core ran none stands moved.1 k done result_there new geometry same found one_out told world;
+          goes = quiet_goes_on keeps (at hands core) (at (set ran k has.Empty) new) passes;
+        })

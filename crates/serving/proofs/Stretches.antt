@@ -1,0 +1,169 @@
+-- One step of a run, behind those before it.
+use Rattle.std.proofs.Common.{◌≡◌, ℕ, Bool, List, [], ◌∷◌, ◌++◌, Option, Some, None, Result, Ok, Err, refl, ap, sym, ◌∙◌, subst, take, inl, append-nil, false, true, ◌≤◌, zero, suc, arith}
+use Rattle.std.specs.Prelude.{OnErr, OnOk, drop, length}
+use Rattle.affinity.specs.declared.geometry.Geometry.{Geometry}
+use Rattle.disk.proofs.Moments.{weaker}
+use Rattle.journal.specs.Journal.{HoldsSome}
+use Rattle.legal_runs.specs.Crash.{in_doubt}
+use Rattle.legal_runs.proofs.Apart.{length_held}
+use Rattle.legal_runs.specs.Events.{Event, batch, fewer, flip_refusal, piece_refusal, point_refusal}
+use Rattle.legal_runs.specs.Laws.{IsSound, moves_what_is_out}
+use Rattle.legal_runs.specs.Runs.{answers, arrives}
+use Rattle.legal_runs.specs.World.{Entry, Replied, World}
+use Rattle.legal_runs.specs.declared.outcomes.CoreFault.{CoreFault}
+use Rattle.legal_runs.specs.declared.outcomes.CoreFault.TheVariants as faults
+use Rattle.legal_runs.specs.declared.outcomes.Outcome.{Outcome}
+use Rattle.legal_runs.specs.declared.outcomes.Outcome.TheVariants as outcomes
+use Rattle.legal_runs.specs.declared.outcomes.PointRefusal.{PointRefusal}
+use Rattle.legal_runs.specs.declared.outcomes.Step.{Step}
+use Rattle.legal_runs.specs.declared.outcomes.Step.TheVariants as steps
+use Rattle.machine.proofs.Events.{core_holds, core_step}
+use Rattle.machine.specs.Machine.{Handed, machine_of}
+use Rattle.machine.specs.Steps.{IsCoreStep, IsStep}
+use Rattle.machine.specs.declared.hands.Hand.{Hand}
+use Rattle.message.specs.declared.Reply.{Reply}
+use Rattle.plain.specs.Serial.{fold}
+use Rattle.scheduler.specs.Calls.{Counts, IsCalled, IsLogStep, log_rose, logged, point_rose, stepped}
+use Rattle.scheduler.specs.Kept.{Kept, StandsThroughout, world_of}
+use Rattle.serving.specs.Going.{Goes}
+use Rattle.serving.specs.Lines.{AreKnown, Line, asked, ticketed}
+use Rattle.serving.specs.Runs.{IsLeftBy, Passes}
+use Rattle.serving.specs.Steps.{GoesOn, Holds, KeepsOn}
+use Rattle.serving.proofs.Chain.{passes_on}
+
+module _ (keeps : Type 0) (old new : Handed) (step : Step) (outcome : Outcome) (k : IsStep keeps old new step outcome) where
+  abbrev event : Event
+  event = record { step = step; outcome = outcome; rose = k.rose; world = machine_of new }
+
+  -- A step is a stretch of a run.
+  pub step_passes : Passes keeps old new (arrives step outcome) (answers outcome)
+  step_passes =
+      let g = old.core.geometry in
+      let w = machine_of old in
+      let x = (world_of old.core).settled in
+      let doubt = in_doubt (world_of old.core) (event ∷ []) in
+      record {
+        events = event ∷ [];
+        legal = (k.allowed, tt);
+        ends = refl;
+        geometry = k.geometry;
+        come_are = append-nil (arrives step outcome);
+        told_are = append-nil (answers outcome);
+        crash = λ kept. weaker old.core.medium new.core.medium (HoldsSome g x doubt) (IsLeftBy g w (event ∷ [])) (k.any_moment kept)
+            (λ c h. record {
+              state = fold g x (take h.added doubt);
+              is = h.is;
+              left = inl (record { some = h.added; at_most = h.at_most; state = refl });
+            });
+      }
+
+-- A stretch in which nothing arrives and nothing is answered leaves what is known of the lines.
+pub quiet_goes_on : (keeps : Type 0) (old new : Handed) → Passes keeps old new [] [] → (row : List Line) → GoesOn keeps old row new row
+quiet_goes_on keeps old new p row start input left ended before written h =
+    let come = ticketed start.core.next (asked start.core.geometry h.taken) in
+    let s = h.serving in
+    record {
+      taken = h.taken;
+      said = h.said;
+      takes = h.takes;
+      serving = record {
+        told = s.told;
+        passes = subst (λ (es : List Entry). Passes keeps start new es s.told) (append-nil come)
+            (subst (λ (l : List (ℕ × Reply)). Passes keeps start new (come ++ []) l) (append-nil s.told)
+            (passes_on keeps start old new come [] s.told [] s.passes p));
+        known = s.known;
+        answered = s.answered;
+      };
+      output = h.output;
+    }
+
+-- A step of the core alone, in which nothing arrives or is answered, and nothing goes out or comes back.
+pub core_keeps_on : (keeps : Type 0) (old new : Kept) (step : Step) (outcome : Outcome) → IsCoreStep keeps old new step outcome
+    → moves_what_is_out step ≡ false → arrives step outcome ≡ [] → answers outcome ≡ [] → (hands : List Hand)
+    → Holds (record { core = old; hands = hands }) → KeepsOn keeps (record { core = old; hands = hands }) (record { core = new; hands = hands })
+core_keeps_on keeps old new step outcome k still none_come none_told hands h =
+    let was : Handed = record { core = old; hands = hands } in
+    let now : Handed = record { core = new; hands = hands } in
+    record {
+      holds = core_holds keeps old new hands step outcome h k still;
+      goes = quiet_goes_on keeps was now
+          (subst (λ (es : List Entry). Passes keeps was now es []) none_come
+          (subst (λ (l : List (ℕ × Reply)). Passes keeps was now (arrives step outcome) l) none_told
+          (step_passes keeps was now step outcome (core_step keeps old new hands step outcome h k))));
+    }
+
+-- ---- logs
+
+no_answer_of_log : (r : Result ℕ CoreFault) → answers (logged r) ≡ []
+no_answer_of_log (Ok count) = refl
+no_answer_of_log (Err why) = refl
+
+pub log_keeps_on : (keeps : Type 0) (old new : Kept) (n : ℕ) (r : Result ℕ CoreFault)
+    → IsCalled old.geometry (world_of old) (world_of new) (steps.Log n) (logged r) (log_rose r) → new.geometry ≡ old.geometry
+    → Counts (log_rose r) old.medium.faults new.medium.faults → (keeps → StandsThroughout (batch (world_of old) n) old new)
+    → (hands : List Hand) → Holds (record { core = old; hands = hands })
+    → KeepsOn keeps (record { core = old; hands = hands }) (record { core = new; hands = hands })
+log_keeps_on keeps old new n r called geometry counts moments = core_keeps_on keeps old new (steps.Log n) (logged r)
+    (record { rose = log_rose r; called = called; geometry = geometry; failures = counts; any_moment = moments }) refl refl (no_answer_of_log r)
+
+none_behind_all : {A : Type 0} (n : ℕ) (xs : List A) → length xs ≤ n → drop n xs ≡ []
+none_behind_all zero [] le = refl
+none_behind_all (suc n) [] le = refl
+none_behind_all zero (x ∷ xs) le = absurd (omega (arith, le))
+none_behind_all (suc n) (x ∷ xs) le = none_behind_all n xs (omega (arith, le))
+
+all_in_front : {A : Type 0} (n : ℕ) (xs : List A) → length xs ≤ n → take n xs ≡ xs
+all_in_front zero [] le = refl
+all_in_front (suc n) [] le = refl
+all_in_front zero (x ∷ xs) le = absurd (omega (arith, le))
+all_in_front (suc n) (x ∷ xs) le = ap (λ l. x ∷ l) (all_in_front n xs (omega (arith, le)))
+
+all_ran : (g : Geometry) (w : World) → IsSound g w → length w.ran ≤ w.slots
+all_ran g w h = let fits = h.fits in let parts = length_held w in omega (arith, fits, parts)
+
+-- Where there are no more, all that ran is logged.
+pub logs_all : (g : Geometry) (old new : World) (n : ℕ) (r : Result ℕ CoreFault) → IsLogStep g old new n r → IsSound g old → n ≡ old.slots
+    → OnOk r ((new.ran ≡ []) × (new.logged ≡ old.logged ++ old.ran))
+logs_all g old new n (Ok count) h sound all =
+    let few : length old.ran ≤ n = let le = all_ran g old sound in omega (arith, le, all) in
+    (ap (λ (w : World). w.ran) h.2 ∙ none_behind_all n old.ran few,
+      ap (λ (w : World). w.logged) h.2 ∙ ap (λ (l : List Replied). old.logged ++ l) (all_in_front n old.ran few))
+logs_all g old new n (Err why) h sound all = tt
+
+pub log_fails : (g : Geometry) (old new : World) (n : ℕ) (r : Result ℕ CoreFault) → IsLogStep g old new n r → OnErr r (new.failed ≡ true)
+log_fails g old new n (Ok count) h = tt
+log_fails g old new n (Err faults.Device) h = ap (λ (w : World). w.failed) h.2
+log_fails g old new n (Err faults.Failed) h = ap (λ (w : World). w.failed) h.1 ∙ h.0
+
+-- ---- steps of a point
+
+no_answer_of_point : {T : Type 0} (made : T → Outcome) → ((x : T) → answers (made x) ≡ []) → (r : Result T PointRefusal)
+    → answers (stepped made r) ≡ []
+no_answer_of_point made none (Ok x) = none x
+no_answer_of_point made none (Err why) = refl
+
+module _ (keeps : Type 0) (old new : Kept) (geometry : new.geometry ≡ old.geometry) (moments : keeps → StandsThroughout [] old new) where
+  abbrev IsStepOf : Step → Outcome → Bool → Type 0
+  IsStepOf step outcome rose = IsCalled old.geometry (world_of old) (world_of new) step outcome rose → Counts rose old.medium.faults new.medium.faults
+      → (hands : List Hand) → Holds (record { core = old; hands = hands })
+      → KeepsOn keeps (record { core = old; hands = hands }) (record { core = new; hands = hands })
+
+  pub point_keeps_on : (r : Result (Unit {0}) PointRefusal) → IsStepOf steps.Point (stepped (λ _. outcomes.Pointed) r) (point_rose r)
+  point_keeps_on r called counts = core_keeps_on keeps old new steps.Point (stepped (λ _. outcomes.Pointed) r)
+      (record { rose = point_rose r; called = called; geometry = geometry; failures = counts; any_moment = moments }) refl refl
+      (no_answer_of_point (λ _. outcomes.Pointed) (λ _. refl) r)
+
+  pub cut_keeps_on : (r : Result (Unit {0}) PointRefusal) → IsStepOf steps.Cut (stepped (λ _. outcomes.Cut) r) (point_rose r)
+  cut_keeps_on r called counts = core_keeps_on keeps old new steps.Cut (stepped (λ _. outcomes.Cut) r)
+      (record { rose = point_rose r; called = called; geometry = geometry; failures = counts; any_moment = moments }) refl refl
+      (no_answer_of_point (λ _. outcomes.Cut) (λ _. refl) r)
+
+  pub piece_keeps_on : (r : Result ℕ PointRefusal) → IsStepOf steps.Piece (stepped outcomes.Left r) (point_rose r)
+  piece_keeps_on r called counts = core_keeps_on keeps old new steps.Piece (stepped outcomes.Left r)
+      (record { rose = point_rose r; called = called; geometry = geometry; failures = counts; any_moment = moments }) refl refl
+      (no_answer_of_point outcomes.Left (λ _. refl) r)
+
+  pub flip_keeps_on : (r : Result (Unit {0}) PointRefusal) → IsStepOf steps.Flip (stepped (λ _. outcomes.Flipped) r) (point_rose r)
+  flip_keeps_on r called counts = core_keeps_on keeps old new steps.Flip (stepped (λ _. outcomes.Flipped) r)
+      (record { rose = point_rose r; called = called; geometry = geometry; failures = counts; any_moment = moments }) refl refl
+      (no_answer_of_point (λ _. outcomes.Flipped) (λ _. refl) r)

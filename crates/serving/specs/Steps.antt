@@ -1,0 +1,22 @@
+-- What each call of the dispatcher keeps: what the machine holds, and how far the server has come.
+use Rattle.std.specs.Prelude.{◌≡◌, ℕ, Bool, List, Option}
+use Rattle.legal_runs.specs.World.{Entry}
+use Rattle.machine.specs.Machine.{Handed, HoldsJobs}
+use Rattle.scheduler.specs.Kept.{world_of}
+use Rattle.serving.specs.Going.{Goes}
+use Rattle.serving.specs.Lines.{Line}
+
+-- Each hand that isn't empty has the job of a message that is out, or what came of it; each message in one hand.
+abbrev pub Holds : Handed → Type 0
+Holds m = HoldsJobs m.core.geometry (world_of m.core) m.hands
+
+-- From whatever start the server had come to the one machine with the one row of lines, it has come to the other so: it has
+-- read and written just as much.
+abbrev pub GoesOn : Type 0 → Handed → List Line → Handed → List Line → Type 0
+GoesOn keeps old row new new_row = (start : Handed) (input left : Option (List ℕ)) (ended : Bool) (before written : Option (List ℕ))
+    → Goes keeps start old row input left ended before written → Goes keeps start new new_row input left ended before written
+
+-- With the same row, whichever it is; and the machine holds what it should.
+pub record KeepsOn (keeps : Type 0) (old new : Handed) : Type 0 where
+  pub holds : Holds new
+  pub goes : (row : List Line) → GoesOn keeps old row new row

@@ -1,0 +1,56 @@
+//! What a server does with its core between one line and the next: each call goes on with its run.
+
+ghost use Rattle.std.specs.Prelude.{◌≡◌, ◌++◌, true, List, [], OnOk, OnErr};
+ghost use Rattle.machine.specs.declared.hands.Hand.{Hand};
+ghost use Rattle.oplog.specs.Layout.{layout_of};
+ghost use Rattle.oplog.specs.Stands.{in_force, named_area};
+ghost use Rattle.serving.specs.Steps.{Holds, KeepsOn};
+
+use disk::Disk;
+use legal_runs::{CoreFault, PointRefusal};
+use scheduler::Core;
+
+/// Logs all that ran, in one go.
+pub(crate) fn log_all<D: Disk>(core: &mut Core<D>) -> Result<usize, CoreFault>
+    ensures kept { (hands : List Hand) → Holds (record { core = core.old; hands = hands })
+        → KeepsOn D.keeps (record { core = core.old; hands = hands }) (record { core = core.new; hands = hands }) }
+    ensures logged { OnOk result ((core.new.ran ≡ []) × (core.new.logged ≡ core.old.logged ++ core.old.ran)) }
+    ensures failed { OnErr result (core.new.failed ≡ true) }
+{
+    let count = core.slots();
+    core.log(count)
+}
+
+/// Begins a consistency point that goes on while messages are served.
+pub(crate) fn begin_cut<D: Disk>(core: &mut Core<D>) -> Result<(), PointRefusal>
+    ensures kept { (hands : List Hand) → Holds (record { core = core.old; hands = hands })
+        → KeepsOn D.keeps (record { core = core.old; hands = hands }) (record { core = core.new; hands = hands }) }
+{
+    core.cut()
+}
+
+/// Writes the next piece of the consistency point in progress, and tells how many are left.
+pub(crate) fn write_piece<D: Disk>(core: &mut Core<D>) -> Result<usize, PointRefusal>
+    ensures kept { (hands : List Hand) → Holds (record { core = core.old; hands = hands })
+        → KeepsOn D.keeps (record { core = core.old; hands = hands }) (record { core = core.new; hands = hands }) }
+{
+    core.piece()
+}
+
+/// Ends the consistency point in progress, once every piece is written.
+pub(crate) fn end_cut<D: Disk>(core: &mut Core<D>) -> Result<(), PointRefusal>
+    ensures kept { (hands : List Hand) → Holds (record { core = core.old; hands = hands })
+        → KeepsOn D.keeps (record { core = core.old; hands = hands }) (record { core = core.new; hands = hands }) }
+{
+    core.flip()
+}
+
+/// Makes a consistency point while nothing is held: the log is empty then.
+pub(crate) fn make_point<D: Disk>(core: &mut Core<D>) -> Result<(), PointRefusal>
+    ensures kept { (hands : List Hand) → Holds (record { core = core.old; hands = hands })
+        → KeepsOn D.keeps (record { core = core.old; hands = hands }) (record { core = core.new; hands = hands }) }
+    ensures emptied { OnOk result (D.keeps → in_force (layout_of core.new.geometry)
+        (named_area (layout_of core.new.geometry) core.new.medium.now) core.new.medium.now ≡ []) }
+{
+    core.point()
+}
