@@ -3,6 +3,7 @@ pub mod Crashes
 pub mod Chain
 pub mod Stretches
 pub mod Returning
+pub mod Sending
 pub mod Serial
 pub mod Served
 -- ---- this crate's own

@@ -1,10 +1,16 @@
 -- What each call of the dispatcher keeps: what the machine holds, and how far the server has come.
-use Rattle.std.specs.Prelude.{◌≡◌, ℕ, Bool, List, Option}
-use Rattle.legal_runs.specs.World.{Entry}
+use Rattle.std.specs.Prelude.{◌≡◌, ℕ, Bool, true, false, List, Option, None, is_some}
+use Rattle.affinity.specs.declared.geometry.Geometry.{Geometry}
+use Rattle.legal_runs.specs.Eligible.{next_eligible}
+use Rattle.legal_runs.specs.Events.{no_grant}
+use Rattle.legal_runs.specs.World.{World}
+use Rattle.legal_runs.specs.declared.outcomes.Outcome.TheVariants as outcomes
 use Rattle.machine.specs.Machine.{Handed, HoldsJobs}
 use Rattle.scheduler.specs.Kept.{world_of}
 use Rattle.serving.specs.Going.{Goes}
 use Rattle.serving.specs.Lines.{Line}
+use Rattle.serving.specs.declared.lending.Sent.{Sent}
+use Rattle.serving.specs.declared.lending.Sent.TheVariants as sent
 
 -- Each hand that isn't empty has the job of a message that is out, or what came of it; each message in one hand.
 abbrev pub Holds : Handed → Type 0
@@ -20,3 +26,10 @@ GoesOn keeps old row new new_row = (start : Handed) (input left : Option (List �
 pub record KeepsOn (keeps : Type 0) (old new : Handed) : Type 0 where
   pub holds : Holds new
   pub goes : (row : List Line) → GoesOn keeps old row new row
+
+-- Why a message went out of this world, or why none did.
+abbrev pub IsSent : Geometry → World → Sent → Type 0
+IsSent g w sent.Job = (w.failed ≡ false) × (is_some (next_eligible g w) ≡ true)
+IsSent g w sent.NoneEligible = (w.failed ≡ false) × (next_eligible g w ≡ None) × (no_grant g w ≡ outcomes.NoneEligible)
+IsSent g w sent.NoRoom = (w.failed ≡ false) × (next_eligible g w ≡ None) × (no_grant g w ≡ outcomes.NoRoom)
+IsSent g w sent.Failed = w.failed ≡ true

@@ -1,0 +1,97 @@
+-- What goes out to the bench: the eligible message with the least ticket, to the first place where nothing is lent.
+use Rattle.std.proofs.Common.{◌≡◌, ℕ, ◌+◌, ◌<◌, zero, suc, Bool, true, false, List, [], ◌∷◌, Option, Some, None, refl, ap, sym, ◌∙◌, subst, length, map, set}
+use Rattle.std.specs.Prelude.{MatchOption, if◌then◌else◌, is_none, is_some, nat_lt, not, position}
+use Rattle.std.specs.List.{position_or_len}
+use Rattle.std.proofs.lemmas.List.{length-map}
+use Rattle.std.proofs.lemmas.List.Quantifiers.{position-Some}
+use Rattle.std.proofs.lemmas.Bool.{true≢false}
+use Rattle.disk.specs.Device.{Medium}
+use Rattle.legal_runs.specs.Events.{is_empty}
+use Rattle.legal_runs.specs.declared.outcomes.Outcome.{Outcome}
+use Rattle.legal_runs.specs.declared.outcomes.Outcome.TheVariants as outcomes
+use Rattle.legal_runs.specs.declared.outcomes.Step.TheVariants as steps
+use Rattle.legal_runs.specs.Runs.{answers}
+use Rattle.machine.proofs.Events.{failed_step, grant_holds, grant_step, no_grant_step, position_within, still_holds}
+use Rattle.machine.specs.Machine.{Handed, hand_of as to_hand}
+use Rattle.machine.specs.Steps.{IsStep}
+use Rattle.machine.specs.declared.hands.Hand.{Hand}
+use Rattle.machine.specs.declared.hands.Hand.TheVariants as has
+use Rattle.message.specs.declared.Reply.{Reply}
+use Rattle.parcel.specs.Run.{Asked}
+use Rattle.scheduler.specs.Calls.{IsGrantOf, IsNoGrant}
+use Rattle.scheduler.specs.Kept.{Kept, StandsNow, world_of}
+use Rattle.serving.specs.Runs.{Passes, hand_of, with_lent}
+use Rattle.serving.specs.Steps.{Holds, KeepsOn}
+use Rattle.serving.proofs.Returning.{hands-set}
+use Rattle.serving.proofs.Stretches.{quiet_goes_on, step_passes}
+use Rattle.workers.specs.Rule.{lent_at}
+
+-- ---- the first place where nothing is lent is the least empty hand
+
+abbrev vacant : Hand → Bool
+vacant h = is_empty (to_hand h)
+
+same_test : (o : Option Asked) → vacant (hand_of o) ≡ is_none o
+same_test None = refl
+same_test (Some job) = refl
+
+first_place : (lent : List (Option Asked)) → position vacant (map hand_of lent) ≡ position is_none lent
+first_place lent = λ i. of (at lent i) (length-map lent hand_of i)
+  where
+    of : ℕ → ℕ → Option ℕ
+    of n m = if nat_lt n m then Some n else None
+
+    at : (lent : List (Option Asked)) → position_or_len vacant (map hand_of lent) ≡ position_or_len is_none lent
+    at [] = refl
+    at (o ∷ lent) = λ i. if not (same_test o i) then 1 + at lent i else 0
+
+nothing_in : (o : Option Asked) → is_none o ≡ true → o ≡ None
+nothing_in None e = refl
+nothing_in (Some job) e = absurd (true≢false (sym e))
+
+pub nothing_there : (lent : List (Option Asked)) (k : ℕ) → position is_none lent ≡ Some k → lent_at lent k ≡ None
+nothing_there lent k first = nothing_in (lent_at lent k) (position-Some is_none lent k None first).1
+
+-- what an offer answers there
+pub offered : (o : Option Asked) (P : Type 0) (Q : Asked → Type 0) → o ≡ None → MatchOption o P Q → P
+offered o P Q none h = subst (λ (o : Option Asked). MatchOption o P Q) none h
+
+-- ---- the grant
+
+module _ (keeps : Type 0) (old new : Kept) (lent : List (Option Asked)) (none : old.failed ≡ false → old.doubt ≡ [])
+    (stands : keeps → StandsNow old) (geometry : new.geometry ≡ old.geometry) (same : new.medium ≡ old.medium)
+    (h : Holds (with_lent old lent)) (k : ℕ) (first : position is_none lent ≡ Some k) where
+  abbrev hands : List Hand
+  hands = map hand_of lent
+
+  least : position vacant hands ≡ Some k
+  least = first_place lent ∙ first
+
+  -- a step that answers nothing
+  quiet : (after : List Hand) (outcome : Outcome) → answers outcome ≡ [] → Holds (record { core = new; hands = after })
+      → IsStep keeps (record { core = old; hands = hands }) (record { core = new; hands = after }) steps.Grant outcome
+      → KeepsOn keeps (with_lent old lent) (record { core = new; hands = after })
+  quiet after outcome none_told holds step =
+      let was : Handed = record { core = old; hands = hands } in
+      let now : Handed = record { core = new; hands = after } in
+      record {
+        holds = holds;
+        goes = quiet_goes_on keeps was now
+            (subst (λ (l : List (ℕ × Reply)). Passes keeps was now [] l) none_told (step_passes keeps was now steps.Grant outcome step));
+      }
+
+  pub goes_out : (job : Asked) → IsGrantOf old.geometry (world_of old) (world_of new) job
+      → KeepsOn keeps (with_lent old lent) (with_lent new (set lent k (Some job)))
+  goes_out job g = subst (λ (l : List Hand). KeepsOn keeps (with_lent old lent) (record { core = new; hands = l })) (sym (hands-set lent k (Some job)))
+      (quiet (set hands k (has.Job job)) (outcomes.Granted k job.ticket) refl
+      (grant_holds keeps old new hands none stands geometry same k least job g h (position_within hands k least))
+      (grant_step keeps old new hands none stands geometry same k least job g))
+
+  pub none_goes : (why : Outcome) → answers why ≡ [] → IsNoGrant old.geometry (world_of old) (world_of new) why
+      → KeepsOn keeps (with_lent old lent) (with_lent new lent)
+  none_goes why none_told g = quiet hands why none_told (still_holds keeps old new hands none stands geometry same h g.same)
+      (no_grant_step keeps old new hands none stands geometry same k why least g)
+
+  pub none_goes_any_more : old.failed ≡ true → world_of new ≡ world_of old → KeepsOn keeps (with_lent old lent) (with_lent new lent)
+  none_goes_any_more failed still = quiet hands outcomes.Failed refl (still_holds keeps old new hands none stands geometry same h still)
+      (failed_step keeps old new hands none stands geometry same k least failed still)
