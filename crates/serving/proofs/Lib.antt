@@ -4,6 +4,7 @@ pub mod Chain
 pub mod Stretches
 pub mod Returning
 pub mod Sending
+pub mod Answering
 pub mod Serial
 pub mod Served
 -- ---- this crate's own

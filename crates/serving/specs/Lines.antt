@@ -1,5 +1,5 @@
 -- Which lines take a ticket, and what is known of each line that was read.
-use Rattle.std.specs.Prelude.{◌≡◌, ℕ, ◌+◌, Bool, true, false, List, [], ◌∷◌, ◌++◌, if◌then◌else◌, Option, Some, None}
+use Rattle.std.specs.Prelude.{◌≡◌, ℕ, ◌+◌, ◌==◌, Bool, true, false, List, [], ◌∷◌, ◌++◌, if◌then◌else◌, Option, Some, None}
 use Rattle.std.specs.List.{Contains}
 use Rattle.affinity.specs.declared.geometry.Geometry.{Geometry}
 use Rattle.legal_runs.specs.World.{Entry}
@@ -71,3 +71,8 @@ text NoMessage = no_message
 text OutOfRange = reply_line (Refused Range)
 text (Unanswered ticket) = []
 text (Answered ticket reply) = reply_line reply
+
+-- the line, where the message with this ticket was given this reply
+abbrev pub answer_one : ℕ → Reply → Line → Line
+answer_one ticket reply (Unanswered t) = if t == ticket then Answered t reply else Unanswered t
+answer_one ticket reply line = line

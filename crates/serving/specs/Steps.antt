@@ -1,5 +1,5 @@
 -- What each call of the dispatcher keeps: what the machine holds, and how far the server has come.
-use Rattle.std.specs.Prelude.{◌≡◌, ℕ, Bool, true, false, List, Option, None, is_some}
+use Rattle.std.specs.Prelude.{◌≡◌, ℕ, Bool, true, false, List, map, Option, Some, None, is_some}
 use Rattle.affinity.specs.declared.geometry.Geometry.{Geometry}
 use Rattle.legal_runs.specs.Eligible.{next_eligible}
 use Rattle.legal_runs.specs.Events.{no_grant}
@@ -8,7 +8,8 @@ use Rattle.legal_runs.specs.declared.outcomes.Outcome.TheVariants as outcomes
 use Rattle.machine.specs.Machine.{Handed, HoldsJobs}
 use Rattle.scheduler.specs.Kept.{world_of}
 use Rattle.serving.specs.Going.{Goes}
-use Rattle.serving.specs.Lines.{Line}
+use Rattle.message.specs.declared.Reply.{Reply}
+use Rattle.serving.specs.Lines.{Line, answer_one}
 use Rattle.serving.specs.declared.lending.Sent.{Sent}
 use Rattle.serving.specs.declared.lending.Sent.TheVariants as sent
 
@@ -26,6 +27,11 @@ GoesOn keeps old row new new_row = (start : Handed) (input left : Option (List �
 pub record KeepsOn (keeps : Type 0) (old new : Handed) : Type 0 where
   pub holds : Holds new
   pub goes : (row : List Line) → GoesOn keeps old row new row
+
+-- A message was answered with this reply, and so is its line in the row; or none was, and the row is the same.
+abbrev pub AnswersOn : Type 0 → Handed → Handed → Option (ℕ × Reply) → Type 0
+AnswersOn keeps old new None = KeepsOn keeps old new
+AnswersOn keeps old new (Some told) = Holds new × ((row : List Line) → GoesOn keeps old row new (map (answer_one told.0 told.1) row))
 
 -- Why a message went out of this world, or why none did.
 abbrev pub IsSent : Geometry → World → Sent → Type 0

@@ -1,13 +1,14 @@
 //! What a server does with its core between one line and the next: each call goes on with its run.
 
-ghost use Rattle.std.specs.Prelude.{◌≡◌, ◌++◌, true, List, [], OnOk, OnErr};
+ghost use Rattle.std.specs.Prelude.{◌≡◌, ◌++◌, true, List, [], None, OnOk, OnErr};
 ghost use Rattle.machine.specs.declared.hands.Hand.{Hand};
 ghost use Rattle.oplog.specs.Layout.{layout_of};
 ghost use Rattle.oplog.specs.Stands.{in_force, named_area};
-ghost use Rattle.serving.specs.Steps.{Holds, KeepsOn};
+ghost use Rattle.serving.specs.Steps.{AnswersOn, Holds, KeepsOn};
 
 use disk::Disk;
 use legal_runs::{CoreFault, PointRefusal};
+use message::Reply;
 use scheduler::Core;
 
 /// Logs all that ran, in one go.
@@ -19,6 +20,16 @@ pub(crate) fn log_all<D: Disk>(core: &mut Core<D>) -> Result<usize, CoreFault>
 {
     let count = core.slots();
     core.log(count)
+}
+
+/// Answers the longest-logged message, if there is one: its ticket and its reply.
+pub(crate) fn answer_next<D: Disk>(core: &mut Core<D>) -> Option<(u64, Reply)>
+    ensures kept { (hands : List Hand) → Holds (record { core = core.old; hands = hands })
+        → AnswersOn D.keeps (record { core = core.old; hands = hands }) (record { core = core.new; hands = hands }) result }
+    ensures none { result ≡ None → core.old.logged ≡ [] }
+{
+    core.stands();
+    core.answer()
 }
 
 /// Begins a consistency point that goes on while messages are served.

@@ -1,0 +1,113 @@
+-- A message that is answered, and its line in the row.
+use Rattle.std.proofs.Common.{◌≡◌, ℕ, Bool, true, false, List, [], ◌∷◌, ◌++◌, Option, Some, None, refl, ap, sym, ◌∙◌, subst, map, inl, append-nil}
+use Rattle.std.specs.Prelude.{if◌then◌else◌, ◌==◌}
+use Rattle.std.specs.List.{Contains}
+use Rattle.std.proofs.lemmas.Bool.{eqb-true}
+use Rattle.affinity.specs.declared.geometry.Geometry.{Geometry}
+use Rattle.legal_runs.proofs.Elements.{contains_in, in_contained}
+use Rattle.legal_runs.proofs.Told.{in_left, in_right}
+use Rattle.legal_runs.specs.Events.{answer}
+use Rattle.legal_runs.specs.World.{Entry, Replied, World}
+use Rattle.legal_runs.specs.declared.outcomes.Outcome.{Outcome}
+use Rattle.legal_runs.specs.declared.outcomes.Outcome.TheVariants as outcomes
+use Rattle.legal_runs.specs.declared.outcomes.Step.TheVariants as steps
+use Rattle.machine.proofs.Events.{core_holds, core_step}
+use Rattle.machine.specs.Machine.{Handed}
+use Rattle.machine.specs.Steps.{IsCoreStep}
+use Rattle.machine.specs.declared.hands.Hand.{Hand}
+use Rattle.message.specs.Grammar.{message_of}
+use Rattle.message.specs.declared.Msg.{Msg}
+use Rattle.message.specs.declared.Reply.{Reply}
+use Rattle.scheduler.specs.Calls.{answered}
+use Rattle.scheduler.specs.Kept.{Kept}
+use Rattle.serving.specs.Lines.{Answered, AreKnown, IsKnown, Line, NoMessage, OutOfRange, Unanswered, answer_one, asked, asked_in, next_ticket, ticketed}
+use Rattle.serving.specs.Runs.{Passes}
+use Rattle.serving.specs.Steps.{AnswersOn, GoesOn, Holds}
+use Rattle.serving.proofs.Chain.{passes_on}
+use Rattle.serving.proofs.Stretches.{core_keeps_on, step_passes}
+
+module _ (g : Geometry) (told : List (ℕ × Reply)) (ticket : ℕ) (reply : Reply) where
+  abbrev more : List (ℕ × Reply)
+  more = told ++ (ticket, reply) ∷ []
+
+  still_there : (p : ℕ × Reply) → Contains told p → Contains more p
+  still_there p h = contains_in more p (in_left p told _ (in_contained told p h))
+
+  now_there : Contains more (ticket, reply)
+  now_there = contains_in more (ticket, reply) (in_right (ticket, reply) told ((ticket, reply) ∷ []) (inl refl))
+
+  -- What was known of a line is known of it still.
+  known_still : (n : ℕ) (o : Option Msg) (known : Line) → IsKnown g told n o known → IsKnown g more n o known
+  known_still n None NoMessage k = tt
+  known_still n None OutOfRange k = absurd k
+  known_still n None (Unanswered t) k = absurd k
+  known_still n None (Answered t r) k = absurd k
+  known_still n (Some m) NoMessage k = absurd k
+  known_still n (Some m) OutOfRange k = k
+  known_still n (Some m) (Unanswered t) k = k
+  known_still n (Some m) (Answered t r) k = (k.0, k.1, still_there (t, r) k.2)
+
+  -- So is the reply, where it is to its message.
+  known_answered : (n : ℕ) (o : Option Msg) (known : Line) → IsKnown g told n o known → IsKnown g more n o (answer_one ticket reply known)
+  known_answered n o NoMessage k = known_still n o NoMessage k
+  known_answered n o OutOfRange k = known_still n o OutOfRange k
+  known_answered n o (Answered t r) k = known_still n o (Answered t r) k
+  known_answered n None (Unanswered t) k = absurd k
+  known_answered n (Some m) (Unanswered t) k = elim (t == ticket) as
+      (λ b. (t == ticket) ≡ b → IsKnown g more n (Some m) (if b then Answered t reply else Unanswered t)) [
+        | true ↦ λ e. (k.0, k.1, subst (λ (u : ℕ). Contains more (u, reply)) (sym (eqb-true t ticket e)) now_there)
+        | false ↦ λ e. k
+      ] refl
+
+  row_answered : (n : ℕ) (ls : List (List ℕ)) (row : List Line) → AreKnown g told n ls row → AreKnown g more n ls (map (answer_one ticket reply) row)
+  row_answered n [] [] k = tt
+  row_answered n [] (known ∷ row) k = absurd k
+  row_answered n (l ∷ ls) [] k = absurd k
+  row_answered n (l ∷ ls) (known ∷ row) k =
+      (known_answered n (message_of l) known k.0, row_answered (next_ticket n (asked_in g (message_of l))) ls row k.1)
+
+  lines_answered : (n : ℕ) (ls : List (List ℕ)) (said row : List Line) → AreKnown g told n ls (said ++ row)
+      → AreKnown g more n ls (said ++ map (answer_one ticket reply) row)
+  lines_answered n ls [] row k = row_answered n ls row k
+  lines_answered n [] (known ∷ said) row k = absurd k
+  lines_answered n (l ∷ ls) (known ∷ said) row k =
+      (known_still n (message_of l) known k.0, lines_answered (next_ticket n (asked_in g (message_of l))) ls said row k.1)
+
+answered_goes_on : (keeps : Type 0) (old new : Handed) (ticket : ℕ) (reply : Reply) → Passes keeps old new [] ((ticket, reply) ∷ [])
+    → (row : List Line) → GoesOn keeps old row new (map (answer_one ticket reply) row)
+answered_goes_on keeps old new ticket reply p row start input left ended before written h =
+    let g = start.core.geometry in
+    let come = ticketed start.core.next (asked g h.taken) in
+    let s = h.serving in
+    let told = s.told ++ (ticket, reply) ∷ [] in
+    record {
+      taken = h.taken;
+      said = h.said;
+      takes = h.takes;
+      serving = record {
+        told = told;
+        passes = subst (λ (es : List Entry). Passes keeps start new es told) (append-nil come)
+            (passes_on keeps start old new come [] s.told ((ticket, reply) ∷ []) s.passes p);
+        known = lines_answered g s.told ticket reply start.core.next h.taken h.said row s.known;
+        answered = s.answered;
+      };
+      output = h.output;
+    }
+
+pub answer_keeps_on : (keeps : Type 0) (old new : Kept) (r : Option (ℕ × Reply)) → IsCoreStep keeps old new steps.Answer (answered r)
+    → (hands : List Hand) → Holds (record { core = old; hands = hands })
+    → AnswersOn keeps (record { core = old; hands = hands }) (record { core = new; hands = hands }) r
+answer_keeps_on keeps old new None k hands h = core_keeps_on keeps old new steps.Answer outcomes.Idle k refl refl refl hands h
+answer_keeps_on keeps old new (Some a) k hands h =
+    let was : Handed = record { core = old; hands = hands } in
+    let now : Handed = record { core = new; hands = hands } in
+    let outcome = outcomes.Answered a.0 a.1 in
+    (core_holds keeps old new hands steps.Answer outcome h k refl,
+      answered_goes_on keeps was now a.0 a.1 (step_passes keeps was now steps.Answer outcome (core_step keeps old new hands steps.Answer outcome h k)))
+
+-- Where none is answered, none was logged.
+pub none_to_answer : (w new : World) (logged : List Replied) (r : Option (ℕ × Reply)) → (answered r, new) ≡ answer w logged → r ≡ None
+    → logged ≡ []
+none_to_answer w new [] r e none = refl
+none_to_answer w new (a ∷ as') r e none =
+    let idle : outcomes.Idle ≡ outcomes.Answered a.0 a.2 = ap answered (sym none) ∙ ap (λ (x : Outcome × World). x.0) e in cc
