@@ -1,5 +1,5 @@
 -- A message that is answered, and its line in the row.
-use Rattle.std.proofs.Common.{◌≡◌, ℕ, Bool, true, false, List, [], ◌∷◌, ◌++◌, Option, Some, None, refl, ap, sym, ◌∙◌, subst, map, inl, append-nil}
+use Rattle.std.proofs.Common.{◌≡◌, ℕ, true, false, List, [], ◌∷◌, ◌++◌, Option, Some, None, refl, ap, sym, ◌∙◌, subst, map, inl, append-nil}
 use Rattle.std.specs.Prelude.{if◌then◌else◌, ◌==◌}
 use Rattle.std.specs.List.{Contains}
 use Rattle.std.proofs.lemmas.Bool.{eqb-true}
@@ -101,9 +101,10 @@ answer_keeps_on keeps old new None k hands h = core_keeps_on keeps old new steps
 answer_keeps_on keeps old new (Some a) k hands h =
     let was : Handed = record { core = old; hands = hands } in
     let now : Handed = record { core = new; hands = hands } in
-    let outcome = outcomes.Answered a.0 a.1 in
-    (core_holds keeps old new hands steps.Answer outcome h k refl,
-      answered_goes_on keeps was now a.0 a.1 (step_passes keeps was now steps.Answer outcome (core_step keeps old new hands steps.Answer outcome h k)))
+    let outcome = outcomes.Answered a.0 a.1 in (
+      core_holds keeps old new hands steps.Answer outcome h k refl,
+      answered_goes_on keeps was now a.0 a.1 (step_passes keeps was now steps.Answer outcome (core_step keeps old new hands steps.Answer outcome h k)),
+    )
 
 -- Where none is answered, none was logged.
 pub none_to_answer : (w new : World) (logged : List Replied) (r : Option (ℕ × Reply)) → (answered r, new) ≡ answer w logged → r ≡ None

@@ -1,11 +1,10 @@
 -- What comes back from the bench: the job of a place has run, and its result is given back.
-use Rattle.std.proofs.Common.{◌≡◌, ℕ, ◌<◌, zero, suc, Bool, true, false, List, [], ◌∷◌, ◌++◌, Option, Some, None, refl, ap, sym, ◌∙◌, subst, length, map, set, arith}
-use Rattle.std.specs.Prelude.{option_map, slice_get, get_or, slice_set}
+use Rattle.std.proofs.Common.{◌≡◌, ℕ, ◌<◌, zero, suc, true, false, List, [], ◌∷◌, Option, Some, None, refl, ap, sym, ◌∙◌, subst, length, map, set, arith}
+use Rattle.std.specs.Prelude.{option_map, slice_get, get_or}
 use Rattle.std.proofs.lemmas.Option.{slice_get-get_or, slice_get-map}
 use Rattle.std.proofs.lemmas.List.{get_or-set_same, length-map}
-use Rattle.disk.specs.Device.{Medium}
 use Rattle.legal_runs.specs.Events.{give_back, out_with}
-use Rattle.legal_runs.specs.World.{Entry, World}
+use Rattle.legal_runs.specs.World.{Entry}
 use Rattle.legal_runs.specs.declared.outcomes.Outcome.TheVariants as outcomes
 use Rattle.legal_runs.specs.declared.outcomes.Step.TheVariants as steps
 use Rattle.machine.proofs.Events.{a_job, back_holds, back_step, was_result}

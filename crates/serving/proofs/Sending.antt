@@ -1,11 +1,10 @@
 -- What goes out to the bench: the eligible message with the least ticket, to the first place where nothing is lent.
-use Rattle.std.proofs.Common.{◌≡◌, ℕ, ◌+◌, ◌<◌, zero, suc, Bool, true, false, List, [], ◌∷◌, Option, Some, None, refl, ap, sym, ◌∙◌, subst, length, map, set}
-use Rattle.std.specs.Prelude.{MatchOption, if◌then◌else◌, is_none, is_some, nat_lt, not, position}
+use Rattle.std.proofs.Common.{◌≡◌, ℕ, ◌+◌, Bool, true, false, List, [], ◌∷◌, Option, Some, None, refl, sym, ◌∙◌, subst, map, set}
+use Rattle.std.specs.Prelude.{MatchOption, if◌then◌else◌, is_none, nat_lt, not, position}
 use Rattle.std.specs.List.{position_or_len}
 use Rattle.std.proofs.lemmas.List.{length-map}
 use Rattle.std.proofs.lemmas.List.Quantifiers.{position-Some}
 use Rattle.std.proofs.lemmas.Bool.{true≢false}
-use Rattle.disk.specs.Device.{Medium}
 use Rattle.legal_runs.specs.Events.{is_empty}
 use Rattle.legal_runs.specs.declared.outcomes.Outcome.{Outcome}
 use Rattle.legal_runs.specs.declared.outcomes.Outcome.TheVariants as outcomes

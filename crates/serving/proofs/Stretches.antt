@@ -1,12 +1,12 @@
 -- One step of a run, behind those before it.
-use Rattle.std.proofs.Common.{◌≡◌, ℕ, Bool, List, [], ◌∷◌, ◌++◌, Option, Some, None, Result, Ok, Err, refl, ap, sym, ◌∙◌, subst, take, inl, append-nil, false, true, ◌≤◌, zero, suc, arith}
+use Rattle.std.proofs.Common.{◌≡◌, ℕ, Bool, List, [], ◌∷◌, ◌++◌, Result, Ok, Err, refl, ap, ◌∙◌, subst, take, inl, append-nil, false, true, ◌≤◌, zero, suc, arith}
 use Rattle.std.specs.Prelude.{OnErr, OnOk, drop, length}
 use Rattle.affinity.specs.declared.geometry.Geometry.{Geometry}
 use Rattle.disk.proofs.Moments.{weaker}
 use Rattle.journal.specs.Journal.{HoldsSome}
 use Rattle.legal_runs.specs.Crash.{in_doubt}
 use Rattle.legal_runs.proofs.Apart.{length_held}
-use Rattle.legal_runs.specs.Events.{Event, batch, fewer, flip_refusal, piece_refusal, point_refusal}
+use Rattle.legal_runs.specs.Events.{Event, batch}
 use Rattle.legal_runs.specs.Laws.{IsSound, moves_what_is_out}
 use Rattle.legal_runs.specs.Runs.{answers, arrives}
 use Rattle.legal_runs.specs.World.{Entry, Replied, World}
@@ -25,8 +25,7 @@ use Rattle.message.specs.declared.Reply.{Reply}
 use Rattle.plain.specs.Serial.{fold}
 use Rattle.scheduler.specs.Calls.{Counts, IsCalled, IsLogStep, log_rose, logged, point_rose, stepped}
 use Rattle.scheduler.specs.Kept.{Kept, StandsThroughout, world_of}
-use Rattle.serving.specs.Going.{Goes}
-use Rattle.serving.specs.Lines.{AreKnown, Line, asked, ticketed}
+use Rattle.serving.specs.Lines.{Line, asked, ticketed}
 use Rattle.serving.specs.Runs.{IsLeftBy, Passes}
 use Rattle.serving.specs.Steps.{GoesOn, Holds, KeepsOn}
 use Rattle.serving.proofs.Chain.{passes_on}
@@ -125,9 +124,10 @@ all_ran g w h = let fits = h.fits in let parts = length_held w in omega (arith, 
 pub logs_all : (g : Geometry) (old new : World) (n : ℕ) (r : Result ℕ CoreFault) → IsLogStep g old new n r → IsSound g old → n ≡ old.slots
     → OnOk r ((new.ran ≡ []) × (new.logged ≡ old.logged ++ old.ran))
 logs_all g old new n (Ok count) h sound all =
-    let few : length old.ran ≤ n = let le = all_ran g old sound in omega (arith, le, all) in
-    (ap (λ (w : World). w.ran) h.2 ∙ none_behind_all n old.ran few,
-      ap (λ (w : World). w.logged) h.2 ∙ ap (λ (l : List Replied). old.logged ++ l) (all_in_front n old.ran few))
+    let few : length old.ran ≤ n = let le = all_ran g old sound in omega (arith, le, all) in (
+      ap (λ (w : World). w.ran) h.2 ∙ none_behind_all n old.ran few,
+      ap (λ (w : World). w.logged) h.2 ∙ ap (λ (l : List Replied). old.logged ++ l) (all_in_front n old.ran few),
+    )
 logs_all g old new n (Err why) h sound all = tt
 
 pub log_fails : (g : Geometry) (old new : World) (n : ℕ) (r : Result ℕ CoreFault) → IsLogStep g old new n r → OnErr r (new.failed ≡ true)

@@ -10,7 +10,12 @@ use scheduler::{Core, Granted};
 use workers::{Bench, DispatchSeat};
 
 /// Takes back what came of the job at place k, if it is there: whether it was.
-pub(crate) fn take_back<D: Disk>(core: &mut Core<D>, bench: &Bench, desk: &mut DispatchSeat, k: usize) -> bool
+pub(crate) fn take_back<D: Disk>(
+    core: &mut Core<D>,
+    bench: &Bench,
+    desk: &mut DispatchSeat,
+    k: usize,
+) -> bool
     requires bench { desk.old.bench ≡ bench.now }
     requires place { (k < bench.now.slots) × (k < length desk.old.lent) }
     requires holds { Holds (with_lent core.old desk.old.lent) }
@@ -41,7 +46,12 @@ pub(crate) enum Sent {
 }
 
 /// Lets the eligible message with the least ticket go out to place k, the first where nothing is lent.
-pub(crate) fn send_to<D: Disk>(core: &mut Core<D>, bench: &Bench, desk: &mut DispatchSeat, k: usize) -> Sent
+pub(crate) fn send_to<D: Disk>(
+    core: &mut Core<D>,
+    bench: &Bench,
+    desk: &mut DispatchSeat,
+    k: usize,
+) -> Sent
     requires bench { desk.old.bench ≡ bench.now }
     requires place { k < bench.now.slots }
     requires first { position is_none desk.old.lent ≡ Some k }
