@@ -2,7 +2,7 @@
 //! server writes.
 //!
 //! The definitions stand in `specs/`, and the laws that they obey are the contracts of the functions of `laws`, which do
-//! nothing.
+//! nothing. `steps` and `lending` have the calls that a server makes between lines; the loop over them is yet to come.
 #![tactic(auto)]
 
 mod fault;
