@@ -5,6 +5,7 @@ pub mod Stretches
 pub mod Returning
 pub mod Sending
 pub mod Answering
+pub mod Arriving
 pub mod Serial
 pub mod Served
 -- ---- this crate's own

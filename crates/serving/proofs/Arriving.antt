@@ -1,0 +1,99 @@
+-- A line that is read, and its message that arrives.
+use Rattle.std.proofs.Common.{◌≡◌, ℕ, ◌+◌, true, false, List, [], ◌∷◌, ◌++◌, Option, Some, None, refl, ap, sym, ◌∙◌, subst, append_assoc, append-nil}
+use Rattle.std.specs.Prelude.{if◌then◌else◌}
+use Rattle.affinity.specs.declared.geometry.Geometry.{Geometry}
+use Rattle.legal_runs.proofs.Moves.{Answers, Arrives, Backs, Grants, Logs, Move, Passed, Stays, moves, passed}
+use Rattle.legal_runs.specs.Events.{Event, Hands}
+use Rattle.legal_runs.specs.Runs.{IsLegal, arrived, arrives, last}
+use Rattle.legal_runs.specs.World.{Entry, World}
+use Rattle.machine.specs.Machine.{Handed}
+use Rattle.message.specs.Grammar.{message_of}
+use Rattle.message.specs.declared.Msg.{Msg}
+use Rattle.message.specs.declared.Reply.{Reply}
+use Rattle.plain.specs.Order.{messages}
+use Rattle.serving.specs.Going.{IsServing}
+use Rattle.serving.specs.Lines.{AreKnown, IsKnown, Line, asked, asked_in, next_ticket, ticketed}
+use Rattle.serving.specs.Runs.{Passes}
+use Rattle.serving.proofs.Chain.{passes_on}
+use Rattle.serving.proofs.Serial.{asked-append, messages-ticketed}
+
+-- ---- tickets
+
+next-append : (n : ℕ) (ms more : List Msg) → next_ticket n (ms ++ more) ≡ next_ticket (next_ticket n ms) more
+next-append n [] more = refl
+next-append n (m ∷ ms) more = next-append (n + 1) ms more
+
+ticketed-append : (n : ℕ) (ms more : List Msg) → ticketed n (ms ++ more) ≡ ticketed n ms ++ ticketed (next_ticket n ms) more
+ticketed-append n [] more = refl
+ticketed-append n (m ∷ ms) more = ap (λ l. (n, m) ∷ l) (ticketed-append (n + 1) ms more)
+
+messages-append : (es fs : List Entry) → messages (es ++ fs) ≡ messages es ++ messages fs
+messages-append [] fs = refl
+messages-append (e ∷ es) fs = ap (λ l. e.1 ∷ l) (messages-append es fs)
+
+-- ---- the next ticket after a run
+
+quiet_next : (old new : World) (p : Passed) → p.come ≡ [] → new.next ≡ old.next → new.next ≡ next_ticket old.next (messages p.come)
+quiet_next old new p none same = same ∙ ap (λ (es : List Entry). next_ticket old.next (messages es)) (sym none)
+
+move_next : (g : Geometry) (old new : World) (p : Passed) → Move g old new p → new.next ≡ next_ticket old.next (messages p.come)
+move_next g old new p (Stays s e) = quiet_next old new p (ap (λ p. p.come) e) s.next
+move_next g old new p (Arrives m fits is e) = ap (λ w. w.next) is ∙ ap (λ (q : Passed). next_ticket old.next (messages q.come)) (sym e)
+move_next g old new p (Grants found first is e) = quiet_next old new p (ap (λ p. p.come) e) (ap (λ w. w.next) is)
+move_next g old new p (Backs ticket found one_out is e) = quiet_next old new p (ap (λ p. p.come) e) (ap (λ w. w.next) is)
+move_next g old new p (Logs n is e) = quiet_next old new p (ap (λ p. p.come) e) (ap (λ w. w.next) is)
+move_next g old new p (Answers a rest front is e) = quiet_next old new p (ap (λ p. p.come) e) (ap (λ w. w.next) is)
+
+pub run_next : (g : Geometry) (old : Hands) (events : List Event) → IsLegal g old events
+    → (last old events).core.next ≡ next_ticket old.core.next (messages (arrived events))
+run_next g old [] legal = refl
+run_next g old (event ∷ events) legal =
+    let come = arrives event.step event.outcome in
+    run_next g event.world events legal.1
+    ∙ ap (λ n. next_ticket n (messages (arrived events))) (move_next g old.core event.world.core _ (moves g old event legal.0))
+    ∙ sym (next-append old.core.next (messages come) (messages (arrived events)))
+    ∙ ap (next_ticket old.core.next) (sym (messages-append come (arrived events)))
+
+-- ---- one line more
+
+known_push : (g : Geometry) (told : List (ℕ × Reply)) (n : ℕ) (ls : List (List ℕ)) (l : List ℕ) (row : List Line) (known : Line)
+    → AreKnown g told n ls row → IsKnown g told (next_ticket n (asked g ls)) (message_of l) known
+    → AreKnown g told n (ls ++ l ∷ []) (row ++ known ∷ [])
+known_push g told n [] l [] known k one = (one, tt)
+known_push g told n [] l (x ∷ row) known k one = absurd k
+known_push g told n (y ∷ ls) l [] known k one = absurd k
+known_push g told n (y ∷ ls) l (x ∷ row) known k one =
+    let m = next_ticket n (asked_in g (message_of y)) in
+    (k.0, known_push g told m ls l row known k.1
+      (subst (λ (t : ℕ). IsKnown g told t (message_of l) known) (next-append n (asked_in g (message_of y)) (asked g ls)) one))
+
+module _ (keeps : Type 0) (start old : Handed) (taken : List (List ℕ)) (said row : List Line) (s : IsServing keeps start old taken said row) where
+  abbrev g : Geometry
+  g = start.core.geometry
+
+  -- the ticket that the core gives next
+  next_is : old.core.next ≡ next_ticket start.core.next (asked g taken)
+  next_is = ap (λ (w : Hands). w.core.next) (sym s.passes.ends) ∙ run_next g _ s.passes.events s.passes.legal
+      ∙ ap (λ (es : List Entry). next_ticket start.core.next (messages es)) s.passes.come_are
+      ∙ ap (next_ticket start.core.next) (messages-ticketed start.core.next (asked g taken))
+
+  -- A line was read, and its message has arrived, if it takes a ticket.
+  pub takes_in : (new : Handed) (line : List ℕ) (known : Line) → Passes keeps old new (ticketed old.core.next (asked_in g (message_of line))) []
+      → IsKnown g s.told old.core.next (message_of line) known → IsServing keeps start new (taken ++ line ∷ []) said (row ++ known ∷ [])
+  takes_in new line known p k =
+      let come = ticketed start.core.next (asked g taken) in
+      let one = asked_in g (message_of line) in
+      let all : come ++ ticketed old.core.next one ≡ ticketed start.core.next (asked g (taken ++ line ∷ [])) =
+      ap (λ (n : ℕ). come ++ ticketed n one) next_is ∙ sym (ticketed-append start.core.next (asked g taken) one)
+      ∙ ap (λ (ms : List Msg). ticketed start.core.next (asked g taken ++ ms)) (sym (append-nil one))
+      ∙ ap (ticketed start.core.next) (sym (asked-append g taken (line ∷ []))) in
+      record {
+        told = s.told;
+        passes = subst (λ (es : List Entry). Passes keeps start new es s.told) all
+            (subst (λ (l : List (ℕ × Reply)). Passes keeps start new (come ++ ticketed old.core.next one) l) (append-nil s.told)
+            (passes_on keeps start old new come (ticketed old.core.next one) s.told [] s.passes p));
+        known = subst (λ (l : List Line). AreKnown g s.told start.core.next (taken ++ line ∷ []) l) (append_assoc said row (known ∷ []))
+            (known_push g s.told start.core.next taken line (said ++ row) known s.known
+            (subst (λ (n : ℕ). IsKnown g s.told n (message_of line) known) next_is k));
+        answered = s.answered;
+      }
