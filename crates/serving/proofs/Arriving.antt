@@ -1,21 +1,34 @@
 -- A line that is read, and its message that arrives.
 use Rattle.std.proofs.Common.{◌≡◌, ℕ, ◌+◌, true, false, List, [], ◌∷◌, ◌++◌, Option, Some, None, refl, ap, sym, ◌∙◌, subst, append_assoc, append-nil}
-use Rattle.std.specs.Prelude.{if◌then◌else◌}
+use Rattle.std.specs.Prelude.{Bool, Result, Ok, Err, if◌then◌else◌, not, nat_le, ◌==◌, ◌^◌, ◌-◌, length}
 use Rattle.affinity.specs.declared.geometry.Geometry.{Geometry}
 use Rattle.legal_runs.proofs.Moves.{Answers, Arrives, Backs, Grants, Logs, Move, Passed, Stays, moves, passed}
-use Rattle.legal_runs.specs.Events.{Event, Hands}
+use Rattle.legal_runs.specs.Events.{Event, Hands, arrive}
 use Rattle.legal_runs.specs.Runs.{IsLegal, arrived, arrives, last}
-use Rattle.legal_runs.specs.World.{Entry, World}
+use Rattle.legal_runs.specs.World.{Entry, World, held}
+use Rattle.legal_runs.specs.declared.outcomes.ArriveRefusal.{ArriveRefusal}
+use Rattle.legal_runs.specs.declared.outcomes.ArriveRefusal.TheVariants as arrivals
+use Rattle.legal_runs.specs.declared.outcomes.Outcome.{Outcome}
+use Rattle.legal_runs.specs.declared.outcomes.Outcome.TheVariants as outcomes
+use Rattle.legal_runs.specs.declared.outcomes.Step.TheVariants as steps
+use Rattle.machine.proofs.Events.{core_holds, core_step}
+use Rattle.machine.specs.Steps.{IsCoreStep}
+use Rattle.machine.specs.declared.hands.Hand.{Hand}
+use Rattle.message.specs.Messages.{is_in_range}
+use Rattle.scheduler.specs.Calls.{arrived as arrived_so}
+use Rattle.scheduler.specs.Kept.{Kept, world_of}
 use Rattle.machine.specs.Machine.{Handed}
 use Rattle.message.specs.Grammar.{message_of}
 use Rattle.message.specs.declared.Msg.{Msg}
 use Rattle.message.specs.declared.Reply.{Reply}
 use Rattle.plain.specs.Order.{messages}
 use Rattle.serving.specs.Going.{IsServing}
-use Rattle.serving.specs.Lines.{AreKnown, IsKnown, Line, asked, asked_in, next_ticket, ticketed}
+use Rattle.serving.specs.Lines.{AreKnown, IsKnown, Line, OutOfRange, Unanswered, asked, asked_in, next_ticket, ticketed}
 use Rattle.serving.specs.Runs.{Passes}
+use Rattle.serving.specs.Steps.{Holds, KeepsOn, TakesIn, TakesLine}
 use Rattle.serving.proofs.Chain.{passes_on}
 use Rattle.serving.proofs.Serial.{asked-append, messages-ticketed}
+use Rattle.serving.proofs.Stretches.{core_keeps_on, step_passes}
 
 -- ---- tickets
 
@@ -97,3 +110,89 @@ module _ (keeps : Type 0) (start old : Handed) (taken : List (List ℕ)) (said r
             (subst (λ (n : ℕ). IsKnown g s.told n (message_of line) known) next_is k));
         answered = s.answered;
       }
+
+-- ---- what a ticket and a refusal tell
+
+module _ (k : ℕ) (w x : World) where
+  abbrev result : Bool → Bool → Bool → Bool → Outcome × World
+  result failed fits none full =
+      if failed then (outcomes.ArriveRefused arrivals.Failed, w)
+      else if not fits then (outcomes.ArriveRefused arrivals.Range, w)
+      else if none then (outcomes.ArriveRefused arrivals.Exhausted, w)
+      else if full then (outcomes.ArriveRefused arrivals.Full, w)
+      else (outcomes.Ticket k, x)
+
+  abbrev ticket_of : Outcome → ℕ → ℕ
+  ticket_of (outcomes.Ticket t) d = t
+  ticket_of _ d = d
+
+  gives_ticket : (failed fits none full : Bool) (t : ℕ) (new : World) → (outcomes.Ticket t, new) ≡ result failed fits none full
+      → (fits ≡ true) × (t ≡ k)
+  gives_ticket true fits none full t new e = let o : outcomes.Ticket t ≡ outcomes.ArriveRefused arrivals.Failed = ap (λ (z : Outcome × World). z.0) e in cc
+  gives_ticket false false none full t new e = let o : outcomes.Ticket t ≡ outcomes.ArriveRefused arrivals.Range = ap (λ (z : Outcome × World). z.0) e in cc
+  gives_ticket false true true full t new e = let o : outcomes.Ticket t ≡ outcomes.ArriveRefused arrivals.Exhausted = ap (λ (z : Outcome × World). z.0) e in cc
+  gives_ticket false true false true t new e = let o : outcomes.Ticket t ≡ outcomes.ArriveRefused arrivals.Full = ap (λ (z : Outcome × World). z.0) e in cc
+  gives_ticket false true false false t new e = (refl, ap (λ (z : Outcome × World). ticket_of z.0 0) e)
+
+  is_refused : (failed fits none full : Bool) (new : World) → (outcomes.ArriveRefused arrivals.Range, new) ≡ result failed fits none full → fits ≡ false
+  is_refused true fits none full new e = let o : outcomes.ArriveRefused arrivals.Range ≡ outcomes.ArriveRefused arrivals.Failed = ap (λ (z : Outcome × World). z.0) e in cc
+  is_refused false false none full new e = refl
+  is_refused false true true full new e = let o : outcomes.ArriveRefused arrivals.Range ≡ outcomes.ArriveRefused arrivals.Exhausted = ap (λ (z : Outcome × World). z.0) e in cc
+  is_refused false true false true new e = let o : outcomes.ArriveRefused arrivals.Range ≡ outcomes.ArriveRefused arrivals.Full = ap (λ (z : Outcome × World). z.0) e in cc
+  is_refused false true false false new e = let o : outcomes.ArriveRefused arrivals.Range ≡ outcomes.Ticket k = ap (λ (z : Outcome × World). z.0) e in cc
+
+module _ (keeps : Type 0) (old new : Kept) (m : Msg) (hands : List Hand) (h : Holds (record { core = old; hands = hands })) where
+  abbrev was : Handed
+  was = record { core = old; hands = hands }
+
+  abbrev now : Handed
+  now = record { core = new; hands = hands }
+
+  with_ticket : (t : ℕ) → IsCoreStep keeps old new (steps.Arrive m) (outcomes.Ticket t) → is_in_range old.geometry m ≡ true → t ≡ old.next
+      → TakesLine keeps was now m (Unanswered t)
+  with_ticket t step fits is_next = record {
+    holds = core_holds keeps old new hands (steps.Arrive m) (outcomes.Ticket t) h step refl;
+    serving = λ start taken said row line is s.
+        let range : is_in_range start.core.geometry m ≡ true = ap (λ (y : Geometry). is_in_range y m) (sym s.passes.geometry) ∙ fits in
+        let one : asked_in start.core.geometry (message_of line) ≡ m ∷ [] =
+        ap (asked_in start.core.geometry) is ∙ ap (λ (b : Bool). if b then m ∷ [] else []) range in
+        let come : ◌≡◌ {A = List Entry} ((t, m) ∷ []) (ticketed old.next (asked_in start.core.geometry (message_of line))) =
+        (λ i. (is_next i, m) ∷ []) ∙ ap (ticketed old.next) (sym one) in
+        takes_in keeps start was taken said row s now line (Unanswered t)
+        (subst (λ (es : List Entry). Passes keeps was now es []) come
+        (step_passes keeps was now (steps.Arrive m) (outcomes.Ticket t) (core_step keeps old new hands (steps.Arrive m) (outcomes.Ticket t) h step)))
+        (subst (λ (o : Option Msg). IsKnown start.core.geometry s.told old.next o (Unanswered t)) (sym is) (range, is_next));
+  }
+
+  out_of_range : IsCoreStep keeps old new (steps.Arrive m) (outcomes.ArriveRefused arrivals.Range) → is_in_range old.geometry m ≡ false
+      → TakesLine keeps was now m OutOfRange
+  out_of_range step out = record {
+    holds = core_holds keeps old new hands (steps.Arrive m) (outcomes.ArriveRefused arrivals.Range) h step refl;
+    serving = λ start taken said row line is s.
+        let range : is_in_range start.core.geometry m ≡ false = ap (λ (y : Geometry). is_in_range y m) (sym s.passes.geometry) ∙ out in
+        let none : asked_in start.core.geometry (message_of line) ≡ [] =
+        ap (asked_in start.core.geometry) is ∙ ap (λ (b : Bool). if b then m ∷ [] else []) range in
+        takes_in keeps start was taken said row s now line OutOfRange
+        (subst (λ (es : List Entry). Passes keeps was now es []) (ap (ticketed old.next) (sym none))
+        (step_passes keeps was now (steps.Arrive m) (outcomes.ArriveRefused arrivals.Range)
+        (core_step keeps old new hands (steps.Arrive m) (outcomes.ArriveRefused arrivals.Range) h step)))
+        (subst (λ (o : Option Msg). IsKnown start.core.geometry s.told old.next o OutOfRange) (sym is) range);
+  }
+
+  refused : (why : ArriveRefusal) → IsCoreStep keeps old new (steps.Arrive m) (outcomes.ArriveRefused why) → KeepsOn keeps was now
+  refused why step = core_keeps_on keeps old new (steps.Arrive m) (outcomes.ArriveRefused why) step refl refl refl hands h
+
+  pub arrives_on : (r : Result ℕ ArriveRefusal) → IsCoreStep keeps old new (steps.Arrive m) (arrived_so r)
+      → (arrived_so r, world_of new) ≡ arrive old.geometry (world_of old) m → TakesIn keeps was now m r
+  arrives_on (Ok t) step e =
+      let w = world_of old in
+      let k = gives_ticket w.next w (record w { waiting = w.waiting ++ (w.next, m) ∷ []; next = w.next + 1 }) w.failed (is_in_range old.geometry m)
+      (w.next == 2 ^ 64 - 1) (nat_le w.slots (length w.waiting + length (held w))) t (world_of new) e in
+      with_ticket t step k.0 k.1
+  arrives_on (Err arrivals.Range) step e =
+      let w = world_of old in
+      out_of_range step (is_refused w.next w (record w { waiting = w.waiting ++ (w.next, m) ∷ []; next = w.next + 1 }) w.failed (is_in_range old.geometry m)
+      (w.next == 2 ^ 64 - 1) (nat_le w.slots (length w.waiting + length (held w))) (world_of new) e)
+  arrives_on (Err arrivals.Full) step e = refused arrivals.Full step
+  arrives_on (Err arrivals.Exhausted) step e = refused arrivals.Exhausted step
+  arrives_on (Err arrivals.Failed) step e = refused arrivals.Failed step

@@ -1,14 +1,17 @@
 //! What a server does with its core between one line and the next: each call goes on with its run.
 
 ghost use Rattle.std.specs.Prelude.{◌≡◌, ◌++◌, true, List, [], None, OnOk, OnErr};
+ghost use Rattle.legal_runs.specs.Events.{arrive};
 ghost use Rattle.machine.specs.declared.hands.Hand.{Hand};
 ghost use Rattle.oplog.specs.Layout.{layout_of};
 ghost use Rattle.oplog.specs.Stands.{in_force, named_area};
-ghost use Rattle.serving.specs.Steps.{AnswersOn, Holds, KeepsOn};
+ghost use Rattle.scheduler.specs.Calls.{arrived};
+ghost use Rattle.scheduler.specs.Kept.{world_of};
+ghost use Rattle.serving.specs.Steps.{AnswersOn, Holds, KeepsOn, TakesIn};
 
 use disk::Disk;
-use legal_runs::{CoreFault, PointRefusal};
-use message::Reply;
+use legal_runs::{ArriveRefusal, CoreFault, PointRefusal};
+use message::{Msg, Reply};
 use scheduler::Core;
 
 /// Logs all that ran, in one go.
@@ -20,6 +23,16 @@ pub(crate) fn log_all<D: Disk>(core: &mut Core<D>) -> Result<usize, CoreFault>
 {
     let count = core.slots();
     core.log(count)
+}
+
+/// Takes the message of a line in: its ticket, or why it has none.
+pub(crate) fn take_in<D: Disk>(core: &mut Core<D>, m: &Msg) -> Result<u64, ArriveRefusal>
+    ensures kept { (hands : List Hand) → Holds (record { core = core.old; hands = hands })
+        → TakesIn D.keeps (record { core = core.old; hands = hands }) (record { core = core.new; hands = hands }) m.now result }
+    ensures arrived { (arrived result, world_of core.new) ≡ arrive core.old.geometry (world_of core.old) m.now }
+{
+    core.stands();
+    core.arrive(m)
 }
 
 /// Answers the longest-logged message, if there is one: its ticket and its reply.
