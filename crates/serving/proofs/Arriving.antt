@@ -1,8 +1,8 @@
 -- A line that is read, and its message that arrives.
-use Rattle.std.proofs.Common.{◌≡◌, ℕ, ◌+◌, true, false, List, [], ◌∷◌, ◌++◌, Option, Some, None, refl, ap, sym, ◌∙◌, subst, append_assoc, append-nil}
+use Rattle.std.proofs.Common.{◌≡◌, ℕ, ◌+◌, true, false, List, [], ◌∷◌, ◌++◌, Option, refl, ap, sym, ◌∙◌, subst, append_assoc, append-nil}
 use Rattle.std.specs.Prelude.{Bool, Result, Ok, Err, if◌then◌else◌, not, nat_le, ◌==◌, ◌^◌, ◌-◌, length}
 use Rattle.affinity.specs.declared.geometry.Geometry.{Geometry}
-use Rattle.legal_runs.proofs.Moves.{Answers, Arrives, Backs, Grants, Logs, Move, Passed, Stays, moves, passed}
+use Rattle.legal_runs.proofs.Moves.{Answers, Arrives, Backs, Grants, Logs, Move, Passed, Stays, moves}
 use Rattle.legal_runs.specs.Events.{Event, Hands, arrive}
 use Rattle.legal_runs.specs.Runs.{IsLegal, arrived, arrives, last}
 use Rattle.legal_runs.specs.World.{Entry, World, held}
@@ -76,9 +76,11 @@ known_push g told n [] l [] known k one = (one, tt)
 known_push g told n [] l (x ∷ row) known k one = absurd k
 known_push g told n (y ∷ ls) l [] known k one = absurd k
 known_push g told n (y ∷ ls) l (x ∷ row) known k one =
-    let m = next_ticket n (asked_in g (message_of y)) in
-    (k.0, known_push g told m ls l row known k.1
-      (subst (λ (t : ℕ). IsKnown g told t (message_of l) known) (next-append n (asked_in g (message_of y)) (asked g ls)) one))
+    let m = next_ticket n (asked_in g (message_of y)) in (
+      k.0,
+      known_push g told m ls l row known k.1
+          (subst (λ (t : ℕ). IsKnown g told t (message_of l) known) (next-append n (asked_in g (message_of y)) (asked g ls)) one),
+    )
 
 module _ (keeps : Type 0) (start old : Handed) (taken : List (List ℕ)) (said row : List Line) (s : IsServing keeps start old taken said row) where
   abbrev g : Geometry
