@@ -1,9 +1,10 @@
 -- What each call does to those that wait and those that are held.
-use Rattle.std.proofs.Common.{◌≡◌, ◌∙◌, ℕ, ◌<◌, Bool, true, false, not, ◌&&◌, List, [], ◌∷◌, ◌++◌, find, Option, Some, None, refl, ap, sym, subst, inl, inr, arith, length}
+use Rattle.std.proofs.Common.{◌≡◌, ◌∙◌, ℕ, ◌+◌, ◌*◌, ◌<◌, ◌≤◌, Bool, true, false, not, ◌&&◌, List, [], ◌∷◌, ◌++◌, find, Option, Some, None, refl, ap, sym, subst, inl, inr, arith, length}
 use Rattle.std.specs.List.{list_any, AllByRecursion}
 use Rattle.std.proofs.lemmas.Bool.{eq-eqb, eqb-true, cases_Bool, and_parts, and_from, true≢false}
 use Rattle.std.proofs.lemmas.Bool.Decides.{eqb_tells}
-use Rattle.affinity.specs.Interval.{IsAffinity}
+use Rattle.std.proofs.lemmas.Nat.{mul-le}
+use Rattle.affinity.specs.Interval.{IsAffinity, server_size}
 use Rattle.affinity.specs.declared.geometry.Geometry.{Geometry}
 use Rattle.turns.specs.Turns.{overlap, is_free_of, has_room, has_slot, has_number, holds_at, without_slot, without_number, next_turn, CameBefore}
 use Rattle.turns.specs.Seats.{times}
@@ -16,6 +17,37 @@ use Rattle.turns.proofs.Seating.{times-append, times-cons_is, times-cons_other, 
 use Rattle.turns.proofs.Sorting.{all-filter, all-last, ascend-filter, ascend-last}
 use Rattle.turns.proofs.Clearing.{find-cons, find-skip, find-all, find-passes, any-found}
 use Rattle.turns.proofs.Earliest.{own_overlap, clear-first}
+
+-- ---- the start
+
+-- there is room for any geometry
+all_below : (g : Geometry) → server_size g ≤ 357
+all_below g =
+    let volumes : g.volumes * (3 + g.stripes) ≤ 8 * 11 = mul-le g.volumes (3 + g.stripes) 8 11 g.volumes_range.1 (let most = g.stripes_range.1 in omega (arith, most)) in
+    let aggregates : g.aggregates * (1 + g.volumes * (3 + g.stripes)) ≤ 4 * 89 = mul-le g.aggregates (1 + g.volumes * (3 + g.stripes)) 4 89 g.aggregates_range.1 (omega (arith, volumes)) in
+    omega (arith, aggregates)
+
+pub turns-start : (g : Geometry) (slots : ℕ) → AreTurns g slots (record { numbers = 357; seats = slots; turns = [] }) (record { numbers = 357; turns = [] })
+turns-start g slots = record {
+  queues = all_below;
+  places = all_below;
+  seats = refl;
+  seated = λ s. omega arith;
+  ascends = tt;
+  waiting_placed = tt;
+  held_placed = tt;
+}
+
+pub turns-begun : (g next : Geometry) (slots : ℕ) (w : Waiting) (h : Held) → AreTurns g slots w h → w.turns ≡ [] → h.turns ≡ [] → AreTurns next slots w h
+turns-begun g next slots w h are none_waits none_held = record {
+  queues = are.queues;
+  places = are.places;
+  seats = are.seats;
+  seated = are.seated;
+  ascends = are.ascends;
+  waiting_placed = rw none_waits tt;
+  held_placed = rw none_held tt;
+}
 
 -- ---- one that arrives
 
@@ -116,7 +148,7 @@ pub turns-gone : (g : Geometry) (slots : ℕ) (w : Waiting) (h k : Held) (t : Tu
     → AreTurns g slots (record w { turns = without_slot t.slot w.turns }) k
 turns-gone g slots w h k t are placed waits same between = record {
   queues = are.queues;
-  places = ap (λ (l : Held). l.numbers) same ∙ are.places;
+  places = subst (λ (l : Held). (any : Geometry) → server_size any ≤ l.numbers) (sym same) are.places;
   seats = are.seats;
   seated = λ s.
       let all = seated-gone slots w.turns h.turns t are.seated waits s in

@@ -40,13 +40,6 @@ impl Holders {
         Ok(Holders { places })
     }
 
-    /// How many numbers there are.
-    pub(crate) fn numbers(&self) -> usize
-        ensures { result ≡ self.now.numbers }
-    {
-        self.places.len()
-    }
-
     /// The one that is held at a number.
     pub(crate) fn at(&self, number: usize) -> Option<Turn>
         ensures { result ≡ find (has_number number) self.now.turns }

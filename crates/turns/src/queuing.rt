@@ -1,7 +1,7 @@
 //! Those that wait and those that are held, and whose turn it is among them.
 ghost use Rattle.std.specs.Prelude.{◌≡◌, ◌+◌, ◌<◌, ◌++◌, ◌∷◌, true, false, [], length, IfOk, IfSome, IfNone};
 ghost use Rattle.std.specs.List.{list_any};
-ghost use Rattle.affinity.specs.Interval.{IsAffinity};
+ghost use Rattle.affinity.specs.Interval.{IsAffinity, server_size};
 ghost use Rattle.turns.specs.Turns.{next_turn, has_slot, has_number, without_slot, without_number, holds_at};
 
 use crate::Turn;
@@ -11,6 +11,16 @@ use crate::queues::Queues;
 use affinity::{Affinity, Geometry, Place};
 use std::alloc::{AllocError, Global};
 use std::marker::Model;
+
+/// How many affinities the greatest geometry has.
+const MOST_AFFINITIES: usize = 357;
+
+// How many affinities a geometry has: their numbers are those below.
+fn affinities(geometry: &Geometry) -> usize
+    ensures { result ≡ server_size geometry.now }
+{
+    usize::from(Affinity::at(geometry, Place::Serial).end())
+}
 
 /// The messages that wait for their turn and those that are held, each with a slot of its own.
 ///
@@ -44,19 +54,27 @@ impl Turns {
     ghost use Rattle.turns.specs.Turns.{at_start, CameBefore, IsNext, HasJoined};
 
     /// No one waits and no one is held. Those that arrive will be at affinities of the geometry, in
-    /// slots below `slots`, which is below the greatest `usize`. `AllocError` where there is no
-    /// memory.
+    /// slots below `slots`, which is below the greatest `usize`. There is room for any geometry.
+    /// `AllocError` where there is no memory.
     pub fn new(alloc: Global, geometry: &Geometry, slots: usize) -> Result<Turns, AllocError>
         requires { slots < usize.MAX }
         ensures { IfOk result (λ turns. turns ≡ at_start geometry.now slots) }
     {
-        let numbers = usize::from(Affinity::at(geometry, Place::Serial).end());
         Ok(Turns {
             geometry: *geometry,
-            waiting: Queues::new(alloc, numbers, slots)?,
-            held: Holders::new(alloc, numbers)?,
+            waiting: Queues::new(alloc, MOST_AFFINITIES, slots)?,
+            held: Holders::new(alloc, MOST_AFFINITIES)?,
             slots,
         })
+    }
+
+    /// Goes over to another geometry, while no one waits and no one is held. Takes no memory.
+    pub fn begin(&mut self, geometry: &Geometry)
+        requires none_waits { self.old.waiting ≡ [] }
+        requires none_held { self.old.held ≡ [] }
+        ensures { self.new ≡ at_start geometry.now self.old.slots }
+    {
+        self.geometry = *geometry;
     }
 
     /// The first of those that wait that may go: no one at a related affinity is held, or came
@@ -66,7 +84,7 @@ impl Turns {
         ensures { result ≡ next_turn room self.now.held self.now.waiting }
     {
         let mut best = None;
-        for number in 0..self.held.numbers() {
+        for number in 0..affinities(&self.geometry) {
             best = better(
                 &self.geometry,
                 &self.held,

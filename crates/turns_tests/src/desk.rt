@@ -26,15 +26,18 @@ impl Model for Desk {
 }
 
 impl Desk {
-    /// A desk of so many slots. Where memory is refused once, the same call gives it.
+    /// A desk of so many slots, whose turns were made for the default geometry. Where memory is refused once, the same
+    /// call gives it.
     pub fn new(alloc: Global, g: &Geometry, slots: usize) -> Result<Desk, AllocError> {
         if slots == usize::MAX {
             return Err(AllocError);
         }
-        let turns = match Turns::new(alloc, g, slots) {
+        let first = Geometry::default();
+        let mut turns = match Turns::new(alloc, &first, slots) {
             Ok(turns) => turns,
-            Err(_) => Turns::new(alloc, g, slots)?,
+            Err(_) => Turns::new(alloc, &first, slots)?,
         };
+        turns.begin(g);
         Ok(Desk {
             turns,
             geometry: *g,

@@ -13,7 +13,7 @@ pub push-requires-clause-number : goal.push-requires-clause-number
 push-requires-clause-number c =
     let placed = subst (λ (q : Queuing). IsAffinity q.geometry c.args.turn.affinity) (sym c.self.view_is) c.requires.placed in
     let below = number-below c.self.inside.geometry c.args.turn.affinity placed in
-    let all = c.self.invariant.queues in
+    let all = c.self.invariant.queues c.self.inside.geometry in
     omega (arith, below, all)
 
 pub push-requires-clause-seat : goal.push-requires-clause-seat

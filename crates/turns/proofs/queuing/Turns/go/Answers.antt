@@ -14,7 +14,7 @@ hold-requires-clause-number c =
     let next = subst (λ (q : Queuing). IsNext q c.args.turn) (sym c.self.view_is) c.requires in
     let placed = next-placed c.self.inside.geometry c.self.inside.slots c.self.inside.waiting c.self.inside.held c.self.invariant c.args.turn next.0 next.1 in
     let below = number-below c.self.inside.geometry c.args.turn.affinity placed in
-    let all = c.self.invariant.places in
+    let all = c.self.invariant.places c.self.inside.geometry in
     omega (arith, below, all)
 
 pub hold-requires-clause-free : goal.hold-requires-clause-free

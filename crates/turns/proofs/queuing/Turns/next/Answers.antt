@@ -26,7 +26,6 @@ returns c =
     let room = c.args.room in
     let held = c.self.inside.held.turns in
     let waiting = c.self.inside.waiting.turns in
-    let places = c.self.invariant.places in
     let all : c.loop-number.number ≡ server_size c.self.inside.geometry = omega arith in
     c.loop-number.invariant
     ∙ ap (λ n. first_below room held waiting n) all
