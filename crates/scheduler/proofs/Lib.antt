@@ -1,3 +1,26 @@
 -- ---- for the crates above: the calls of a core as events, and that jobs stay what they are
 pub mod Called
 pub mod Staying
+-- ---- this crate's own
+mod Splits
+mod Lines
+mod Trees
+mod Choosing
+mod Tests
+mod Counting
+mod Arriving
+mod Granting
+mod Returning
+mod Answering
+mod Journaling
+mod Logging
+mod Pointing
+mod AnswerCall
+mod ArriveCall
+mod Placing
+mod GrantCall
+mod ReturnCall
+mod Shifting
+mod Gathering
+mod LogCall
+mod Opened

@@ -1,3 +1,6 @@
 pub mod Kept
 pub mod Jobs
 pub mod Calls
+pub mod Slots
+pub mod Parts
+pub mod Moving

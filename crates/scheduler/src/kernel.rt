@@ -1,29 +1,38 @@
 //! The core: the messages that it has taken in, what they run on, and the journal of what was carried out.
-ghost use Rattle.std.specs.Prelude.{◌≡◌, ◌+◌, ◌≤◌, ◌↔◌, ℕ, true, false, List, Some, None, [], length, OnOk, IfOk, IfErr, IsSome};
+ghost use Rattle.std.specs.Prelude.{cond, nat_lt, ◌≡◌, ◌+◌, ◌≤◌, ◌↔◌, ℕ, true, false, List, Some, None, [], length, OnOk, IfOk, IfErr, IsSome, MatchResult};
+ghost use Rattle.checkpoint.specs.Header.{HasHeader};
 ghost use Rattle.checkpoint.specs.Recovery.{holds};
 ghost use Rattle.checkpoint.specs.Refusals.{IsRefused};
 ghost use Rattle.checkpoint.specs.declared.fault.OpenFault.TheVariants as faults;
 ghost use Rattle.image.specs.Pieces.{piece_count};
+ghost use Rattle.journal.specs.Opening.{IsRefusedUnwritten, OpeningLeaves};
 ghost use Rattle.legal_runs.specs.Events.{answer, arrive, batch, flip_refusal, give_back, out_with, point_refusal};
 ghost use Rattle.legal_runs.specs.Laws.{IsSound};
 ghost use Rattle.legal_runs.specs.World.{Entry};
 ghost use Rattle.oplog.specs.Layout.{layout_of};
 ghost use Rattle.oplog.specs.Stands.{in_force, named_area};
 ghost use Rattle.scheduler.specs.Calls.{Counts, IsGranted, IsLogStep, IsPieceStep, IsPointStep, answered, arrived, log_rose, point_rose};
+ghost use Rattle.arena.specs.Row.{chain_at};
+ghost use Rattle.scheduler.specs.Slots.{HasChains};
 ghost use Rattle.scheduler.specs.Jobs.{IsResultOf};
 ghost use Rattle.scheduler.specs.Kept.{IsJustOpened, Kept, StandsNow, StandsThroughout, world_of};
 
 use crate::Granted;
+use crate::history::History;
+use crate::memory::{Memory, take_memory};
+use crate::moving::{gather, move_ran};
+use crate::slot::{LOGGED, OUT, RAN, Slot, WAITING};
+use affinity::{changing, place_of};
+use arena::Arena;
 use checkpoint::{OpenError, OpenFault};
 use disk::Disk;
+use journal::Journal;
 use legal_runs::{ArriveRefusal, CoreFault, PointRefusal};
-use message::{Msg, Reply};
-use parcel::Done;
+use message::{Msg, Reply, know_message};
+use parcel::{Done, Job, Tree};
 use std::alloc::Global;
 use std::marker::Model;
-
-#[derive(Clone, Copy, Debug, PartialEq, Eq)]
-enum Never {}
+use turns::{Turn, Turns};
 
 /// The messages that a server has taken in, the tree that they run on, and the journal of what was carried out.
 ///
@@ -31,31 +40,112 @@ enum Never {}
 /// consistency point goes on; what is out is still taken back, and what was logged is still answered.
 #[derive(Drop)]
 pub struct Core<D: Disk> {
-    disk: D,
-    never: Never,
+    slots: Arena<Slot>,
+
+    /// By slot: what a message that ran is answered.
+    replies: Vec<Reply>,
+    turns: Turns,
+    tree: Tree,
+    journal: Journal<D>,
+
+    /// What is handed to the journal. After a fault of the device it stays: it is in doubt.
+    batch: Vec<Msg>,
+
+    /// The ticket of the next message.
+    next: u64,
+
+    /// How many changing messages are out or ran.
+    flight: usize,
+
+    /// How many messages ran.
+    ran: usize,
+    history: History,
 }
 
 impl<D: Disk> Model for Core<D> {
+    ghost use Rattle.std.specs.Prelude.{◌≡◌, ◌≤◌, length, vec_capacity};
+    ghost use Rattle.arena.specs.Row.{capacity_of};
     ghost use Rattle.scheduler.specs.Kept.{Kept};
+    ghost use Rattle.scheduler.specs.Parts.{IsCore, kept_of, parts};
+    ghost use Rattle.scheduler.specs.Slots.{HasChains, line};
 
     ghost Value = { Kept };
 
-    ghost view = { λ c. elim c.never [ ] };
+    ghost view = { λ c. kept_of
+        (parts c.slots c.replies.items c.tree c.journal c.turns c.batch.items c.next c.flight c.history.opened c.history.since) };
+
+    ghost invariant = { λ c. HasChains c.slots
+        × IsCore D.keeps
+        (parts c.slots c.replies.items c.tree c.journal c.turns c.batch.items c.next c.flight c.history.opened c.history.since)
+        × (capacity_of c.slots ≤ vec_capacity c.batch)
+        × (length c.replies.items ≡ capacity_of c.slots)
+        × (c.ran ≡ length (line c.slots c.replies.items 2)) };
+}
+
+/// 1 where it is so, and else 0.
+pub(crate) fn one_if(is_so: bool) -> usize
+    ensures { result ≡ cond is_so 1 0 }
+{
+    if is_so { 1 } else { 0 }
+}
+
+// Whether a message is out, ran or is logged.
+fn holds_any(slots: &Arena<Slot>) -> bool
+    requires { HasChains slots.now }
+    ensures { result ≡ nat_lt 0 (length (chain_at slots.now 3) + (length (chain_at slots.now 2) + length (chain_at slots.now 1))) }
+{
+    slots.front(OUT).is_some() || slots.front(RAN).is_some() || slots.front(LOGGED).is_some()
 }
 
 impl<D: Disk> Core<D> {
-    /// Opens a device that a crash may have left, for as many messages at once as there are slots. Takes its own memory
-    /// before the device is touched.
-    pub fn open(_alloc: Global, d: D, _slots: usize) -> Result<Core<D>, OpenError<D>>
-        ensures opened { IfOk result (IsJustOpened _slots) }
+    /// Opens a device that a crash may have left, for as many messages at once as there are slots.
+    ///
+    /// Takes its own memory first: where there is none, the device comes back as it was given. Then the device is opened
+    /// as `journal::open` does it, which reads it, finishes a cut that was in progress and makes a point, and with the same
+    /// faults. No message waits or is held then, the next ticket is 0, and the log has all its room.
+    pub fn open(alloc: Global, d: D, slots: usize) -> Result<Core<D>, OpenError<D>>
+        ensures opened { IfOk result (IsJustOpened slots) }
+        ensures header { IfOk result (λ core. D.keeps → HasHeader core.geometry (D.medium d).now) }
         ensures stood { IfOk result (λ core. D.keeps → holds core.geometry (D.medium d).now ≡ Some (world_of core).settled) }
+
+        // A crash at any moment of the call leaves what a crash before might have left, until the first sync is over, and
+        // then what stands for the same, or is refused for the same fault.
+        ensures any_moment { D.keeps → MatchResult result
+            (λ core. OpeningLeaves (D.medium d) core.medium)
+            (λ e. OpeningLeaves (D.medium d) (D.medium e.disk)) }
         ensures refused { IfErr result (λ e. D.keeps → IsRefused (D.medium d).now e.fault) }
+        ensures unwritten { IfErr result (λ e. D.keeps → IsRefusedUnwritten (D.medium d) e.fault (D.medium e.disk)) }
         ensures device { IfErr result (λ e. e.fault ≡ faults.Device ↔ ((D.medium e.disk).faults ≡ (D.medium d).faults + 1)) }
         ensures fine { IfOk result (λ core. core.medium.faults ≡ (D.medium d).faults) }
+        ensures len { MatchResult result
+            (λ core. length core.medium.now ≡ length (D.medium d).now)
+            (λ e. length (D.medium e.disk).now ≡ length (D.medium d).now) }
     {
-        Err(OpenError {
-            disk: d,
-            fault: OpenFault::OutOfMemory,
+        let Ok(memory) = take_memory(alloc, slots) else {
+            return Err(OpenError {
+                disk: d,
+                fault: OpenFault::OutOfMemory,
+            });
+        };
+        let (journal, tree) = journal::open(alloc, d)?;
+        let Memory {
+            slots,
+            replies,
+            mut turns,
+            batch,
+        } = memory;
+        turns.begin(&journal.geometry());
+        Ok(Core {
+            slots,
+            replies,
+            turns,
+            history: History::begun(&tree),
+            tree,
+            journal,
+            batch,
+            next: 0,
+            flight: 0,
+            ran: 0,
         })
     }
 
@@ -65,7 +155,35 @@ impl<D: Disk> Core<D> {
         ensures geometry { self.new.geometry ≡ self.old.geometry }
         ensures untouched { self.new.medium ≡ self.old.medium }
     {
-        match self.never {}
+        if self.journal.failed() {
+            return Err(ArriveRefusal::Failed);
+        }
+        let g = self.journal.geometry();
+        let Some(affinity) = place_of(&g, m.kind(), m.numbers()) else {
+            return Err(ArriveRefusal::Range);
+        };
+        if self.next == u64::MAX {
+            return Err(ArriveRefusal::Exhausted);
+        }
+        know_message(m);
+        let ticket = self.next;
+        let Ok(slot) = self.slots.put(Slot {
+            ticket,
+            message: *m,
+            affinity,
+        })
+        else {
+            return Err(ArriveRefusal::Full);
+        };
+        self.slots.move_to(slot, WAITING);
+        self.turns.arrive(Turn {
+            slot,
+            affinity,
+            changing: changing(m.kind()),
+            ticket,
+        });
+        self.next += 1;
+        Ok(ticket)
     }
 
     /// Lets the eligible message with the least ticket go out, with what it needs of the tree.
@@ -74,7 +192,31 @@ impl<D: Disk> Core<D> {
         ensures geometry { self.new.geometry ≡ self.old.geometry }
         ensures untouched { self.new.medium ≡ self.old.medium }
     {
-        match self.never {}
+        if self.journal.failed() {
+            return Granted::Failed;
+        }
+        let room = self.flight < self.journal.room();
+        let Some(turn) = self.turns.next(room) else {
+            return match self.turns.next(true) {
+                Some(_) => Granted::NoRoom,
+                None => Granted::NoneEligible,
+            };
+        };
+        let number = turn.slot;
+        let more = one_if(turn.changing);
+        let Some(slot) = self.slots.get(number) else {
+            unreachable!()
+        };
+        let ticket = slot.ticket;
+        let message = slot.message;
+        let Some((standing, parcels)) = self.tree.lend(turn.affinity) else {
+            unreachable!()
+        };
+        let g = self.journal.geometry();
+        self.turns.go(turn);
+        self.slots.move_to(number, OUT);
+        self.flight += more;
+        Granted::Job(Job::new(g, ticket, message, standing, parcels))
     }
 
     /// Takes back what came of a job that is out.
@@ -86,7 +228,19 @@ impl<D: Disk> Core<D> {
         ensures geometry { self.new.geometry ≡ self.old.geometry }
         ensures untouched { self.new.medium ≡ self.old.medium }
     {
-        match self.never {}
+        let g = self.journal.geometry();
+        let Some(affinity) = place_of(&g, d.msg().kind(), d.msg().numbers()) else {
+            unreachable!()
+        };
+        let Some(slot) = self.turns.holder(affinity) else {
+            unreachable!()
+        };
+        self.replies[slot] = *d.reply();
+        let Ok(()) = self.tree.restore(affinity, d.into_parcels()) else {
+            unreachable!()
+        };
+        self.slots.move_to(slot, RAN);
+        self.ran += 1;
     }
 
     /// Logs the first `n` of those that ran, in the order in which they were given back, or all where fewer ran, and
@@ -102,7 +256,20 @@ impl<D: Disk> Core<D> {
         ensures failed { self.old.failed ≡ true → self.new.medium ≡ self.old.medium }
         ensures untouched { length (batch (world_of self.old) n) ≡ 0 → self.new.medium ≡ self.old.medium }
     {
-        match self.never {}
+        if self.journal.failed() {
+            return Err(CoreFault::Failed);
+        }
+        let count = n.min(self.ran);
+        let changing = gather(&self.slots, &self.replies, count, &mut self.batch);
+        if self.journal.log(&self.batch).is_err() {
+            return Err(CoreFault::Device);
+        }
+        self.history.note(&self.batch);
+        self.batch.clear();
+        move_ran(&mut self.slots, count);
+        self.flight -= changing;
+        self.ran -= count;
+        Ok(count)
     }
 
     /// The ticket and the reply of the message that was logged first. It is gone then: others may take its place, and
@@ -112,7 +279,29 @@ impl<D: Disk> Core<D> {
         ensures geometry { self.new.geometry ≡ self.old.geometry }
         ensures untouched { self.new.medium ≡ self.old.medium }
     {
-        match self.never {}
+        let slot = self.slots.front(LOGGED)?;
+        let reply = self.replies[slot];
+        let Some(taken) = self.slots.take(slot) else {
+            unreachable!()
+        };
+        self.turns.free(taken.affinity);
+        Some((taken.ticket, reply))
+    }
+
+    // Why a consistency point can't begin.
+    fn point_refusal(&self) -> Option<PointRefusal>
+        ensures { result ≡ point_refusal (world_of self.now) }
+    {
+        if self.journal.failed() {
+            return Some(PointRefusal::Failed);
+        }
+        if self.journal.left().is_some() {
+            return Some(PointRefusal::Running);
+        }
+        if holds_any(&self.slots) {
+            return Some(PointRefusal::Held);
+        }
+        None
     }
 
     /// Makes a consistency point, where no message is held: the log is empty then.
@@ -128,7 +317,13 @@ impl<D: Disk> Core<D> {
             (named_area (layout_of self.new.geometry) self.new.medium.now) self.new.medium.now ≡ []) }
         ensures refused { IsSome (point_refusal (world_of self.old)) → self.new.medium ≡ self.old.medium }
     {
-        match self.never {}
+        if let Some(why) = self.point_refusal() {
+            return Err(why);
+        }
+        if self.journal.point(&self.tree).is_err() {
+            return Err(PointRefusal::Device);
+        }
+        Ok(())
     }
 
     /// Begins a consistency point that goes on while messages are served: what is settled now is what it will hold.
@@ -141,7 +336,13 @@ impl<D: Disk> Core<D> {
         ensures any_moment { D.keeps → StandsThroughout [] self.old self.new }
         ensures refused { IsSome (point_refusal (world_of self.old)) → self.new.medium ≡ self.old.medium }
     {
-        match self.never {}
+        if let Some(why) = self.point_refusal() {
+            return Err(why);
+        }
+        if self.journal.cut(&self.tree).is_err() {
+            return Err(PointRefusal::Device);
+        }
+        Ok(())
     }
 
     /// Writes the next piece of the consistency point in progress, and tells how many are left. With none left it
@@ -154,7 +355,16 @@ impl<D: Disk> Core<D> {
         ensures failed { self.old.failed ≡ true → self.new.medium ≡ self.old.medium }
         ensures none_left { self.old.left ≡ Some 0 → self.new.medium ≡ self.old.medium }
     {
-        match self.never {}
+        if self.journal.failed() {
+            return Err(PointRefusal::Failed);
+        }
+        let Some(_) = self.journal.left() else {
+            return Err(PointRefusal::NotRunning);
+        };
+        match self.journal.piece() {
+            Ok(left) => Ok(left),
+            Err(_) => Err(PointRefusal::Device),
+        }
     }
 
     /// Ends the consistency point in progress, once every piece is written.
@@ -166,7 +376,19 @@ impl<D: Disk> Core<D> {
         ensures any_moment { D.keeps → StandsThroughout [] self.old self.new }
         ensures refused { IsSome (flip_refusal (world_of self.old)) → self.new.medium ≡ self.old.medium }
     {
-        match self.never {}
+        if self.journal.failed() {
+            return Err(PointRefusal::Failed);
+        }
+        let Some(left) = self.journal.left() else {
+            return Err(PointRefusal::NotRunning);
+        };
+        if left > 0 {
+            return Err(PointRefusal::Unfinished);
+        }
+        if self.journal.flip().is_err() {
+            return Err(PointRefusal::Device);
+        }
+        Ok(())
     }
 
     /// How many messages fit in.
@@ -174,14 +396,14 @@ impl<D: Disk> Core<D> {
         ensures slots { result ≡ self.now.slots }
         ensures sound { IsSound self.now.geometry (world_of self.now) }
     {
-        match self.never {}
+        self.slots.capacity()
     }
 
     /// How many pieces are left to write, while a consistency point is in progress.
     pub fn left(&self) -> Option<usize>
         ensures { result ≡ self.now.left }
     {
-        match self.never {}
+        self.journal.left()
     }
 
     /// Does nothing: its contract tells what a crash leaves now.
@@ -189,13 +411,13 @@ impl<D: Disk> Core<D> {
         ensures no_doubt { self.now.failed ≡ false → self.now.doubt ≡ [] }
         ensures now { D.keeps → StandsNow self.now }
     {
-        match self.never {}
+        let _next = self.next;
     }
 
     /// The device.
     pub fn into_disk(self) -> D
         ensures { D.medium result ≡ self.medium }
     {
-        self.disk
+        self.journal.into_disk()
     }
 }

@@ -5,8 +5,12 @@
 #![tactic(auto)]
 
 mod granted;
+mod history;
 mod kernel;
 pub mod laws;
+mod memory;
+mod moving;
+mod slot;
 
 pub use granted::Granted;
 pub use kernel::Core;

@@ -1,0 +1,89 @@
+-- The call that answers, by what its callees give.
+use Rattle.std.proofs.Common.{◌≡◌, ℕ, zero, suc, ◌<◌, List, [], ◌∷◌, map, length, get_or, Some, refl, ap, sym, subst, ◌∙◌, arith}
+use Rattle.std.specs.Prelude.{unwrap_or}
+use Rattle.std.specs.List.{concat}
+use Rattle.arena.proofs.RowLemmas.{chain-front, chained-listed, front-chained}
+use Rattle.arena.proofs.Times.{times-append}
+use Rattle.arena.specs.Lists.{without}
+use Rattle.arena.specs.Row.{IsParted, Row, after_take, capacity_of, chain_at, front_of, value_at}
+use Rattle.journal.specs.Journal.{Held}
+use Rattle.legal_runs.specs.Events.{answer}
+use Rattle.legal_runs.specs.declared.outcomes.Outcome.TheVariants as outcomes
+use Rattle.message.specs.declared.Msg.{Msg}
+use Rattle.message.specs.declared.Reply.{Reply}
+use Rattle.message.specs.declared.Reply.TheVariants.{Done}
+use Rattle.parcel.specs.Tree.{TreeView}
+use Rattle.scheduler.proofs.Answering.{answer_core, answer_front, with_answer}
+use Rattle.scheduler.proofs.Lines.{TakenLines, line_taken}
+use Rattle.scheduler.specs.Parts.{IsCore, Parts, parts, world_in}
+use Rattle.scheduler.specs.Slots.{HasChains, Place, line, no_slot, place_at}
+use Rattle.scheduler.specs.declared.slot.Slot.{Slot}
+use Rattle.turns.specs.Turns.{Queuing, without_number}
+
+-- the first slot of a chain is one that there is
+pub front_low : {T : Type 0} (row : Row T) (c i : ℕ) → IsParted row → front_of row c ≡ Some i → i < capacity_of row
+front_low row c i parted first =
+    let some = chained-listed row i c (front-chained row i c first) in
+    let all = times-append i row.free (concat row.chains) in
+    parted.within i (omega (arith, some, all))
+
+module _ (keeps : Type 0) (row : Row Slot) (replies : List Reply) (tree : TreeView) (journal : Held) (turns : Queuing) (batch : List Msg) (next flight : ℕ)
+    (opened : TreeView) (since : List Msg) (is : HasChains row)
+    (k : IsCore keeps (parts row replies tree journal turns batch next flight opened since)) (slot : ℕ) (first : front_of row 3 ≡ Some slot)
+    (taken : Slot) (value : value_at row slot ≡ Some taken) where
+  abbrev p : Parts
+  p = parts row replies tree journal turns batch next flight opened since
+
+  abbrev x : Place
+  x = (slot, taken, get_or replies slot Done)
+
+  abbrev behind : List Place
+  behind = map (place_at row replies) (without slot (chain_at row 3))
+
+  whole : p.lines.logged ≡ x ∷ behind
+  whole = ap (map (place_at row replies)) (chain-front row slot 3 is.parted first)
+      ∙ (λ i. (slot, unwrap_or (value i) no_slot, get_or replies slot Done) ∷ behind)
+
+  lines : TakenLines row (after_take row slot) replies 3 behind
+  lines = line_taken row replies is 3 x behind whole slot refl
+
+  abbrev turned : Queuing
+  turned = record turns { held = without_number taken.affinity.number turns.held }
+
+  abbrev after : Parts
+  after = parts (after_take row slot) replies tree journal turned batch next flight opened since
+
+  after_is : after ≡ with_answer p behind (suc p.free) taken.affinity.number
+  after_is = λ i. record (with_answer p behind (suc p.free) taken.affinity.number) {
+    lines = record {
+      waiting = lines.stays 0 (λ same. omega (arith, same)) i;
+      out = lines.stays 1 (λ same. omega (arith, same)) i;
+      ran = lines.stays 2 (λ same. omega (arith, same)) i;
+      logged = lines.left i;
+    };
+    free = lines.free i;
+    capacity = lines.size i;
+  }
+
+  pub answer_call_core : IsCore keeps after
+  answer_call_core = subst (IsCore keeps) (sym after_is) (answer_core keeps p k x behind whole (suc p.free) refl)
+
+  pub answer_call_chains : IsParted (after_take row slot) → HasChains (after_take row slot)
+  answer_call_chains parted = record { parted = parted; four = lines.four ∙ is.four }
+
+  pub answer_call_size : capacity_of (after_take row slot) ≡ capacity_of row
+  answer_call_size = lines.size
+
+  pub answer_call_ran : length (line (after_take row slot) replies 2) ≡ length (line row replies 2)
+  answer_call_ran = ap length (lines.stays 2 (λ same. omega (arith, same)))
+
+  pub answer_call_world : (outcomes.Answered taken.ticket (get_or replies slot Done), world_in after) ≡ answer (world_in p) (world_in p).logged
+  answer_call_world =
+      (λ i. (outcomes.Answered taken.ticket (get_or replies slot Done), world_in (after_is i)))
+      ∙ ap (answer (world_in p)) (sym (answer_front keeps p k x behind whole (suc p.free) refl))
+
+-- an item that there is, whatever stands for one that isn't
+pub get_or_any : {X : Type 0} (xs : List X) (i : ℕ) (d e : X) → i < length xs → get_or xs i d ≡ get_or xs i e
+get_or_any [] i d e low = absurd (omega (arith, low))
+get_or_any (x ∷ xs) zero d e low = refl
+get_or_any (x ∷ xs) (suc i) d e low = get_or_any xs i d e (omega (arith, low))

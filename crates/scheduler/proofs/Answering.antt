@@ -1,0 +1,108 @@
+-- A core that answers.
+use Rattle.std.proofs.Common.{◌≡◌, ℕ, suc, Bool, true, false, List, [], ◌∷◌, ◌++◌, map, length, refl, ap, sym, subst, ◌∙◌, arith, inl, inr}
+use Rattle.std.specs.Prelude.{◌||◌, ◌&&◌, not}
+use Rattle.std.specs.List.{AllByRecursion}
+use Rattle.std.proofs.lemmas.Bool.{eq-eqb, or_left, true≢false}
+use Rattle.std.proofs.lemmas.Bool.Decides.{eqb_tells}
+use Rattle.affinity.proofs.Paths.{are_related-refl}
+use Rattle.affinity.proofs.Preorder.{are_related-contains}
+use Rattle.affinity.specs.Interval.{contains, number}
+use Rattle.affinity.specs.declared.geometry.Geometry.{Geometry}
+use Rattle.legal_runs.proofs.Lists.{all_back, all_front}
+use Rattle.legal_runs.proofs.Moves.{Answers}
+use Rattle.legal_runs.proofs.Sound.{move_sound}
+use Rattle.legal_runs.specs.Laws.{AreApart}
+use Rattle.legal_runs.specs.World.{Entry, entries, touches}
+use Rattle.message.specs.Messages.{place}
+use Rattle.scheduler.proofs.Tests.{any_answered, any_filter}
+use Rattle.scheduler.specs.Parts.{IsCore, IsPlaced, Parts, entry_of, replied_of, turn_of, world_in}
+use Rattle.scheduler.specs.Slots.{Place}
+use Rattle.turns.specs.Turns.{has_number, without_number}
+
+-- Two places at one affinity are related.
+pub same_number : (g : Geometry) (x y : Place) → IsPlaced g x → IsPlaced g y → y.1.affinity.number ≡ x.1.affinity.number → touches g (entry_of x) (entry_of y) ≡ true
+same_number g x y a b same =
+    sym (are_related-contains g (place g x.1.message) (place g y.1.message) x.1.affinity y.1.affinity a.affinity b.affinity)
+    ∙ (λ i. contains x.1.affinity (same i) || contains y.1.affinity (sym same i))
+    ∙ or_left (contains x.1.affinity x.1.affinity.number) (contains y.1.affinity y.1.affinity.number) itself
+  where
+    turned : (b : Bool) → (b || b) ≡ true → b ≡ true
+    turned true e = refl
+    turned false e = e
+
+    itself : contains x.1.affinity x.1.affinity.number ≡ true
+    itself = turned _ (are_related-contains g (place g x.1.message) (place g x.1.message) x.1.affinity x.1.affinity a.affinity a.affinity ∙ are_related-refl (place g x.1.message))
+
+other_number : (g : Geometry) (x y : Place) → IsPlaced g x → IsPlaced g y → touches g (entry_of x) (entry_of y) ≡ false → not (has_number x.1.affinity.number (turn_of y)) ≡ true
+other_number g x y a b apart = elim (eqb_tells y.1.affinity.number x.1.affinity.number) [
+  | inl e ↦ absurd (true≢false (sym (same_number g x y a b e.1) ∙ apart))
+  | inr n ↦ ap not n.0
+]
+
+pub other_numbers : (g : Geometry) (x : Place) → IsPlaced g x → (ys : List Place) → AllByRecursion (IsPlaced g) ys → AllByRecursion (λ d. touches g (entry_of x) d ≡ false) (map entry_of ys)
+    → AllByRecursion (λ y. not (has_number x.1.affinity.number (turn_of y)) ≡ true) ys
+other_numbers g x a [] all apart = tt
+other_numbers g x a (y ∷ ys) all apart = (other_number g x y a all.0 apart.0, other_numbers g x a ys all.1 apart.1)
+
+-- the entries of those that ran or are logged
+pub entries_of : (ys : List Place) → entries (map replied_of ys) ≡ map entry_of ys
+entries_of [] = refl
+entries_of (y ∷ ys) = ap (λ es. entry_of y ∷ es) (entries_of ys)
+
+abbrev pub with_answer : Parts → List Place → ℕ → ℕ → Parts
+with_answer p logged free number = record p {
+  lines = record p.lines { logged = logged };
+  free = free;
+  turns = record p.turns { held = without_number number p.turns.held };
+}
+
+module _ (keeps : Type 0) (p : Parts) (k : IsCore keeps p) (x : Place) (behind : List Place) (whole : p.lines.logged ≡ x ∷ behind) (free : ℕ)
+    (is_free : free ≡ suc p.free) where
+  abbrev after : Parts
+  after = with_answer p behind free x.1.affinity.number
+
+  abbrev g : Geometry
+  g = p.journal.geometry
+
+  all_logged : AllByRecursion (IsPlaced g) (x ∷ behind)
+  all_logged = subst (AllByRecursion (IsPlaced g)) whole k.placed.logged
+
+  pub answer_front : (world_in p).logged ≡ replied_of x ∷ (world_in after).logged
+  answer_front = ap (map replied_of) whole
+
+  apart_rest : AllByRecursion (λ d. touches g (entry_of x) d ≡ false) (entries (map replied_of behind) ++ (entries (map replied_of p.lines.ran) ++ map entry_of p.lines.out))
+  apart_rest = (subst (λ l. AreApart g (entries l ++ (entries (map replied_of p.lines.ran) ++ map entry_of p.lines.out))) answer_front k.sound.apart).0
+
+  T : Entry → Type 0
+  T d = touches g (entry_of x) d ≡ false
+
+  pub answer_core : IsCore keeps after
+  answer_core =
+      let count = ap length whole in
+      let claimed = k.claimed in
+      let rest = all_back (λ d. touches g (entry_of x) d ≡ false) (entries (map replied_of behind)) _ apart_rest in
+      let behinds = subst (AllByRecursion (λ d. touches g (entry_of x) d ≡ false)) (entries_of behind)
+      (all_front (λ d. touches g (entry_of x) d ≡ false) (entries (map replied_of behind)) _ apart_rest) in
+      let rans = subst (AllByRecursion (λ d. touches g (entry_of x) d ≡ false)) (entries_of p.lines.ran)
+      (all_front (λ d. touches g (entry_of x) d ≡ false) (entries (map replied_of p.lines.ran)) _ rest) in
+      let outs = all_back (λ d. touches g (entry_of x) d ≡ false) (entries (map replied_of p.lines.ran)) _ rest in
+      record {
+        claimed = omega (arith, count, claimed, is_free);
+        placed = record { waiting = k.placed.waiting; out = k.placed.out; ran = k.placed.ran; logged = all_logged.1 };
+        turned = k.turned;
+        seats = k.seats;
+        waits = k.waits;
+        holds = λ test. any_filter test (λ t. not (has_number x.1.affinity.number t)) p.turns.held
+            ∙ k.holds (λ t. not (has_number x.1.affinity.number t) && test t)
+            ∙ any_answered test (λ t. not (has_number x.1.affinity.number t)) p.lines x behind whole (ap not (eq-eqb x.1.affinity.number x.1.affinity.number refl))
+            (other_numbers g x all_logged.0 behind all_logged.1 behinds)
+            (other_numbers g x all_logged.0 p.lines.ran k.placed.ran rans)
+            (other_numbers g x all_logged.0 p.lines.out k.placed.out outs);
+        flies = k.flies;
+        sound = move_sound g (world_in p) (world_in after) _ (Answers (replied_of x) (map replied_of behind) answer_front refl refl) k.sound;
+        geometry = k.geometry;
+        tree = k.tree;
+        is_settled = k.is_settled;
+        stands = k.stands;
+        no_doubt = k.no_doubt;
+      }

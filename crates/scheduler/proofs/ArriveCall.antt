@@ -1,0 +1,159 @@
+-- The call that takes a message in, by what its callees give.
+use Rattle.std.proofs.Common.{◌≡◌, ℕ, ◌+◌, ◌-◌, ◌^◌, ◌<◌, true, false, List, [], ◌∷◌, ◌++◌, map, length, get_or, Ok, Err, refl, ap, sym, subst, ◌∙◌, arith, inl, inr}
+use Rattle.std.specs.Prelude.{◌==◌, ◌||◌, if◌then◌else◌, nat_le, not}
+use Rattle.std.specs.List.{AllByRecursion, list_any}
+use Rattle.std.proofs.lemmas.Bool.Decides.{eqb_tells, leb_tells}
+use Rattle.std.proofs.lemmas.List.Folds.{list_any-append}
+use Rattle.arena.proofs.Times.{times-cons_is, times-cons_other}
+use Rattle.arena.specs.Lists.{times}
+use Rattle.arena.specs.Row.{IsParted, Row, after_move, after_put, capacity_of, chain_at, put_answer, put_into, slot_from}
+use Rattle.journal.specs.Journal.{Held}
+use Rattle.legal_runs.proofs.Lists.{all_back}
+use Rattle.legal_runs.specs.Events.{arrive}
+use Rattle.legal_runs.specs.World.{Entry, held}
+use Rattle.legal_runs.specs.declared.outcomes.ArriveRefusal.TheVariants as arrivals
+use Rattle.legal_runs.specs.declared.outcomes.Outcome.TheVariants as outcomes
+use Rattle.message.specs.Messages.{is_in_range}
+use Rattle.message.specs.declared.Msg.{Msg}
+use Rattle.message.specs.declared.Reply.{Reply}
+use Rattle.message.specs.declared.Reply.TheVariants.{Done}
+use Rattle.parcel.specs.Tree.{TreeView}
+use Rattle.scheduler.proofs.Arriving.{arrival_core, arrival_world, has_slot, with_arrival}
+use Rattle.scheduler.proofs.Choosing.{any_map}
+use Rattle.scheduler.proofs.Counting.{count_of}
+use Rattle.scheduler.proofs.Lines.{JoinedLines, line_joined}
+use Rattle.scheduler.specs.Parts.{IsCore, IsPlaced, Parts, entry_of, parts, turn_of, world_in}
+use Rattle.scheduler.specs.Slots.{HasChains, Place, line, place_at}
+use Rattle.scheduler.specs.declared.slot.Slot.{Slot}
+use Rattle.turns.specs.Turns.{CameBefore, Queuing, has_slot as has_slot_of}
+
+none_free : (free : List ℕ) (value back : Slot) → slot_from free value ≡ Err back → free ≡ []
+none_free [] value back e = refl
+none_free (i ∷ rest) value back e = absurd (cc)
+
+first_free : (free : List ℕ) (value : Slot) (i : ℕ) → slot_from free value ≡ Ok i → (rest : List ℕ) × (free ≡ i ∷ rest)
+first_free [] value i e = absurd (cc)
+first_free (j ∷ rest) value i e = (rest, ap (λ (n : ℕ). n ∷ rest) (let same : j ≡ i = cc in same))
+
+off_line : (row : Row Slot) (replies : List Reply) (i : ℕ) (xs : List ℕ) → times i xs ≡ 0 → list_any (λ y. y.0 == i) (map (place_at row replies) xs) ≡ false
+off_line row replies i [] none = refl
+off_line row replies i (x ∷ xs) none = elim (eqb_tells x i) [
+  | inl e ↦ absurd (let some = times-cons_is i x xs e.1 in omega (arith, some, none))
+  | inr n ↦ (λ z. n.0 z || off_line row replies i xs (sym (times-cons_other i x xs n.1) ∙ none) z)
+]
+
+-- a number that isn't this one
+pub not_this : (n m : ℕ) → (n ≡ m → ⊥) → (n == m) ≡ false
+not_this n m other = elim (eqb_tells n m) [ inl e ↦ absurd (other e.1) | inr e ↦ e.0 ]
+
+came_before : (ticket : ℕ) (ys : List Place) → AllByRecursion (λ e. e.0 < ticket) (map entry_of ys) → CameBefore ticket (map turn_of ys)
+came_before ticket [] all = tt
+came_before ticket (y ∷ ys) all = (all.0, came_before ticket ys all.1)
+
+module _ (keeps : Type 0) (row : Row Slot) (replies : List Reply) (tree : TreeView) (journal : Held) (turns : Queuing) (batch : List Msg) (next flight : ℕ)
+    (opened : TreeView) (since : List Msg) (is : HasChains row)
+    (k : IsCore keeps (parts row replies tree journal turns batch next flight opened since)) (value : Slot) where
+  abbrev p : Parts
+  p = parts row replies tree journal turns batch next flight opened since
+
+  abbrev m : Msg
+  m = value.message
+
+  -- where it is neither refused for the device, nor for its numbers, nor for want of tickets
+  tested : journal.failed ≡ false → is_in_range journal.geometry m ≡ true → (next == 2 ^ 64 - 1) ≡ false
+      → arrive journal.geometry (world_in p) m ≡ (if nat_le (capacity_of row) (length (world_in p).waiting + length (held (world_in p)))
+      then (outcomes.ArriveRefused arrivals.Full, world_in p)
+      else (outcomes.Ticket next, record (world_in p) { waiting = (world_in p).waiting ++ (next, m) ∷ []; next = next + 1 }))
+  tested works range more = λ i.
+      if works i then (outcomes.ArriveRefused arrivals.Failed, world_in p)
+      else if not (range i) then (outcomes.ArriveRefused arrivals.Range, world_in p)
+      else if more i then (outcomes.ArriveRefused arrivals.Exhausted, world_in p)
+      else if nat_le (capacity_of row) (length (world_in p).waiting + length (held (world_in p))) then (outcomes.ArriveRefused arrivals.Full, world_in p)
+      else (outcomes.Ticket next, record (world_in p) { waiting = (world_in p).waiting ++ (next, m) ∷ []; next = next + 1 })
+
+  module _ (back : Slot) (full : put_answer row value ≡ Err back) where
+    pub full_row : after_put row value ≡ row
+    full_row = ap (λ fs. put_into row fs value) (none_free row.free value back full)
+
+    pub full_world : journal.failed ≡ false → is_in_range journal.geometry m ≡ true → (next == 2 ^ 64 - 1) ≡ false
+        → (outcomes.ArriveRefused arrivals.Full, world_in p) ≡ arrive journal.geometry (world_in p) m
+    full_world works range more = sym (tested works range more ∙ (λ i. if filled i then (outcomes.ArriveRefused arrivals.Full, world_in p)
+        else (outcomes.Ticket next, record (world_in p) { waiting = (world_in p).waiting ++ (next, m) ∷ []; next = next + 1 })))
+      where
+        filled : nat_le (capacity_of row) (length (world_in p).waiting + length (held (world_in p))) ≡ true
+        filled = elim (leb_tells (capacity_of row) (length (world_in p).waiting + length (held (world_in p)))) [
+          | inl e ↦ e.0
+          | inr n ↦ absurd (let short = n.1 in let count = count_of p in let claimed = k.claimed in let none = ap length (none_free row.free value back full) in omega (arith, short, count, claimed, none))
+        ]
+
+  module _ (slot : ℕ) (put : put_answer row value ≡ Ok slot) where
+    split : (rest : List ℕ) × (row.free ≡ slot ∷ rest)
+    split = first_free row.free value slot put
+
+    lines : JoinedLines row (after_move (after_put row value) slot 0) replies slot 0 value
+    lines = line_joined row replies is slot 0 (omega arith) split.0 value split.1
+
+    pub arrive_later : CameBefore next turns.waiting
+    arrive_later = subst (CameBefore next) (sym k.waits)
+        (came_before next p.lines.waiting (all_back (λ (e : Entry). e.0 < next) (world_in p).out (world_in p).waiting k.sound.given))
+
+    pub arrive_slot : slot < turns.slots
+    arrive_slot = let low = lines.low in let seats = k.seats in omega (arith, low, seats)
+
+    line_off : (c : ℕ) → list_any (λ (y : Place). y.0 == slot) (line row replies c) ≡ false
+    line_off c = off_line row replies slot (chain_at row c) (lines.none_had c)
+
+    pub arrive_new : list_any (has_slot_of slot) (turns.waiting ++ turns.held) ≡ false
+    arrive_new =
+        list_any-append (has_slot_of slot) turns.waiting turns.held
+        ∙ (λ i. (ap (list_any (has_slot_of slot)) k.waits ∙ any_map turn_of (has_slot_of slot) p.lines.waiting ∙ line_off 0) i || k.holds (has_slot_of slot) i)
+        ∙ (λ i. line_off 3 i || (line_off 2 i || line_off 1 i))
+
+    abbrev x : Place
+    x = (slot, value, get_or replies slot Done)
+
+    abbrev turned : Queuing
+    turned = record turns { waiting = turns.waiting ++ turn_of x ∷ [] }
+
+    abbrev after : Parts
+    after = parts (after_move (after_put row value) slot 0) replies tree journal turned batch (next + 1) flight opened since
+
+    abbrev new_free : ℕ
+    new_free = length (after_move (after_put row value) slot 0).free
+
+    after_is : after ≡ with_arrival p x new_free
+    after_is = λ i. record (with_arrival p x new_free) {
+      lines = record {
+        waiting = lines.joined i;
+        out = lines.stays 1 (λ same. omega (arith, same)) i;
+        ran = lines.stays 2 (λ same. omega (arith, same)) i;
+        logged = lines.stays 3 (λ same. omega (arith, same)) i;
+      };
+      capacity = lines.size i;
+    }
+
+    module _ (ticket : value.ticket ≡ next) (placed : IsPlaced journal.geometry x) where
+      pub arrive_core : IsCore keeps after
+      arrive_core = subst (IsCore keeps) (sym after_is) (arrival_core keeps p k x new_free ticket placed lines.free)
+
+      pub arrive_world : journal.failed ≡ false → is_in_range journal.geometry m ≡ true → (next == 2 ^ 64 - 1) ≡ false
+          → (outcomes.Ticket next, world_in after) ≡ arrive journal.geometry (world_in p) m
+      arrive_world works range more =
+          (λ i. (outcomes.Ticket next, (ap world_in after_is ∙ arrival_world keeps p k x new_free ticket placed lines.free) i))
+          ∙ sym (tested works range more ∙ (λ i. if fits i then (outcomes.ArriveRefused arrivals.Full, world_in p)
+          else (outcomes.Ticket next, record (world_in p) { waiting = (world_in p).waiting ++ (next, m) ∷ []; next = next + 1 })))
+        where
+          fits : nat_le (capacity_of row) (length (world_in p).waiting + length (held (world_in p))) ≡ false
+          fits = elim (leb_tells (capacity_of row) (length (world_in p).waiting + length (held (world_in p)))) [
+            | inl e ↦ absurd (let some = has_slot keeps p k x new_free ticket placed lines.free in let few = e.1 in omega (arith, some, few))
+            | inr n ↦ n.0
+          ]
+
+    pub arrive_chains : IsParted (after_move (after_put row value) slot 0) → HasChains (after_move (after_put row value) slot 0)
+    arrive_chains parted = record { parted = parted; four = lines.four ∙ is.four }
+
+    pub arrive_size : capacity_of (after_move (after_put row value) slot 0) ≡ capacity_of row
+    arrive_size = lines.size
+
+    pub arrive_ran : length (line (after_move (after_put row value) slot 0) replies 2) ≡ length (line row replies 2)
+    arrive_ran = ap length (lines.stays 2 (λ same. omega (arith, same)))

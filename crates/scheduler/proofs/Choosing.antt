@@ -1,0 +1,220 @@
+-- The message that goes out: the one whose turn it is is the eligible one with the least ticket.
+use Rattle.std.proofs.Common.{◌≡◌, ◌<◌, Bool, true, false, List, [], ◌∷◌, ◌++◌, map, Option, Some, None, refl, ap, sym, subst, ◌∙◌}
+use Rattle.std.specs.Prelude.{◌&&◌, ◌||◌, not, nat_lt, if◌then◌else◌, cond, is_some, option_map}
+use Rattle.std.specs.List.{AllByRecursion, find, list_any}
+use Rattle.std.proofs.Math.Bool.{and_comm}
+use Rattle.std.proofs.lemmas.Bool.{true≢false}
+use Rattle.std.proofs.lemmas.List.Folds.{list_any-append}
+use Rattle.std.proofs.lemmas.Option.{none-some, same_Some}
+use Rattle.affinity.proofs.Preorder.{are_related-contains}
+use Rattle.affinity.specs.declared.geometry.Geometry.{Geometry}
+use Rattle.legal_runs.specs.Eligible.{has_room as has_room_for, is_clear as is_clear_in, is_eligible, lacks_room_alone, next_eligible, pick}
+use Rattle.legal_runs.specs.Events.{no_grant}
+use Rattle.legal_runs.specs.Laws.{AreAscending}
+use Rattle.legal_runs.specs.World.{Entry, World, entries, entry, touches}
+use Rattle.legal_runs.specs.declared.outcomes.Outcome.TheVariants as outcomes
+use Rattle.message.specs.Messages.{place}
+use Rattle.scheduler.specs.Parts.{ArePlaced, IsCore, IsPlaced, Parts, entry_of, held_any, replied_of, turn_of, world_in}
+use Rattle.scheduler.specs.Slots.{Lines, Place}
+use Rattle.turns.proofs.ByTicket.{Ascend, comes_first, is_clear, next_is_first}
+use Rattle.turns.specs.Turns.{has_room, next_turn, overlap}
+use Rattle.turns.specs.declared.entries.Turn.{Turn}
+
+-- ---- tests of lists
+
+pub any_map : {X Y : Type 0} (f : X → Y) (p : Y → Bool) (xs : List X) → list_any p (map f xs) ≡ list_any (λ x. p (f x)) xs
+any_map f p [] = refl
+any_map f p (x ∷ xs) = ap (λ b. p (f x) || b) (any_map f p xs)
+
+pub any_same : {X : Type 0} (P : X → Type 0) (f h : X → Bool) → ((x : X) → P x → f x ≡ h x) → (xs : List X) → AllByRecursion P xs → list_any f xs ≡ list_any h xs
+any_same P f h same [] all = refl
+any_same P f h same (x ∷ xs) all = λ i. same x all.0 i || any_same P f h same xs all.1 i
+
+all_of : {X : Type 0} (P Q : X → Type 0) → ((x : X) → P x → Q x) → (xs : List X) → AllByRecursion P xs → AllByRecursion Q xs
+all_of P Q f [] all = tt
+all_of P Q f (x ∷ xs) all = (f x all.0, all_of P Q f xs all.1)
+
+-- ---- turns and places
+
+module _ (g : Geometry) where
+  -- affinities overlap exactly where places are related
+  pub overlaps : (x y : Place) → IsPlaced g x → IsPlaced g y → overlap (turn_of x).affinity (turn_of y).affinity ≡ touches g (entry_of x) (entry_of y)
+  overlaps x y a b = are_related-contains g (place g x.1.message) (place g y.1.message) x.1.affinity y.1.affinity a.affinity b.affinity
+
+  line_touch : (x : Place) → IsPlaced g x → (ys : List Place) → AllByRecursion (IsPlaced g) ys
+      → list_any (λ y. overlap (turn_of x).affinity (turn_of y).affinity) ys ≡ list_any (λ y. touches g (entry_of x) (entry_of y)) ys
+  line_touch x a ys all = any_same (IsPlaced g) _ _ (λ y b. overlaps x y a b) ys all
+
+  entries_touch : (e : Entry) (ys : List Place) → list_any (touches g e) (entries (map replied_of ys)) ≡ list_any (λ y. touches g e (entry_of y)) ys
+  entries_touch e ys = any_map entry (touches g e) (map replied_of ys) ∙ any_map replied_of (λ a. touches g e (entry a)) ys
+
+  pub held_touch : (l : Lines) → ArePlaced g l → (x : Place) → IsPlaced g x
+      → held_any (λ o. overlap (turn_of x).affinity o.affinity) l
+      ≡ list_any (touches g (entry_of x)) (entries (map replied_of l.logged) ++ (entries (map replied_of l.ran) ++ map entry_of l.out))
+  held_touch l placed x a =
+      let e = entry_of x in
+      (λ i. line_touch x a l.logged placed.logged i || (line_touch x a l.ran placed.ran i || line_touch x a l.out placed.out i))
+      ∙ (λ i. sym (entries_touch e l.logged) i || (sym (entries_touch e l.ran) i || sym (any_map entry_of (touches g e) l.out) i))
+      ∙ ap (λ b. list_any (touches g e) (entries (map replied_of l.logged)) || b)
+      (sym (list_any-append (touches g e) (entries (map replied_of l.ran)) (map entry_of l.out)))
+      ∙ sym (list_any-append (touches g e) (entries (map replied_of l.logged)) (entries (map replied_of l.ran) ++ map entry_of l.out))
+
+  pub waits_touch : (ys : List Place) → AllByRecursion (IsPlaced g) ys → (x : Place) → IsPlaced g x
+      → list_any (comes_first (turn_of x)) (map turn_of ys) ≡ list_any (λ d. nat_lt d.0 (entry_of x).0 && touches g (entry_of x) d) (map entry_of ys)
+  waits_touch ys all x a =
+      any_map turn_of (comes_first (turn_of x)) ys
+      ∙ any_same (IsPlaced g) (λ y. comes_first (turn_of x) (turn_of y)) (λ y. nat_lt (entry_of y).0 (entry_of x).0 && touches g (entry_of x) (entry_of y))
+      (λ y b. ap (λ t. nat_lt (turn_of y).ticket (turn_of x).ticket && t) (overlaps x y a b)) ys all
+      ∙ sym (any_map entry_of (λ d. nat_lt d.0 (entry_of x).0 && touches g (entry_of x) d) ys)
+
+-- ---- the one that is found
+
+pub ascend_from : (ys : List Place) → AreAscending (map entry_of ys) → Ascend (map turn_of ys)
+ascend_from [] h = tt
+ascend_from (y ∷ ys) h = (later y ys h.0, ascend_from ys h.1)
+  where
+    later : (y : Place) (ys : List Place) → AllByRecursion (λ d. (entry_of y).0 < d.0) (map entry_of ys) → AllByRecursion (λ t. (turn_of y).ticket < t.ticket) (map turn_of ys)
+    later y [] h = tt
+    later y (z ∷ ys) h = (h.0, later y ys h.1)
+
+-- A place among others, of which the message is the first that passes.
+pub record Chosen (q : Entry → Bool) (ys : List Place) (t : Turn) : Type 0 where
+  pub before : List Place
+  pub at : Place
+  pub behind : List Place
+  pub whole : ys ≡ before ++ at ∷ behind
+  pub turn : turn_of at ≡ t
+  pub picked : pick q (map entry_of ys) ≡ Some (entry_of at, map entry_of (before ++ behind))
+
+abbrev Same : (Turn → Bool) → (Entry → Bool) → List Place → Type 0
+Same p q ys = AllByRecursion (λ y. p (turn_of y) ≡ q (entry_of y)) ys
+
+pub chosen : (p : Turn → Bool) (q : Entry → Bool) (ys : List Place) → Same p q ys → (t : Turn) → find p (map turn_of ys) ≡ Some t → Chosen q ys t
+chosen p q [] same t h = absurd (none-some t h)
+chosen p q (y ∷ ys) same t h = by (chosen p q ys same.1 t) (p (turn_of y)) refl h
+  where
+    by : (find p (map turn_of ys) ≡ Some t → Chosen q ys t) → (b : Bool) → p (turn_of y) ≡ b
+        → cond b (Some (turn_of y)) (find p (map turn_of ys)) ≡ Some t → Chosen q (y ∷ ys) t
+    by deeper true e h = record {
+      before = [];
+      at = y;
+      behind = ys;
+      whole = refl;
+      turn = same_Some (turn_of y) t h;
+      picked = ap (λ b. if b then Some (entry_of y, map entry_of ys) else option_map (λ (found : Entry × List Entry). (found.0, entry_of y ∷ found.1)) (pick q (map entry_of ys)))
+          (sym same.0 ∙ e);
+    }
+    by deeper false e h = let k = deeper h in record {
+      before = y ∷ k.before;
+      at = k.at;
+      behind = k.behind;
+      whole = ap (λ l. y ∷ l) k.whole;
+      turn = k.turn;
+      picked = ap (λ b. if b then Some (entry_of y, map entry_of ys) else option_map (λ (found : Entry × List Entry). (found.0, entry_of y ∷ found.1)) (pick q (map entry_of ys)))
+          (sym same.0 ∙ e)
+          ∙ ap (λ o. option_map (λ (found : Entry × List Entry). (found.0, entry_of y ∷ found.1)) o) k.picked;
+    }
+
+pub none_chosen : (p : Turn → Bool) (q : Entry → Bool) (ys : List Place) → Same p q ys → find p (map turn_of ys) ≡ None → list_any q (map entry_of ys) ≡ false
+none_chosen p q [] same h = refl
+none_chosen p q (y ∷ ys) same h = by (none_chosen p q ys same.1) (p (turn_of y)) refl h
+  where
+    by : (find p (map turn_of ys) ≡ None → list_any q (map entry_of ys) ≡ false) → (b : Bool) → p (turn_of y) ≡ b
+        → cond b (Some (turn_of y)) (find p (map turn_of ys)) ≡ None → (q (entry_of y) || list_any q (map entry_of ys)) ≡ false
+    by deeper true e h = absurd (true≢false (ap is_some h))
+    by deeper false e h = (λ i. (sym same.0 ∙ e) i || list_any q (map entry_of ys)) ∙ deeper h
+
+pub some_chosen : (p : Turn → Bool) (q : Entry → Bool) (ys : List Place) → Same p q ys → (t : Turn) → find p (map turn_of ys) ≡ Some t → list_any q (map entry_of ys) ≡ true
+some_chosen p q [] same t h = absurd (none-some t h)
+some_chosen p q (y ∷ ys) same t h = by (some_chosen p q ys same.1 t) (p (turn_of y)) refl h
+  where
+    or_true : (b : Bool) → (b || true) ≡ true
+    or_true true = refl
+    or_true false = refl
+
+    by : (find p (map turn_of ys) ≡ Some t → list_any q (map entry_of ys) ≡ true) → (b : Bool) → p (turn_of y) ≡ b
+        → cond b (Some (turn_of y)) (find p (map turn_of ys)) ≡ Some t → (q (entry_of y) || list_any q (map entry_of ys)) ≡ true
+    by deeper true e h = λ i. (sym same.0 ∙ e) i || list_any q (map entry_of ys)
+    by deeper false e h = (λ i. q (entry_of y) || deeper h i) ∙ or_true (q (entry_of y))
+
+abbrev pick_if : Entry → List Entry → Option (Entry × List Entry) → Bool → Option (Entry × List Entry)
+pick_if e es o b = if b then Some (e, es) else option_map (λ (found : Entry × List Entry). (found.0, e ∷ found.1)) o
+
+pub none_picked : (q : Entry → Bool) (es : List Entry) → list_any q es ≡ false → pick q es ≡ None
+none_picked q [] h = refl
+none_picked q (e ∷ es) h = by (none_picked q es) (q e) refl h
+  where
+    by : (list_any q es ≡ false → pick q es ≡ None) → (b : Bool) → q e ≡ b → (b || list_any q es) ≡ false → pick_if e es (pick q es) (q e) ≡ None
+    by deeper true is h = absurd (true≢false h)
+    by deeper false is h = ap (pick_if e es (pick q es)) is ∙ ap (λ o. pick_if e es o false) (deeper h)
+
+-- ---- a core's
+
+module _ (keeps : Type 0) (p : Parts) (k : IsCore keeps p) where
+  abbrev geometry : Geometry
+  geometry = p.journal.geometry
+
+  abbrev w : World
+  w = world_in p
+
+  clear_same : (x : Place) → IsPlaced geometry x → is_clear p.turns.held p.turns.waiting (turn_of x) ≡ is_clear_in geometry w (entry_of x)
+  clear_same x a = λ i.
+      not ((k.holds (λ o. overlap (turn_of x).affinity o.affinity) ∙ held_touch geometry p.lines k.placed x a) i)
+      && not ((ap (list_any (comes_first (turn_of x))) k.waits ∙ waits_touch geometry p.lines.waiting k.placed.waiting x a) i)
+
+  or_turned : (a b : Bool) → (a || not b) ≡ (not b || a)
+  or_turned true true = refl
+  or_turned true false = refl
+  or_turned false true = refl
+  or_turned false false = refl
+
+  module _ (room : Bool) (is_room : room ≡ nat_lt p.flight p.journal.room) where
+    room_same : (x : Place) → has_room room (turn_of x) ≡ has_room_for w (entry_of x)
+    room_same x = or_turned room (turn_of x).changing
+        ∙ ap (λ b. not (turn_of x).changing || b) (is_room ∙ ap (λ n. nat_lt n p.journal.room) k.flies)
+
+    same_test : Same (λ t. has_room room t && is_clear p.turns.held p.turns.waiting t) (is_eligible geometry w) p.lines.waiting
+    same_test = all_of (IsPlaced geometry) _
+        (λ x a. (λ i. room_same x i && clear_same x a i) ∙ and_comm (has_room_for w (entry_of x)) (is_clear_in geometry w (entry_of x)))
+        p.lines.waiting k.placed.waiting
+
+    found_first : next_turn room p.turns.held p.turns.waiting ≡ find (λ t. has_room room t && is_clear p.turns.held p.turns.waiting t) (map turn_of p.lines.waiting)
+    found_first = next_is_first room p.turns.held p.turns.waiting (subst Ascend (sym k.waits) (ascend_from p.lines.waiting k.sound.ascending))
+        ∙ ap (find (λ t. has_room room t && is_clear p.turns.held p.turns.waiting t)) k.waits
+
+    pub goes_first : (t : Turn) → next_turn room p.turns.held p.turns.waiting ≡ Some t → Chosen (is_eligible geometry w) p.lines.waiting t
+    goes_first t h = chosen _ (is_eligible geometry w) p.lines.waiting same_test t (sym found_first ∙ h)
+
+    none_any : next_turn room p.turns.held p.turns.waiting ≡ None → list_any (is_eligible geometry w) w.waiting ≡ false
+    none_any h = none_chosen _ (is_eligible geometry w) p.lines.waiting same_test (sym found_first ∙ h)
+
+    pub none_goes : next_turn room p.turns.held p.turns.waiting ≡ None → next_eligible geometry w ≡ None
+    none_goes h = none_picked (is_eligible geometry w) w.waiting (none_any h)
+
+  -- ---- why none goes
+
+  clear_test : Same (λ t. has_room true t && is_clear p.turns.held p.turns.waiting t) (is_clear_in geometry w) p.lines.waiting
+  clear_test = all_of (IsPlaced geometry) _ (λ x a. clear_same x a) p.lines.waiting k.placed.waiting
+
+  found_clear : next_turn true p.turns.held p.turns.waiting ≡ find (λ t. has_room true t && is_clear p.turns.held p.turns.waiting t) (map turn_of p.lines.waiting)
+  found_clear = next_is_first true p.turns.held p.turns.waiting (subst Ascend (sym k.waits) (ascend_from p.lines.waiting k.sound.ascending))
+      ∙ ap (find (λ t. has_room true t && is_clear p.turns.held p.turns.waiting t)) k.waits
+
+  lacking : (es : List Entry) → list_any (is_eligible geometry w) es ≡ false → list_any (lacks_room_alone geometry w) es ≡ list_any (is_clear_in geometry w) es
+  lacking [] h = refl
+  lacking (e ∷ es) h = by (is_clear_in geometry w e) (has_room_for w e) (list_any (is_eligible geometry w) es) h (lacking es)
+    where
+      by : (c r rest : Bool) → ((c && r) || rest) ≡ false → (rest ≡ false → list_any (lacks_room_alone geometry w) es ≡ list_any (is_clear_in geometry w) es)
+          → ((c && not r) || list_any (lacks_room_alone geometry w) es) ≡ (c || list_any (is_clear_in geometry w) es)
+      by true true rest h j = absurd (true≢false h)
+      by true false rest h j = refl
+      by false r rest h j = j h
+
+  module _ (room : Bool) (is_room : room ≡ nat_lt p.flight p.journal.room) (none : next_turn room p.turns.held p.turns.waiting ≡ None) where
+    pub lacks_room : (t : Turn) → next_turn true p.turns.held p.turns.waiting ≡ Some t → no_grant geometry w ≡ outcomes.NoRoom
+    lacks_room t h = ap (λ b. if b then outcomes.NoRoom else outcomes.NoneEligible)
+        (lacking w.waiting (none_any room is_room none) ∙ some_chosen _ (is_clear_in geometry w) p.lines.waiting clear_test t (sym found_clear ∙ h))
+
+    pub none_eligible : next_turn true p.turns.held p.turns.waiting ≡ None → no_grant geometry w ≡ outcomes.NoneEligible
+    none_eligible h = ap (λ b. if b then outcomes.NoRoom else outcomes.NoneEligible)
+        (lacking w.waiting (none_any room is_room none) ∙ none_chosen _ (is_clear_in geometry w) p.lines.waiting clear_test (sym found_clear ∙ h))

@@ -1,0 +1,46 @@
+-- How many messages there are, and how many of them are in flight.
+use Rattle.std.proofs.Common.{◌≡◌, ℕ, ◌+◌, List, [], ◌∷◌, ◌++◌, map, length, refl, ap, sym, ◌∙◌}
+use Rattle.std.specs.Prelude.{cond, count_by}
+use Rattle.std.proofs.lemmas.List.{length-map}
+use Rattle.std.proofs.lemmas.List.Sums.{sum_by-append, sum_by-cons}
+use Rattle.legal_runs.specs.Eligible.{changes, in_flight}
+use Rattle.legal_runs.specs.World.{Entry, Replied, held}
+use Rattle.legal_runs.proofs.Apart.{length_held}
+use Rattle.scheduler.specs.Parts.{Parts, entry_of, replied_of, world_in}
+use Rattle.scheduler.specs.Slots.{Place}
+
+-- how many changing messages are at these places
+abbrev pub changing : List Place → ℕ
+changing xs = count_by (λ x. changes x.1.message) xs
+
+abbrev pub one_for : Place → ℕ
+one_for x = cond (changes x.1.message) 1 0
+
+pub changing-append : (xs ys : List Place) → changing (xs ++ ys) ≡ changing xs + changing ys
+changing-append xs ys = sum_by-append (λ (x : Place). cond (changes x.1.message) 1 0) xs ys
+
+pub changing-cons : (x : Place) (xs : List Place) → changing (x ∷ xs) ≡ one_for x + changing xs
+changing-cons x xs = sum_by-cons (λ (x : Place). cond (changes x.1.message) 1 0) x xs
+
+out_changing : (xs : List Place) → count_by (λ (e : Entry). changes e.1) (map entry_of xs) ≡ changing xs
+out_changing [] = refl
+out_changing (x ∷ xs) = sum_by-cons (λ (e : Entry). cond (changes e.1) 1 0) (entry_of x) (map entry_of xs)
+    ∙ ap (λ n. one_for x + n) (out_changing xs) ∙ sym (changing-cons x xs)
+
+ran_changing : (xs : List Place) → count_by (λ (a : Replied). changes a.1) (map replied_of xs) ≡ changing xs
+ran_changing [] = refl
+ran_changing (x ∷ xs) = sum_by-cons (λ (a : Replied). cond (changes a.1) 1 0) (replied_of x) (map replied_of xs)
+    ∙ ap (λ n. one_for x + n) (ran_changing xs) ∙ sym (changing-cons x xs)
+
+pub flight_of : (p : Parts) → in_flight (world_in p) ≡ changing p.lines.out + changing p.lines.ran
+flight_of p = λ i. out_changing p.lines.out i + ran_changing p.lines.ran i
+
+-- how many messages wait or are held
+pub count_of : (p : Parts) → length (world_in p).waiting + length (held (world_in p))
+    ≡ length p.lines.waiting + (length p.lines.logged + (length p.lines.ran + length p.lines.out))
+count_of p = λ i. length-map p.lines.waiting entry_of i + (length_held (world_in p)
+    ∙ (λ j. length-map p.lines.logged replied_of j + (length-map p.lines.ran replied_of j + length-map p.lines.out entry_of j))) i
+
+pub held_count : (p : Parts) → length (held (world_in p)) ≡ length p.lines.logged + (length p.lines.ran + length p.lines.out)
+held_count p = length_held (world_in p)
+    ∙ (λ j. length-map p.lines.logged replied_of j + (length-map p.lines.ran replied_of j + length-map p.lines.out entry_of j))

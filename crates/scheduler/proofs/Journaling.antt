@@ -1,0 +1,93 @@
+-- A core whose journal was called: what stands afterwards, and at each moment.
+use Rattle.std.proofs.Common.{◌≡◌, ℕ, ◌≤◌, Bool, true, false, List, [], take, Option, Some, refl, ap, sym, subst, ◌∙◌, arith}
+use Rattle.std.specs.Prelude.{if◌then◌else◌}
+use Rattle.std.proofs.lemmas.Bool.{cond-false, cond-true}
+use Rattle.affinity.specs.declared.geometry.Geometry.{Geometry}
+use Rattle.checkpoint.specs.Recovery.{holds}
+use Rattle.disk.proofs.Moments.{leaves_now, started, weaker}
+use Rattle.disk.specs.Device.{Medium}
+use Rattle.disk.specs.Moments.{LeavesOnly}
+use Rattle.journal.specs.Journal.{HoldsSome, settled}
+use Rattle.legal_runs.proofs.Sound.{event_sound}
+use Rattle.legal_runs.specs.Laws.{IsSound}
+use Rattle.legal_runs.specs.World.{World}
+use Rattle.legal_runs.specs.declared.outcomes.Outcome.{Outcome}
+use Rattle.legal_runs.specs.declared.outcomes.Step.{Step}
+use Rattle.message.specs.declared.Msg.{Msg}
+use Rattle.plain.specs.Serial.{fold}
+use Rattle.plain.specs.State.{State}
+use Rattle.scheduler.specs.Calls.{IsCalled}
+use Rattle.scheduler.specs.Kept.{Kept, StandsNow, StandsThroughout}
+use Rattle.scheduler.specs.Parts.{IsCore, Parts, kept_of, world_in}
+
+-- bytes that stand for a state stand for it with none of these messages
+pub with_none : (g : Geometry) (x : State) (ms : List Msg) (c : List ℕ) → holds g c ≡ Some x → HoldsSome g x ms c
+with_none g x ms c is = record { added = 0; at_most = omega arith; is = is }
+
+pub from_none : (g : Geometry) (x : State) (ms : List Msg) (c : List ℕ) → HoldsSome g x [] c → HoldsSome g x ms c
+from_none g x ms c h = record { added = 0; at_most = omega arith; is = h.is ∙ ap (λ k. Some (fold g x (take k []))) (none h.added h.at_most) }
+  where
+    none : (k : ℕ) → k ≤ 0 → k ≡ 0
+    none k few = omega (arith, few)
+
+-- the same bytes through a call that leaves the device alone
+pub still_standing : (keeps : Type 0) (p : Parts) → IsCore keeps p → keeps → (ms : List Msg) (new : Kept) → new.medium ≡ p.journal.medium
+    → StandsThroughout ms (kept_of p) new
+still_standing keeps p k keep ms new same =
+    subst (λ (m : Medium). LeavesOnly p.journal.medium m (HoldsSome p.journal.geometry (world_in p).settled (if p.journal.failed then p.batch else ms))) (sym same)
+    (started p.journal.medium _ (λ c left. by p.journal.failed refl c (k.stands keep c left)))
+  where
+    by : (b : Bool) → p.journal.failed ≡ b → (c : List ℕ) → HoldsSome p.journal.geometry (world_in p).settled p.batch c
+        → HoldsSome p.journal.geometry (world_in p).settled (if p.journal.failed then p.batch else ms) c
+    by true e c h = subst (λ ds. HoldsSome p.journal.geometry (world_in p).settled ds c) (sym (cond-true p.journal.failed p.batch ms e)) h
+    by false e c h = subst (λ ds. HoldsSome p.journal.geometry (world_in p).settled ds c) (sym (cond-false p.journal.failed p.batch ms e))
+        (from_none p.journal.geometry (world_in p).settled ms c
+        (subst (λ ds. HoldsSome p.journal.geometry (world_in p).settled ds c) (k.no_doubt e) h))
+
+-- an event leads to a sound world
+pub called_sound : (g : Geometry) (old new : World) (step : Step) (outcome : Outcome) (rose : Bool) → IsCalled g old new step outcome rose → IsSound g old → IsSound g new
+called_sound g old new step outcome rose called sound = event_sound g (record { core = old; hands = [] }) _ (called []) sound
+
+abbrev pub with_journal : Parts → ℕ → Option ℕ → Bool → Medium → Parts
+with_journal p room left failed medium = record p { journal = record p.journal { room = room; left = left; failed = failed; medium = medium } }
+
+module _ (keeps : Type 0) (p : Parts) (k : IsCore keeps p) (works : p.journal.failed ≡ false) where
+  abbrev g : Geometry
+  g = p.journal.geometry
+
+  pub settled_now : keeps → settled p.journal ≡ Some (world_in p).settled
+  settled_now keep = k.is_settled keep works
+
+  module _ (medium : Medium) (any : keeps → LeavesOnly p.journal.medium medium (λ c. holds g c ≡ settled p.journal)) where
+    pub step_moments : keeps → LeavesOnly p.journal.medium medium (HoldsSome g (world_in p).settled [])
+    step_moments keep = weaker p.journal.medium medium (λ c. holds g c ≡ settled p.journal) _ (any keep)
+        (λ c is. with_none g (world_in p).settled [] c (is ∙ settled_now keep))
+
+    pub step_throughout : (new : Kept) → new.medium ≡ medium → keeps → StandsThroughout [] (kept_of p) new
+    step_throughout new same keep =
+        subst (λ (m : Medium). LeavesOnly p.journal.medium m (HoldsSome g (world_in p).settled (if p.journal.failed then p.batch else []))) (sym same)
+        (subst (λ ds. LeavesOnly p.journal.medium medium (HoldsSome g (world_in p).settled ds)) (sym (cond-false p.journal.failed p.batch [] works)) (step_moments keep))
+
+    pub step_stands : (room : ℕ) (left : Option ℕ) (failed : Bool) → keeps → StandsNow (kept_of (with_journal p room left failed medium))
+    step_stands room left failed keep c leaves = subst (λ ds. HoldsSome g (world_in p).settled ds c) (sym (k.no_doubt works))
+        (leaves_now p.journal.medium medium _ (step_moments keep) c leaves)
+
+    -- the step was made, or the device failed
+    pub step_core : (room : ℕ) (left : Option ℕ) (failed : Bool) → IsSound g (world_in (with_journal p room left failed medium))
+        → (keeps → failed ≡ false → settled (record p.journal { room = room; left = left; failed = failed; medium = medium }) ≡ settled p.journal)
+        → IsCore keeps (with_journal p room left failed medium)
+    step_core room left failed sound same = record {
+      claimed = k.claimed;
+      placed = k.placed;
+      turned = k.turned;
+      seats = k.seats;
+      waits = k.waits;
+      holds = k.holds;
+      flies = k.flies;
+      sound = sound;
+      geometry = k.geometry;
+      tree = k.tree;
+      is_settled = λ keep fine. same keep fine ∙ settled_now keep;
+      stands = step_stands room left failed;
+      no_doubt = λ fine. k.no_doubt works;
+    }

@@ -1,0 +1,233 @@
+-- The call that logs, by what its callees give.
+use Rattle.std.proofs.Common.{◌≡◌, ℕ, ◌+◌, ◌-◌, ◌≤◌, true, false, List, [], ◌∷◌, ◌++◌, map, length, take, drop, get_or, Option, Some, None, Result, Ok, Err, refl, ap, sym, subst, ◌∙◌, arith}
+use Rattle.std.specs.Prelude.{cond, is_err, min, option_map, slice_index_or, unwrap_or}
+use Rattle.std.proofs.Math.Nat.{min-le_right}
+use Rattle.std.proofs.lemmas.Bool.{true≢false}
+use Rattle.std.proofs.lemmas.List.{drop-map, drop_min, length-drop, length-map, length-take, map-append, take-append-drop, take-map, take_min}
+use Rattle.std.proofs.lemmas.List.Sums.{sum_by-cons}
+use Rattle.std.proofs.lemmas.Option.{same_Some}
+use Rattle.arena.specs.Row.{Row, capacity_of, chain_at, value_at}
+use Rattle.checkpoint.specs.Recovery.{holds}
+use Rattle.disk.specs.Device.{Leaves}
+use Rattle.disk.specs.Moments.{LeavesOnly}
+use Rattle.journal.specs.Journal.{after_call, AreCarriedOut, Held, HoldsSome, IsSettled, settled}
+use Rattle.legal_runs.proofs.Told.{fold-joined}
+use Rattle.legal_runs.specs.Eligible.{changes}
+use Rattle.legal_runs.specs.Events.{batch as batch_of, log, loggable}
+use Rattle.legal_runs.specs.Laws.{IsSound}
+use Rattle.message.specs.declared.Msg.{Msg}
+use Rattle.message.specs.declared.Reply.{Reply}
+use Rattle.message.specs.declared.Reply.TheVariants.{Done}
+use Rattle.oplog.specs.Logged.{AreLogged}
+use Rattle.oplog.specs.declared.fault.LogFault.{LogFault}
+use Rattle.parcel.specs.Tree.{TreeView, state_in}
+use Rattle.plain.specs.Serial.{fold}
+use Rattle.plain.specs.State.{State}
+use Rattle.scheduler.proofs.Counting.{changing, changing-append, changing-cons, flight_of}
+use Rattle.scheduler.proofs.Lines.{same_line}
+use Rattle.scheduler.proofs.Logging.{batch_at, batch_carried, batch_fits, batch_logged, doubt_core, log_core, log_throughout, log_world, same_batch, with_doubt, with_log}
+use Rattle.scheduler.specs.Kept.{Kept, StandsThroughout}
+use Rattle.scheduler.specs.Moving.{HasLogged, changing_in, gathered}
+use Rattle.scheduler.specs.Parts.{IsCore, Parts, kept_of, parts, replied_of, world_in}
+use Rattle.scheduler.specs.Slots.{HasChains, Place, line, no_slot, place_at}
+use Rattle.scheduler.specs.declared.slot.Slot.{Slot}
+use Rattle.turns.specs.Turns.{Queuing}
+
+-- ---- the journal's answer
+
+pub broken_from : (r : Result (Unit {0}) LogFault) (done old new : Held) → is_err r ≡ true → new ≡ after_call r done old → new ≡ record old { failed = true; medium = done.medium }
+broken_from (Ok u) done old new e after = absurd (true≢false (sym e))
+broken_from (Err why) done old new e after = after
+
+pub made_from : (r : Result (Unit {0}) LogFault) (done old new : Held) → is_err r ≡ false → new ≡ after_call r done old → new ≡ done
+made_from (Ok u) done old new e after = after
+made_from (Err why) done old new e after = absurd (true≢false e)
+
+-- as many are of a changing kind in these slots as at these places
+counted : (row : Row Slot) (replies : List Reply) (ys : List ℕ) → changing_in row ys ≡ changing (map (place_at row replies) ys)
+counted row replies [] = refl
+counted row replies (y ∷ ys) =
+    sum_by-cons (λ (j : ℕ). cond (changes (unwrap_or (value_at row j) no_slot).message) 1 0) y ys
+    ∙ ap (λ (m : ℕ). cond (changes (unwrap_or (value_at row y) no_slot).message) 1 0 + m) (counted row replies ys)
+    ∙ sym (changing-cons (place_at row replies y) (map (place_at row replies) ys))
+
+module _ (keeps : Type 0) (row : Row Slot) (replies : List Reply) (tree : TreeView) (journal : Held) (turns : Queuing) (batch : List Msg) (next flight : ℕ)
+    (opened : TreeView) (since : List Msg) (is : HasChains row)
+    (k : IsCore keeps (parts row replies tree journal turns batch next flight opened since)) (works : journal.failed ≡ false)
+    (n count ran : ℕ) (ran_is : ran ≡ length (line row replies 2)) (count_is : count ≡ min n ran) where
+  abbrev p : Parts
+  p = parts row replies tree journal turns batch next flight opened since
+
+  abbrev slots : List ℕ
+  slots = chain_at row 2
+
+  abbrev ran_line : List Place
+  ran_line = line row replies 2
+
+  min_is : count ≡ min n (length ran_line)
+  min_is = count_is ∙ ap (λ (m : ℕ). min n m) ran_is
+
+  take_is : take count ran_line ≡ take n ran_line
+  take_is = ap (λ (m : ℕ). take m ran_line) min_is ∙ take_min n ran_line
+
+  drop_is : drop count ran_line ≡ drop n ran_line
+  drop_is = ap (λ (m : ℕ). drop m ran_line) min_is ∙ drop_min n ran_line
+
+  long : length ran_line ≡ length slots
+  long = length-map slots (place_at row replies)
+
+  pub log_low : count ≤ length slots
+  log_low = let few = min-le_right n (length ran_line) in let at = long in let same = min_is in omega (arith, few, at, same)
+
+  pub log_count : count ≡ length (take n (world_in p).ran)
+  log_count = min_is ∙ ap (λ (m : ℕ). min n m) (sym (length-map ran_line replied_of)) ∙ sym (length-take n (map replied_of ran_line))
+
+  pub log_empty : batch ≡ []
+  log_empty = k.no_doubt works
+
+  module _ (flew : ℕ) (flew_is : flew ≡ changing_in row (take count slots)) where
+    flew_same : flew ≡ changing (take n ran_line)
+    flew_same = flew_is ∙ counted row replies (take count slots)
+        ∙ ap (λ (l : List Place). changing l) (sym (take-map (place_at row replies) count slots) ∙ take_is)
+
+    flies : (flight - flew) + changing (take n ran_line) ≡ flight
+    flies =
+        let fly = k.flies ∙ flight_of p in
+        let all = ap (λ (l : List Place). changing l) (sym (take-append-drop n ran_line)) ∙ changing-append (take n ran_line) (drop n ran_line) in
+        let same = flew_same in
+        omega (arith, fly, all, same)
+
+    pub log_flight : flew ≤ flight
+    log_flight =
+        let fly = k.flies ∙ flight_of p in
+        let all = ap (λ (l : List Place). changing l) (sym (take-append-drop n ran_line)) ∙ changing-append (take n ran_line) (drop n ran_line) in
+        let same = flew_same in
+        omega (arith, fly, all, same)
+
+  module _ (messages : List Msg) (gathered_is : messages ≡ gathered row replies (take count slots)) where
+    messages_are : messages ≡ batch_at p n
+    messages_are = gathered_is ∙ ap (λ (l : List Place). loggable (map replied_of l)) (sym (take-map (place_at row replies) count slots) ∙ take_is)
+
+    module _ (passed : List Msg) (passed_is : passed ≡ messages) where
+      passed_at : passed ≡ batch_at p n
+      passed_at = passed_is ∙ messages_are
+
+      none_passed : length (batch_of (world_in p) n) ≡ 0 → length passed ≡ 0
+      none_passed none = ap (λ (ms : List Msg). length ms) (passed_at ∙ same_batch keeps p k n) ∙ none
+
+      pub log_fits : length passed ≤ journal.room
+      log_fits = subst (λ (ms : List Msg). length ms ≤ journal.room) (sym passed_at) (batch_fits keeps p k n)
+
+      pub log_logged : AreLogged journal.geometry passed
+      log_logged = subst (AreLogged journal.geometry) (sym passed_at) (batch_logged keeps p k n)
+
+      pub log_carried : keeps → (x : State) → settled journal ≡ Some x → AreCarriedOut journal.geometry x passed
+      log_carried keep x at =
+          subst (λ (y : State). AreCarriedOut journal.geometry y passed) (same_Some (world_in p).settled x (sym (k.is_settled keep works) ∙ at))
+          (subst (AreCarriedOut journal.geometry (world_in p).settled) (sym passed_at) (batch_carried keeps p k n))
+
+      module _ (new : Held) (any : keeps → (x : State) → settled journal ≡ Some x → LeavesOnly journal.medium new.medium (HoldsSome journal.geometry x passed)) where
+        any_at : keeps → LeavesOnly journal.medium new.medium (HoldsSome journal.geometry (world_in p).settled (batch_at p n))
+        any_at keep = subst (λ (ms : List Msg). LeavesOnly journal.medium new.medium (HoldsSome journal.geometry (world_in p).settled ms)) passed_at
+            (any keep (world_in p).settled (k.is_settled keep works))
+
+        pub log_call_throughout : (now : Kept) → now.medium ≡ new.medium → keeps → StandsThroughout (batch_of (world_in p) n) (kept_of p) now
+        log_call_throughout now same keep = log_throughout keeps p k works n flight new.medium any_at now same keep
+
+        pub log_untouched : (length passed ≡ 0 → new ≡ journal) → length (batch_of (world_in p) n) ≡ 0 → new.medium ≡ journal.medium
+        log_untouched same none = ap (λ (j : Held). j.medium) (same (none_passed none))
+
+        -- ---- the device failed
+
+        module _ (broken : new ≡ record journal { failed = true; medium = new.medium }) where
+          abbrev doubting : Parts
+          doubting = parts row replies tree new turns messages next flight opened since
+
+          doubting_is : doubting ≡ with_doubt p n new.medium
+          doubting_is = λ i. record (with_doubt p n new.medium) { journal = broken i; batch = messages_are i }
+
+          doubt_sound : IsSound journal.geometry (world_in (with_doubt p n new.medium))
+          doubt_sound = record {
+            apart = k.sound.apart;
+            replied = k.sound.replied;
+            ascending = k.sound.ascending;
+            once = k.sound.once;
+            given = k.sound.given;
+            room = k.sound.room;
+            fits = k.sound.fits;
+          }
+
+          pub doubt_call_core : IsCore keeps doubting
+          doubt_call_core = subst (IsCore keeps) (sym doubting_is) (doubt_core keeps p k works n flight new.medium any_at doubt_sound)
+
+          pub doubt_call_world : world_in doubting ≡ record (world_in p) { failed = true; doubt = batch_of (world_in p) n }
+          doubt_call_world = ap world_in doubting_is ∙ (λ i. record (world_in p) { failed = true; doubt = same_batch keeps p k n i })
+
+          pub some_were_passed : (length passed ≡ 0 → new ≡ journal) → length (batch_of (world_in p) n) ≡ 0 → ⊥
+          some_were_passed same none = true≢false (sym (ap (λ (j : Held). j.failed) broken) ∙ ap (λ (j : Held). j.failed) (same (none_passed none)) ∙ works)
+
+        -- ---- they are logged
+
+        module _ (made : new ≡ record journal { room = journal.room - length passed; medium = new.medium })
+            (settles : keeps → settled new ≡ option_map (λ x. fold journal.geometry x passed) (settled journal)) (stands : keeps → IsSettled new)
+            (moved : Row Slot) (has : HasLogged count row moved) (flew : ℕ) (flew_is : flew ≡ changing_in row (take count slots))
+            (first : TreeView) (first_is : first ≡ opened) (after_since : List Msg) (since_is : after_since ≡ since ++ messages)
+            (emptied : List Msg) (empty : emptied ≡ []) where
+          abbrev after : Parts
+          after = parts moved replies tree new turns emptied next (flight - flew) first after_since
+
+          abbrev room : ℕ
+          room = journal.room - length (batch_at p n)
+
+          moved_places : (ys : List ℕ) → map (place_at moved replies) ys ≡ map (place_at row replies) ys
+          moved_places ys = λ z. map (λ i. (i, unwrap_or (slice_index_or (has.values z) i None) no_slot, get_or replies i Done)) ys
+
+          ran_now : line moved replies 2 ≡ drop n ran_line
+          ran_now = moved_places (chain_at moved 2) ∙ ap (map (place_at row replies)) has.ran ∙ sym (drop-map (place_at row replies) count slots) ∙ drop_is
+
+          logged_now : line moved replies 3 ≡ line row replies 3 ++ take n ran_line
+          logged_now = moved_places (chain_at moved 3) ∙ ap (map (place_at row replies)) has.logged
+              ∙ map-append (place_at row replies) (chain_at row 3) (take count slots)
+              ∙ ap (λ (l : List Place). line row replies 3 ++ l) (sym (take-map (place_at row replies) count slots) ∙ take_is)
+
+          pub log_size : capacity_of moved ≡ capacity_of row
+          log_size = ap (λ (vs : List (Option Slot)). length vs) has.values
+
+          pub log_ran : ran - count ≡ length (line moved replies 2)
+          log_ran =
+              let now = ap (λ (l : List Place). length l) ran_now ∙ length-drop n ran_line in
+              let were = ran_is in
+              let same = min_is in
+              omega (arith, now, were, same)
+
+          after_is : after ≡ with_log p n (flight - flew) room new.medium
+          after_is = λ i. record (with_log p n (flight - flew) room new.medium) {
+            lines = record {
+              waiting = same_line row moved replies 0 has.values has.waiting i;
+              out = same_line row moved replies 1 has.values has.out i;
+              ran = ran_now i;
+              logged = logged_now i;
+            };
+            free = ap (λ (fs : List ℕ). length fs) has.free i;
+            capacity = log_size i;
+            journal = (made ∙ (λ j. record journal { room = journal.room - length (passed_at j); medium = new.medium })) i;
+            batch = empty i;
+            opened = first_is i;
+            since = (since_is ∙ ap (λ (ms : List Msg). since ++ ms) messages_are) i;
+          }
+
+          settles_at : keeps → settled (record journal { room = room; medium = new.medium }) ≡ Some (world_in (with_log p n (flight - flew) room new.medium)).settled
+          settles_at keep =
+              sym (ap settled made) ∙ settles keep
+              ∙ ap (option_map (λ x. fold journal.geometry x passed)) (k.is_settled keep works)
+              ∙ ap (λ (ms : List Msg). Some (fold journal.geometry (world_in p).settled ms)) passed_at
+              ∙ ap Some (sym (fold-joined journal.geometry (state_in opened) since (batch_at p n)))
+
+          stands_at : keeps → (c : List ℕ) → Leaves new.medium c → holds journal.geometry c ≡ settled (record journal { room = room; medium = new.medium })
+          stands_at keep c leaves = ap (λ (j : Held). holds j.geometry c) (sym made) ∙ (stands keep).each c leaves ∙ ap settled made
+
+          pub log_call_core : IsCore keeps after
+          log_call_core = subst (IsCore keeps) (sym after_is) (log_core keeps p k works n (flight - flew) new.medium (flies flew flew_is) settles_at stands_at)
+
+          pub log_call_world : world_in after ≡ log journal.geometry (world_in p) n
+          log_call_world = ap world_in after_is ∙ log_world keeps p k works n (flight - flew) new.medium

@@ -1,0 +1,204 @@
+-- A core that logs: what it hands to the journal, and what stands afterwards.
+use Rattle.std.proofs.Common.{◌≡◌, ℕ, ◌+◌, ◌-◌, ◌≤◌, Bool, true, false, List, [], ◌∷◌, ◌++◌, map, length, take, drop, Some, refl, ap, sym, subst, ◌∙◌, arith}
+use Rattle.std.specs.Prelude.{if◌then◌else◌, cond, filter, ◌&&◌}
+use Rattle.std.specs.List.{AllByRecursion}
+use Rattle.std.proofs.lemmas.Bool.{and_parts, cond-false, true≢false}
+use Rattle.std.proofs.lemmas.List.Elements.{All-from_recursion}
+use Rattle.std.proofs.lemmas.List.{drop-map, length-append, map-append, take-append-drop, take-map}
+use Rattle.affinity.specs.Kind.{is_changing}
+use Rattle.affinity.specs.declared.geometry.Geometry.{Geometry}
+use Rattle.checkpoint.specs.Recovery.{holds}
+use Rattle.disk.proofs.Moments.{leaves_now}
+use Rattle.disk.specs.Device.{Leaves, Medium}
+use Rattle.disk.specs.Moments.{LeavesOnly}
+use Rattle.journal.specs.Journal.{AreCarriedOut, HoldsSome, settled}
+use Rattle.legal_runs.proofs.Apart.{apart_turned}
+use Rattle.legal_runs.proofs.Lists.{all_back, all_front, all_join, before_back, before_front}
+use Rattle.legal_runs.proofs.Moves.{Logs}
+use Rattle.legal_runs.proofs.Room.{log_has_room}
+use Rattle.legal_runs.proofs.Sound.{move_sound}
+use Rattle.legal_runs.proofs.Told.{fold-joined}
+use Rattle.legal_runs.specs.Events.{batch, log, loggable}
+use Rattle.legal_runs.specs.Laws.{AreApart, AreReplied, IsSound}
+use Rattle.legal_runs.specs.World.{Replied, World, entries, entry, touches}
+use Rattle.message.specs.Messages.{IsMessage, is_in_range, kind}
+use Rattle.message.specs.declared.Msg.{Msg}
+use Rattle.oplog.specs.Logged.{AreLogged, IsLogged}
+use Rattle.parcel.specs.Holding.{TreeHolds}
+use Rattle.parcel.specs.Tree.{in_tree}
+use Rattle.plain.proofs.Frame.{same_reply}
+use Rattle.plain.proofs.Unchanged.{unlogged_changes_nothing}
+use Rattle.plain.specs.Serial.{fold, is_loggable, next_state}
+use Rattle.plain.specs.State.{State}
+use Rattle.scheduler.proofs.Counting.{changing, changing-append, flight_of}
+use Rattle.scheduler.proofs.Journaling.{with_none}
+use Rattle.scheduler.proofs.Tests.{any_logged}
+use Rattle.scheduler.proofs.Trees.{log_reaches}
+use Rattle.scheduler.specs.Kept.{Kept, StandsThroughout}
+use Rattle.scheduler.specs.Parts.{IsCore, IsPlaced, Parts, is_below, kept_of, entry_of, reached, replied_of, world_in}
+use Rattle.scheduler.specs.Slots.{Place}
+
+-- ---- from what ran to what the journal asks for
+
+abbrev pub AreKnown : Geometry → List Replied → Type 0
+AreKnown g as' = AllByRecursion (λ a. IsMessage a.1 × (is_in_range g a.1 ≡ true)) as'
+
+pub known_from : (g : Geometry) (ys : List Place) → AllByRecursion (IsPlaced g) ys → AreKnown g (map replied_of ys)
+known_from g [] all = tt
+known_from g (y ∷ ys) all = ((all.0.message, all.0.range), known_from g ys all.1)
+
+first_true : (b c : Bool) → (b && c) ≡ true → b ≡ true
+first_true b c e = (and_parts b c e).0
+
+module _ (g : Geometry) where
+  still_replied : (x : State) (a : Replied) (as' : List Replied) → AllByRecursion (λ d. touches g (entry a) d ≡ false) (entries as')
+      → AreReplied g x as' → AreReplied g (next_state g x a.1) as'
+  still_replied x a [] apart h = tt
+  still_replied x a (d ∷ as') apart h =
+      (h.0 ∙ sym (same_reply g x d.1 a.1 (apart_turned g (entry a) (entry d) apart.0)), still_replied x a as' apart.1 h.1)
+
+  pub carried_out : (x : State) (first rest : List Replied) → AreApart g (entries (first ++ rest)) → AreReplied g x (first ++ rest) → AreKnown g first
+      → AreCarriedOut g x (loggable first)
+  carried_out x [] rest apart h known = tt
+  carried_out x (a ∷ first) rest apart h known =
+      let k = carried_out (next_state g x a.1) first rest apart.1 (still_replied x a (first ++ rest) apart.0 h.1) known.1 in
+      elim (is_loggable a.1 a.2) as (λ b. is_loggable a.1 a.2 ≡ b
+      → AreCarriedOut g x (map (λ (a : Replied). a.1) (cond b (a ∷ filter (λ a. is_loggable a.1 a.2) first) (filter (λ a. is_loggable a.1 a.2) first)))) [
+        | true ↦ λ e. (known.0.0, (first_true (is_changing (kind a.1)) _ e, known.0.1), ap (is_loggable a.1) (sym h.0) ∙ e, k)
+        | false ↦ λ e. subst (λ y. AreCarriedOut g y (loggable first)) (unlogged_changes_nothing g x a.1 (ap (is_loggable a.1) (sym h.0) ∙ e)) k
+      ] refl
+
+  pub each_logged : (first : List Replied) → AreKnown g first → AllByRecursion (λ m. IsLogged g m) (loggable first)
+  each_logged [] known = tt
+  each_logged (a ∷ first) known =
+      let k = each_logged first known.1 in
+      elim (is_loggable a.1 a.2) as (λ b. is_loggable a.1 a.2 ≡ b
+      → AllByRecursion (λ m. IsLogged g m) (map (λ (a : Replied). a.1) (cond b (a ∷ filter (λ a. is_loggable a.1 a.2) first) (filter (λ a. is_loggable a.1 a.2) first)))) [
+        | true ↦ λ e. ((first_true (is_changing (kind a.1)) _ e, known.0.1), k)
+        | false ↦ λ e. k
+      ] refl
+
+-- those that a log of n hands to the journal, by their places
+abbrev pub batch_at : Parts → ℕ → List Msg
+batch_at p n = loggable (map replied_of (take n p.lines.ran))
+
+module _ (keeps : Type 0) (p : Parts) (k : IsCore keeps p) (n : ℕ) where
+  abbrev g : Geometry
+  g = p.journal.geometry
+
+  abbrev w : World
+  w = world_in p
+
+  pub same_batch : batch_at p n ≡ batch w n
+  same_batch = ap loggable (sym (take-map replied_of n p.lines.ran))
+
+  known : AreKnown g (take n w.ran)
+  known = subst (AreKnown g) (sym (take-map replied_of n p.lines.ran))
+      (known_from g (take n p.lines.ran) (all_front (IsPlaced g) (take n p.lines.ran) (drop n p.lines.ran)
+      (subst (AllByRecursion (IsPlaced g)) (sym (take-append-drop n p.lines.ran)) k.placed.ran)))
+
+  pub batch_logged : AreLogged g (batch_at p n)
+  batch_logged = subst (AreLogged g) (sym same_batch) (All-from_recursion (λ m. IsLogged g m) (batch w n) (each_logged g (take n w.ran) known))
+
+  pub batch_carried : AreCarriedOut g w.settled (batch_at p n)
+  batch_carried =
+      let whole : take n w.ran ++ drop n w.ran ≡ w.ran = take-append-drop n w.ran in
+      subst (AreCarriedOut g w.settled) (sym same_batch) (carried_out g w.settled (take n w.ran) (drop n w.ran)
+      (subst (λ r. AreApart g (entries r)) (sym whole) (before_front _ (entries w.ran) w.out (before_back _ (entries w.logged) _ k.sound.apart)))
+      (subst (AreReplied g w.settled) (sym whole) k.sound.replied) known)
+
+  pub batch_fits : length (batch_at p n) ≤ p.journal.room
+  batch_fits = subst (λ ms. length ms ≤ p.journal.room) (sym same_batch) (log_has_room w n k.sound.room)
+
+-- ---- what stands afterwards
+
+abbrev pub with_log : Parts → ℕ → ℕ → ℕ → Medium → Parts
+with_log p n flight room medium = record p {
+  lines = record p.lines { ran = drop n p.lines.ran; logged = p.lines.logged ++ take n p.lines.ran };
+  journal = record p.journal { room = room; medium = medium };
+  batch = [];
+  flight = flight;
+  since = p.since ++ batch_at p n;
+}
+
+abbrev pub with_doubt : Parts → ℕ → Medium → Parts
+with_doubt p n medium = record p { journal = record p.journal { failed = true; medium = medium }; batch = batch_at p n }
+
+module _ (keeps : Type 0) (p : Parts) (k : IsCore keeps p) (works : p.journal.failed ≡ false) (n flight : ℕ) (medium : Medium) where
+  abbrev room : ℕ
+  room = p.journal.room - length (batch_at p n)
+
+  abbrev after : Parts
+  after = with_log p n flight room medium
+
+  pub log_world : world_in after ≡ log p.journal.geometry (world_in p) n
+  log_world = λ i. record (world_in after) {
+    ran = sym (drop-map replied_of n p.lines.ran) i;
+    logged = (map-append replied_of p.lines.logged (take n p.lines.ran) ∙ ap (λ as'. map replied_of p.lines.logged ++ as') (sym (take-map replied_of n p.lines.ran))) i;
+    settled = (fold-joined p.journal.geometry _ p.since (batch_at p n) ∙ ap (fold p.journal.geometry (world_in p).settled) (same_batch keeps p k n)) i;
+    room = p.journal.room - length (same_batch keeps p k n i);
+    doubt = sym (k.no_doubt works) i;
+  }
+
+  module _ (flies : flight + changing (take n p.lines.ran) ≡ p.flight)
+      (is_settled : keeps → settled (record p.journal { room = room; medium = medium }) ≡ Some (world_in after).settled)
+      (stands : keeps → (c : List ℕ) → Leaves medium c → holds p.journal.geometry c ≡ settled (record p.journal { room = room; medium = medium })) where
+    pub log_core : IsCore keeps after
+    log_core =
+        let whole = sym (take-append-drop n p.lines.ran) in
+        let counts = ap length whole ∙ length-append (take n p.lines.ran) (drop n p.lines.ran) in
+        let more = length-append p.lines.logged (take n p.lines.ran) in
+        let claimed = k.claimed in
+        let flew = k.flies ∙ flight_of p in
+        let fly = flight_of after in
+        let ran = ap changing whole ∙ changing-append (take n p.lines.ran) (drop n p.lines.ran) in
+        let placed = subst (AllByRecursion (IsPlaced p.journal.geometry)) whole k.placed.ran in
+        record {
+          claimed = omega (arith, counts, more, claimed);
+          placed = record {
+            waiting = k.placed.waiting;
+            out = k.placed.out;
+            ran = all_back (IsPlaced p.journal.geometry) (take n p.lines.ran) (drop n p.lines.ran) placed;
+            logged = all_join (IsPlaced p.journal.geometry) p.lines.logged (take n p.lines.ran) k.placed.logged
+                (all_front (IsPlaced p.journal.geometry) (take n p.lines.ran) (drop n p.lines.ran) placed);
+          };
+          turned = k.turned;
+          seats = k.seats;
+          waits = k.waits;
+          holds = λ test. k.holds test ∙ any_logged test p.lines (take n p.lines.ran) (drop n p.lines.ran) whole;
+          flies = omega (arith, flew, fly, ran, flies);
+          sound = subst (IsSound p.journal.geometry) (sym log_world)
+              (move_sound p.journal.geometry (world_in p) _ _ (Logs n refl refl) k.sound);
+          geometry = k.geometry;
+          tree = subst (λ s. TreeHolds p.journal.geometry (is_below p.journal.geometry (map entry_of p.lines.out)) (in_tree p.tree) s)
+              (sym (log_reaches p.journal.geometry (world_in p) n k.sound) ∙ ap (reached p.journal.geometry) (sym log_world)) k.tree;
+          is_settled = λ keep fine. is_settled keep;
+          stands = λ keep c leaves. with_none p.journal.geometry (world_in after).settled [] c (stands keep c leaves ∙ is_settled keep);
+          no_doubt = λ fine. refl;
+        }
+
+  module _ (any : keeps → LeavesOnly p.journal.medium medium (HoldsSome p.journal.geometry (world_in p).settled (batch_at p n))) where
+    -- at each moment of the call
+    pub log_throughout : (new : Kept) → new.medium ≡ medium → keeps → StandsThroughout (batch (world_in p) n) (kept_of p) new
+    log_throughout new same keep =
+        subst (λ (m : Medium). LeavesOnly p.journal.medium m (HoldsSome p.journal.geometry (world_in p).settled (if p.journal.failed then p.batch else batch (world_in p) n))) (sym same)
+        (subst (λ ds. LeavesOnly p.journal.medium medium (HoldsSome p.journal.geometry (world_in p).settled ds))
+        (same_batch keeps p k n ∙ sym (cond-false p.journal.failed p.batch (batch (world_in p) n) works)) (any keep))
+
+    -- the device failed
+    pub doubt_core : IsSound p.journal.geometry (world_in (with_doubt p n medium)) → IsCore keeps (with_doubt p n medium)
+    doubt_core sound = record {
+      claimed = k.claimed;
+      placed = k.placed;
+      turned = k.turned;
+      seats = k.seats;
+      waits = k.waits;
+      holds = k.holds;
+      flies = k.flies;
+      sound = sound;
+      geometry = k.geometry;
+      tree = k.tree;
+      is_settled = λ keep fine. absurd (true≢false fine);
+      stands = λ keep c leaves. leaves_now p.journal.medium medium _ (any keep) c leaves;
+      no_doubt = λ fine. absurd (true≢false fine);
+    }

@@ -1,0 +1,70 @@
+-- A core that was just opened keeps what a core keeps.
+use Rattle.std.proofs.Common.{◌≡◌, ℕ, List, [], Some, length, refl, sym, ap, subst, ◌∙◌, arith}
+use Rattle.std.proofs.lemmas.List.{length-replicate}
+use Rattle.affinity.specs.declared.geometry.Geometry.{Geometry}
+use Rattle.arena.proofs.Times.{length-numbers}
+use Rattle.arena.specs.Row.{IsParted, Row, capacity_of, empty_row}
+use Rattle.journal.specs.Journal.{Held, IsSettled, settled}
+use Rattle.legal_runs.proofs.Idle.{idle_sound}
+use Rattle.message.specs.declared.Msg.{Msg}
+use Rattle.message.specs.declared.Reply.{Reply}
+use Rattle.parcel.proofs.Holding.{holds_alike, holds_whole}
+use Rattle.parcel.specs.Holding.{TreeHolds, nowhere}
+use Rattle.parcel.specs.Nodes.{tree_state}
+use Rattle.parcel.specs.Tree.{IsIn, IsWholeTree, TreeView, in_tree, state_in}
+use Rattle.plain.specs.State.{IsState}
+use Rattle.scheduler.specs.Parts.{IsCore, Parts, is_below, parts, world_in}
+use Rattle.scheduler.specs.Slots.{HasChains, line}
+use Rattle.scheduler.specs.declared.slot.Slot.{Slot}
+use Rattle.turns.specs.Turns.{Queuing, at_start}
+
+module _ (keeps : Type 0) (slots : ℕ) (replies : List Reply) (tree : TreeView) (journal : Held) where
+  abbrev pub opened : Parts
+  opened = parts (empty_row slots 4) replies tree journal (at_start journal.geometry slots) [] 0 0 tree []
+
+  pub size : capacity_of {T = Slot} (empty_row slots 4) ≡ slots
+  size = length-replicate slots _
+
+  module _ (same : tree.geometry ≡ journal.geometry) (whole : IsWholeTree tree)
+      (holds : keeps → (settled journal ≡ Some (state_in tree)) × IsSettled journal) where
+    tree_holds : TreeHolds journal.geometry (is_below journal.geometry []) (in_tree tree) (state_in tree)
+    tree_holds =
+        holds_alike journal.geometry nowhere (is_below journal.geometry []) (in_tree tree) (state_in tree) (λ q. refl)
+        (holds_whole journal.geometry (in_tree tree) (state_in tree)
+        (subst (λ (g : Geometry). IsIn g [] (in_tree tree)) same whole.all_in)
+        (ap (λ (g : Geometry). tree_state g (in_tree tree)) (sym same))
+        (subst (λ (g : Geometry). IsState g (state_in tree)) same whole.state))
+
+    pub opened_core : IsCore keeps opened
+    opened_core = record {
+      claimed = let all = length-numbers 0 slots in let there = size in omega (arith, all, there);
+      placed = record { waiting = tt; out = tt; ran = tt; logged = tt };
+      turned = refl;
+      seats = sym size;
+      waits = refl;
+      holds = λ test. refl;
+      flies = refl;
+      sound = idle_sound (world_in opened) (record { none_waits = refl; none_held = refl }) journal.geometry;
+      geometry = same;
+      tree = tree_holds;
+      is_settled = λ k works. (holds k).0;
+      stands = λ k bytes leaves. record { added = 0; at_most = omega arith; is = (holds k).1.each bytes leaves ∙ (holds k).0 };
+      no_doubt = λ works. refl;
+    }
+
+    -- the same of parts that are these
+    module _ (row : Row Slot) (row_is : row ≡ empty_row slots 4) where
+      pub opened_parts : (turns : Queuing) (batch : List Msg) (first : TreeView) (since : List Msg)
+          → turns ≡ at_start journal.geometry slots → batch ≡ [] → first ≡ tree → since ≡ []
+          → IsCore keeps (parts row replies tree journal turns batch 0 0 first since)
+      opened_parts turns batch first since turns_are batch_is first_is since_is =
+          subst (IsCore keeps) (λ i. parts (sym row_is i) replies tree journal (sym turns_are i) (sym batch_is i) 0 0 (sym first_is i) (sym since_is i)) opened_core
+
+      pub opened_chains : IsParted row → HasChains row
+      opened_chains parted = record { parted = parted; four = ap (λ (r : Row Slot). length r.chains) row_is }
+
+      pub opened_size : capacity_of row ≡ slots
+      opened_size = ap (λ (r : Row Slot). capacity_of r) row_is ∙ size
+
+      pub opened_ran : 0 ≡ length (line row replies 2)
+      opened_ran = ap (λ (r : Row Slot). length (line r replies 2)) (sym row_is)

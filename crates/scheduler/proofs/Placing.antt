@@ -1,0 +1,19 @@
+-- What the affinity of a message's kind and numbers says of the message.
+use Rattle.std.proofs.Common.{◌≡◌, ℕ, true, List, sym, subst, ◌∙◌}
+use Rattle.affinity.specs.Interval.{Interval, IsAffinityOf}
+use Rattle.affinity.specs.Place.{is_in_range as numbers_are_in_range, place as place_of_numbers}
+use Rattle.affinity.specs.declared.geometry.Geometry.{Geometry}
+use Rattle.affinity.specs.declared.kinds.Kind.{Kind}
+use Rattle.message.specs.Messages.{four_numbers, is_in_range, kind, place}
+use Rattle.message.specs.declared.Msg.{Msg}
+
+module _ (h g : Geometry) (m : Msg) (k : Kind) (n : List ℕ) where
+  pub range_of : h ≡ g → k ≡ kind m → n ≡ four_numbers m → true ≡ numbers_are_in_range h k n → is_in_range g m ≡ true
+  range_of same is_kind is_numbers e = sym (e ∙ (λ i. numbers_are_in_range (same i) (is_kind i) (is_numbers i)))
+
+module _ (h g : Geometry) (m : Msg) (k : Kind) (n : List ℕ) (a : Interval) where
+  pub placed_of : h ≡ g → k ≡ kind m → n ≡ four_numbers m → IsAffinityOf h (place_of_numbers h k n) a → IsAffinityOf g (place g m) a
+  placed_of same is_kind is_numbers is =
+      subst (λ (x : Geometry). IsAffinityOf x (place x m) a) same
+      (subst (λ (ns : List ℕ). IsAffinityOf h (place_of_numbers h (kind m) ns) a) is_numbers
+      (subst (λ (j : Kind). IsAffinityOf h (place_of_numbers h j n) a) is_kind is))

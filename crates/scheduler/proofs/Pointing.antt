@@ -1,0 +1,183 @@
+-- A core in a step of a consistency point.
+use Rattle.std.proofs.Common.{◌≡◌, ℕ, ◌+◌, ◌-◌, ◌≤◌, Bool, true, false, List, [], ◌∷◌, map, length, Option, Some, None, Result, Ok, Err, refl, ap, sym, subst, ◌∙◌, arith}
+use Rattle.std.specs.Prelude.{if◌then◌else◌, is_some, nat_lt, option_map, OnOk, OnErr}
+use Rattle.std.proofs.lemmas.Bool.{ltb-false, true≢false}
+use Rattle.affinity.specs.declared.geometry.Geometry.{Geometry}
+use Rattle.checkpoint.specs.Recovery.{holds}
+use Rattle.disk.specs.Moments.{LeavesOnly}
+use Rattle.image.specs.Pieces.{piece_count}
+use Rattle.journal.specs.Journal.{Held, after_call, settled}
+use Rattle.legal_runs.specs.Events.{point_refusal}
+use Rattle.legal_runs.specs.Laws.{IsSound}
+use Rattle.legal_runs.specs.World.{World, held}
+use Rattle.legal_runs.specs.declared.outcomes.Outcome.TheVariants as outcomes
+use Rattle.legal_runs.specs.declared.outcomes.PointRefusal.{PointRefusal}
+use Rattle.legal_runs.specs.declared.outcomes.PointRefusal.TheVariants as points
+use Rattle.legal_runs.specs.declared.outcomes.Step.TheVariants as steps
+use Rattle.oplog.specs.declared.fault.LogFault.{LogFault}
+use Rattle.parcel.proofs.Holding.{whole_holds}
+use Rattle.parcel.specs.Holding.{TreeHolds, nowhere}
+use Rattle.parcel.specs.Tree.{IsIn, IsWholeTree, in_tree, state_in}
+use Rattle.parcel.specs.Nodes.{tree_state}
+use Rattle.plain.specs.State.{IsState}
+use Rattle.scheduler.proofs.Called.{cut_called, point_called}
+use Rattle.scheduler.proofs.Counting.{held_count}
+use Rattle.scheduler.proofs.Journaling.{called_sound, step_core, step_throughout, with_journal}
+use Rattle.scheduler.specs.Kept.{StandsThroughout}
+use Rattle.scheduler.specs.Parts.{IsCore, Parts, entry_of, is_below, kept_of, reached, world_in}
+
+-- ---- why a point may begin
+
+past : (b : Bool) (why : PointRefusal) (o : Option PointRefusal) → (if b then Some why else o) ≡ None → (b ≡ false) × (o ≡ None)
+past true why o e = absurd (true≢false (ap is_some e))
+past false why o e = (refl, e)
+
+no_left : (o : Option ℕ) → is_some o ≡ false → o ≡ None
+no_left None e = refl
+no_left (Some n) e = absurd (true≢false e)
+
+no_items : {X : Type 0} (xs : List X) → length xs ≡ 0 → xs ≡ []
+no_items [] e = refl
+no_items (x ∷ xs) e = absurd (omega (arith, e))
+
+module _ (keeps : Type 0) (p : Parts) (k : IsCore keeps p) (why : point_refusal (world_in p) ≡ None) where
+  pub point_works : p.journal.failed ≡ false
+  point_works = (past p.journal.failed points.Failed _ why).0
+
+  running : (if is_some p.journal.left then Some points.Running else (if nat_lt 0 (length (held (world_in p))) then Some points.Held else None)) ≡ None
+  running = (past p.journal.failed points.Failed _ why).1
+
+  pub point_alone : p.journal.left ≡ None
+  point_alone = no_left p.journal.left (past (is_some p.journal.left) points.Running _ running).0
+
+  none_held : length p.lines.logged + (length p.lines.ran + length p.lines.out) ≡ 0
+  none_held =
+      let none = (past (nat_lt 0 (length (held (world_in p)))) points.Held None (past (is_some p.journal.left) points.Running _ running).1).0 in
+      let few = ltb-false 0 (length (held (world_in p))) none in
+      let count = held_count p in
+      omega (arith, few, count)
+
+  none_out : p.lines.out ≡ []
+  none_out = no_items p.lines.out (let none = none_held in omega (arith, none))
+
+  none_ran : p.lines.ran ≡ []
+  none_ran = no_items p.lines.ran (let none = none_held in omega (arith, none))
+
+  whole_tree : TreeHolds p.journal.geometry nowhere (in_tree p.tree) (world_in p).settled
+  whole_tree =
+      subst (λ os. TreeHolds p.journal.geometry (is_below p.journal.geometry (map entry_of os)) (in_tree p.tree) (world_in p).settled) none_out
+      (subst (λ rs. TreeHolds p.journal.geometry (is_below p.journal.geometry (map entry_of p.lines.out)) (in_tree p.tree)
+      (reached p.journal.geometry (world_in (record p { lines = record p.lines { ran = rs } })))) none_ran k.tree)
+
+  pub point_whole : IsWholeTree p.tree
+  point_whole =
+      let whole = whole_holds p.journal.geometry (in_tree p.tree) (world_in p).settled whole_tree in
+      record {
+        all_in = subst (λ (g : Geometry). IsIn g [] (in_tree p.tree)) (sym k.geometry) whole.0;
+        state = subst (λ (g : Geometry). IsState g (tree_state g (in_tree p.tree))) (sym k.geometry) (subst (IsState p.journal.geometry) (sym whole.1) whole_tree.state);
+      }
+
+  pub point_state : keeps → settled p.journal ≡ Some (state_in p.tree)
+  point_state keep =
+      k.is_settled keep point_works
+      ∙ ap Some (sym (whole_holds p.journal.geometry (in_tree p.tree) (world_in p).settled whole_tree).1)
+      ∙ ap (λ (g : Geometry). Some (tree_state g (in_tree p.tree))) (sym k.geometry)
+
+-- ---- a step that was made, or at which the device failed
+
+module _ (keeps : Type 0) (p : Parts) (k : IsCore keeps p) (works : p.journal.failed ≡ false) (new : Held)
+    (any : keeps → LeavesOnly p.journal.medium new.medium (λ c. holds p.journal.geometry c ≡ settled p.journal)) where
+  pub made_core : (room : ℕ) (left : Option ℕ) → new ≡ record p.journal { room = room; left = left; medium = new.medium }
+      → (keeps → settled new ≡ settled p.journal) → IsSound p.journal.geometry (world_in (with_journal p room left p.journal.failed new.medium))
+      → IsCore keeps (record p { journal = new })
+  made_core room left is same sound = subst (λ (j : Held). IsCore keeps (record p { journal = j })) (sym is)
+      (step_core keeps p k works new.medium any room left p.journal.failed sound (λ keep fine. sym (ap settled is) ∙ same keep))
+
+  pub broken_core : new ≡ record p.journal { failed = true; medium = new.medium }
+      → IsSound p.journal.geometry (world_in (with_journal p p.journal.room p.journal.left true new.medium)) → IsCore keeps (record p { journal = new })
+  broken_core is sound = subst (λ (j : Held). IsCore keeps (record p { journal = j })) (sym is)
+      (step_core keeps p k works new.medium any p.journal.room p.journal.left true sound (λ keep fine. absurd (true≢false fine)))
+
+  pub step_moment : keeps → StandsThroughout [] (kept_of p) (kept_of (record p { journal = new }))
+  step_moment = step_throughout keeps p k works new.medium any (kept_of (record p { journal = new })) refl
+
+module _ (keeps : Type 0) (p : Parts) (k : IsCore keeps p) (new : Held)
+    (any : keeps → LeavesOnly p.journal.medium new.medium (λ c. holds p.journal.geometry c ≡ settled p.journal)) where
+  abbrev g : Geometry
+  g = p.journal.geometry
+
+  abbrev w : World
+  w = world_in p
+
+  -- failing leaves all that makes a world sound
+  failed_sound : IsSound g (world_in (with_journal p p.journal.room p.journal.left true new.medium))
+  failed_sound = record {
+    apart = k.sound.apart;
+    replied = k.sound.replied;
+    ascending = k.sound.ascending;
+    once = k.sound.once;
+    given = k.sound.given;
+    room = k.sound.room;
+    fits = k.sound.fits;
+  }
+
+  pointed_sound : point_refusal (world_in p) ≡ None → IsSound g (world_in (with_journal p g.half p.journal.left p.journal.failed new.medium))
+  pointed_sound why = called_sound g w (record w { room = g.half }) steps.Point outcomes.Pointed false
+      (point_called g w (record w { room = g.half }) (Ok tt) (why, refl)) k.sound
+
+  cut_sound : point_refusal (world_in p) ≡ None → (n : ℕ) → n ≤ piece_count g → IsSound g (world_in (with_journal p g.half (Some n) p.journal.failed new.medium))
+  cut_sound why n few = called_sound g w (record w { room = g.half; left = Some n }) steps.Cut outcomes.Cut false
+      (cut_called g w (record w { room = g.half; left = Some n }) (Ok tt) (why, (n, few, refl))) k.sound
+
+  -- whatever is left to write
+  left_sound : (left : Option ℕ) → IsSound g (world_in (with_journal p p.journal.room left p.journal.failed new.medium))
+  left_sound left = record {
+    apart = k.sound.apart;
+    replied = k.sound.replied;
+    ascending = k.sound.ascending;
+    once = k.sound.once;
+    given = k.sound.given;
+    room = k.sound.room;
+    fits = k.sound.fits;
+  }
+
+  module _ (result : Result (Unit {0}) LogFault) (why : point_refusal (world_in p) ≡ None) (settles : OnOk result (keeps → settled new ≡ settled p.journal)) where
+    pub point_core : new ≡ after_call result (record p.journal { room = p.journal.geometry.half; medium = new.medium }) p.journal
+        → IsCore keeps (record p { journal = new })
+    point_core is = by result is settles
+      where
+        by : (r : Result (Unit {0}) LogFault) → new ≡ after_call r (record p.journal { room = p.journal.geometry.half; medium = new.medium }) p.journal
+            → OnOk r (keeps → settled new ≡ settled p.journal) → IsCore keeps (record p { journal = new })
+        by (Ok u) is same = made_core keeps p k (point_works keeps p k why) new any p.journal.geometry.half p.journal.left is same (pointed_sound why)
+        by (Err e) is same = broken_core keeps p k (point_works keeps p k why) new any is failed_sound
+
+    pub cut_core : OnOk result ((n : ℕ) × (n ≤ piece_count g) × (new ≡ record p.journal { room = g.half; left = Some n; medium = new.medium }))
+        → OnErr result (new ≡ record p.journal { failed = true; medium = new.medium }) → IsCore keeps (record p { journal = new })
+    cut_core begun broken = by result begun broken settles
+      where
+        by : (r : Result (Unit {0}) LogFault) → OnOk r ((n : ℕ) × (n ≤ piece_count g) × (new ≡ record p.journal { room = g.half; left = Some n; medium = new.medium }))
+            → OnErr r (new ≡ record p.journal { failed = true; medium = new.medium }) → OnOk r (keeps → settled new ≡ settled p.journal)
+            → IsCore keeps (record p { journal = new })
+        by (Ok u) begun broken same = made_core keeps p k (point_works keeps p k why) new any g.half (Some begun.0) begun.2 same (cut_sound why begun.0 begun.1)
+        by (Err e) begun broken same = broken_core keeps p k (point_works keeps p k why) new any broken failed_sound
+
+  module _ (result : Result ℕ LogFault) (works : p.journal.failed ≡ false)
+      (settles : OnOk result (keeps → settled new ≡ settled p.journal)) where
+    pub piece_core : new ≡ after_call result (record p.journal { left = option_map (λ l. l - 1) p.journal.left; medium = new.medium }) p.journal
+        → IsCore keeps (record p { journal = new })
+    piece_core is = by result is settles
+      where
+        by : (r : Result ℕ LogFault) → new ≡ after_call r (record p.journal { left = option_map (λ l. l - 1) p.journal.left; medium = new.medium }) p.journal
+            → OnOk r (keeps → settled new ≡ settled p.journal) → IsCore keeps (record p { journal = new })
+        by (Ok u) is same = made_core keeps p k works new any p.journal.room (option_map (λ l. l - 1) p.journal.left) is same (left_sound (option_map (λ l. l - 1) p.journal.left))
+        by (Err e) is same = broken_core keeps p k works new any is failed_sound
+
+  module _ (result : Result (Unit {0}) LogFault) (works : p.journal.failed ≡ false)
+      (settles : OnOk result (keeps → settled new ≡ settled p.journal)) where
+    pub flip_core : new ≡ after_call result (record p.journal { left = None; medium = new.medium }) p.journal → IsCore keeps (record p { journal = new })
+    flip_core is = by result is settles
+      where
+        by : (r : Result (Unit {0}) LogFault) → new ≡ after_call r (record p.journal { left = None; medium = new.medium }) p.journal
+            → OnOk r (keeps → settled new ≡ settled p.journal) → IsCore keeps (record p { journal = new })
+        by (Ok u) is same = made_core keeps p k works new any p.journal.room None is same (left_sound None)
+        by (Err e) is same = broken_core keeps p k works new any is failed_sound

@@ -1,0 +1,319 @@
+-- The call that takes back what came of a job, by what its callees give.
+use Rattle.std.proofs.Common.{◌≡◌, ℕ, zero, suc, ◌+◌, ◌<◌, Bool, true, false, List, [], ◌∷◌, ◌++◌, append_assoc, map, length, get_or, slice_set, Option, Some, refl, ap, sym, subst, ◌∙◌, arith, inl, inr}
+use Rattle.std.specs.Prelude.{◌==◌, ◌||◌, ◌&&◌, not}
+use Rattle.std.specs.List.{AllByRecursion, Contains, concat, list_any}
+use Rattle.std.proofs.lemmas.Bool.{and_parts, eq-eqb, true≢false}
+use Rattle.std.proofs.lemmas.Bool.Decides.{eqb_tells}
+use Rattle.std.proofs.lemmas.List.{get_or-set_other, get_or-set_same, length-append, length-set}
+use Rattle.std.proofs.lemmas.List.Folds.{list_any-append}
+use Rattle.affinity.specs.Interval.{Interval, IsAffinityOf, interval}
+use Rattle.affinity.specs.Path.{Path}
+use Rattle.affinity.specs.declared.geometry.Geometry.{Geometry}
+use Rattle.arena.proofs.RowLemmas.{chained-listed}
+use Rattle.arena.proofs.Times.{times-append}
+use Rattle.arena.specs.Lists.{times}
+use Rattle.arena.specs.Row.{IsParted, Row, after_move, capacity_of, chain_at}
+use Rattle.journal.specs.Journal.{Held}
+use Rattle.legal_runs.proofs.Apart.{apart_turned}
+use Rattle.legal_runs.proofs.Lists.{all_back, all_front, before_first}
+use Rattle.legal_runs.specs.Events.{give_back, out_with}
+use Rattle.legal_runs.specs.Laws.{AreApart}
+use Rattle.legal_runs.specs.World.{Entry, World, held, touches}
+use Rattle.message.specs.Messages.{is_in_range, place}
+use Rattle.message.specs.declared.Msg.{Msg}
+use Rattle.message.specs.declared.Reply.{Reply}
+use Rattle.message.specs.declared.Reply.TheVariants.{Done}
+use Rattle.parcel.proofs.Lending.{kind_of}
+use Rattle.parcel.proofs.Serving.{fits_where_lent}
+use Rattle.parcel.specs.Fits.{Fits, IsKindOf}
+use Rattle.parcel.specs.Run.{Shows}
+use Rattle.parcel.specs.Tree.{IsOut, RestoresAt, TreeView, in_tree}
+use Rattle.parcel.specs.declared.job.Done.{Done as Result}
+use Rattle.plain.specs.Serial.{next_state, reply_to}
+use Rattle.scheduler.proofs.Answering.{entries_of, other_numbers}
+use Rattle.scheduler.proofs.Lines.{MovedLines, line_moved}
+use Rattle.scheduler.proofs.Returning.{out_is, return_core, return_world, returned_is_found, returned_is_placed, with_return}
+use Rattle.scheduler.proofs.Splits.{MapSplit, map_split, times-split}
+use Rattle.scheduler.proofs.Trees.{back_is_out}
+use Rattle.scheduler.specs.Jobs.{IsResultOf}
+use Rattle.scheduler.specs.Parts.{IsCore, IsPlaced, Parts, entry_of, parts, turn_of, world_in}
+use Rattle.scheduler.specs.Slots.{HasChains, Place, line, place_at}
+use Rattle.scheduler.specs.declared.slot.Slot.{Slot}
+use Rattle.turns.specs.Turns.{Queuing, has_number, has_slot, holds_at}
+
+-- ---- the place of an entry
+
+-- a place among others, of which this is the entry
+pub record Stands (e : Entry) (ys : List Place) : Type 0 where
+  pub before : List Place
+  pub at : Place
+  pub behind : List Place
+  pub whole : ys ≡ before ++ at ∷ behind
+  pub is : entry_of at ≡ e
+
+stands_at : (e : Entry) (ys : List Place) (k : ℕ) → k < length (map entry_of ys) → get_or (map entry_of ys) k e ≡ e → Stands e ys
+stands_at e [] k low is = absurd (omega (arith, low))
+stands_at e (y ∷ ys) zero low is = record { before = []; at = y; behind = ys; whole = refl; is = is }
+stands_at e (y ∷ ys) (suc k) low is = let s = stands_at e ys k (omega (arith, low)) is in record {
+  before = y ∷ s.before;
+  at = s.at;
+  behind = s.behind;
+  whole = ap (λ (l : List Place). y ∷ l) s.whole;
+  is = s.is;
+}
+
+pub stands_in : (e : Entry) (ys : List Place) → Contains (map entry_of ys) e → Stands e ys
+stands_in e ys h = stands_at e ys h.0 h.1 h.2
+
+-- ---- who holds a number
+
+not_false : (b : Bool) → not b ≡ true → b ≡ false
+not_false true e = absurd (true≢false (sym e))
+not_false false e = refl
+
+or_false : (a b : Bool) → a ≡ false → (a || b) ≡ b
+or_false true b e = absurd (true≢false e)
+or_false false b e = refl
+
+and_false : (a b : Bool) → b ≡ false → (a && b) ≡ false
+and_false true b e = e
+and_false false b e = refl
+
+-- none of those with other numbers stands at this slot with this number
+none_at : (n slot : ℕ) (ys : List Place) → AllByRecursion (λ y. not (has_number n (turn_of y)) ≡ true) ys → list_any (λ y. holds_at n slot (turn_of y)) ys ≡ false
+none_at n slot [] all = refl
+none_at n slot (y ∷ ys) all =
+    or_false (holds_at n slot (turn_of y)) (list_any (λ y. holds_at n slot (turn_of y)) ys) (and_false (has_slot slot (turn_of y)) (has_number n (turn_of y)) (not_false _ all.0))
+    ∙ none_at n slot ys all.1
+
+or_none : (b : Bool) → (b || false) ≡ b
+or_none true = refl
+or_none false = refl
+
+module _ (keeps : Type 0) (p : Parts) (k : IsCore keeps p) (before : List Place) (x : Place) (behind : List Place)
+    (whole : p.lines.out ≡ before ++ x ∷ behind) where
+  abbrev g : Geometry
+  g = p.journal.geometry
+
+  abbrev w : World
+  w = world_in p
+
+  abbrev us : List Entry
+  us = map entry_of p.lines.logged ++ (map entry_of p.lines.ran ++ map entry_of before)
+
+  held_is : held w ≡ us ++ entry_of x ∷ map entry_of behind
+  held_is =
+      (λ i. entries_of p.lines.logged i ++ (entries_of p.lines.ran i ++ (ap (map entry_of) whole ∙ map_joined before (x ∷ behind)) i))
+      ∙ ap (λ (es : List Entry). map entry_of p.lines.logged ++ es) (sym (append_assoc (map entry_of p.lines.ran) (map entry_of before) (entry_of x ∷ map entry_of behind)))
+      ∙ sym (append_assoc (map entry_of p.lines.logged) (map entry_of p.lines.ran ++ map entry_of before) (entry_of x ∷ map entry_of behind))
+    where
+      map_joined : (xs ys : List Place) → map entry_of (xs ++ ys) ≡ map entry_of xs ++ map entry_of ys
+      map_joined [] ys = refl
+      map_joined (x ∷ xs) ys = ap (λ (es : List Entry). entry_of x ∷ es) (map_joined xs ys)
+
+  alone : AllByRecursion (λ d. touches g (entry_of x) d ≡ false) (us ++ map entry_of behind)
+  alone = (before_first (λ (e d : Entry). touches g e d ≡ false) (apart_turned g) us (entry_of x) (map entry_of behind) (subst (AreApart g) held_is k.sound.apart)).0
+
+  all_out : AllByRecursion (IsPlaced g) (before ++ x ∷ behind)
+  all_out = subst (AllByRecursion (IsPlaced g)) whole k.placed.out
+
+  abbrev n : ℕ
+  n = x.1.affinity.number
+
+  abbrev Other : Place → Type 0
+  Other y = not (has_number n (turn_of y)) ≡ true
+
+  apart_us : AllByRecursion (λ d. touches g (entry_of x) d ≡ false) us
+  apart_us = all_front (λ d. touches g (entry_of x) d ≡ false) us (map entry_of behind) alone
+
+  apart_rest : AllByRecursion (λ d. touches g (entry_of x) d ≡ false) (map entry_of p.lines.ran ++ map entry_of before)
+  apart_rest = all_back (λ d. touches g (entry_of x) d ≡ false) (map entry_of p.lines.logged) (map entry_of p.lines.ran ++ map entry_of before) apart_us
+
+  x_placed : IsPlaced g x
+  x_placed = (all_back (IsPlaced g) before (x ∷ behind) all_out).0
+
+  others_logged : AllByRecursion (λ y. not (has_number n (turn_of y)) ≡ true) p.lines.logged
+  others_logged = other_numbers g x x_placed p.lines.logged k.placed.logged
+      (all_front (λ d. touches g (entry_of x) d ≡ false) (map entry_of p.lines.logged) (map entry_of p.lines.ran ++ map entry_of before) apart_us)
+
+  others_ran : AllByRecursion (λ y. not (has_number n (turn_of y)) ≡ true) p.lines.ran
+  others_ran = other_numbers g x x_placed p.lines.ran k.placed.ran
+      (all_front (λ d. touches g (entry_of x) d ≡ false) (map entry_of p.lines.ran) (map entry_of before) apart_rest)
+
+  others_before : AllByRecursion (λ y. not (has_number n (turn_of y)) ≡ true) before
+  others_before = other_numbers g x x_placed before (all_front (IsPlaced g) before (x ∷ behind) all_out)
+      (all_back (λ d. touches g (entry_of x) d ≡ false) (map entry_of p.lines.ran) (map entry_of before) apart_rest)
+
+  others_behind : AllByRecursion (λ y. not (has_number n (turn_of y)) ≡ true) behind
+  others_behind = other_numbers g x x_placed behind (all_back (IsPlaced g) before (x ∷ behind) all_out).1
+      (all_back (λ d. touches g (entry_of x) d ≡ false) us (map entry_of behind) alone)
+
+  -- who holds its number is the one that is out
+  pub holder_is : (slot : ℕ) → list_any (holds_at n slot) p.turns.held ≡ true → slot ≡ x.0
+  holder_is slot has =
+      let t : Place → Bool = λ (y : Place). holds_at n slot (turn_of y) in
+      let here : t x ≡ true =
+      sym (or_none (t x))
+      ∙ ap (λ b. t x || b) (sym (none_at n slot behind others_behind))
+      ∙ sym (or_false (list_any t before) (list_any t (x ∷ behind)) (none_at n slot before others_before))
+      ∙ sym (list_any-append t before (x ∷ behind))
+      ∙ ap (list_any t) (sym whole)
+      ∙ sym (or_false (list_any t p.lines.ran) (list_any t p.lines.out) (none_at n slot p.lines.ran others_ran))
+      ∙ sym (or_false (list_any t p.lines.logged) (list_any t p.lines.ran || list_any t p.lines.out) (none_at n slot p.lines.logged others_logged))
+      ∙ sym (k.holds (holds_at n slot)) ∙ has in
+      elim (eqb_tells x.0 slot) [
+        | inl e ↦ sym e.1
+        | inr e ↦ absurd (true≢false (sym (and_parts (x.0 == slot) (n == n) here).0 ∙ e.0))
+      ]
+
+  pub number_is_held : list_any (has_number n) p.turns.held ≡ true
+  number_is_held =
+      let t : Place → Bool = λ (y : Place). has_number n (turn_of y) in
+      k.holds (has_number n)
+      ∙ (λ i. list_any t p.lines.logged || (list_any t p.lines.ran || (ap (list_any t) whole ∙ list_any-append t before (x ∷ behind)) i))
+      ∙ (λ i. list_any t p.lines.logged || (list_any t p.lines.ran || (list_any t before || (eq-eqb n n refl i || list_any t behind))))
+      ∙ all_true (list_any t p.lines.logged) (list_any t p.lines.ran) (list_any t before)
+    where
+      all_true : (a b c : Bool) → (a || (b || (c || true))) ≡ true
+      all_true true b c = refl
+      all_true false true c = refl
+      all_true false false true = refl
+      all_true false false false = refl
+
+-- ---- the call
+
+module _ (keeps : Type 0) (row : Row Slot) (replies : List Reply) (tree : TreeView) (journal : Held) (turns : Queuing) (batch : List Msg) (next flight : ℕ)
+    (opened : TreeView) (since : List Msg) (is : HasChains row)
+    (k : IsCore keeps (parts row replies tree journal turns batch next flight opened since)) (done : Result)
+    (result : IsResultOf journal.geometry (world_in (parts row replies tree journal turns batch next flight opened since)) done) where
+  abbrev p : Parts
+  p = parts row replies tree journal turns batch next flight opened since
+
+  stands : Stands (done.ticket, done.message) p.lines.out
+  stands = stands_in (done.ticket, done.message) p.lines.out result.is_out
+
+  abbrev x : Place
+  x = stands.at
+
+  abbrev message_is : x.1.message ≡ done.message
+  message_is = ap (λ (e : Entry). e.1) stands.is
+
+  placed : IsPlaced journal.geometry x
+  placed = returned_is_placed keeps p k stands.before x stands.behind stands.whole
+
+  pub back_in_range : is_in_range journal.geometry done.message ≡ true
+  back_in_range = result.suits.range
+
+  module _ (a : Interval) (at : IsAffinityOf journal.geometry (place journal.geometry done.message) a) where
+    number_same : a.number ≡ x.1.affinity.number
+    number_same = ap (λ (i : Interval). i.number)
+        (at.interval ∙ ap (λ (m : Msg). interval journal.geometry (place journal.geometry m)) (sym message_is) ∙ sym placed.affinity.interval)
+
+    pub back_is_held : list_any (has_number a.number) turns.held ≡ true
+    back_is_held = ap (λ (m : ℕ). list_any (has_number m) turns.held) number_same ∙ number_is_held keeps p k stands.before x stands.behind stands.whole
+
+    pub back_fits : (q : Path) → IsAffinityOf tree.geometry q a → IsKindOf q done.parcels → Fits tree.geometry q done.parcels
+    back_fits = subst (λ (h : Geometry). (q : Path) → IsAffinityOf h q a → IsKindOf q done.parcels → Fits h q done.parcels) (sym k.geometry)
+        (fits_where_lent journal.geometry done.message done.parcels a at result.suits)
+
+    at_tree : IsAffinityOf tree.geometry (place journal.geometry done.message) a
+    at_tree = subst (λ (h : Geometry). IsAffinityOf h (place journal.geometry done.message) a) (sym k.geometry) at
+
+    pub back_goes_in : ((q : Path) → IsAffinityOf tree.geometry q a → IsOut q (in_tree tree) → IsKindOf q done.parcels → ⊥) → ⊥
+    back_goes_in refused = refused (place journal.geometry done.message) at_tree
+        (subst (λ (m : Msg). IsOut (place journal.geometry m) (in_tree tree)) message_is
+        (back_is_out journal.geometry (world_in p) k.sound (map entry_of stands.before) (entry_of x) (map entry_of stands.behind)
+        (out_is keeps p k stands.before x stands.behind stands.whole) (in_tree tree) k.tree placed.affinity.path))
+        (kind_of journal.geometry (place journal.geometry done.message) done.parcels result.suits.fits)
+
+    module _ (slot : ℕ) (has : list_any (holds_at a.number slot) turns.held ≡ true) where
+      slot_is : slot ≡ x.0
+      slot_is = holder_is keeps p k stands.before x stands.behind stands.whole slot (ap (λ (m : ℕ). list_any (holds_at m slot) turns.held) (sym number_same) ∙ has)
+
+      split : MapSplit (place_at row replies) (chain_at row 1) stands.before x stands.behind
+      split = map_split (place_at row replies) (chain_at row 1) stands.before x stands.behind stands.whole
+
+      at_slot : split.at ≡ slot
+      at_slot = ap (λ (y : Place). y.0) split.at_is ∙ sym slot_is
+
+      pub back_low : slot < capacity_of row
+      back_low =
+          let some = chained-listed row split.at 1 (subst (λ xs. 0 < times split.at xs) (sym split.whole) (times-split split.at split.front split.back)) in
+          let all = times-append split.at row.free (concat row.chains) in
+          subst (λ n. n < capacity_of row) at_slot (is.parted.within split.at (omega (arith, some, all)))
+
+      module _ (long : length replies ≡ capacity_of row) (reply : Reply) (reply_is : reply ≡ done.reply) (now : TreeView) (same_geometry : now.geometry ≡ tree.geometry)
+          (puts : (q : Path) → IsAffinityOf tree.geometry q a → RestoresAt tree.geometry q done.parcels (in_tree tree) (in_tree now)) where
+        abbrev told : List Reply
+        told = slice_set replies slot reply
+
+        abbrev y : Place
+        y = (x.0, x.1, done.reply)
+
+        lines : MovedLines row (after_move row slot 2) replies told 1 2 stands.before x stands.behind
+        lines = line_moved row replies told is 1 2 (omega arith) (λ same. omega (arith, same)) stands.before x stands.behind stands.whole
+            (λ j other. get_or-set_other replies slot j reply Done (λ same. other (same ∙ slot_is))) slot slot_is
+
+        there : slot < length replies
+        there = subst (λ n. slot < n) (sym long) back_low
+
+        told_here : get_or told x.0 Done ≡ done.reply
+        told_here = ap (λ n. get_or told n Done) (sym slot_is) ∙ get_or-set_same replies slot reply Done there ∙ reply_is
+
+        abbrev after : Parts
+        after = parts (after_move row slot 2) told now journal turns batch next flight opened since
+
+        joined : line (after_move row slot 2) told 2 ≡ p.lines.ran ++ y ∷ []
+        joined = lines.joined ∙ (λ j. p.lines.ran ++ (x.0, x.1, told_here j) ∷ [])
+
+        pub back_size : capacity_of (after_move row slot 2) ≡ capacity_of row
+        back_size = ap (λ (vs : List (Option Slot)). length vs) lines.values
+
+        pub back_long : length told ≡ capacity_of (after_move row slot 2)
+        back_long = length-set replies slot reply ∙ long ∙ sym back_size
+
+        pub back_ran : (ran : ℕ) → ran ≡ length (line row replies 2) → ran + 1 ≡ length (line (after_move row slot 2) told 2)
+        back_ran ran count = let now_is = ap (λ (ps : List Place). length ps) joined ∙ length-append p.lines.ran (y ∷ []) in omega (arith, count, now_is)
+
+        pub back_chains : IsParted (after_move row slot 2) → HasChains (after_move row slot 2)
+        back_chains parted = record { parted = parted; four = lines.four ∙ is.four }
+
+        after_is : after ≡ with_return p (stands.before ++ stands.behind) y now
+        after_is = λ i. record (with_return p (stands.before ++ stands.behind) y now) {
+          lines = record {
+            waiting = lines.stays 0 (λ same. omega (arith, same)) (λ same. omega (arith, same)) i;
+            out = lines.left i;
+            ran = joined i;
+            logged = lines.stays 3 (λ same. omega (arith, same)) (λ same. omega (arith, same)) i;
+          };
+          free = ap (λ (fs : List ℕ). length fs) lines.free i;
+          capacity = back_size i;
+        }
+
+        put : RestoresAt journal.geometry (place journal.geometry x.1.message) done.parcels (in_tree tree) (in_tree now)
+        put = subst (λ (m : Msg). RestoresAt journal.geometry (place journal.geometry m) done.parcels (in_tree tree) (in_tree now)) (sym message_is)
+            (subst (λ (h : Geometry). RestoresAt h (place journal.geometry done.message) done.parcels (in_tree tree) (in_tree now)) k.geometry
+            (puts (place journal.geometry done.message) at_tree))
+
+        fits : Fits journal.geometry (place journal.geometry x.1.message) done.parcels
+        fits = subst (λ (m : Msg). Fits journal.geometry (place journal.geometry m) done.parcels) (sym message_is) result.suits.fits
+
+        shows : Shows journal.geometry (place journal.geometry x.1.message) result.standing done.parcels (next_state journal.geometry (world_in p).settled x.1.message)
+        shows = subst (λ (m : Msg). Shows journal.geometry (place journal.geometry m) result.standing done.parcels (next_state journal.geometry (world_in p).settled m)) (sym message_is) result.shows
+
+        reply_told : done.reply ≡ reply_to journal.geometry (world_in p).settled x.1.message
+        reply_told = result.reply ∙ ap (reply_to journal.geometry (world_in p).settled) (sym message_is)
+
+        pub back_core : IsCore keeps after
+        back_core = subst (IsCore keeps) (sym after_is)
+            (return_core keeps p k stands.before x stands.behind stands.whole done.reply reply_told now (same_geometry ∙ k.geometry) result.standing done.parcels put fits shows)
+
+        pub back_world : (found : Entry × List Entry) × (out_with (world_in p) done.ticket ≡ Some found) × (found.0 ≡ (done.ticket, done.message))
+            × (world_in after ≡ give_back journal.geometry (world_in p) found)
+        back_world = (
+          (entry_of x, map entry_of (stands.before ++ stands.behind)),
+          ap (out_with (world_in p)) (sym (ap (λ (e : Entry). e.0) stands.is)) ∙ returned_is_found keeps p k stands.before x stands.behind stands.whole,
+          stands.is,
+          ap world_in after_is
+              ∙ return_world keeps p k stands.before x stands.behind stands.whole done.reply reply_told now (same_geometry ∙ k.geometry) result.standing done.parcels put fits shows,
+        )

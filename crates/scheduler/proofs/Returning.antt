@@ -1,0 +1,123 @@
+-- A core that takes back what came of a job.
+use Rattle.std.proofs.Common.{◌≡◌, ℕ, ◌+◌, Bool, false, List, [], ◌∷◌, ◌++◌, map, length, Option, Some, refl, ap, sym, subst, ◌∙◌, arith, inl, inr}
+use Rattle.std.specs.Prelude.{◌==◌, if◌then◌else◌, option_map}
+use Rattle.std.specs.List.{AllByRecursion}
+use Rattle.std.proofs.lemmas.Bool.{eq-eqb}
+use Rattle.std.proofs.lemmas.Bool.Decides.{eqb_tells}
+use Rattle.std.proofs.lemmas.List.{length-append, map-append}
+use Rattle.legal_runs.proofs.Lists.{all_back, all_front, all_join, before_front, before_one}
+use Rattle.legal_runs.proofs.Moves.{Backs}
+use Rattle.legal_runs.proofs.Sound.{move_sound}
+use Rattle.legal_runs.specs.Eligible.{pick}
+use Rattle.legal_runs.specs.Events.{give_back, out_with}
+use Rattle.legal_runs.specs.Laws.{AreOnce, IsSound}
+use Rattle.legal_runs.specs.World.{Entry}
+use Rattle.message.specs.Messages.{place}
+use Rattle.message.specs.declared.Reply.{Reply}
+use Rattle.parcel.specs.Fits.{Fits}
+use Rattle.parcel.specs.Holding.{TreeHolds}
+use Rattle.parcel.specs.Run.{Shows}
+use Rattle.parcel.specs.Tree.{RestoresAt, TreeView, in_tree}
+use Rattle.parcel.specs.declared.parts.Parcels.{Parcels}
+use Rattle.parcel.specs.declared.parts.Standing.{Standing}
+use Rattle.plain.specs.Serial.{next_state, reply_to}
+use Rattle.scheduler.proofs.Counting.{changing, changing-append, changing-cons, flight_of}
+use Rattle.scheduler.proofs.Tests.{any_back}
+use Rattle.scheduler.proofs.Trees.{back_reaches, back_tree}
+use Rattle.scheduler.specs.Parts.{IsCore, IsPlaced, Parts, entry_of, is_below, reached, replied_of, world_in}
+use Rattle.scheduler.specs.Slots.{Place}
+
+-- the one with a ticket that no other one has is the one that is found
+abbrev step_pick : Entry → List Entry → Option (Entry × List Entry) → Bool → Option (Entry × List Entry)
+step_pick e es o b = if b then Some (e, es) else option_map (λ (found : Entry × List Entry). (found.0, e ∷ found.1)) o
+
+pub picked_at : (before : List Entry) (e : Entry) (behind : List Entry) → AllByRecursion (λ d. d.0 ≡ e.0 → ⊥) before
+    → pick (λ d. d.0 == e.0) (before ++ e ∷ behind) ≡ Some (e, before ++ behind)
+picked_at [] e behind others = ap (step_pick e behind (pick (λ d. d.0 == e.0) behind)) (eq-eqb e.0 e.0 refl)
+picked_at (d ∷ before) e behind others =
+    ap (step_pick d (before ++ e ∷ behind) (pick (λ d. d.0 == e.0) (before ++ e ∷ behind))) (differs d.0 e.0 others.0)
+    ∙ ap (λ o. step_pick d (before ++ e ∷ behind) o false) (picked_at before e behind others.1)
+  where
+    differs : (a b : ℕ) → (a ≡ b → ⊥) → (a == b) ≡ false
+    differs a b other = elim (eqb_tells a b) [ inl e ↦ absurd (other e.1) | inr n ↦ n.0 ]
+
+abbrev pub with_return : Parts → List Place → Place → TreeView → Parts
+with_return p out y tree = record p { lines = record p.lines { out = out; ran = p.lines.ran ++ y ∷ [] }; tree = tree }
+
+module _ (keeps : Type 0) (p : Parts) (k : IsCore keeps p) (before : List Place) (x : Place) (behind : List Place)
+    (whole : p.lines.out ≡ before ++ x ∷ behind) where
+  pub out_is : (world_in p).out ≡ map entry_of before ++ entry_of x ∷ map entry_of behind
+  out_is = ap (map entry_of) whole ∙ map-append entry_of before (x ∷ behind)
+
+  all_out : AllByRecursion (IsPlaced p.journal.geometry) (before ++ x ∷ behind)
+  all_out = subst (AllByRecursion (IsPlaced p.journal.geometry)) whole k.placed.out
+
+  pub returned_is_placed : IsPlaced p.journal.geometry x
+  returned_is_placed = (all_back (IsPlaced p.journal.geometry) before (x ∷ behind) all_out).0
+
+  pub returned_is_found : out_with (world_in p) x.1.ticket ≡ Some (entry_of x, map entry_of (before ++ behind))
+  returned_is_found =
+      ap (pick (λ (e : Entry). e.0 == x.1.ticket)) out_is
+      ∙ picked_at (map entry_of before) (entry_of x) (map entry_of behind)
+      (before_one (λ (e d : Entry). e.0 ≡ d.0 → ⊥) (map entry_of before) (entry_of x) (map entry_of behind)
+      (subst AreOnce out_is (before_front (λ (e d : Entry). e.0 ≡ d.0 → ⊥) (world_in p).out (world_in p).waiting k.sound.once)))
+      ∙ ap (λ es. Some (entry_of x, es)) (sym (map-append entry_of before behind))
+
+  module _ (reply : Reply) (told : reply ≡ reply_to p.journal.geometry (world_in p).settled x.1.message) (tree : TreeView) (geometry : tree.geometry ≡ p.journal.geometry)
+      (t : Standing) (l : Parcels) (put : RestoresAt p.journal.geometry (place p.journal.geometry x.1.message) l (in_tree p.tree) (in_tree tree))
+      (fits : Fits p.journal.geometry (place p.journal.geometry x.1.message) l)
+      (shows : Shows p.journal.geometry (place p.journal.geometry x.1.message) t l (next_state p.journal.geometry (world_in p).settled x.1.message)) where
+    abbrev y : Place
+    y = (x.0, x.1, reply)
+
+    abbrev after : Parts
+    after = with_return p (before ++ behind) y tree
+
+    abbrev found : Entry × List Entry
+    found = (entry_of x, map entry_of (before ++ behind))
+
+    pub return_world : world_in after ≡ give_back p.journal.geometry (world_in p) found
+    return_world = λ i. record (world_in after) {
+      ran = (map-append replied_of p.lines.ran (y ∷ []) ∙ (λ j. map replied_of p.lines.ran ++ (x.1.ticket, x.1.message, told j) ∷ [])) i;
+    }
+
+    pub return_core : IsCore keeps after
+    return_core =
+        let was = ap length whole ∙ length-append before (x ∷ behind) in
+        let now = length-append before behind in
+        let more = length-append p.lines.ran (y ∷ []) in
+        let claimed = k.claimed in
+        let flew = k.flies ∙ flight_of p in
+        let flies = flight_of after in
+        let out_was = ap changing whole ∙ changing-append before (x ∷ behind) ∙ ap (λ n. changing before + n) (changing-cons x behind) in
+        let out_now = changing-append before behind in
+        let ran_now = changing-append p.lines.ran (y ∷ []) ∙ ap (λ n. changing p.lines.ran + n) (changing-cons y []) in
+        record {
+          claimed = omega (arith, was, now, more, claimed);
+          placed = record {
+            waiting = k.placed.waiting;
+            out = all_join (IsPlaced p.journal.geometry) before behind (all_front (IsPlaced p.journal.geometry) before (x ∷ behind) all_out)
+                (all_back (IsPlaced p.journal.geometry) before (x ∷ behind) all_out).1;
+            ran = all_join (IsPlaced p.journal.geometry) p.lines.ran (y ∷ []) k.placed.ran
+                (record { affinity = returned_is_placed.affinity; range = returned_is_placed.range; message = returned_is_placed.message }, tt);
+            logged = k.placed.logged;
+          };
+          turned = k.turned;
+          seats = k.seats;
+          waits = k.waits;
+          holds = λ test. k.holds test ∙ any_back test p.lines before x y behind whole refl;
+          flies = omega (arith, flew, flies, out_was, out_now, ran_now);
+          sound = subst (IsSound p.journal.geometry) (sym return_world)
+              (move_sound p.journal.geometry (world_in p) _ _ (Backs x.1.ticket found returned_is_found refl refl) k.sound);
+          geometry = geometry;
+          tree = subst (λ s. TreeHolds p.journal.geometry (is_below p.journal.geometry (map entry_of (before ++ behind))) (in_tree tree) s)
+              (sym (ap (λ as'. reached p.journal.geometry (record (world_in after) { ran = as' })) (map-append replied_of p.lines.ran (y ∷ []))
+              ∙ back_reaches p.journal.geometry (world_in p).settled (map replied_of p.lines.ran) (replied_of y)))
+              (subst (λ es. TreeHolds p.journal.geometry (is_below p.journal.geometry es) (in_tree tree) (next_state p.journal.geometry (reached p.journal.geometry (world_in p)) x.1.message))
+              (sym (map-append entry_of before behind))
+              (back_tree p.journal.geometry (world_in p) k.sound (map entry_of before) (entry_of x) (map entry_of behind) out_is (in_tree p.tree) k.tree
+              t l (in_tree tree) put fits shows returned_is_placed.message));
+          is_settled = k.is_settled;
+          stands = k.stands;
+          no_doubt = k.no_doubt;
+        }

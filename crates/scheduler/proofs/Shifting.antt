@@ -1,0 +1,85 @@
+-- Those that ran: one after the other on their chain, and moved to the chain of those that are logged.
+use Rattle.std.proofs.Common.{◌≡◌, ◌≢◌, ℕ, zero, suc, ◌+◌, ◌<◌, List, [], ◌∷◌, ◌++◌, length, take, drop, Some, None, refl, sym, ap, subst, ◌∙◌, arith, append_assoc}
+use Rattle.arena.specs.Lists.{first_of, without}
+use Rattle.arena.specs.Row.{Row, IsParted, after_move, chain_at, front_of}
+use Rattle.arena.proofs.RowLemmas.{chain-front}
+use Rattle.scheduler.proofs.Lines.{chain_joined, chain_left, chain_stays, four_moved, row_moved}
+use Rattle.scheduler.specs.Moving.{HasLogged}
+use Rattle.scheduler.specs.Slots.{HasChains}
+use Rattle.scheduler.specs.declared.slot.Slot.{Slot}
+
+append_none : {X : Type 0} (xs : List X) → xs ++ [] ≡ xs
+append_none [] = refl
+append_none (x ∷ xs) = ap (λ l. x ∷ l) (append_none xs)
+
+-- ---- one more of the first ones
+
+pub take_more : {X : Type 0} (n : ℕ) (xs : List X) → take n xs ++ take 1 (drop n xs) ≡ take (suc n) xs
+take_more zero xs = refl
+take_more (suc n) [] = refl
+take_more (suc n) (x ∷ xs) = ap (λ l. x ∷ l) (take_more n xs)
+
+pub drop_more : {X : Type 0} (n : ℕ) (xs : List X) → drop 1 (drop n xs) ≡ drop (suc n) xs
+drop_more zero xs = refl
+drop_more (suc n) [] = refl
+drop_more (suc n) (x ∷ xs) = drop_more n xs
+
+pub left_over : {X : Type 0} (n : ℕ) (xs : List X) → n < length xs → 0 < length (drop n xs)
+left_over zero xs low = low
+left_over (suc n) [] low = absurd (omega (arith, low))
+left_over (suc n) (x ∷ xs) low = left_over n xs (omega (arith, low))
+
+-- ---- what ran is logged
+
+pub none_logged : (row : Row Slot) → HasChains row → HasLogged 0 row row
+none_logged row is = record {
+  ran = refl;
+  logged = sym (append_none (chain_at row 3));
+  waiting = refl;
+  out = refl;
+  values = refl;
+  free = refl;
+  chains = is;
+}
+
+pub some_first : (xs : List ℕ) → 0 < length xs → first_of xs ≡ None → ⊥
+some_first [] some none = omega (arith, some)
+some_first (x ∷ xs) some none = absurd (cc)
+
+pub first_is_there : (row : Row Slot) → 0 < length (chain_at row 2) → front_of row 2 ≡ None → ⊥
+first_is_there row some none = some_first (chain_at row 2) some none
+
+module _ (row : Row Slot) (is : HasChains row) (i : ℕ) (first : front_of row 2 ≡ Some i) (parted : IsParted (after_move row i 3)) where
+  whole : chain_at row 2 ≡ [] ++ i ∷ without i (chain_at row 2)
+  whole = chain-front row i 2 is.parted first
+
+  there : 3 < length row.chains
+  there = let four = is.four in omega (arith, four)
+
+  other : ◌≢◌ {A = ℕ} 3 2
+  other same = omega (arith, same)
+
+  pub first_logged : HasLogged 1 row (after_move row i 3)
+  first_logged = record {
+    ran = chain_left row is.parted i 2 3 there other [] (without i (chain_at row 2)) whole ∙ sym (ap (λ (l : List ℕ). drop 1 l) whole);
+    logged = chain_joined row is.parted i 2 3 there other [] (without i (chain_at row 2)) whole ∙ sym (ap (λ (l : List ℕ). chain_at row 3 ++ take 1 l) whole);
+    waiting = chain_stays row is.parted i 2 3 there other [] (without i (chain_at row 2)) whole 0 (λ same. omega (arith, same)) (λ same. omega (arith, same));
+    out = chain_stays row is.parted i 2 3 there other [] (without i (chain_at row 2)) whole 1 (λ same. omega (arith, same)) (λ same. omega (arith, same));
+    values = ap (λ (r : Row Slot). r.values) (row_moved row is.parted i 2 3 there other [] (without i (chain_at row 2)) whole);
+    free = ap (λ (r : Row Slot). r.free) (row_moved row is.parted i 2 3 there other [] (without i (chain_at row 2)) whole);
+    chains = record { parted = parted; four = four_moved row is.parted i 2 3 there other [] (without i (chain_at row 2)) whole ∙ is.four };
+  }
+
+pub one_more_logged : (n : ℕ) (a b c : Row Slot) → HasLogged n a b → HasLogged 1 b c → HasLogged (n + 1) a c
+one_more_logged n a b c h k =
+    let count : suc n ≡ n + 1 = omega arith in
+    subst (λ (m : ℕ). HasLogged m a c) count (record {
+      ran = k.ran ∙ ap (λ (l : List ℕ). drop 1 l) h.ran ∙ drop_more n (chain_at a 2);
+      logged = k.logged ∙ (λ i. h.logged i ++ take 1 (h.ran i)) ∙ append_assoc (chain_at a 3) (take n (chain_at a 2)) (take 1 (drop n (chain_at a 2)))
+          ∙ ap (λ (l : List ℕ). chain_at a 3 ++ l) (take_more n (chain_at a 2));
+      waiting = k.waiting ∙ h.waiting;
+      out = k.out ∙ h.out;
+      values = k.values ∙ h.values;
+      free = k.free ∙ h.free;
+      chains = k.chains;
+    })

@@ -1,0 +1,159 @@
+-- The tree of a core beside its world: what may be lent, what is taken back, and what logging leaves.
+use Rattle.std.proofs.Common.{◌≡◌, ℕ, append_assoc, Bool, true, false, List, [], ◌∷◌, ◌++◌, take, drop, Some, refl, ap, sym, subst, ◌∙◌, ⊎_elim}
+use Rattle.std.specs.Prelude.{◌||◌}
+use Rattle.std.specs.List.{AllByRecursion, list_any}
+use Rattle.std.proofs.lemmas.Bool.{or_cases, true≢false}
+use Rattle.std.proofs.lemmas.List.{take-append-drop}
+use Rattle.std.proofs.lemmas.List.Folds.{list_any-append}
+use Rattle.affinity.proofs.Paths.{unrelated_below, unrelated_turned}
+use Rattle.affinity.specs.Interval.{IsPath}
+use Rattle.affinity.specs.Path.{Path, are_related, begins}
+use Rattle.affinity.specs.declared.geometry.Geometry.{Geometry}
+use Rattle.legal_runs.specs.Eligible.{next_eligible}
+use Rattle.legal_runs.specs.Events.{log}
+use Rattle.legal_runs.specs.Laws.{IsSound, AreApart}
+use Rattle.legal_runs.specs.World.{Entry, Replied, World, entries, held, touches}
+use Rattle.legal_runs.proofs.Apart.{apart_turned, entries-append, granted_is_free}
+use Rattle.legal_runs.proofs.Lists.{all_back, all_front, all_weaker, before_back, before_first, before_one}
+use Rattle.legal_runs.proofs.Sound.{row_of}
+use Rattle.legal_runs.proofs.Told.{fold-append}
+use Rattle.message.specs.Messages.{IsMessage, place}
+use Rattle.parcel.proofs.Holding.{can_be_lent, holds_alike, lent_holds, lent_shows, place_is_out, restored_holds}
+use Rattle.parcel.specs.Fits.{Fits}
+use Rattle.parcel.specs.Holding.{IsApart, TreeHolds, with_place}
+use Rattle.parcel.specs.Nodes.{Nodes}
+use Rattle.parcel.specs.Run.{Shows}
+use Rattle.parcel.specs.Tree.{HasGap, IsOut, LendsAt, RestoresAt}
+use Rattle.parcel.specs.declared.parts.Parcels.{Parcels}
+use Rattle.parcel.specs.declared.parts.Standing.{Standing}
+use Rattle.plain.proofs.Agree.{agree-refl, agree-sym, agree-trans}
+use Rattle.plain.proofs.Frame.{left_alone, reads_only}
+use Rattle.plain.specs.Order.{messages}
+use Rattle.plain.specs.Serial.{fold, next_state}
+use Rattle.plain.specs.Shares.{AgreeOn}
+use Rattle.plain.specs.State.{State}
+use Rattle.scheduler.specs.Parts.{is_below, reached}
+
+-- messages at unrelated places leave what is related to a place
+pub fold_leaves : (g : Geometry) (x : State) (e : Entry) (es : List Entry) → AllByRecursion (λ d. touches g e d ≡ false) es
+    → AgreeOn g (are_related (place g e.1)) (fold g x (messages es)) x
+fold_leaves g x e [] apart = agree-refl x
+fold_leaves g x e (d ∷ es) apart = agree-trans (fold_leaves g (next_state g x d.1) e es apart.1) (left_alone g x e.1 d.1 apart.0)
+
+-- a place that is unrelated to those of some messages is unrelated to all below them
+pub apart_below : (g : Geometry) (e : Entry) (es : List Entry) → AllByRecursion (λ d. touches g e d ≡ false) es → IsApart (place g e.1) (is_below g es)
+apart_below g e [] apart q below = absurd (false_is below)
+  where
+    false_is : false ≡ true → ⊥
+    false_is h = true≢false (sym h)
+apart_below g e (d ∷ es) apart q below =
+    ⊎_elim (λ (here : begins (place g d.1) q ≡ true). unrelated_turned q (place g e.1) (unrelated_below (place g d.1) (place g e.1) q (unrelated_turned (place g e.1) (place g d.1) apart.0) here))
+    (λ there. apart_below g e es apart.1 q there)
+    (or_cases (begins (place g d.1) q) (is_below g es q) below)
+
+or_nothing : (b : Bool) → (b || false) ≡ b
+or_nothing true = refl
+or_nothing false = refl
+
+or_turned : (a b : Bool) → (a || b) ≡ (b || a)
+or_turned true true = refl
+or_turned true false = refl
+or_turned false b = sym (or_nothing b)
+
+-- one place more, and one fewer
+pub below_push : (g : Geometry) (es : List Entry) (e : Entry) (q : Path) → with_place (place g e.1) (is_below g es) q ≡ is_below g (es ++ e ∷ []) q
+below_push g es e q =
+    or_turned (begins (place g e.1) q) (is_below g es q)
+    ∙ ap (λ b. is_below g es q || b) (sym (or_nothing (begins (place g e.1) q)))
+    ∙ sym (list_any-append (λ (e : Entry). begins (place g e.1) q) es (e ∷ []))
+
+or_middle : (a b c : Bool) → (a || (b || c)) ≡ (b || (a || c))
+or_middle true true c = refl
+or_middle true false c = refl
+or_middle false b c = refl
+
+pub below_cut : (g : Geometry) (before : List Entry) (e : Entry) (behind : List Entry) (q : Path)
+    → is_below g (before ++ e ∷ behind) q ≡ with_place (place g e.1) (is_below g (before ++ behind)) q
+below_cut g before e behind q =
+    let t : Entry → Bool = λ (e : Entry). begins (place g e.1) q in
+    list_any-append t before (e ∷ behind) ∙ or_middle (list_any t before) (t e) (list_any t behind)
+    ∙ ap (λ b. t e || b) (sym (list_any-append t before behind))
+
+-- ---- a message that goes out
+
+module _ (g : Geometry) (w : World) (sound : IsSound g w) (found : Entry × List Entry) (first : next_eligible g w ≡ Some found) where
+  free : AllByRecursion (λ d. touches g found.0 d ≡ false) (held w)
+  free = granted_is_free g w found first
+
+  pub free_of_out : AllByRecursion (λ d. touches g found.0 d ≡ false) w.out
+  free_of_out = all_back _ (entries w.ran) w.out (all_back _ (entries w.logged) _ free)
+
+  pub free_of_ran : AllByRecursion (λ d. touches g found.0 d ≡ false) (entries w.ran)
+  free_of_ran = all_front _ (entries w.ran) w.out (all_back _ (entries w.logged) _ free)
+
+  module _ (n : Nodes) (tree : TreeHolds g (is_below g w.out) n (reached g w)) where
+    pub grant_lends : HasGap g (place g found.0.1) n → ⊥
+    grant_lends gap = can_be_lent g (is_below g w.out) (place g found.0.1) (apart_below g found.0 w.out free_of_out) n (reached g w) tree gap
+
+    module _ (t : Standing) (l : Parcels) (lent : Nodes) (taken : LendsAt g (place g found.0.1) t l n lent) where
+      pub grant_shows : Shows g (place g found.0.1) t l w.settled
+      grant_shows = agree-trans
+          (lent_shows g (is_below g w.out) (place g found.0.1) (apart_below g found.0 w.out free_of_out) t l n lent (reached g w) tree taken)
+          (fold_leaves g w.settled found.0 (entries w.ran) free_of_ran)
+
+      pub grant_tree : TreeHolds g (is_below g (w.out ++ found.0 ∷ [])) lent (reached g w)
+      grant_tree = holds_alike g (with_place (place g found.0.1) (is_below g w.out)) (is_below g (w.out ++ found.0 ∷ [])) lent (reached g w)
+          (λ q. below_push g w.out found.0 q)
+          (lent_holds g (is_below g w.out) (place g found.0.1) (apart_below g found.0 w.out free_of_out) t l n lent (reached g w) tree taken)
+
+-- ---- a message that comes back
+
+module _ (g : Geometry) (w : World) (sound : IsSound g w) (before : List Entry) (e : Entry) (behind : List Entry) (out : w.out ≡ before ++ e ∷ behind)
+    (n : Nodes) (tree : TreeHolds g (is_below g w.out) n (reached g w)) where
+  apart_out : AreApart g (before ++ e ∷ behind)
+  apart_out = subst (AreApart g) out (before_back _ (entries w.ran) w.out (before_back _ (entries w.logged) _ sound.apart))
+
+  pub apart_others : AllByRecursion (λ d. touches g e d ≡ false) (before ++ behind)
+  apart_others = (go before apart_out)
+    where
+      go : (us : List Entry) → AreApart g (us ++ e ∷ behind) → AllByRecursion (λ d. touches g e d ≡ false) (us ++ behind)
+      go us apart = (before_first (λ e d. touches g e d ≡ false) (apart_turned g) us e behind apart).0
+
+  pub apart_ran : AllByRecursion (λ d. touches g e d ≡ false) (entries w.ran)
+  apart_ran =
+      let whole : AreApart g (entries w.ran ++ (before ++ e ∷ behind)) = subst (λ o. AreApart g (entries w.ran ++ o)) out (before_back _ (entries w.logged) _ sound.apart) in
+      all_weaker (λ d. touches g d e ≡ false) (λ d. touches g e d ≡ false) (λ d. apart_turned g d e) (entries w.ran)
+      (all_front (λ d. touches g d e ≡ false) (entries w.ran) before
+      (before_one (λ e d. touches g e d ≡ false) (entries w.ran ++ before) e behind (subst (AreApart g) (sym (append_assoc (entries w.ran) before (e ∷ behind))) whole)))
+
+  held_out : TreeHolds g (with_place (place g e.1) (is_below g (before ++ behind))) n (reached g w)
+  held_out = holds_alike g (is_below g w.out) (with_place (place g e.1) (is_below g (before ++ behind))) n (reached g w)
+      (λ q. ap (λ es. is_below g es q) out ∙ below_cut g before e behind q) tree
+
+  pub back_is_out : IsPath g (place g e.1) → IsOut (place g e.1) n
+  back_is_out path = place_is_out g (is_below g (before ++ behind)) (place g e.1) (apart_below g e (before ++ behind) apart_others) n (reached g w) path held_out
+
+  -- what a run in the settled state leaves is what one leaves in the state that was reached
+  back_agrees : AgreeOn g (are_related (place g e.1)) (next_state g w.settled e.1) (next_state g (reached g w) e.1)
+  back_agrees = (reads_only g (are_related (place g e.1)) w.settled (reached g w) e.1
+      (agree-sym (fold_leaves g w.settled e (entries w.ran) apart_ran)) (λ q r. r)).1
+
+  pub back_tree : (t : Standing) (l : Parcels) (new : Nodes) → RestoresAt g (place g e.1) l n new → Fits g (place g e.1) l
+      → Shows g (place g e.1) t l (next_state g w.settled e.1) → IsMessage e.1
+      → TreeHolds g (is_below g (before ++ behind)) new (next_state g (reached g w) e.1)
+  back_tree t l new put fits shows message =
+      restored_holds g (is_below g (before ++ behind)) (place g e.1) (apart_below g e (before ++ behind) apart_others) e.1 refl t l n new (reached g w)
+      held_out put fits (agree-trans shows back_agrees) message
+
+-- ---- messages that are logged
+
+pub log_reaches : (g : Geometry) (w : World) (n : ℕ) → IsSound g w → reached g (log g w n) ≡ reached g w
+log_reaches g w n sound =
+    ap (λ x. fold g x (messages (entries (drop n w.ran)))) (row_of g w n sound).logs
+    ∙ sym (fold-append g w.settled (entries (take n w.ran)) (entries (drop n w.ran)))
+    ∙ ap (λ es. fold g w.settled (messages es)) (sym (entries-append (take n w.ran) (drop n w.ran)) ∙ ap entries (take-append-drop n w.ran))
+
+-- a message that comes back leads on from what was reached
+pub back_reaches : (g : Geometry) (x : State) (ran : List Replied) (a : Replied)
+    → fold g x (messages (entries (ran ++ a ∷ []))) ≡ next_state g (fold g x (messages (entries ran))) a.1
+back_reaches g x ran a = ap (λ es. fold g x (messages es)) (entries-append ran (a ∷ [])) ∙ fold-append g x (entries ran) ((a.0, a.1) ∷ [])

@@ -1,0 +1,85 @@
+use Rattle.std.proofs.Common.{◌≡◌, ℕ, ◌-◌, ◌≤◌, List, ◌++◌, length, take, true, false, refl, sym, ap, subst, ◌∙◌}
+use Rattle.std.specs.Prelude.{if◌then◌else◌, vec_capacity}
+use Rattle.arena.specs.Row.{capacity_of, chain_at}
+use Rattle.disk.specs.Moments.{LeavesOnly}
+use Rattle.journal.specs.Journal.{HoldsSome}
+use Rattle.legal_runs.specs.Events.{batch, log}
+use Rattle.message.specs.declared.Msg.{Msg}
+use Rattle.message.specs.declared.Reply.{Reply}
+use Rattle.oplog.proofs.Answered.{on_ok}
+use Rattle.scheduler.proofs.Journaling.{still_standing}
+use Rattle.scheduler.proofs.LogCall.{broken_from, doubt_call_core, doubt_call_world, log_call_core, log_call_throughout, log_call_world, log_carried, log_count, log_fits, log_flight, log_logged, log_low, log_ran, log_size, log_untouched, made_from, some_were_passed}
+use Rattle.scheduler.specs.Kept.{Kept, StandsThroughout, world_of}
+use Rattle.scheduler.specs.Moving.{gathered}
+use Rattle.scheduler.specs.Parts.{kept_of, parts, world_in}
+use Rattle.scheduler.proofs.kernel.Core.log.Goals as goal
+
+pub returns-then-failed-clause-any_moment : goal.returns-then-failed-clause-any_moment
+returns-then-failed-clause-any_moment g c = λ keep.
+    subst (λ (o : Kept). StandsThroughout (batch (world_of o) c.args.n) o o) c.self.view_is
+    (still_standing g.D.Disk.keeps (parts c.self.inside.slots c.self.inside.replies.items c.self.inside.tree c.self.inside.journal c.self.inside.turns c.self.inside.batch.items c.self.inside.next c.self.inside.flight c.self.inside.history.opened c.self.inside.history.since) c.self.invariant.1 keep (batch (world_in (parts c.self.inside.slots c.self.inside.replies.items c.self.inside.tree c.self.inside.journal c.self.inside.turns c.self.inside.batch.items c.self.inside.next c.self.inside.flight c.self.inside.history.opened c.self.inside.history.since)) c.args.n) (kept_of (parts c.self.inside.slots c.self.inside.replies.items c.self.inside.tree c.self.inside.journal c.self.inside.turns c.self.inside.batch.items c.self.inside.next c.self.inside.flight c.self.inside.history.opened c.self.inside.history.since)) refl)
+
+pub log-requires : goal.log-requires
+log-requires g c = record {
+  sound = (sym c.failed.ensures ∙ c.if-failed.false);
+  room = log_fits g.D.Disk.keeps c.self.inside.slots c.self.inside.replies.items c.self.inside.tree c.self.inside.journal c.self.inside.turns c.self.inside.batch.items c.self.inside.next c.self.inside.flight c.self.inside.history.opened c.self.inside.history.since c.self.invariant.0 c.self.invariant.1 (sym c.failed.ensures ∙ c.if-failed.false) c.args.n c.min-count.result c.self.inside.ran c.self.invariant.4 c.min-count.ensures c.gather-changing.new.batch.items (c.gather-changing.ensures.batch ∙ ap (λ (rs : List Reply). gathered c.self.inside.slots rs (take c.min-count.result (chain_at c.self.inside.slots 2))) c.deref.ensures.value) c.deref-2.result.now c.deref-2.ensures.value;
+  logged = log_logged g.D.Disk.keeps c.self.inside.slots c.self.inside.replies.items c.self.inside.tree c.self.inside.journal c.self.inside.turns c.self.inside.batch.items c.self.inside.next c.self.inside.flight c.self.inside.history.opened c.self.inside.history.since c.self.invariant.0 c.self.invariant.1 (sym c.failed.ensures ∙ c.if-failed.false) c.args.n c.min-count.result c.self.inside.ran c.self.invariant.4 c.min-count.ensures c.gather-changing.new.batch.items (c.gather-changing.ensures.batch ∙ ap (λ (rs : List Reply). gathered c.self.inside.slots rs (take c.min-count.result (chain_at c.self.inside.slots 2))) c.deref.ensures.value) c.deref-2.result.now c.deref-2.ensures.value;
+  carried_out = log_carried g.D.Disk.keeps c.self.inside.slots c.self.inside.replies.items c.self.inside.tree c.self.inside.journal c.self.inside.turns c.self.inside.batch.items c.self.inside.next c.self.inside.flight c.self.inside.history.opened c.self.inside.history.since c.self.invariant.0 c.self.invariant.1 (sym c.failed.ensures ∙ c.if-failed.false) c.args.n c.min-count.result c.self.inside.ran c.self.invariant.4 c.min-count.ensures c.gather-changing.new.batch.items (c.gather-changing.ensures.batch ∙ ap (λ (rs : List Reply). gathered c.self.inside.slots rs (take c.min-count.result (chain_at c.self.inside.slots 2))) c.deref.ensures.value) c.deref-2.result.now c.deref-2.ensures.value;
+}
+
+pub invariant_of-self : goal.invariant_of-self
+invariant_of-self g c = (
+  c.self.invariant.0,
+  doubt_call_core g.D.Disk.keeps c.self.inside.slots c.self.inside.replies.items c.self.inside.tree c.self.inside.journal c.self.inside.turns c.self.inside.batch.items c.self.inside.next c.self.inside.flight c.self.inside.history.opened c.self.inside.history.since c.self.invariant.0 c.self.invariant.1 (sym c.failed.ensures ∙ c.if-failed.false) c.args.n c.min-count.result c.self.inside.ran c.self.invariant.4 c.min-count.ensures c.gather-changing.new.batch.items (c.gather-changing.ensures.batch ∙ ap (λ (rs : List Reply). gathered c.self.inside.slots rs (take c.min-count.result (chain_at c.self.inside.slots 2))) c.deref.ensures.value) c.deref-2.result.now c.deref-2.ensures.value c.log.new.self c.log.ensures.any_moment (broken_from c.log.result _ c.self.inside.journal c.log.new.self (sym c.is_err.ensures.value ∙ c.if-is_err.true) c.log.ensures.after),
+  subst (λ (n : ℕ). capacity_of c.self.inside.slots ≤ n) (sym c.gather-changing.ensures.capacity) c.self.invariant.2,
+  c.self.invariant.3,
+  c.self.invariant.4,
+)
+
+pub returns-then-is_err-clause-world : goal.returns-then-is_err-clause-world
+returns-then-is_err-clause-world g c =
+    subst (λ (o : Kept). (o.failed ≡ false) × (length (batch (world_of o) c.args.n) ≡ 0 → ⊥) × (world_in (parts c.self.inside.slots c.self.inside.replies.items c.self.inside.tree c.log.new.self c.self.inside.turns c.gather-changing.new.batch.items c.self.inside.next c.self.inside.flight c.self.inside.history.opened c.self.inside.history.since) ≡ record (world_of o) { failed = true; doubt = batch (world_of o) c.args.n })) c.self.view_is (
+      (sym c.failed.ensures ∙ c.if-failed.false),
+      some_were_passed g.D.Disk.keeps c.self.inside.slots c.self.inside.replies.items c.self.inside.tree c.self.inside.journal c.self.inside.turns c.self.inside.batch.items c.self.inside.next c.self.inside.flight c.self.inside.history.opened c.self.inside.history.since c.self.invariant.0 c.self.invariant.1 (sym c.failed.ensures ∙ c.if-failed.false) c.args.n c.min-count.result c.self.inside.ran c.self.invariant.4 c.min-count.ensures c.gather-changing.new.batch.items (c.gather-changing.ensures.batch ∙ ap (λ (rs : List Reply). gathered c.self.inside.slots rs (take c.min-count.result (chain_at c.self.inside.slots 2))) c.deref.ensures.value) c.deref-2.result.now c.deref-2.ensures.value c.log.new.self c.log.ensures.any_moment (broken_from c.log.result _ c.self.inside.journal c.log.new.self (sym c.is_err.ensures.value ∙ c.if-is_err.true) c.log.ensures.after) c.log.ensures.none,
+      doubt_call_world g.D.Disk.keeps c.self.inside.slots c.self.inside.replies.items c.self.inside.tree c.self.inside.journal c.self.inside.turns c.self.inside.batch.items c.self.inside.next c.self.inside.flight c.self.inside.history.opened c.self.inside.history.since c.self.invariant.0 c.self.invariant.1 (sym c.failed.ensures ∙ c.if-failed.false) c.args.n c.min-count.result c.self.inside.ran c.self.invariant.4 c.min-count.ensures c.gather-changing.new.batch.items (c.gather-changing.ensures.batch ∙ ap (λ (rs : List Reply). gathered c.self.inside.slots rs (take c.min-count.result (chain_at c.self.inside.slots 2))) c.deref.ensures.value) c.deref-2.result.now c.deref-2.ensures.value c.log.new.self c.log.ensures.any_moment (broken_from c.log.result _ c.self.inside.journal c.log.new.self (sym c.is_err.ensures.value ∙ c.if-is_err.true) c.log.ensures.after),
+    )
+
+pub returns-then-is_err-clause-any_moment : goal.returns-then-is_err-clause-any_moment
+returns-then-is_err-clause-any_moment g c = λ keep.
+    subst (λ (o : Kept). LeavesOnly o.medium c.log.new.self.medium (HoldsSome o.geometry (world_of o).settled (if o.failed then o.doubt else batch (world_of o) c.args.n))) c.self.view_is
+    (log_call_throughout g.D.Disk.keeps c.self.inside.slots c.self.inside.replies.items c.self.inside.tree c.self.inside.journal c.self.inside.turns c.self.inside.batch.items c.self.inside.next c.self.inside.flight c.self.inside.history.opened c.self.inside.history.since c.self.invariant.0 c.self.invariant.1 (sym c.failed.ensures ∙ c.if-failed.false) c.args.n c.min-count.result c.self.inside.ran c.self.invariant.4 c.min-count.ensures c.gather-changing.new.batch.items (c.gather-changing.ensures.batch ∙ ap (λ (rs : List Reply). gathered c.self.inside.slots rs (take c.min-count.result (chain_at c.self.inside.slots 2))) c.deref.ensures.value) c.deref-2.result.now c.deref-2.ensures.value c.log.new.self c.log.ensures.any_moment (kept_of (parts c.self.inside.slots c.self.inside.replies.items c.self.inside.tree c.log.new.self c.self.inside.turns c.gather-changing.new.batch.items c.self.inside.next c.self.inside.flight c.self.inside.history.opened c.self.inside.history.since)) refl keep)
+
+pub returns-then-is_err-clause-untouched : goal.returns-then-is_err-clause-untouched
+returns-then-is_err-clause-untouched g c = subst (λ (o : Kept). length (batch (world_of o) c.args.n) ≡ 0 → c.log.new.self.medium ≡ o.medium) c.self.view_is (log_untouched g.D.Disk.keeps c.self.inside.slots c.self.inside.replies.items c.self.inside.tree c.self.inside.journal c.self.inside.turns c.self.inside.batch.items c.self.inside.next c.self.inside.flight c.self.inside.history.opened c.self.inside.history.since c.self.invariant.0 c.self.invariant.1 (sym c.failed.ensures ∙ c.if-failed.false) c.args.n c.min-count.result c.self.inside.ran c.self.invariant.4 c.min-count.ensures c.gather-changing.new.batch.items (c.gather-changing.ensures.batch ∙ ap (λ (rs : List Reply). gathered c.self.inside.slots rs (take c.min-count.result (chain_at c.self.inside.slots 2))) c.deref.ensures.value) c.deref-2.result.now c.deref-2.ensures.value c.log.new.self c.log.ensures.any_moment c.log.ensures.none)
+
+pub move_ran-requires : goal.move_ran-requires
+move_ran-requires g c = record { chains = c.self.invariant.0; count = log_low g.D.Disk.keeps c.self.inside.slots c.self.inside.replies.items c.self.inside.tree c.self.inside.journal c.self.inside.turns c.self.inside.batch.items c.self.inside.next c.self.inside.flight c.self.inside.history.opened c.self.inside.history.since c.self.invariant.0 c.self.invariant.1 (sym c.failed.ensures ∙ c.if-failed.false) c.args.n c.min-count.result c.self.inside.ran c.self.invariant.4 c.min-count.ensures }
+
+pub overflow_sub-self : goal.overflow_sub-self
+overflow_sub-self g c = log_flight g.D.Disk.keeps c.self.inside.slots c.self.inside.replies.items c.self.inside.tree c.self.inside.journal c.self.inside.turns c.self.inside.batch.items c.self.inside.next c.self.inside.flight c.self.inside.history.opened c.self.inside.history.since c.self.invariant.0 c.self.invariant.1 (sym c.failed.ensures ∙ c.if-failed.false) c.args.n c.min-count.result c.self.inside.ran c.self.invariant.4 c.min-count.ensures c.gather-changing.result c.gather-changing.ensures.changing
+
+pub invariant_of-self-2 : goal.invariant_of-self-2
+invariant_of-self-2 g c = (
+  c.move_ran.ensures.chains,
+  log_call_core g.D.Disk.keeps c.self.inside.slots c.self.inside.replies.items c.self.inside.tree c.self.inside.journal c.self.inside.turns c.self.inside.batch.items c.self.inside.next c.self.inside.flight c.self.inside.history.opened c.self.inside.history.since c.self.invariant.0 c.self.invariant.1 (sym c.failed.ensures ∙ c.if-failed.false) c.args.n c.min-count.result c.self.inside.ran c.self.invariant.4 c.min-count.ensures c.gather-changing.new.batch.items (c.gather-changing.ensures.batch ∙ ap (λ (rs : List Reply). gathered c.self.inside.slots rs (take c.min-count.result (chain_at c.self.inside.slots 2))) c.deref.ensures.value) c.deref-2.result.now c.deref-2.ensures.value c.log.new.self c.log.ensures.any_moment (made_from c.log.result _ c.self.inside.journal c.log.new.self (sym c.is_err.ensures.value ∙ c.if-is_err.false) c.log.ensures.after) (on_ok c.log.result _ (sym c.is_err.ensures.value ∙ c.if-is_err.false) c.log.ensures.settled) (on_ok c.log.result _ (sym c.is_err.ensures.value ∙ c.if-is_err.false) c.log.ensures.sound) c.move_ran.new.slots c.move_ran.ensures c.gather-changing.result c.gather-changing.ensures.changing c.note.new.self.opened (λ i. (c.note.ensures i).opened) c.note.new.self.since ((λ i. (c.note.ensures i).since) ∙ ap (λ (ms : List Msg). c.self.inside.history.since ++ ms) c.deref-3.ensures.value) c.clear.new.self.items c.clear.ensures.items,
+  subst (λ (n : ℕ). n ≤ vec_capacity c.clear.new.self) (sym (log_size g.D.Disk.keeps c.self.inside.slots c.self.inside.replies.items c.self.inside.tree c.self.inside.journal c.self.inside.turns c.self.inside.batch.items c.self.inside.next c.self.inside.flight c.self.inside.history.opened c.self.inside.history.since c.self.invariant.0 c.self.invariant.1 (sym c.failed.ensures ∙ c.if-failed.false) c.args.n c.min-count.result c.self.inside.ran c.self.invariant.4 c.min-count.ensures c.gather-changing.new.batch.items (c.gather-changing.ensures.batch ∙ ap (λ (rs : List Reply). gathered c.self.inside.slots rs (take c.min-count.result (chain_at c.self.inside.slots 2))) c.deref.ensures.value) c.deref-2.result.now c.deref-2.ensures.value c.log.new.self c.log.ensures.any_moment (made_from c.log.result _ c.self.inside.journal c.log.new.self (sym c.is_err.ensures.value ∙ c.if-is_err.false) c.log.ensures.after) (on_ok c.log.result _ (sym c.is_err.ensures.value ∙ c.if-is_err.false) c.log.ensures.settled) (on_ok c.log.result _ (sym c.is_err.ensures.value ∙ c.if-is_err.false) c.log.ensures.sound) c.move_ran.new.slots c.move_ran.ensures c.gather-changing.result c.gather-changing.ensures.changing c.note.new.self.opened (λ i. (c.note.ensures i).opened) c.note.new.self.since ((λ i. (c.note.ensures i).since) ∙ ap (λ (ms : List Msg). c.self.inside.history.since ++ ms) c.deref-3.ensures.value) c.clear.new.self.items c.clear.ensures.items))
+      (subst (λ (n : ℕ). capacity_of c.self.inside.slots ≤ n) (sym (c.clear.ensures.capacity ∙ c.gather-changing.ensures.capacity)) c.self.invariant.2),
+  c.self.invariant.3 ∙ sym (log_size g.D.Disk.keeps c.self.inside.slots c.self.inside.replies.items c.self.inside.tree c.self.inside.journal c.self.inside.turns c.self.inside.batch.items c.self.inside.next c.self.inside.flight c.self.inside.history.opened c.self.inside.history.since c.self.invariant.0 c.self.invariant.1 (sym c.failed.ensures ∙ c.if-failed.false) c.args.n c.min-count.result c.self.inside.ran c.self.invariant.4 c.min-count.ensures c.gather-changing.new.batch.items (c.gather-changing.ensures.batch ∙ ap (λ (rs : List Reply). gathered c.self.inside.slots rs (take c.min-count.result (chain_at c.self.inside.slots 2))) c.deref.ensures.value) c.deref-2.result.now c.deref-2.ensures.value c.log.new.self c.log.ensures.any_moment (made_from c.log.result _ c.self.inside.journal c.log.new.self (sym c.is_err.ensures.value ∙ c.if-is_err.false) c.log.ensures.after) (on_ok c.log.result _ (sym c.is_err.ensures.value ∙ c.if-is_err.false) c.log.ensures.settled) (on_ok c.log.result _ (sym c.is_err.ensures.value ∙ c.if-is_err.false) c.log.ensures.sound) c.move_ran.new.slots c.move_ran.ensures c.gather-changing.result c.gather-changing.ensures.changing c.note.new.self.opened (λ i. (c.note.ensures i).opened) c.note.new.self.since ((λ i. (c.note.ensures i).since) ∙ ap (λ (ms : List Msg). c.self.inside.history.since ++ ms) c.deref-3.ensures.value) c.clear.new.self.items c.clear.ensures.items),
+  log_ran g.D.Disk.keeps c.self.inside.slots c.self.inside.replies.items c.self.inside.tree c.self.inside.journal c.self.inside.turns c.self.inside.batch.items c.self.inside.next c.self.inside.flight c.self.inside.history.opened c.self.inside.history.since c.self.invariant.0 c.self.invariant.1 (sym c.failed.ensures ∙ c.if-failed.false) c.args.n c.min-count.result c.self.inside.ran c.self.invariant.4 c.min-count.ensures c.gather-changing.new.batch.items (c.gather-changing.ensures.batch ∙ ap (λ (rs : List Reply). gathered c.self.inside.slots rs (take c.min-count.result (chain_at c.self.inside.slots 2))) c.deref.ensures.value) c.deref-2.result.now c.deref-2.ensures.value c.log.new.self c.log.ensures.any_moment (made_from c.log.result _ c.self.inside.journal c.log.new.self (sym c.is_err.ensures.value ∙ c.if-is_err.false) c.log.ensures.after) (on_ok c.log.result _ (sym c.is_err.ensures.value ∙ c.if-is_err.false) c.log.ensures.settled) (on_ok c.log.result _ (sym c.is_err.ensures.value ∙ c.if-is_err.false) c.log.ensures.sound) c.move_ran.new.slots c.move_ran.ensures c.gather-changing.result c.gather-changing.ensures.changing c.note.new.self.opened (λ i. (c.note.ensures i).opened) c.note.new.self.since ((λ i. (c.note.ensures i).since) ∙ ap (λ (ms : List Msg). c.self.inside.history.since ++ ms) c.deref-3.ensures.value) c.clear.new.self.items c.clear.ensures.items,
+)
+
+pub returns-clause-world : goal.returns-clause-world
+returns-clause-world g c =
+    subst (λ (o : Kept). (o.failed ≡ false) × (c.min-count.result ≡ length (take c.args.n o.ran)) × (world_in (parts c.move_ran.new.slots c.self.inside.replies.items c.self.inside.tree c.log.new.self c.self.inside.turns c.clear.new.self.items c.self.inside.next (c.self.inside.flight - c.gather-changing.result) c.note.new.self.opened c.note.new.self.since) ≡ log o.geometry (world_of o) c.args.n)) c.self.view_is (
+      (sym c.failed.ensures ∙ c.if-failed.false),
+      log_count g.D.Disk.keeps c.self.inside.slots c.self.inside.replies.items c.self.inside.tree c.self.inside.journal c.self.inside.turns c.self.inside.batch.items c.self.inside.next c.self.inside.flight c.self.inside.history.opened c.self.inside.history.since c.self.invariant.0 c.self.invariant.1 (sym c.failed.ensures ∙ c.if-failed.false) c.args.n c.min-count.result c.self.inside.ran c.self.invariant.4 c.min-count.ensures,
+      log_call_world g.D.Disk.keeps c.self.inside.slots c.self.inside.replies.items c.self.inside.tree c.self.inside.journal c.self.inside.turns c.self.inside.batch.items c.self.inside.next c.self.inside.flight c.self.inside.history.opened c.self.inside.history.since c.self.invariant.0 c.self.invariant.1 (sym c.failed.ensures ∙ c.if-failed.false) c.args.n c.min-count.result c.self.inside.ran c.self.invariant.4 c.min-count.ensures c.gather-changing.new.batch.items (c.gather-changing.ensures.batch ∙ ap (λ (rs : List Reply). gathered c.self.inside.slots rs (take c.min-count.result (chain_at c.self.inside.slots 2))) c.deref.ensures.value) c.deref-2.result.now c.deref-2.ensures.value c.log.new.self c.log.ensures.any_moment (made_from c.log.result _ c.self.inside.journal c.log.new.self (sym c.is_err.ensures.value ∙ c.if-is_err.false) c.log.ensures.after) (on_ok c.log.result _ (sym c.is_err.ensures.value ∙ c.if-is_err.false) c.log.ensures.settled) (on_ok c.log.result _ (sym c.is_err.ensures.value ∙ c.if-is_err.false) c.log.ensures.sound) c.move_ran.new.slots c.move_ran.ensures c.gather-changing.result c.gather-changing.ensures.changing c.note.new.self.opened (λ i. (c.note.ensures i).opened) c.note.new.self.since ((λ i. (c.note.ensures i).since) ∙ ap (λ (ms : List Msg). c.self.inside.history.since ++ ms) c.deref-3.ensures.value) c.clear.new.self.items c.clear.ensures.items,
+    )
+
+pub returns-clause-any_moment : goal.returns-clause-any_moment
+returns-clause-any_moment g c = λ keep.
+    subst (λ (o : Kept). LeavesOnly o.medium c.log.new.self.medium (HoldsSome o.geometry (world_of o).settled (if o.failed then o.doubt else batch (world_of o) c.args.n))) c.self.view_is
+    (log_call_throughout g.D.Disk.keeps c.self.inside.slots c.self.inside.replies.items c.self.inside.tree c.self.inside.journal c.self.inside.turns c.self.inside.batch.items c.self.inside.next c.self.inside.flight c.self.inside.history.opened c.self.inside.history.since c.self.invariant.0 c.self.invariant.1 (sym c.failed.ensures ∙ c.if-failed.false) c.args.n c.min-count.result c.self.inside.ran c.self.invariant.4 c.min-count.ensures c.gather-changing.new.batch.items (c.gather-changing.ensures.batch ∙ ap (λ (rs : List Reply). gathered c.self.inside.slots rs (take c.min-count.result (chain_at c.self.inside.slots 2))) c.deref.ensures.value) c.deref-2.result.now c.deref-2.ensures.value c.log.new.self c.log.ensures.any_moment (kept_of (parts c.move_ran.new.slots c.self.inside.replies.items c.self.inside.tree c.log.new.self c.self.inside.turns c.clear.new.self.items c.self.inside.next (c.self.inside.flight - c.gather-changing.result) c.note.new.self.opened c.note.new.self.since)) refl keep)
+
+pub returns-clause-untouched : goal.returns-clause-untouched
+returns-clause-untouched g c = subst (λ (o : Kept). length (batch (world_of o) c.args.n) ≡ 0 → c.log.new.self.medium ≡ o.medium) c.self.view_is (log_untouched g.D.Disk.keeps c.self.inside.slots c.self.inside.replies.items c.self.inside.tree c.self.inside.journal c.self.inside.turns c.self.inside.batch.items c.self.inside.next c.self.inside.flight c.self.inside.history.opened c.self.inside.history.since c.self.invariant.0 c.self.invariant.1 (sym c.failed.ensures ∙ c.if-failed.false) c.args.n c.min-count.result c.self.inside.ran c.self.invariant.4 c.min-count.ensures c.gather-changing.new.batch.items (c.gather-changing.ensures.batch ∙ ap (λ (rs : List Reply). gathered c.self.inside.slots rs (take c.min-count.result (chain_at c.self.inside.slots 2))) c.deref.ensures.value) c.deref-2.result.now c.deref-2.ensures.value c.log.new.self c.log.ensures.any_moment c.log.ensures.none)

@@ -1,0 +1,40 @@
+-- Where there is no memory nothing was called; and what was opened keeps what a core keeps.
+use Rattle.std.proofs.Common.{◌≡◌, ◌∙◌, ◌≤◌, ℕ, Some, refl, inl, sym, ap, subst}
+use Rattle.std.specs.Prelude.{vec_capacity}
+use Rattle.affinity.specs.declared.geometry.Geometry.{Geometry}
+use Rattle.disk.proofs.Moments.{started}
+use Rattle.disk.specs.Device.{Leaves}
+use Rattle.journal.specs.Journal.{IsSettled, settled}
+use Rattle.parcel.specs.Tree.{state_in}
+use Rattle.scheduler.proofs.Opened.{opened_chains, opened_parts, opened_ran, opened_size}
+use Rattle.turns.specs.Turns.{Queuing, at_start}
+use Rattle.scheduler.proofs.kernel.Core.open.Goals as goal
+
+pub returns-in_default-clause-any_moment : goal.returns-in_default-clause-any_moment
+returns-in_default-clause-any_moment g c = λ k.
+    let m = g.D.Disk.medium c.args.d in
+    record { synced = m; first = started m (Leaves m) (λ bytes left. left); rest = inl refl }
+
+pub returns-in_default-clause-unwritten : goal.returns-in_default-clause-unwritten
+returns-in_default-clause-unwritten g c = λ k.
+    let m = g.D.Disk.medium c.args.d in record { now = refl; later = started m (Leaves m) (λ bytes left. left) }
+
+pub invariant_of-result : goal.invariant_of-result
+invariant_of-result g c =
+    let keeps = g.D.Disk.keeps in
+    let memory = c.in-Ok.memory in
+    let replies = memory.replies.items in
+    let tree = c.in_ok-journal.tree in
+    let journal = c.in_ok-journal.journal in
+    let same = c.in_ok-journal.ensures.tree.0 in
+    let whole = c.in_ok-journal.ensures.tree.1 in
+    let holds : keeps → (settled journal ≡ Some (state_in tree)) × IsSettled journal = λ k. let o = c.in_ok-journal.ensures.opened k in (o.is, o.sound) in
+    let row = c.in-Ok.ensures.row in
+    let turns = c.begin.ensures ∙ ap (λ (q : Queuing). at_start c.geometry.result q.slots) c.in-Ok.ensures.turns ∙ ap (λ (h : Geometry). at_start h c.args.slots) c.geometry.ensures in
+    let size = opened_size keeps c.args.slots replies tree journal same whole holds memory.slots row in (
+      opened_chains keeps c.args.slots replies tree journal same whole holds memory.slots row c.in-Ok.ensures.parted,
+      opened_parts keeps c.args.slots replies tree journal same whole holds memory.slots row c.begin.new.self memory.batch.items c.begun.result.opened c.begun.result.since turns c.in-Ok.ensures.batch c.begun.ensures.0 c.begun.ensures.1,
+      subst (λ (n : ℕ). n ≤ vec_capacity memory.batch) (sym size) c.in-Ok.ensures.room,
+      c.in-Ok.ensures.replies ∙ sym size,
+      opened_ran keeps c.args.slots replies tree journal same whole holds memory.slots row,
+    )

@@ -1,0 +1,28 @@
+-- What becomes of those that ran when they are logged. No clause of a public function cites this module.
+use Rattle.std.specs.Prelude.{◌≡◌, ℕ, List, ◌++◌, map, take, drop, count_by, unwrap_or}
+use Rattle.arena.specs.Row.{Row, chain_at, value_at}
+use Rattle.legal_runs.specs.Eligible.{changes}
+use Rattle.legal_runs.specs.Events.{loggable}
+use Rattle.message.specs.declared.Msg.{Msg}
+use Rattle.message.specs.declared.Reply.{Reply}
+use Rattle.scheduler.specs.Parts.{replied_of}
+use Rattle.scheduler.specs.Slots.{HasChains, no_slot, place_at}
+use Rattle.scheduler.specs.declared.slot.Slot.{Slot}
+
+-- those of the messages in these slots that the log keeps
+abbrev pub gathered : Row Slot → List Reply → List ℕ → List Msg
+gathered row replies slots = loggable (map replied_of (map (place_at row replies) slots))
+
+-- how many of them are of a changing kind
+abbrev pub changing_in : Row Slot → List ℕ → ℕ
+changing_in row slots = count_by (λ i. changes (unwrap_or (value_at row i) no_slot).message) slots
+
+-- The first n of those that ran became the last of those that are logged, and nothing else has changed.
+pub record HasLogged (n : ℕ) (old new : Row Slot) : Type 0 where
+  pub ran : chain_at new 2 ≡ drop n (chain_at old 2)
+  pub logged : chain_at new 3 ≡ chain_at old 3 ++ take n (chain_at old 2)
+  pub waiting : chain_at new 0 ≡ chain_at old 0
+  pub out : chain_at new 1 ≡ chain_at old 1
+  pub values : new.values ≡ old.values
+  pub free : new.free ≡ old.free
+  pub chains : HasChains new

@@ -1,0 +1,133 @@
+-- What a core keeps true of its parts between calls. No clause of a public function cites this module.
+use Rattle.std.specs.Prelude.{◌≡◌, ◌+◌, ℕ, Bool, true, false, List, [], ◌++◌, ◌||◌, map, length, Some}
+use Rattle.std.specs.List.{AllByRecursion, list_any}
+use Rattle.affinity.specs.Interval.{IsAffinityOf}
+use Rattle.affinity.specs.Path.{Path, begins}
+use Rattle.affinity.specs.declared.geometry.Geometry.{Geometry}
+use Rattle.arena.specs.Row.{Row, capacity_of}
+use Rattle.journal.specs.Journal.{Held, settled}
+use Rattle.legal_runs.specs.Eligible.{changes, in_flight}
+use Rattle.legal_runs.specs.Laws.{IsSound}
+use Rattle.legal_runs.specs.World.{Entry, Replied, World, entries}
+use Rattle.message.specs.Messages.{IsMessage, is_in_range, place}
+use Rattle.message.specs.declared.Msg.{Msg}
+use Rattle.message.specs.declared.Reply.{Reply}
+use Rattle.parcel.specs.Holding.{TreeHolds}
+use Rattle.parcel.specs.Tree.{TreeView, in_tree}
+use Rattle.plain.specs.Order.{messages}
+use Rattle.plain.specs.Serial.{fold}
+use Rattle.plain.specs.State.{State}
+use Rattle.scheduler.specs.Kept.{Kept, StandsNow, world_of}
+use Rattle.scheduler.specs.Slots.{Lines, Place, lines_of}
+use Rattle.scheduler.specs.declared.slot.Slot.{Slot}
+use Rattle.turns.specs.Turns.{Queuing}
+use Rattle.turns.specs.declared.entries.Turn.{Turn}
+
+abbrev pub entry_of : Place → Entry
+entry_of x = (x.1.ticket, x.1.message)
+
+abbrev pub replied_of : Place → Replied
+replied_of x = (x.1.ticket, x.1.message, x.2)
+
+abbrev pub turn_of : Place → Turn
+turn_of x = record { slot = x.0; affinity = x.1.affinity; changing = changes x.1.message; ticket = x.1.ticket }
+
+-- the places of the messages that are held
+abbrev pub held_places : Lines → List Place
+held_places l = l.logged ++ (l.ran ++ l.out)
+
+-- whether one of the held ones passes a test
+abbrev pub held_any : (Turn → Bool) → Lines → Bool
+held_any test l = list_any (λ x. test (turn_of x)) l.logged || (list_any (λ x. test (turn_of x)) l.ran || list_any (λ x. test (turn_of x)) l.out)
+
+pub record Parts : Type 0 where
+  pub lines : Lines
+  -- how many slots are free, and how many there are
+  pub free : ℕ
+  pub capacity : ℕ
+  pub tree : TreeView
+  pub journal : Held
+  pub turns : Queuing
+  -- what is handed to the journal: after a fault of the device what was to be appended
+  pub batch : List Msg
+  pub next : ℕ
+  -- how many changing messages are out or ran
+  pub flight : ℕ
+  pub opened : TreeView
+  pub since : List Msg
+
+-- the parts of a core with these fields
+abbrev pub parts : Row Slot → List Reply → TreeView → Held → Queuing → List Msg → ℕ → ℕ → TreeView → List Msg → Parts
+parts row replies tree journal turns batch next flight opened since = record {
+  lines = lines_of row replies;
+  free = length row.free;
+  capacity = capacity_of row;
+  tree = tree;
+  journal = journal;
+  turns = turns;
+  batch = batch;
+  next = next;
+  flight = flight;
+  opened = opened;
+  since = since;
+}
+
+abbrev pub kept_of : Parts → Kept
+kept_of p = record {
+  geometry = p.journal.geometry;
+  waiting = map entry_of p.lines.waiting;
+  out = map entry_of p.lines.out;
+  ran = map replied_of p.lines.ran;
+  logged = map replied_of p.lines.logged;
+  opened = p.opened;
+  since = p.since;
+  room = p.journal.room;
+  next = p.next;
+  slots = p.capacity;
+  failed = p.journal.failed;
+  doubt = p.batch;
+  left = p.journal.left;
+  medium = p.journal.medium;
+}
+
+abbrev pub world_in : Parts → World
+world_in p = world_of (kept_of p)
+
+-- The message is one, in range, and its affinity is that of its place.
+pub record IsPlaced (g : Geometry) (x : Place) : Type 0 where
+  pub affinity : IsAffinityOf g (place g x.1.message) x.1.affinity
+  pub range : is_in_range g x.1.message ≡ true
+  pub message : IsMessage x.1.message
+
+pub record ArePlaced (g : Geometry) (l : Lines) : Type 0 where
+  pub waiting : AllByRecursion (IsPlaced g) l.waiting
+  pub out : AllByRecursion (IsPlaced g) l.out
+  pub ran : AllByRecursion (IsPlaced g) l.ran
+  pub logged : AllByRecursion (IsPlaced g) l.logged
+
+-- whether a path is the place of one of these messages, or lies below it
+abbrev pub is_below : Geometry → List Entry → Path → Bool
+is_below g es q = list_any (λ e. begins (place g e.1) q) es
+
+-- the state that all messages which ran so far have led to, logged or not
+abbrev pub reached : Geometry → World → State
+reached g w = fold g w.settled (messages (entries w.ran))
+
+pub record IsCore (keeps : Type 0) (p : Parts) : Type 0 where
+  -- each slot is free or on a line
+  pub claimed : p.free + (length p.lines.waiting + (length p.lines.logged + (length p.lines.ran + length p.lines.out))) ≡ p.capacity
+  pub placed : ArePlaced p.journal.geometry p.lines
+  -- whose turn it is
+  pub turned : p.turns.geometry ≡ p.journal.geometry
+  pub seats : p.turns.slots ≡ p.capacity
+  pub waits : p.turns.waiting ≡ map turn_of p.lines.waiting
+  pub holds : (test : Turn → Bool) → list_any test p.turns.held ≡ held_any test p.lines
+  pub flies : p.flight ≡ in_flight (world_in p)
+  pub sound : IsSound p.journal.geometry (world_in p)
+  -- the tree holds what was reached, but for the places of the messages that are out
+  pub geometry : p.tree.geometry ≡ p.journal.geometry
+  pub tree : TreeHolds p.journal.geometry (is_below p.journal.geometry (map entry_of p.lines.out)) (in_tree p.tree) (reached p.journal.geometry (world_in p))
+  -- the device
+  pub is_settled : keeps → p.journal.failed ≡ false → settled p.journal ≡ Some (world_in p).settled
+  pub stands : keeps → StandsNow (kept_of p)
+  pub no_doubt : p.journal.failed ≡ false → p.batch ≡ []

@@ -1,0 +1,27 @@
+//! What a core keeps of a message, and how far it has come.
+
+use affinity::Affinity;
+use message::Msg;
+
+/// How many chains there are.
+pub(crate) const CHAINS: usize = 4;
+
+/// The chain of those that wait.
+pub(crate) const WAITING: usize = 0;
+
+/// The chain of those that are out.
+pub(crate) const OUT: usize = 1;
+
+/// The chain of those that ran.
+pub(crate) const RAN: usize = 2;
+
+/// The chain of those that are logged.
+pub(crate) const LOGGED: usize = 3;
+
+/// A message that was taken in: its ticket, and where it belongs.
+#[derive(Clone, Copy, Debug, PartialEq, Eq)]
+pub(crate) struct Slot {
+    pub(crate) ticket: u64,
+    pub(crate) message: Msg,
+    pub(crate) affinity: Affinity,
+}
