@@ -3,3 +3,4 @@ pub mod Holding
 pub mod Events
 pub mod Running
 pub mod Living
+mod Starting

@@ -1,0 +1,13 @@
+use Rattle.std.proofs.Common.{◌≡◌, List, map, ap, sym, subst, ◌∙◌}
+use Rattle.machine.proofs.Starting.{all_empty, empty_hold}
+use Rattle.machine.specs.Machine.{HoldsJobs, hand_of}
+use Rattle.machine.specs.declared.hands.Hand.{Hand as Holding}
+use Rattle.scheduler.specs.Kept.{world_of}
+use Rattle.machine.proofs.machine.Machine.new.Goals as goal
+
+pub invariant_of-result : goal.invariant_of-result
+invariant_of-result g c = subst (λ (hs : List Holding). HoldsJobs c.args.core.geometry (world_of c.args.core) hs) (sym c.in-Ok.ensures)
+    (empty_hold c.args.core.geometry (world_of c.args.core) c.args.hands c.slots.ensures.sound)
+
+pub returns-in-Ok-clause-made : goal.returns-in-Ok-clause-made
+returns-in-Ok-clause-made g c = λ i. record { core = world_of c.args.core; hands = (ap (map hand_of) c.in-Ok.ensures ∙ all_empty c.args.hands) i }
