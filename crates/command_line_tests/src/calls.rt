@@ -294,7 +294,11 @@ fn numbers_out_of_range_are_refused(rt: HostRuntime) -> Result<(), Fail> {
 }
 
 /// That the write of what these words print is a fault.
-pub(crate) fn expect_write_fault<W: Write>(rt: &HostRuntime, words: &str, w: &mut W) -> Result<(), Fail> {
+pub(crate) fn expect_write_fault<W: Write>(
+    rt: &HostRuntime,
+    words: &str,
+    w: &mut W,
+) -> Result<(), Fail> {
     let ended = call_to(rt, words, b"summary\n".as_slice(), w)?;
     expect(words, &ended, 1, "", "waffd: write fault\n")
 }
