@@ -1,0 +1,9 @@
+//! Tests of the machine by its public surface, over devices in memory.
+#![tactic(auto)]
+
+#[cfg(test)]
+mod making;
+#[cfg(test)]
+mod random;
+#[cfg(test)]
+mod rows;
