@@ -1,7 +1,10 @@
 //! Worked lists of steps, with outcomes by hand.
 use crate::making::{formatted, gives, machine_on};
+use disk::MemDisk;
 use legal_runs::{Outcome, PointRefusal, Step};
+use machine::Machine;
 use message::{Block, Msg, Reply};
+use std::process::Abort;
 use std::test::Fail;
 
 /// All that is done with one message, in hand 0.
@@ -13,6 +16,42 @@ const WHOLE: [Step; 5] = [
     Step::Answer,
 ];
 
+/// Makes a volume with a file, in a life of the device before that of the test.
+fn make_a_file(rt: &impl Abort, machine: &mut Machine<MemDisk>) {
+    let mut ignored = [Outcome::Idle; 5];
+    gives(
+        rt,
+        machine,
+        Step::Arrive(Msg::MakeVol(0, 0)),
+        Outcome::Ticket(0),
+    );
+    machine.run(&WHOLE, &mut ignored);
+    gives(
+        rt,
+        machine,
+        Step::Arrive(Msg::Create(0, 0, 0)),
+        Outcome::Ticket(1),
+    );
+    machine.run(&WHOLE, &mut ignored);
+}
+
+/// Two writes of one file arrive, at stripes that aren't related.
+fn take_in_two_writes(rt: &impl Abort, machine: &mut Machine<MemDisk>) {
+    let block = Block([0x61; 512]);
+    gives(
+        rt,
+        machine,
+        Step::Arrive(Msg::Write(0, 0, 0, 0, block)),
+        Outcome::Ticket(0),
+    );
+    gives(
+        rt,
+        machine,
+        Step::Arrive(Msg::Write(0, 0, 0, 1, block)),
+        Outcome::Ticket(1),
+    );
+}
+
 #[test]
 fn two_writes_go_side_by_side(rt: HostRuntime) -> Result<(), Fail> {
     let Some(disk) = formatted(&rt, rt.alloc())? else {
@@ -21,39 +60,12 @@ fn two_writes_go_side_by_side(rt: HostRuntime) -> Result<(), Fail> {
     let Some(mut machine) = machine_on(&rt, rt.alloc(), disk, 4, 2) else {
         return Ok(());
     };
-    // A volume with a file, in an earlier life of the device.
-    let mut ignored = [Outcome::Idle; 5];
-    gives(
-        &rt,
-        &mut machine,
-        Step::Arrive(Msg::MakeVol(0, 0)),
-        Outcome::Ticket(0),
-    );
-    machine.run(&WHOLE, &mut ignored);
-    gives(
-        &rt,
-        &mut machine,
-        Step::Arrive(Msg::Create(0, 0, 0)),
-        Outcome::Ticket(1),
-    );
-    machine.run(&WHOLE, &mut ignored);
+    make_a_file(&rt, &mut machine);
     let disk = machine.into_core().into_disk();
     let Some(mut machine) = machine_on(&rt, rt.alloc(), disk, 2, 2) else {
         return Ok(());
     };
-    let block = Block([0x61; 512]);
-    gives(
-        &rt,
-        &mut machine,
-        Step::Arrive(Msg::Write(0, 0, 0, 0, block)),
-        Outcome::Ticket(0),
-    );
-    gives(
-        &rt,
-        &mut machine,
-        Step::Arrive(Msg::Write(0, 0, 0, 1, block)),
-        Outcome::Ticket(1),
-    );
+    take_in_two_writes(&rt, &mut machine);
     gives(&rt, &mut machine, Step::Grant, Outcome::Granted(0, 0));
     gives(&rt, &mut machine, Step::Grant, Outcome::Granted(1, 1));
     gives(
