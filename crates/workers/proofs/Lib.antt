@@ -2,3 +2,4 @@ pub mod Rows
 pub mod Keeps
 pub mod Turning
 pub mod Lending
+pub mod Places

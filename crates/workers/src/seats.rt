@@ -1,5 +1,6 @@
 //! The seats of the bench: who may do what.
-ghost use Rattle.std.specs.Prelude.{◌≡◌, ℕ, ◌+◌, ◌<◌, ◌≤◌, [], length, map, is_some};
+ghost use Rattle.std.specs.Prelude.{◌≡◌, ℕ, ◌+◌, ◌<◌, ◌≤◌, [], length, map, position, replicate, Option, None, is_some, is_none, not, IsFalse, ◌↔◌};
+ghost use Rattle.std.specs.List.{list_any};
 ghost use Rattle.workers.specs.Rule.{lent_at};
 ghost use Rattle.workers.specs.Desk.{lent_of, spare_from};
 
@@ -39,6 +40,42 @@ impl Model for DispatchSeat {
     ghost view = { λ d. record { bench = d.seat.table_id; lent = lent_of d.seat.me.0 } };
 
     ghost invariant = { λ d. IsDesk d.seat.table_id d.seat.me d.lent.items };
+}
+
+impl DispatchSeat {
+    /// How many places its bench has.
+    pub fn places(&self) -> usize
+        ensures row { result ≡ length self.now.lent }
+        ensures bench { result ≡ self.now.bench.slots }
+    {
+        self.lent.len()
+    }
+
+    /// The first place where nothing is lent.
+    pub fn first_free(&self) -> Option<usize>
+        ensures { result ≡ position is_none self.now.lent }
+    {
+        first_down(&self.lent)
+    }
+
+    /// Whether something is lent anywhere.
+    pub fn any_lent(&self) -> bool
+        ensures { IsFalse result ↔ (self.now.lent ≡ replicate (length self.now.lent) None) }
+    {
+        is_any_up(&self.lent)
+    }
+}
+
+fn first_down(flags: &[bool]) -> Option<usize>
+    ensures { result ≡ position not flags.now }
+{
+    flags.iter().position(|is_up| !*is_up)
+}
+
+fn is_any_up(flags: &[bool]) -> bool
+    ensures { result ≡ list_any (λ is_up. is_up) flags.now }
+{
+    flags.iter().any(|is_up| *is_up)
 }
 
 /// The seat of a worker that has no job. A clause sees which bench it belongs to.
