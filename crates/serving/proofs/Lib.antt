@@ -8,5 +8,7 @@ pub mod Answering
 pub mod Arriving
 pub mod Serial
 pub mod Served
+pub mod Rows
+pub mod Said
 -- ---- this crate's own
 mod Examples

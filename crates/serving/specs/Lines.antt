@@ -10,6 +10,8 @@ use Rattle.message.specs.declared.Refusal.TheVariants.{Range}
 use Rattle.message.specs.Grammar.{message_of}
 use Rattle.message.specs.Messages.{is_in_range}
 use Rattle.message.specs.Replies.{reply_line, no_message}
+pub use Rattle.serving.specs.declared.row.Line.{Line}
+pub use Rattle.serving.specs.declared.row.Line.TheVariants.{NoMessage, OutOfRange, Unanswered, Answered}
 
 -- ---- the messages that take tickets
 
@@ -33,16 +35,6 @@ next_ticket n [] = n
 next_ticket n (m ∷ ms) = next_ticket (n + 1) ms
 
 -- ---- what is known of a line
-
-pub data Line : Type 0 where
-  -- It is no message.
-  NoMessage : Line
-  -- It is a message with a number that is out of range.
-  OutOfRange : Line
-  -- It is the message with this ticket, which is not answered yet.
-  Unanswered : (ticket : ℕ) → Line
-  -- It is the message with this ticket, and this is its reply.
-  Answered : (ticket : ℕ) → (reply : Reply) → Line
 
 -- This is known of the line of a message, or of none. Its ticket is n, if it takes one, and the reply to it is among these.
 abbrev pub IsKnown : Geometry → List (ℕ × Reply) → ℕ → Option Msg → Line → Type 0

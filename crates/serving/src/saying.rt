@@ -1,0 +1,56 @@
+//! What the lines of the row are answered in the output.
+
+ghost use Rattle.std.specs.Prelude.{◌≡◌, ℕ, List, Option, false, IfOk, OnErr, OnOk};
+ghost use Rattle.std.specs.Io.KnownBytes.{Appends};
+ghost use Rattle.message.specs.Waiting.{so_far};
+ghost use Rattle.serving.specs.Lines.{is_answered, text};
+ghost use Rattle.serving.specs.Rows.{Says, comes_next};
+
+use crate::row::{Line, Row};
+use message::{Refusal, Reply, ReplyBuffer, WriteFault};
+use std::io::Write;
+
+/// Writes what a line is answered behind the lines that wait, if it is answered: whether it is.
+fn say<W: Write>(line: &Line, out: &mut ReplyBuffer, w: &mut W) -> Result<bool, WriteFault>
+    ensures said { IfOk result (λ said. said ≡ is_answered line.now) }
+    ensures written { OnOk result
+        (Appends (so_far (W.contents w.old) out.old) (so_far (W.contents w.new) out.new) (text line.now)) }
+{
+    match line {
+        Line::NoMessage => out.add_no_message(w)?,
+        Line::OutOfRange => out.add_reply(&Reply::Refused(Refusal::Range), w)?,
+        Line::Answered(_, reply) => out.add_reply(reply, w)?,
+        Line::Unanswered(_) => return Ok(false),
+    }
+    Ok(true)
+}
+
+/// Writes what the lines at the front of the row are answered, up to the first that is not answered, behind the lines that
+/// wait. They leave the row.
+///
+/// # Errors
+///
+/// `WriteFault` where the writer fails. Some lines at the front have left the row then, and their answers wait or were
+/// written before.
+pub(crate) fn say_all<W: Write>(
+    row: &mut Row,
+    out: &mut ReplyBuffer,
+    w: &mut W,
+) -> Result<(), WriteFault>
+    ensures says { OnOk result (Says row.old.lines row.new.lines (so_far (W.contents w.old) out.old) (so_far (W.contents w.new) out.new)) }
+    ensures all { OnOk result (comes_next row.new.lines ≡ false) }
+    ensures fault { OnErr result
+        ((written : Option (List ℕ)) × Says row.old.lines row.new.lines (so_far (W.contents w.old) out.old) written) }
+    ensures slots { row.new.slots ≡ row.old.slots }
+{
+    for _ in 0..row.len() {
+        let Some(line) = row.front() else {
+            return Ok(());
+        };
+        if !say(line, out, w)? {
+            return Ok(());
+        }
+        row.pop();
+    }
+    Ok(())
+}
