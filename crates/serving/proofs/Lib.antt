@@ -7,6 +7,8 @@ pub mod Sending
 pub mod Answering
 pub mod Arriving
 pub mod Serial
+pub mod Counting
+pub mod Inside
 pub mod Served
 pub mod Rows
 pub mod Said

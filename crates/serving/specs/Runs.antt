@@ -1,12 +1,12 @@
 -- A stretch of a server's run: its machine, which is the core with what is lent, before and after, and what a crash meanwhile may leave.
-use Rattle.std.specs.Prelude.{◌≡◌, ◌⊎◌, ◌≤◌, ℕ, List, [], ◌∷◌, map, length, take, Option, Some, None}
+use Rattle.std.specs.Prelude.{◌≡◌, ◌⊎◌, ◌≤◌, ◌+◌, ℕ, List, [], ◌∷◌, map, length, take, Option, Some, None}
 use Rattle.affinity.specs.declared.geometry.Geometry.{Geometry}
 use Rattle.checkpoint.specs.Recovery.{holds}
 use Rattle.disk.specs.Moments.{LeavesOnly}
 use Rattle.legal_runs.specs.Crash.{in_doubt}
 use Rattle.legal_runs.specs.Events.{Event, Hands}
 use Rattle.legal_runs.specs.Runs.{IsLegal, answered, arrived, last}
-use Rattle.legal_runs.specs.World.{Entry, World}
+use Rattle.legal_runs.specs.World.{Entry, World, held}
 use Rattle.machine.specs.Machine.{Handed, machine_of}
 use Rattle.machine.specs.declared.hands.Hand.{Hand}
 use Rattle.machine.specs.declared.hands.Hand.TheVariants as has
@@ -46,6 +46,10 @@ abbrev pub with_lent : Kept → List (Option Asked) → Handed
 with_lent core lent = record { core = core; hands = map hand_of lent }
 
 -- ---- a stretch of a run
+
+-- how many messages wait or are held
+abbrev pub inside : World → ℕ
+inside w = length w.waiting + length (held w)
 
 -- From one machine to the other there is a legal run, in which these messages arrive and these are answered. A crash during it
 -- leaves what a crash of that run may leave.

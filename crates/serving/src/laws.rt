@@ -1,7 +1,7 @@
 //! What holds of a server that runs many messages at once: laws of the definitions alone. No function here does anything; its
 //! contract is the law.
 
-ghost use Rattle.std.specs.Prelude.{◌≡◌, ◌++◌, ◌-◌, ◌^◌, ℕ, Bool, true, false, List, [], length, map, take, Option, Some, None, Ok, Err, IfSome};
+ghost use Rattle.std.specs.Prelude.{◌≡◌, ◌≤◌, ◌++◌, ◌-◌, ◌^◌, ℕ, Bool, true, false, List, [], length, map, take, Option, Some, None, Ok, Err, IfSome};
 ghost use Rattle.std.specs.Io.KnownBytes.{IsAtEnd};
 ghost use Rattle.std.specs.List.{AllByRecursion, Contains};
 ghost use Rattle.affinity.specs.declared.geometry.Geometry.{Geometry};
@@ -24,7 +24,7 @@ ghost use Rattle.serving.specs.Ends.{EndsSo, HasServed};
 ghost use Rattle.serving.specs.Going.{Goes};
 ghost use Rattle.serving.specs.Lines.{AreKnown, Line, asked, is_answered, text, ticketed};
 ghost use Rattle.machine.specs.Machine.{Handed};
-ghost use Rattle.serving.specs.Runs.{IsLeftIn, Passes};
+ghost use Rattle.serving.specs.Runs.{IsLeftIn, Passes, inside};
 ghost use Rattle.serving.specs.declared.fault.ServeFault.TheVariants as faults;
 
 use disk::Disk;
@@ -51,20 +51,28 @@ pub fn stretches_join<D: Disk>()
         → Passes D.keeps mid new more others → Passes D.keeps old new (come ++ more) (replies ++ others) }
 {}
 
+/// No more messages wait or are held than there are lines that were read and are not answered in the output.
+pub fn each_message_inside_has_its_line<D: Disk>()
+    ensures { (start now : Handed) (row : List Line) (input left : Option (List ℕ)) (ended : Bool) (before written : Option (List ℕ))
+        → IsIdle (world_of start.core) → Goes D.keeps start now row input left ended before written
+        → inside (world_of now.core) ≤ length row }
+{}
+
 /// A server that began with nothing in it has written what the serial server writes, however many messages ran at once: all of
 /// it where it has come to the end, the answers to the whole lines that were read where a read failed, those to the lines
-/// before one that found no ticket, and at every moment a beginning of it in whole lines. Where nothing waits or is held in the
-/// end, it has settled what the serial server reaches. Behind each line that was written there is a legal run.
+/// before one that found no ticket, and at every moment a beginning of it in whole lines. Where each line that was read is
+/// answered, nothing waits or is held, and it has settled what the serial server reaches. Behind each line that was written
+/// there is a legal run.
 pub fn serving_ends_as_the_serial_server<D: Disk>()
     ensures whole { (start now : Handed) (input left : Option (List ℕ)) (ended : Bool) (before written : Option (List ℕ))
-        → IsIdle (world_of start.core) → Goes D.keeps start now [] input left ended before written → IsIdle (world_of now.core)
-        → IsAtEnd left → EndsSo start.core now.core input left before written (Ok tt) }
+        → IsIdle (world_of start.core) → Goes D.keeps start now [] input left ended before written → IsAtEnd left
+        → EndsSo start.core now.core input left before written (Ok tt) }
     ensures read { (start now : Handed) (input left behind before written : Option (List ℕ)) → IsIdle (world_of start.core)
-        → Goes D.keeps start now [] input left false before written → IsIdle (world_of now.core)
-        → IfSome left (λ bs. LosesFront bs behind) → EndsSo start.core now.core input behind before written (Err faults.Read) }
+        → Goes D.keeps start now [] input left false before written → IfSome left (λ bs. LosesFront bs behind)
+        → EndsSo start.core now.core input behind before written (Err faults.Read) }
     ensures exhausted { (start now : Handed) (input left behind : Option (List ℕ)) (ended : Bool) (before written : Option (List ℕ))
         (line : List ℕ) (m : Msg) → IsIdle (world_of start.core) → Goes D.keeps start now [] input left ended before written
-        → IsIdle (world_of now.core) → now.core.next ≡ 2 ^ 64 - 1 → IfSome left (λ bs. GivesLine line bs behind)
+        → now.core.next ≡ 2 ^ 64 - 1 → IfSome left (λ bs. GivesLine line bs behind)
         → message_of line ≡ Some m → is_in_range start.core.geometry m ≡ true
         → EndsSo start.core now.core input behind before written (Err faults.Exhausted) }
     ensures device { (start now : Handed) (row : List Line) (input left : Option (List ℕ)) (ended : Bool) (before written : Option (List ℕ))
