@@ -1,5 +1,5 @@
 -- A message that is answered, and its line in the row.
-use Rattle.std.proofs.Common.{◌≡◌, ℕ, true, false, List, [], ◌∷◌, ◌++◌, Option, Some, None, refl, ap, sym, ◌∙◌, subst, map, inl, append-nil}
+use Rattle.std.proofs.Common.{◌≡◌, ℕ, true, false, List, [], ◌∷◌, ◌++◌, Option, Some, None, refl, ap, sym, ◌∙◌, subst, map, inl, append-nil, length, suc}
 use Rattle.std.specs.Prelude.{if◌then◌else◌, ◌==◌}
 use Rattle.std.specs.List.{Contains}
 use Rattle.std.proofs.lemmas.Bool.{eqb-true}
@@ -19,10 +19,11 @@ use Rattle.message.specs.Grammar.{message_of}
 use Rattle.message.specs.declared.Msg.{Msg}
 use Rattle.message.specs.declared.Reply.{Reply}
 use Rattle.scheduler.specs.Calls.{answered}
-use Rattle.scheduler.specs.Kept.{Kept}
+use Rattle.scheduler.specs.Kept.{Kept, world_of}
 use Rattle.serving.specs.Lines.{Answered, AreKnown, IsKnown, Line, NoMessage, OutOfRange, Unanswered, answer_one, asked, asked_in, next_ticket, ticketed}
 use Rattle.serving.specs.Runs.{Passes}
-use Rattle.serving.specs.Steps.{AnswersOn, GoesOn, Holds}
+use Rattle.serving.specs.Going.{Goes}
+use Rattle.serving.specs.Steps.{AnswersOn, GoesOn, Holds, ServesOn}
 use Rattle.serving.proofs.Chain.{passes_on}
 use Rattle.serving.proofs.Stretches.{core_keeps_on, step_passes}
 
@@ -112,3 +113,49 @@ pub none_to_answer : (w new : World) (logged : List Replied) (r : Option (ℕ ×
 none_to_answer w new [] r e none = refl
 none_to_answer w new (a ∷ as') r e none =
     let idle : outcomes.Idle ≡ outcomes.Answered a.0 a.2 = ap answered (sym none) ∙ ap (λ (x : Outcome × World). x.0) e in cc
+
+-- ---- what is logged
+
+-- One message was answered: the others are still logged, and nothing else has changed.
+pub one_answered : (w new : World) (logged : List Replied) (told : ℕ × Reply) → (answered (Some told), new) ≡ answer w logged
+    → (new ≡ record w { logged = new.logged }) × (length logged ≡ suc (length new.logged))
+one_answered w new [] told e =
+    let idle : outcomes.Answered told.0 told.1 ≡ outcomes.Idle = ap (λ (x : Outcome × World). x.0) e in cc
+one_answered w new (a ∷ as') told e =
+    let is : new ≡ record w { logged = as' } = ap (λ (x : Outcome × World). x.1) e in
+    let rest : new.logged ≡ as' = ap (λ (x : World). x.logged) is in (
+      is ∙ ap (λ (l : List Replied). record w { logged = l }) (sym rest),
+      ap (λ (l : List Replied). suc (length l)) (sym rest),
+    )
+
+-- None was answered: nothing has changed.
+pub none_answered : (w new : World) (logged : List Replied) → (answered None, new) ≡ answer w logged → (new ≡ w) × (logged ≡ [])
+none_answered w new [] e = (ap (λ (x : Outcome × World). x.1) e, refl)
+none_answered w new (a ∷ as') e =
+    let idle : outcomes.Idle ≡ outcomes.Answered a.0 a.2 = ap (λ (x : Outcome × World). x.0) e in cc
+
+-- The same of a core that has answered all.
+pub all_answered : (old : Kept) (w : World) (new : Kept) → w ≡ record (world_of old) { logged = new.logged } → new.logged ≡ []
+    → w ≡ record (world_of old) { logged = [] }
+all_answered old w new is none = is ∙ ap (λ (l : List Replied). record (world_of old) { logged = l }) none
+
+-- ---- one after the other
+
+module _ (keeps : Type 0) (old mid new : Handed) (row mid_row : List Line) where
+  pub serves_none : (r : Option (ℕ × Reply)) → ServesOn keeps old row mid mid_row → ((told : ℕ × Reply) → r ≡ Some told → ⊥)
+      → AnswersOn keeps mid new r → ServesOn keeps old row new mid_row
+  serves_none (Some told) s not a = absurd (not told refl)
+  serves_none None s not a = record {
+    holds = a.holds;
+    goes = λ start input left ended before written h.
+        a.goes mid_row start input left ended before written (s.goes start input left ended before written h);
+  }
+
+  pub serves_one : (new_row : List Line) (ticket : ℕ) (reply : Reply) → ServesOn keeps old row mid mid_row
+      → AnswersOn keeps mid new (Some (ticket, reply)) → new_row ≡ map (answer_one ticket reply) mid_row → ServesOn keeps old row new new_row
+  serves_one new_row ticket reply s a is = record {
+    holds = a.0;
+    goes = λ start input left ended before written h.
+        subst (λ (l : List Line). Goes keeps start new l input left ended before written) (sym is)
+        (a.1 mid_row start input left ended before written (s.goes start input left ended before written h));
+  }

@@ -2,9 +2,7 @@
 use Rattle.std.proofs.Common.{◌≡◌, ℕ, ◌+◌, true, false, List, [], ◌∷◌, ◌++◌, Option, refl, ap, sym, ◌∙◌, subst, append_assoc, append-nil}
 use Rattle.std.specs.Prelude.{Bool, Result, Ok, Err, if◌then◌else◌, not, nat_le, ◌==◌, ◌^◌, ◌-◌, length}
 use Rattle.affinity.specs.declared.geometry.Geometry.{Geometry}
-use Rattle.legal_runs.proofs.Moves.{Answers, Arrives, Backs, Grants, Logs, Move, Passed, Stays, moves}
-use Rattle.legal_runs.specs.Events.{Event, Hands, arrive}
-use Rattle.legal_runs.specs.Runs.{IsLegal, arrived, arrives, last}
+use Rattle.legal_runs.specs.Events.{Hands, arrive}
 use Rattle.legal_runs.specs.World.{Entry, World, held}
 use Rattle.legal_runs.specs.declared.outcomes.ArriveRefusal.{ArriveRefusal}
 use Rattle.legal_runs.specs.declared.outcomes.ArriveRefusal.TheVariants as arrivals
@@ -29,43 +27,7 @@ use Rattle.serving.specs.Steps.{Holds, KeepsOn, TakesIn, TakesLine}
 use Rattle.serving.proofs.Chain.{passes_on}
 use Rattle.serving.proofs.Serial.{asked-append, messages-ticketed}
 use Rattle.serving.proofs.Stretches.{core_keeps_on, step_passes}
-
--- ---- tickets
-
-next-append : (n : ℕ) (ms more : List Msg) → next_ticket n (ms ++ more) ≡ next_ticket (next_ticket n ms) more
-next-append n [] more = refl
-next-append n (m ∷ ms) more = next-append (n + 1) ms more
-
-ticketed-append : (n : ℕ) (ms more : List Msg) → ticketed n (ms ++ more) ≡ ticketed n ms ++ ticketed (next_ticket n ms) more
-ticketed-append n [] more = refl
-ticketed-append n (m ∷ ms) more = ap (λ l. (n, m) ∷ l) (ticketed-append (n + 1) ms more)
-
-messages-append : (es fs : List Entry) → messages (es ++ fs) ≡ messages es ++ messages fs
-messages-append [] fs = refl
-messages-append (e ∷ es) fs = ap (λ l. e.1 ∷ l) (messages-append es fs)
-
--- ---- the next ticket after a run
-
-quiet_next : (old new : World) (p : Passed) → p.come ≡ [] → new.next ≡ old.next → new.next ≡ next_ticket old.next (messages p.come)
-quiet_next old new p none same = same ∙ ap (λ (es : List Entry). next_ticket old.next (messages es)) (sym none)
-
-move_next : (g : Geometry) (old new : World) (p : Passed) → Move g old new p → new.next ≡ next_ticket old.next (messages p.come)
-move_next g old new p (Stays s e) = quiet_next old new p (ap (λ p. p.come) e) s.next
-move_next g old new p (Arrives m fits is e) = ap (λ w. w.next) is ∙ ap (λ (q : Passed). next_ticket old.next (messages q.come)) (sym e)
-move_next g old new p (Grants found first is e) = quiet_next old new p (ap (λ p. p.come) e) (ap (λ w. w.next) is)
-move_next g old new p (Backs ticket found one_out is e) = quiet_next old new p (ap (λ p. p.come) e) (ap (λ w. w.next) is)
-move_next g old new p (Logs n is e) = quiet_next old new p (ap (λ p. p.come) e) (ap (λ w. w.next) is)
-move_next g old new p (Answers a rest front is e) = quiet_next old new p (ap (λ p. p.come) e) (ap (λ w. w.next) is)
-
-pub run_next : (g : Geometry) (old : Hands) (events : List Event) → IsLegal g old events
-    → (last old events).core.next ≡ next_ticket old.core.next (messages (arrived events))
-run_next g old [] legal = refl
-run_next g old (event ∷ events) legal =
-    let come = arrives event.step event.outcome in
-    run_next g event.world events legal.1
-    ∙ ap (λ n. next_ticket n (messages (arrived events))) (move_next g old.core event.world.core _ (moves g old event legal.0))
-    ∙ sym (next-append old.core.next (messages come) (messages (arrived events)))
-    ∙ ap (next_ticket old.core.next) (sym (messages-append come (arrived events)))
+use Rattle.serving.proofs.Tickets.{next-append, run_next, ticketed-append}
 
 -- ---- one line more
 

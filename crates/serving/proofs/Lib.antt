@@ -1,7 +1,9 @@
 -- ---- for the crates above: stretches of a run, and what is known of lines
 pub mod Crashes
 pub mod Chain
+pub mod Tickets
 pub mod Stretches
+pub mod Keeping
 pub mod Returning
 pub mod Sending
 pub mod Answering

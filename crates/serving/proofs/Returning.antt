@@ -19,7 +19,7 @@ use Rattle.scheduler.specs.Kept.{Kept, StandsNow, world_of}
 use Rattle.serving.specs.Runs.{Passes, hand_of, with_lent}
 use Rattle.serving.specs.Steps.{Holds, KeepsOn}
 use Rattle.serving.proofs.Chain.{passes_on}
-use Rattle.serving.proofs.Stretches.{quiet_goes_on, step_passes}
+use Rattle.serving.proofs.Stretches.{quiet_keeps_on, step_passes}
 use Rattle.workers.specs.Rule.{lent_at}
 
 -- ---- hands and places
@@ -90,7 +90,5 @@ module _ (keeps : Type 0) (core : Kept) (lent : List (Option Asked)) (none : cor
 
     pub gives_back : KeepsOn keeps (with_lent core lent) (with_lent new (set lent k None))
     gives_back = subst (λ (l : List Hand). KeepsOn keeps (at hands core) (at l new)) emptied
-        (record {
-          holds = back_holds keeps core ran none stands moved.1 k done result_there new geometry same found one_out told world;
-          goes = quiet_goes_on keeps (at hands core) (at (set ran k has.Empty) new) passes;
-        })
+        (quiet_keeps_on keeps (at hands core) (at (set ran k has.Empty) new)
+        (back_holds keeps core ran none stands moved.1 k done result_there new geometry same found one_out told world) passes)

@@ -22,7 +22,7 @@ use Rattle.scheduler.specs.Kept.{Kept, StandsNow, world_of}
 use Rattle.serving.specs.Runs.{Passes, hand_of, with_lent}
 use Rattle.serving.specs.Steps.{Holds, KeepsOn}
 use Rattle.serving.proofs.Returning.{hands-set}
-use Rattle.serving.proofs.Stretches.{quiet_goes_on, step_passes}
+use Rattle.serving.proofs.Stretches.{quiet_keeps_on, step_passes}
 use Rattle.workers.specs.Rule.{lent_at}
 
 -- ---- the first place where nothing is lent is the least empty hand
@@ -73,11 +73,8 @@ module _ (keeps : Type 0) (old new : Kept) (lent : List (Option Asked)) (none : 
   quiet after outcome none_told holds step =
       let was : Handed = record { core = old; hands = hands } in
       let now : Handed = record { core = new; hands = after } in
-      record {
-        holds = holds;
-        goes = quiet_goes_on keeps was now
-            (subst (λ (l : List (ℕ × Reply)). Passes keeps was now [] l) none_told (step_passes keeps was now steps.Grant outcome step));
-      }
+      quiet_keeps_on keeps was now holds
+      (subst (λ (l : List (ℕ × Reply)). Passes keeps was now [] l) none_told (step_passes keeps was now steps.Grant outcome step))
 
   pub goes_out : (job : Asked) → IsGrantOf old.geometry (world_of old) (world_of new) job
       → KeepsOn keeps (with_lent old lent) (with_lent new (set lent k (Some job)))

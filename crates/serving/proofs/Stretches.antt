@@ -1,14 +1,15 @@
 -- One step of a run, behind those before it.
-use Rattle.std.proofs.Common.{◌≡◌, ℕ, Bool, List, [], ◌∷◌, ◌++◌, Result, Ok, Err, refl, ap, ◌∙◌, subst, take, inl, append-nil, false, true, ◌≤◌, zero, suc, arith}
+use Rattle.std.proofs.Common.{◌≡◌, ℕ, Bool, List, [], ◌∷◌, ◌++◌, Result, Ok, Err, refl, ap, sym, ◌∙◌, subst, take, inl, append-nil, false, true, ◌≤◌, zero, suc, arith}
 use Rattle.std.specs.Prelude.{OnErr, OnOk, drop, length}
 use Rattle.affinity.specs.declared.geometry.Geometry.{Geometry}
 use Rattle.disk.proofs.Moments.{weaker}
 use Rattle.journal.specs.Journal.{HoldsSome}
 use Rattle.legal_runs.specs.Crash.{in_doubt}
 use Rattle.legal_runs.proofs.Apart.{length_held}
-use Rattle.legal_runs.specs.Events.{Event, batch}
+use Rattle.legal_runs.proofs.Failures.{failure_lasts}
+use Rattle.legal_runs.specs.Events.{Event, Hands, batch}
 use Rattle.legal_runs.specs.Laws.{IsSound, moves_what_is_out}
-use Rattle.legal_runs.specs.Runs.{answers, arrives}
+use Rattle.legal_runs.specs.Runs.{IsLegal, answers, arrives, last}
 use Rattle.legal_runs.specs.World.{Entry, Replied, World}
 use Rattle.legal_runs.specs.declared.outcomes.CoreFault.{CoreFault}
 use Rattle.legal_runs.specs.declared.outcomes.CoreFault.TheVariants as faults
@@ -29,6 +30,7 @@ use Rattle.serving.specs.Lines.{Line, asked, ticketed}
 use Rattle.serving.specs.Runs.{IsLeftBy, Passes}
 use Rattle.serving.specs.Steps.{GoesOn, Holds, KeepsOn}
 use Rattle.serving.proofs.Chain.{passes_on}
+use Rattle.serving.proofs.Tickets.{quiet_ticket}
 
 module _ (keeps : Type 0) (old new : Handed) (step : Step) (outcome : Outcome) (k : IsStep keeps old new step outcome) where
   abbrev event : Event
@@ -76,6 +78,25 @@ quiet_goes_on keeps old new p row start input left ended before written h =
       output = h.output;
     }
 
+-- A failed device has failed for good.
+run_fails : (g : Geometry) (old : Hands) (events : List Event) → IsLegal g old events → old.core.failed ≡ true
+    → (last old events).core.failed ≡ true
+run_fails g old [] legal failed = failed
+run_fails g old (event ∷ events) legal failed = run_fails g event.world events legal.1 (failure_lasts g old event legal.0 failed).failed
+
+still_failed : (keeps : Type 0) (old new : Handed) → Passes keeps old new [] [] → old.core.failed ≡ true → new.core.failed ≡ true
+still_failed keeps old new p failed =
+    ap (λ (w : Hands). w.core.failed) (sym p.ends) ∙ run_fails old.core.geometry (machine_of old) p.events p.legal failed
+
+-- It keeps what the machine holds, too, where the new one holds what it should.
+pub quiet_keeps_on : (keeps : Type 0) (old new : Handed) → Holds new → Passes keeps old new [] [] → KeepsOn keeps old new
+quiet_keeps_on keeps old new h p = record {
+  holds = h;
+  next = quiet_ticket keeps old new p;
+  failed = still_failed keeps old new p;
+  goes = quiet_goes_on keeps old new p;
+}
+
 -- A step of the core alone, in which nothing arrives or is answered, and nothing goes out or comes back.
 pub core_keeps_on : (keeps : Type 0) (old new : Kept) (step : Step) (outcome : Outcome) → IsCoreStep keeps old new step outcome
     → moves_what_is_out step ≡ false → arrives step outcome ≡ [] → answers outcome ≡ [] → (hands : List Hand)
@@ -83,13 +104,10 @@ pub core_keeps_on : (keeps : Type 0) (old new : Kept) (step : Step) (outcome : O
 core_keeps_on keeps old new step outcome k still none_come none_told hands h =
     let was : Handed = record { core = old; hands = hands } in
     let now : Handed = record { core = new; hands = hands } in
-    record {
-      holds = core_holds keeps old new hands step outcome h k still;
-      goes = quiet_goes_on keeps was now
-          (subst (λ (es : List Entry). Passes keeps was now es []) none_come
-          (subst (λ (l : List (ℕ × Reply)). Passes keeps was now (arrives step outcome) l) none_told
-          (step_passes keeps was now step outcome (core_step keeps old new hands step outcome h k))));
-    }
+    quiet_keeps_on keeps was now (core_holds keeps old new hands step outcome h k still)
+    (subst (λ (es : List Entry). Passes keeps was now es []) none_come
+    (subst (λ (l : List (ℕ × Reply)). Passes keeps was now (arrives step outcome) l) none_told
+    (step_passes keeps was now step outcome (core_step keeps old new hands step outcome h k))))
 
 -- ---- logs
 

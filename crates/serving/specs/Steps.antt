@@ -27,15 +27,23 @@ abbrev pub GoesOn : Type 0 → Handed → List Line → Handed → List Line →
 GoesOn keeps old row new new_row = (start : Handed) (input left : Option (List ℕ)) (ended : Bool) (before written : Option (List ℕ))
     → Goes keeps start old row input left ended before written → Goes keeps start new new_row input left ended before written
 
--- With the same row, whichever it is; and the machine holds what it should.
+-- With the same row, whichever it is; and the machine holds what it should. It gives the same ticket next, and a device that had
+-- failed has failed.
 pub record KeepsOn (keeps : Type 0) (old new : Handed) : Type 0 where
   pub holds : Holds new
+  pub next : new.core.next ≡ old.core.next
+  pub failed : old.core.failed ≡ true → new.core.failed ≡ true
   pub goes : (row : List Line) → GoesOn keeps old row new row
 
 -- A message was answered with this reply, and so is its line in the row; or none was, and the row is the same.
 abbrev pub AnswersOn : Type 0 → Handed → Handed → Option (ℕ × Reply) → Type 0
 AnswersOn keeps old new None = KeepsOn keeps old new
 AnswersOn keeps old new (Some told) = Holds new × ((row : List Line) → GoesOn keeps old row new (map (answer_one told.0 told.1) row))
+
+-- With another row.
+pub record ServesOn (keeps : Type 0) (old : Handed) (row : List Line) (new : Handed) (new_row : List Line) : Type 0 where
+  pub holds : Holds new
+  pub goes : GoesOn keeps old row new new_row
 
 -- A further line of the input, which spells this message, is taken, and this is known of it.
 pub record TakesLine (keeps : Type 0) (old new : Handed) (m : Msg) (known : Line) : Type 0 where

@@ -1,14 +1,46 @@
 //! What the lines of the row are answered in the output.
 
-ghost use Rattle.std.specs.Prelude.{◌≡◌, ℕ, List, Option, false, IfOk, OnErr, OnOk};
+ghost use Rattle.std.specs.Prelude.{◌≡◌, ℕ, List, [], Option, false, IfOk, OnErr, OnOk};
 ghost use Rattle.std.specs.Io.KnownBytes.{Appends};
 ghost use Rattle.message.specs.Waiting.{so_far};
 ghost use Rattle.serving.specs.Lines.{is_answered, text};
+ghost use Rattle.machine.specs.declared.hands.Hand.{Hand};
+ghost use Rattle.scheduler.specs.Kept.{world_of};
 ghost use Rattle.serving.specs.Rows.{Says, comes_next};
+ghost use Rattle.serving.specs.Steps.{Holds, ServesOn};
 
 use crate::row::{Line, Row};
+use crate::steps::answer_next;
+use disk::Disk;
 use message::{Refusal, Reply, ReplyBuffer, WriteFault};
+use scheduler::Core;
 use std::io::Write;
+use workers::Gate;
+
+/// Answers each message that is logged: its line in the row has its reply then. Adds those that changed something to
+/// `records`, as far as that counts.
+pub(crate) fn answer_all<D: Disk, G: Gate>(
+    core: &mut Core<D>,
+    row: &mut Row,
+    gate: &G,
+    records: &mut u64,
+)
+    ensures kept { (hands : List Hand) → Holds (record { core = core.old; hands = hands })
+        → ServesOn D.keeps (record { core = core.old; hands = hands }) row.old.lines (record { core = core.new; hands = hands }) row.new.lines }
+    ensures world { world_of core.new ≡ record (world_of core.old) { logged = [] } }
+    ensures slots { row.new.slots ≡ row.old.slots }
+{
+    for _ in 0..core.slots() {
+        let Some((ticket, reply)) = answer_next(core) else {
+            return;
+        };
+        gate.answered(ticket);
+        if reply == Reply::Done {
+            *records = records.saturating_add(1);
+        }
+        row.answer(ticket, reply);
+    }
+}
 
 /// Writes what a line is answered behind the lines that wait, if it is answered: whether it is.
 fn say<W: Write>(line: &Line, out: &mut ReplyBuffer, w: &mut W) -> Result<bool, WriteFault>

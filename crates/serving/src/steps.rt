@@ -1,11 +1,11 @@
 //! What a server does with its core between one line and the next: each call goes on with its run.
 
 ghost use Rattle.std.specs.Prelude.{◌≡◌, ◌++◌, true, List, [], None, OnOk, OnErr};
-ghost use Rattle.legal_runs.specs.Events.{arrive};
+ghost use Rattle.legal_runs.specs.Events.{answer, arrive};
 ghost use Rattle.machine.specs.declared.hands.Hand.{Hand};
 ghost use Rattle.oplog.specs.Layout.{layout_of};
 ghost use Rattle.oplog.specs.Stands.{in_force, named_area};
-ghost use Rattle.scheduler.specs.Calls.{arrived};
+ghost use Rattle.scheduler.specs.Calls.{answered, arrived};
 ghost use Rattle.scheduler.specs.Kept.{world_of};
 ghost use Rattle.serving.specs.Steps.{AnswersOn, Holds, KeepsOn, TakesIn};
 
@@ -40,6 +40,7 @@ pub(crate) fn answer_next<D: Disk>(core: &mut Core<D>) -> Option<(u64, Reply)>
     ensures kept { (hands : List Hand) → Holds (record { core = core.old; hands = hands })
         → AnswersOn D.keeps (record { core = core.old; hands = hands }) (record { core = core.new; hands = hands }) result }
     ensures none { result ≡ None → core.old.logged ≡ [] }
+    ensures answered { (answered result, world_of core.new) ≡ answer (world_of core.old) core.old.logged }
 {
     core.stands();
     core.answer()
