@@ -8,6 +8,8 @@ pub mod Returning
 pub mod Sending
 pub mod Answering
 pub mod Arriving
+pub mod Pointing
+pub mod Places
 pub mod Serial
 pub mod Counting
 pub mod Inside

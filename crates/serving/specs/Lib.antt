@@ -3,4 +3,6 @@ pub mod Rows
 pub mod Runs
 pub mod Going
 pub mod Steps
+pub mod Pointing
+pub mod Lending
 pub mod Ends

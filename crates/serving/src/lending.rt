@@ -2,12 +2,18 @@
 
 ghost use Rattle.std.specs.Prelude.{◌≡◌, ◌<◌, IsFalse, Some, is_none, length, position};
 ghost use Rattle.scheduler.specs.Kept.{world_of};
+ghost use Rattle.serving.specs.Lending.{GoesTo, IsEndOfSending, IsHome};
 ghost use Rattle.serving.specs.Runs.{with_lent};
 ghost use Rattle.serving.specs.Steps.{Holds, IsSent, KeepsOn};
 
 use disk::Disk;
 use scheduler::{Core, Granted};
+use std::sync::Wait;
 use workers::{Bench, DispatchSeat};
+
+/// How often the places are looked at before what came back is logged: each further look lets one write of the log take what
+/// came during the look before it, and while more and more comes back, this bounds how long a reply waits for the log.
+const LOOKS: usize = 4;
 
 /// Takes back what came of the job at place k, if it is there: whether it was.
 pub(crate) fn take_back<D: Disk>(
@@ -30,6 +36,71 @@ pub(crate) fn take_back<D: Disk>(
     };
     core.give_back(done);
     true
+}
+
+/// Looks once at each place, and takes back what came there: whether something did.
+pub(crate) fn take_all_back<D: Disk>(
+    core: &mut Core<D>,
+    bench: &Bench,
+    desk: &mut DispatchSeat,
+) -> bool
+    requires bench { desk.old.bench ≡ bench.now }
+    requires holds { Holds (with_lent core.old desk.old.lent) }
+    ensures kept { KeepsOn D.keeps (with_lent core.old desk.old.lent) (with_lent core.new desk.new.lent) }
+    ensures bench { desk.new.bench ≡ desk.old.bench }
+    ensures places { length desk.new.lent ≡ length desk.old.lent }
+    ensures none { IsFalse result → (core.new ≡ core.old) × (desk.new ≡ desk.old) }
+{
+    let mut came = false;
+    for k in 0..desk.places() {
+        if take_back(core, bench, desk, k) {
+            came = true;
+        }
+    }
+    came
+}
+
+/// Looks at the places again and again while something comes back, some few times at most, and waits for nobody: whether
+/// something came.
+pub(crate) fn gather<D: Disk>(core: &mut Core<D>, bench: &Bench, desk: &mut DispatchSeat) -> bool
+    requires bench { desk.old.bench ≡ bench.now }
+    requires holds { Holds (with_lent core.old desk.old.lent) }
+    ensures kept { KeepsOn D.keeps (with_lent core.old desk.old.lent) (with_lent core.new desk.new.lent) }
+    ensures bench { desk.new.bench ≡ desk.old.bench }
+    ensures places { length desk.new.lent ≡ length desk.old.lent }
+    ensures none { IsFalse result → (core.new ≡ core.old) × (desk.new ≡ desk.old) }
+{
+    let mut came = false;
+    for _ in 0..LOOKS {
+        if !take_all_back(core, bench, desk) {
+            return came;
+        }
+        came = true;
+    }
+    came
+}
+
+/// Takes back what comes of each job that is lent, and waits for it where it isn't there yet. Nothing is lent then.
+pub(crate) fn bring_home<T: Wait, D: Disk>(
+    rt: &T,
+    core: &mut Core<D>,
+    bench: &Bench,
+    desk: &mut DispatchSeat,
+)
+    requires bench { desk.old.bench ≡ bench.now }
+    requires holds { Holds (with_lent core.old desk.old.lent) }
+    ensures kept { KeepsOn D.keeps (with_lent core.old desk.old.lent) (with_lent core.new desk.new.lent) }
+    ensures bench { desk.new.bench ≡ desk.old.bench }
+    ensures places { length desk.new.lent ≡ length desk.old.lent }
+    ensures home { IsHome desk.new.lent }
+{
+    for _ in rt.forever() {
+        take_all_back(core, bench, desk);
+        if !desk.any_lent() {
+            break;
+        }
+        bench.wait(rt, desk);
+    }
 }
 
 /// What came of it where a message was to go out.
@@ -60,6 +131,8 @@ pub(crate) fn send_to<D: Disk>(
     ensures bench { desk.new.bench ≡ desk.old.bench }
     ensures places { length desk.new.lent ≡ length desk.old.lent }
     ensures sent { IsSent core.old.geometry (world_of core.old) result }
+    ensures geometry { core.new.geometry ≡ core.old.geometry }
+    ensures goes { GoesTo k (world_of core.old) desk.old.lent (world_of core.new) desk.new.lent result }
 {
     core.stands();
     match core.grant() {
@@ -73,4 +146,24 @@ pub(crate) fn send_to<D: Disk>(
         Granted::NoRoom => Sent::NoRoom,
         Granted::Failed => Sent::Failed,
     }
+}
+
+/// Lets eligible messages go out, the one with the least ticket first, until something is lent at each place or none goes any
+/// more: why. `Sent::Job` tells that no place is left.
+pub(crate) fn send_all<D: Disk>(core: &mut Core<D>, bench: &Bench, desk: &mut DispatchSeat) -> Sent
+    requires bench { desk.old.bench ≡ bench.now }
+    requires places { length desk.old.lent ≡ bench.now.slots }
+    requires holds { Holds (with_lent core.old desk.old.lent) }
+    ensures kept { KeepsOn D.keeps (with_lent core.old desk.old.lent) (with_lent core.new desk.new.lent) }
+    ensures bench { desk.new.bench ≡ desk.old.bench }
+    ensures places { length desk.new.lent ≡ length desk.old.lent }
+    ensures ended { IsEndOfSending core.new.geometry (world_of core.new) desk.new.lent result }
+{
+    while let Some(k) = desk.first_free() {
+        match send_to(core, bench, desk, k) {
+            Sent::Job => {}
+            why => return why,
+        }
+    }
+    Sent::Job
 }

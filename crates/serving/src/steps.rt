@@ -1,11 +1,12 @@
 //! What a server does with its core between one line and the next: each call goes on with its run.
 
-ghost use Rattle.std.specs.Prelude.{◌≡◌, ◌++◌, true, List, [], None, OnOk, OnErr};
-ghost use Rattle.legal_runs.specs.Events.{answer, arrive};
+ghost use Rattle.std.specs.Prelude.{◌≡◌, ◌≤◌, ◌++◌, ℕ, true, List, [], Some, None, OnOk, OnErr};
+ghost use Rattle.image.specs.Pieces.{piece_count};
+ghost use Rattle.legal_runs.specs.Events.{answer, arrive, flip_refusal, point_refusal};
 ghost use Rattle.machine.specs.declared.hands.Hand.{Hand};
 ghost use Rattle.oplog.specs.Layout.{layout_of};
 ghost use Rattle.oplog.specs.Stands.{in_force, named_area};
-ghost use Rattle.scheduler.specs.Calls.{answered, arrived};
+ghost use Rattle.scheduler.specs.Calls.{IsPieceStep, IsPointStep, answered, arrived};
 ghost use Rattle.scheduler.specs.Kept.{world_of};
 ghost use Rattle.serving.specs.Steps.{AnswersOn, Holds, KeepsOn, TakesIn};
 
@@ -50,6 +51,9 @@ pub(crate) fn answer_next<D: Disk>(core: &mut Core<D>) -> Option<(u64, Reply)>
 pub(crate) fn begin_cut<D: Disk>(core: &mut Core<D>) -> Result<(), PointRefusal>
     ensures kept { (hands : List Hand) → Holds (record { core = core.old; hands = hands })
         → KeepsOn D.keeps (record { core = core.old; hands = hands }) (record { core = core.new; hands = hands }) }
+    ensures begun { IsPointStep (world_of core.old) (world_of core.new) (point_refusal (world_of core.old))
+        ((n : ℕ) × (n ≤ piece_count core.old.geometry)
+        × (world_of core.new ≡ record (world_of core.old) { room = core.old.geometry.half; left = Some n })) result }
 {
     core.cut()
 }
@@ -58,6 +62,7 @@ pub(crate) fn begin_cut<D: Disk>(core: &mut Core<D>) -> Result<(), PointRefusal>
 pub(crate) fn write_piece<D: Disk>(core: &mut Core<D>) -> Result<usize, PointRefusal>
     ensures kept { (hands : List Hand) → Holds (record { core = core.old; hands = hands })
         → KeepsOn D.keeps (record { core = core.old; hands = hands }) (record { core = core.new; hands = hands }) }
+    ensures written { IsPieceStep (world_of core.old) (world_of core.new) result }
 {
     core.piece()
 }
@@ -66,6 +71,8 @@ pub(crate) fn write_piece<D: Disk>(core: &mut Core<D>) -> Result<usize, PointRef
 pub(crate) fn end_cut<D: Disk>(core: &mut Core<D>) -> Result<(), PointRefusal>
     ensures kept { (hands : List Hand) → Holds (record { core = core.old; hands = hands })
         → KeepsOn D.keeps (record { core = core.old; hands = hands }) (record { core = core.new; hands = hands }) }
+    ensures ended { IsPointStep (world_of core.old) (world_of core.new) (flip_refusal (world_of core.old))
+        (world_of core.new ≡ record (world_of core.old) { left = None }) result }
 {
     core.flip()
 }
@@ -74,6 +81,8 @@ pub(crate) fn end_cut<D: Disk>(core: &mut Core<D>) -> Result<(), PointRefusal>
 pub(crate) fn make_point<D: Disk>(core: &mut Core<D>) -> Result<(), PointRefusal>
     ensures kept { (hands : List Hand) → Holds (record { core = core.old; hands = hands })
         → KeepsOn D.keeps (record { core = core.old; hands = hands }) (record { core = core.new; hands = hands }) }
+    ensures made { IsPointStep (world_of core.old) (world_of core.new) (point_refusal (world_of core.old))
+        (world_of core.new ≡ record (world_of core.old) { room = core.old.geometry.half }) result }
     ensures emptied { OnOk result (D.keeps → in_force (layout_of core.new.geometry)
         (named_area (layout_of core.new.geometry) core.new.medium.now) core.new.medium.now ≡ []) }
 {

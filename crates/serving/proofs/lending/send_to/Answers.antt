@@ -27,3 +27,12 @@ returns-in-Ok-clause-kept g c =
     subst (λ (l : List (Option Asked)). KeepsOn g.D.Disk.keeps (with_lent c.args.core.now lent) (with_lent c.grant.new.self l)) (sym taken.1)
     (goes_out g.D.Disk.keeps c.args.core.now c.grant.new.self lent c.stands.ensures.no_doubt c.stands.ensures.now
     c.in-Job.ensures.geometry c.in-Job.ensures.untouched c.requires.holds c.args.k c.requires.first c.in-Job.job c.in-Job.ensures.world)
+
+pub returns-in-Ok-clause-goes : goal.returns-in-Ok-clause-goes
+returns-in-Ok-clause-goes g c =
+    let lent = c.args.desk.now.lent in
+    let taken = offered (lent_at lent c.args.k)
+    ((c.offer.result ≡ Ok tt) × (c.offer.new.seat.lent ≡ slice_set lent c.args.k (Some c.in-Job.job)))
+    (λ _. (c.offer.result ≡ Err c.in-Job.job) × (c.offer.new.seat ≡ c.args.desk.now))
+    (nothing_there lent c.args.k c.requires.first) c.offer.ensures.answer in
+    (c.in-Job.job, taken.1)

@@ -1,0 +1,13 @@
+use Rattle.std.proofs.Common.{◌≡◌, length}
+use Rattle.std.specs.Prelude.{IsFalse}
+use Rattle.serving.specs.Runs.{with_lent}
+use Rattle.serving.specs.Steps.{KeepsOn}
+use Rattle.serving.proofs.lending.gather.Given as goal
+
+abbrev pub invariant-loop : goal.invariant-loop
+invariant-loop g l = record {
+  kept : KeepsOn g.D.Disk.keeps (with_lent l.initial.core l.initial.desk.lent) (with_lent l.core l.desk.lent);
+  bench : l.desk.bench ≡ l.initial.desk.bench;
+  places : length l.desk.lent ≡ length l.initial.desk.lent;
+  none : IsFalse l.came → (l.core ≡ l.initial.core) × (l.desk ≡ l.initial.desk);
+}

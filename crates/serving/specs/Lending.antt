@@ -1,0 +1,26 @@
+-- What goes out to the places of a bench, and when all is home.
+use Rattle.std.specs.Prelude.{◌≡◌, ℕ, List, Option, Some, None, is_none, length, position, replicate, slice_set}
+use Rattle.affinity.specs.declared.geometry.Geometry.{Geometry}
+use Rattle.legal_runs.specs.World.{World}
+use Rattle.parcel.specs.Run.{Asked}
+use Rattle.serving.specs.Steps.{IsSent}
+use Rattle.serving.specs.declared.lending.Sent.{Sent}
+use Rattle.serving.specs.declared.lending.Sent.TheVariants as sent
+
+-- A message went out as a job to place k. Or none did, and nothing has changed.
+abbrev pub GoesTo : ℕ → World → List (Option Asked) → World → List (Option Asked) → Sent → Type 0
+GoesTo k old lent new new_lent sent.Job = (job : Asked) × (new_lent ≡ slice_set lent k (Some job))
+GoesTo k old lent new new_lent sent.NoneEligible = (new ≡ old) × (new_lent ≡ lent)
+GoesTo k old lent new new_lent sent.NoRoom = (new ≡ old) × (new_lent ≡ lent)
+GoesTo k old lent new new_lent sent.Failed = (new ≡ old) × (new_lent ≡ lent)
+
+-- Why no further message goes out of this world: something is lent at each place, or no message may go.
+abbrev pub IsEndOfSending : Geometry → World → List (Option Asked) → Sent → Type 0
+IsEndOfSending g w lent sent.Job = position is_none lent ≡ None
+IsEndOfSending g w lent sent.NoneEligible = IsSent g w sent.NoneEligible
+IsEndOfSending g w lent sent.NoRoom = IsSent g w sent.NoRoom
+IsEndOfSending g w lent sent.Failed = IsSent g w sent.Failed
+
+-- nothing is lent at any place
+abbrev pub IsHome : List (Option Asked) → Type 0
+IsHome lent = lent ≡ replicate (length lent) None
