@@ -48,7 +48,8 @@ pub fn an_image_is_read_piece_by_piece()
 
 /// Each piece of an image has its size and stands at its place, and the last one ends the image.
 pub fn an_image_is_cut_into_its_pieces()
-    ensures pieces { (version : ℕ) (g : Geometry) (x : State) → IsState g x → (n : ℕ) → n < piece_count g → piece_in g (image_of version g x) n ≡ piece_of version g x n }
+    ensures pieces { (version : ℕ) (g : Geometry) (x : State) → IsState g x → (n : ℕ) → n < piece_count g
+        → piece_in g (image_of version g x) n ≡ piece_of version g x n }
     ensures sizes { (version : ℕ) (g : Geometry) (x : State) → IsState g x → (n : ℕ) → length (piece_of version g x n) ≡ piece_size g n }
     ensures end { (g : Geometry) → piece_at g (piece_count g) ≡ 64 + g.aggregates * g.volumes * (64 + g.stripes * (g.quota * 520)) }
 {}

@@ -85,7 +85,8 @@ fn message_in_fields(bytes: &[u8; 520]) -> Option<Msg>
 }
 
 fn assembled(kind: Kind, numbers: [u16; 4], bytes: &[u8; 520]) -> Msg
-    ensures { let n = numbers in result ≡ assembled kind (slice_index n 0) (slice_index n 1) (slice_index n 2) (slice_index n 3) (drop 8 bytes.now) }
+    ensures { let n = numbers in result
+        ≡ assembled kind (slice_index n 0) (slice_index n 1) (slice_index n 2) (slice_index n 3) (drop 8 bytes.now) }
 {
     let [a, v, f, b] = numbers;
     match kind {

@@ -33,7 +33,8 @@ pub fn refusal_changes_nothing()
 /// A message reads only what lies at its place, below it and above it, and changes only what lies
 /// at its place and below.
 pub fn step_reads_and_changes_only()
-    ensures reads { (g : Geometry) (x y : State) (m : Msg) → share g (place g m) x ≡ share g (place g m) y → standing g (place g m) x ≡ standing g (place g m) y → RunAlike g x y m }
+    ensures reads { (g : Geometry) (x y : State) (m : Msg) → share g (place g m) x ≡ share g (place g m) y
+        → standing g (place g m) x ≡ standing g (place g m) y → RunAlike g x y m }
     ensures changes { (g : Geometry) (x : State) (m : Msg) → AgreeOn g (outside (place g m)) (next_state g x m) x }
 {}
 

@@ -66,7 +66,8 @@ impl StripeParcel {
     /// Puts content into a block that is there, or makes the block. There has to be room for it.
     pub fn set(&mut self, f: u16, b: u16, content: &Block)
         requires room { (is_some (content_at self.old.entries f b) || nat_lt (length self.old.entries) self.old.quota) ≡ true }
-        ensures holds { NowHolds self.old self.new (λ i j. if (f == i) && (b == j) then Some content.now else content_at self.old.entries i j) }
+        ensures holds { NowHolds self.old self.new
+            (λ i j. if (f == i) && (b == j) then Some content.now else content_at self.old.entries i j) }
         ensures kept { IsKept self.new }
     {
         match self.find(f, b) {
@@ -144,7 +145,9 @@ impl StripeParcel {
     fn insert(&mut self, n: usize, f: u16, b: u16, content: &Block)
         requires gap { IsGap self.old.entries f b n }
         requires room { length self.old.entries < self.old.quota }
-        ensures { self.new ≡ record self.old { entries = insert self.old.entries n (record { file = f; block = b; content = content.now }) } }
+        ensures { self.new ≡ record self.old {
+          entries = insert self.old.entries n (record { file = f; block = b; content = content.now });
+        } }
     {
         let Ok(slot) = self.blocks.put(*content) else {
             unreachable!()

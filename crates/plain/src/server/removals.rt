@@ -32,7 +32,8 @@ impl Server {
         requires sound { IsConsistent g.now self.old }
         ensures state { server_state self.new ≡ effect (server_state self.old) (Msg.Punch a v f b) }
         ensures counted { IsCounted g.now self.new }
-        ensures len { btree_map_len self.new.blocks + one_if (is_some ((server_state self.old).blocks (a, v, f, b))) ≡ btree_map_len self.old.blocks }
+        ensures len { btree_map_len self.new.blocks + one_if (is_some ((server_state self.old).blocks (a, v, f, b)))
+            ≡ btree_map_len self.old.blocks }
         ensures files { self.new.files ≡ self.old.files }
     {
         if self.blocks.remove(&(a, v, f, b)).is_some() {
@@ -43,7 +44,8 @@ impl Server {
     /// The number of a block of the file, where it has one.
     fn next_block_of_file(&self, a: u16, v: u16, f: u16) -> Option<u16>
         ensures found { IfSome result (λ b. is_some ((server_state self.now).blocks (a, v, f, b)) ≡ true) }
-        ensures none { IfNone result ((k : BlockKey) → is_block_of_file a v f k ≡ true → is_some ((server_state self.now).blocks k) ≡ false) }
+        ensures none { IfNone result ((k : BlockKey) → is_block_of_file a v f k ≡ true
+            → is_some ((server_state self.now).blocks k) ≡ false) }
     {
         let (key, _) = self.blocks.range((a, v, f, 0)..).next()?;
         let (of_a, of_v, of_f, b) = *key;
