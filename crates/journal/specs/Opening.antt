@@ -28,7 +28,8 @@ pub record IsOpened (old : Medium) (j : Held) (x : State) : Type 0 where
 -- These bytes stand for what those before stood for, or are refused for the same fault as they were.
 pub record StandsAs (before c : List ℕ) : Type 0 where
   pub same : (g : Geometry) (x : State) → holds g before ≡ Some x → holds g c ≡ Some x
-  pub alike : (g : Geometry) (fault : OpenFault) → HasHeader g before → refused g before ≡ Some fault → HasHeader g c × (refused g c ≡ Some fault)
+  pub alike : (g : Geometry) (fault : OpenFault) → HasHeader g before → refused g before ≡ Some fault
+      → HasHeader g c × (refused g c ≡ Some fault)
 
 -- The first sync is over: nothing was loose then, and from then on a crash leaves what stands for the same, or is refused
 -- for the same fault.
@@ -55,5 +56,6 @@ pub record IsUnwritten (old new : Medium) : Type 0 where
 -- before: the bad record is one of the half behind the named one.
 abbrev pub IsRefusedUnwritten : Medium → OpenFault → Medium → Type 0
 IsRefusedUnwritten old Device new = Unit {0}
-IsRefusedUnwritten old (BadRecord h i) new = (g : Geometry) → HasHeader g old.now → h ≡ named_area (layout_of g) old.now → IsUnwritten old new
+IsRefusedUnwritten old (BadRecord h i) new =
+    (g : Geometry) → HasHeader g old.now → h ≡ named_area (layout_of g) old.now → IsUnwritten old new
 IsRefusedUnwritten old fault new = IsUnwritten old new

@@ -1,5 +1,5 @@
 //! The journal of a server: what was carried out, on a device that a crash may tear at any moment.
-ghost use Rattle.std.specs.Prelude.{◌≡◌, ◌-◌, ◌≤◌, ◌+◌, ℕ, true, false, Some, None, [], length, is_some, option_map, OnOk, OnErr, IfOk};
+ghost use Rattle.std.specs.Prelude.{◌≡◌, ◌-◌, ◌≤◌, ℕ, true, false, Some, None, [], length, is_some, option_map, OnOk, OnErr, IfOk};
 ghost use Rattle.checkpoint.specs.Recovery.{holds};
 ghost use Rattle.disk.specs.Moments.{LeavesOnly};
 ghost use Rattle.image.specs.Pieces.{piece_count};
@@ -11,16 +11,17 @@ ghost use Rattle.plain.specs.Serial.{fold};
 ghost use Rattle.plain.specs.State.{State};
 
 use crate::freezing::freeze;
-use crate::marks::{clear_marks, count_marked, first_marked, mark_touched};
+use crate::marks::{clear_marks, count_marked, exchange_marks, first_marked, mark_touched};
 use crate::steps::{cut_on, flip_on, point_on};
 use crate::stretches::write_stretch;
-use affinity::Geometry;
 use disk::Disk;
 use message::Msg;
 use oplog::{Halves, LogFault};
 use parcel::Tree;
 use std::marker::Model;
 use std::mem;
+
+mod telling;
 
 /// The log of a server and the images that keep it short, on a device that it owns.
 ///
@@ -166,8 +167,7 @@ impl<D: Disk> Journal<D> {
             self.failed = true;
             return Err(fault);
         }
-        clear_marks(&mut self.other_marks); // its image was written
-        mem::swap(&mut self.named_marks, &mut self.other_marks);
+        exchange_marks(&mut self.named_marks, &mut self.other_marks);
         Ok(())
     }
 
@@ -249,41 +249,5 @@ impl<D: Disk> Journal<D> {
         mem::swap(&mut self.named_marks, &mut self.other_marks);
         self.left = None;
         Ok(())
-    }
-
-    /// How many records can still be logged before a point is due.
-    pub fn room(&self) -> usize
-        ensures room { result ≡ self.now.room }
-        ensures sound { self.now.failed ≡ false → D.keeps → IsSettled self.now }
-    {
-        self.halves.room()
-    }
-
-    /// How many pieces of a cut are still to be written, while one is in progress.
-    pub fn left(&self) -> Option<usize>
-        ensures { result ≡ self.now.left }
-    {
-        self.left
-    }
-
-    /// The numbers of the server.
-    pub fn geometry(&self) -> Geometry
-        ensures { result ≡ self.now.geometry }
-    {
-        self.halves.geometry()
-    }
-
-    /// Whether the device has failed in a call.
-    pub fn failed(&self) -> bool
-        ensures { result ≡ self.now.failed }
-    {
-        self.failed
-    }
-
-    /// The device.
-    pub fn into_disk(self) -> D
-        ensures { D.medium result ≡ self.medium }
-    {
-        self.disk
     }
 }

@@ -6,6 +6,7 @@ ghost use Rattle.journal.specs.Keeping.{MarksTouched, count_marked};
 use affinity::Geometry;
 use image::touched;
 use message::Msg;
+use std::mem;
 
 /// How many are marked.
 pub(crate) fn count_marked(marks: &[bool]) -> usize
@@ -39,6 +40,16 @@ pub(crate) fn clear_marks(marks: &mut [bool])
     ensures { marks.new ≡ replicate (length marks.old) false }
 {
     marks.fill(false);
+}
+
+/// The other image was written and is named from now on: none of its pieces is out of date. The marks of the one that was
+/// named before stay with it.
+pub(crate) fn exchange_marks(named: &mut Vec<bool>, other: &mut Vec<bool>)
+    ensures written { named.new.items ≡ replicate (length other.old.items) false }
+    ensures kept { other.new ≡ named.old }
+{
+    mem::swap(named, other);
+    clear_marks(named);
 }
 
 /// Marks what a message touches.

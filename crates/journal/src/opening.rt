@@ -1,5 +1,5 @@
 //! A journal is opened, over a device that a crash may have left.
-ghost use Rattle.std.specs.Prelude.{◌≡◌, ◌↔◌, ◌+◌, ◌*◌, ◌<◌, ◌≤◌, ℕ, true, false, None, Some, get_or, length, IfErr, IfOk, MatchResult, OnOk};
+ghost use Rattle.std.specs.Prelude.{◌≡◌, ◌↔◌, ◌+◌, ◌*◌, ◌<◌, ◌≤◌, true, false, None, Some, length, IfErr, IfOk, MatchResult, OnOk};
 ghost use Rattle.checkpoint.specs.declared.fault.OpenFault.TheVariants.{Device, OutOfMemory};
 ghost use Rattle.checkpoint.specs.Header.{HasHeader};
 ghost use Rattle.checkpoint.specs.Loading.{CountsOpenFault, NamedHolds};
@@ -12,10 +12,10 @@ ghost use Rattle.image.specs.Pieces.{piece_count};
 ghost use Rattle.journal.specs.Opening.{IsOpened, IsRefusedUnwritten, OpeningLeaves, StandsAs};
 ghost use Rattle.journal.specs.Parts.{IsBad, IsMade, IsMadeOf, IsRefusedAlike};
 ghost use Rattle.journal.specs.Stretches.{AreAllMarked};
-ghost use Rattle.journal.specs.Steps.{IsAlone, IsPointed, StandsStill, finished_now, pointed};
+ghost use Rattle.journal.specs.Steps.{IsAlone, IsFinished, IsPointed, StandsStill, finished_now, pointed};
 ghost use Rattle.oplog.specs.Calls.{HasParts};
 ghost use Rattle.oplog.specs.Layout.{device_size, image_size, layout_of, other};
-ghost use Rattle.oplog.specs.Log.{new_log};
+ghost use Rattle.oplog.specs.Log.{CountsLogFault, IsNotBad, new_log};
 ghost use Rattle.parcel.specs.Tree.{IsWholeTree, state_in};
 ghost use Rattle.plain.specs.State.{empty};
 
@@ -27,8 +27,8 @@ use affinity::Geometry;
 use checkpoint::loading::{load_named, read_header, replay, take_room};
 use checkpoint::{OpenError, OpenFault};
 use disk::Disk;
-use oplog::Halves;
 use oplog::layout::image_size;
+use oplog::{Halves, LogFault};
 use parcel::Tree;
 use std::alloc::Global;
 
@@ -98,6 +98,42 @@ fn settle<D: Disk>(disk: &mut D) -> Result<(), OpenFault>
     Ok(())
 }
 
+/// Finishes a cut that was in progress: its state, which the tree holds, is written into the other area, which is named then.
+/// That is what the named area holds by itself, with none of the records behind it.
+fn finish_cut<D: Disk>(
+    halves: &mut Halves,
+    disk: &mut D,
+    tree: &Tree,
+    frozen: &mut [u8],
+    marks: &[bool],
+) -> Result<(), LogFault>
+    requires fine { halves.old.failed ≡ false }
+    requires together { halves.old.current ≡ halves.old.named }
+    requires whole { IsWholeTree tree.now }
+    requires geometry { tree.now.geometry ≡ halves.old.geometry }
+    requires parts { HasParts halves.old (D.medium disk.old) }
+    requires size { length frozen.old ≡ image_size halves.old.geometry }
+    requires marks { length marks.now ≡ piece_count halves.old.geometry }
+    requires all { AreAllMarked halves.old.geometry marks.now }
+    requires calm { D.keeps → IsSynced (D.medium disk.old) }
+    requires holds { D.keeps →
+        NamedHolds halves.old.geometry (D.medium disk.old).now halves.old.named true (state_in tree.now) }
+    ensures any_moment { D.keeps →
+        StandsStill halves.old.geometry (D.medium disk.old) (D.medium disk.new) }
+    ensures alike { D.keeps →
+        LeavesOnly (D.medium disk.old) (D.medium disk.new) (IsRefusedAlike halves.old.geometry (D.medium disk.old).now) }
+    ensures finished { OnOk result (D.keeps →
+        IsFinished halves.old (D.medium disk.old) (D.medium disk.new)) }
+    ensures log { OnOk result (halves.new ≡ finished_now halves.old) }
+    ensures size { length frozen.new ≡ length frozen.old }
+    ensures not_bad { IsNotBad result }
+    ensures counts { CountsLogFault result (D.medium disk.old).faults (D.medium disk.new).faults }
+    ensures len { length (D.medium disk.new).now ≡ length (D.medium disk.old).now }
+{
+    freeze(tree, frozen);
+    finish_on(halves, disk, frozen, marks)
+}
+
 /// Finishes a cut that was in progress, and then runs the records behind it on the tree, which holds the state of the
 /// cut. The other area is named then, and holds the state of the device by itself.
 fn replay_behind<D: Disk>(
@@ -137,8 +173,7 @@ fn replay_behind<D: Disk>(
     ensures len { length (D.medium disk.new).now ≡ length (D.medium disk.old).now }
 {
     let behind = 1 - halves.named();
-    freeze(tree, frozen); // before the records behind it are run
-    finish_on(halves, disk, frozen, marks)?;
+    finish_cut(halves, disk, tree, frozen, marks)?;
     replay(halves, disk, behind, tree)?;
     Ok(())
 }

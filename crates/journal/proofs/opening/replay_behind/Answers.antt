@@ -1,46 +1,24 @@
 use Rattle.std.proofs.Common.{◌≡◌, ℕ, List, Option, Some, sym, ◌∙◌, ap, subst}
 use Rattle.std.proofs.lemmas.Result.{err_from_is_err_and}
-use Rattle.affinity.specs.declared.geometry.Geometry.{Geometry}
 use Rattle.checkpoint.specs.declared.fault.OpenFault.{OpenFault}
 use Rattle.checkpoint.specs.Loading.{IsFault, records_fault}
 use Rattle.checkpoint.specs.Recovery.{means}
 use Rattle.checkpoint.specs.Refusals.{first_bad_record}
 use Rattle.disk.proofs.Moments.{same}
-use Rattle.image.specs.Image.{image_of, read}
-use Rattle.image.proofs.Reading.{read_again}
-use Rattle.journal.proofs.Loaded.{behind_fine, behind_holds, behind_refused, unfinished_cut}
+use Rattle.journal.proofs.Loaded.{behind_fine, behind_holds, behind_refused}
 use Rattle.journal.proofs.Settling.{alone_finished, bad_half}
 use Rattle.oplog.specs.Front.{front}
 use Rattle.oplog.specs.Layout.{layout_of, other}
 use Rattle.oplog.specs.Log.{Log}
 use Rattle.oplog.specs.Stands.{run}
 use Rattle.parcel.specs.Tree.{state_in}
-use Rattle.plain.specs.State.{IsState}
 use Rattle.journal.proofs.opening.replay_behind.Goals as goal
 
-pub finish_on-requires-clause-unfinished : goal.finish_on-requires-clause-unfinished
-finish_on-requires-clause-unfinished g c = λ k.
-    let x = state_in c.args.tree.now in
-    unfinished_cut c.args.halves.now (g.D.Disk.medium c.args.disk.now) x c.freeze.new.bytes (c.requires.holds k) (c.requires.calm k)
-    (subst (λ (h : Geometry). IsState h x) c.requires.geometry c.requires.whole.state)
-    (c.freeze.ensures.image ∙ ap (λ (h : Geometry). image_of 2 h x) c.requires.geometry)
-
-pub returns-in_err-finish_on-clause-alike : goal.returns-in_err-finish_on-clause-alike
-returns-in_err-finish_on-clause-alike g c = λ k.
-    let x = state_in c.args.tree.now in
-    let is_state = subst (λ (h : Geometry). IsState h x) c.requires.geometry c.requires.whole.state in
-    let spelled = c.freeze.ensures.image ∙ ap (λ (h : Geometry). image_of 2 h x) c.requires.geometry in
-    c.finish_on.ensures.alike k x (ap (read c.args.halves.now.geometry) spelled ∙ read_again c.args.halves.now.geometry x is_state) (c.requires.holds k)
-
 pub returns-in_err-replay-clause-any_moment : goal.returns-in_err-replay-clause-any_moment
-returns-in_err-replay-clause-any_moment g c = λ k. same _ _ _ _ (c.finish_on.ensures.any_moment k) (c.replay.ensures.untouched k)
+returns-in_err-replay-clause-any_moment g c = λ k. same _ _ _ _ (c.finish_cut.ensures.any_moment k) (c.replay.ensures.untouched k)
 
 pub returns-in_err-replay-clause-alike : goal.returns-in_err-replay-clause-alike
-returns-in_err-replay-clause-alike g c = λ k.
-    let x = state_in c.args.tree.now in
-    let is_state = subst (λ (h : Geometry). IsState h x) c.requires.geometry c.requires.whole.state in
-    let spelled = c.freeze.ensures.image ∙ ap (λ (h : Geometry). image_of 2 h x) c.requires.geometry in
-    same _ _ _ _ (c.finish_on.ensures.alike k x (ap (read c.args.halves.now.geometry) spelled ∙ read_again c.args.halves.now.geometry x is_state) (c.requires.holds k)) (c.replay.ensures.untouched k)
+returns-in_err-replay-clause-alike g c = λ k. same _ _ _ _ (c.finish_cut.ensures.alike k) (c.replay.ensures.untouched k)
 
 pub returns-in_err-replay-clause-refused : goal.returns-in_err-replay-clause-refused
 returns-in_err-replay-clause-refused g c =
@@ -48,11 +26,11 @@ returns-in_err-replay-clause-refused g c =
     rw (p.1, p.2)
     (λ k.
     let x = state_in c.args.tree.now in
-    let w1 = (g.D.Disk.medium c.finish_on.new.disk).now in
-    let log : c.finish_on.new.halves.geometry ≡ c.args.halves.now.geometry = ap (λ (l : Log). l.geometry) c.in_ok-finish_on.ensures.log in
+    let w1 = (g.D.Disk.medium c.finish_cut.new.disk).now in
+    let log : c.finish_cut.new.halves.geometry ≡ c.args.halves.now.geometry = ap (λ (l : Log). l.geometry) c.in_ok-finish_cut.ensures.log in
     let half = ap other c.named-behind.ensures.named in
     behind_refused c.args.halves.now.geometry (g.D.Disk.medium c.args.disk.now).now c.args.halves.now.named x (c.requires.holds k) _
-    (subst (λ (rs : List (List ℕ)). IsFault (records_fault c.args.halves.now.geometry x (other c.args.halves.now.named) rs) c.in_err-replay.field-0.0) (c.in_ok-finish_on.ensures.finished k).front
+    (subst (λ (rs : List (List ℕ)). IsFault (records_fault c.args.halves.now.geometry x (other c.args.halves.now.named) rs) c.in_err-replay.field-0.0) (c.in_ok-finish_cut.ensures.finished k).front
     (subst (λ (o : Option OpenFault). IsFault o c.in_err-replay.field-0.0) (λ i. records_fault (c.requires.geometry i) x (half i) (front (layout_of (log i)) (half i) w1)) (c.in_err-replay.ensures.refused k))))
 
 pub returns-in_err-replay-clause-behind : goal.returns-in_err-replay-clause-behind
@@ -61,50 +39,46 @@ returns-in_err-replay-clause-behind g c =
     rw (p.1, p.2)
     (λ k.
     let x = state_in c.args.tree.now in
-    let w1 = (g.D.Disk.medium c.finish_on.new.disk).now in
+    let w1 = (g.D.Disk.medium c.finish_cut.new.disk).now in
     let half = ap other c.named-behind.ensures.named in
-    let rs = front (layout_of c.finish_on.new.halves.geometry) (other c.named-behind.result) w1 in
+    let rs = front (layout_of c.finish_cut.new.halves.geometry) (other c.named-behind.result) w1 in
     bad_half (other c.args.halves.now.named) (first_bad_record c.args.tree.now.geometry 0 (Some x) rs) _ c.in_err-replay.ensures.took_none
     (subst (λ (h : ℕ). IsFault (records_fault c.args.tree.now.geometry x h rs) c.in_err-replay.field-0.0) half (c.in_err-replay.ensures.refused k)))
 
 pub returns-clause-any_moment : goal.returns-clause-any_moment
-returns-clause-any_moment g c = λ k. same _ _ _ _ (c.finish_on.ensures.any_moment k) (c.replay.ensures.untouched k)
+returns-clause-any_moment g c = λ k. same _ _ _ _ (c.finish_cut.ensures.any_moment k) (c.replay.ensures.untouched k)
 
 pub returns-clause-alike : goal.returns-clause-alike
-returns-clause-alike g c = λ k.
-    let x = state_in c.args.tree.now in
-    let is_state = subst (λ (h : Geometry). IsState h x) c.requires.geometry c.requires.whole.state in
-    let spelled = c.freeze.ensures.image ∙ ap (λ (h : Geometry). image_of 2 h x) c.requires.geometry in
-    same _ _ _ _ (c.finish_on.ensures.alike k x (ap (read c.args.halves.now.geometry) spelled ∙ read_again c.args.halves.now.geometry x is_state) (c.requires.holds k)) (c.replay.ensures.untouched k)
+returns-clause-alike g c = λ k. same _ _ _ _ (c.finish_cut.ensures.alike k) (c.replay.ensures.untouched k)
 
 pub returns-clause-alone : goal.returns-clause-alone
 returns-clause-alone g c = λ k.
     let x = state_in c.args.tree.now in
-    let w1 = (g.D.Disk.medium c.finish_on.new.disk).now in
-    let log : c.finish_on.new.halves.geometry ≡ c.args.halves.now.geometry = ap (λ (l : Log). l.geometry) c.in_ok-finish_on.ensures.log in
+    let w1 = (g.D.Disk.medium c.finish_cut.new.disk).now in
+    let log : c.finish_cut.new.halves.geometry ≡ c.args.halves.now.geometry = ap (λ (l : Log). l.geometry) c.in_ok-finish_cut.ensures.log in
     let half = ap other c.named-behind.ensures.named in
-    let more = ap (λ (rs : List (List ℕ)). run (means c.args.halves.now.geometry) (Some x) rs) (sym (c.in_ok-finish_on.ensures.finished k).front)
+    let more = ap (λ (rs : List (List ℕ)). run (means c.args.halves.now.geometry) (Some x) rs) (sym (c.in_ok-finish_cut.ensures.finished k).front)
     ∙ sym (λ i. run (means (c.requires.geometry i)) (Some x) (front (layout_of (log i)) (half i) w1)) ∙ c.in_ok-replay.ensures.done k in
     let held = behind_holds c.args.halves.now.geometry (g.D.Disk.medium c.args.disk.now).now c.args.halves.now.named x (c.requires.holds k) (state_in c.replay.new.tree) more in
-    alone_finished c.args.halves.now (g.D.Disk.medium c.args.disk.now) (g.D.Disk.medium c.finish_on.new.disk) (g.D.Disk.medium c.replay.new.disk) (state_in c.replay.new.tree) (g.met.D.Disk.bytes c.replay.new.disk)
-    (same _ _ _ _ (c.finish_on.ensures.any_moment k) (c.replay.ensures.untouched k)) held (c.in_ok-finish_on.ensures.finished k) (c.replay.ensures.untouched k)
+    alone_finished c.args.halves.now (g.D.Disk.medium c.args.disk.now) (g.D.Disk.medium c.finish_cut.new.disk) (g.D.Disk.medium c.replay.new.disk) (state_in c.replay.new.tree) (g.met.D.Disk.bytes c.replay.new.disk)
+    (same _ _ _ _ (c.finish_cut.ensures.any_moment k) (c.replay.ensures.untouched k)) held (c.in_ok-finish_cut.ensures.finished k) (c.replay.ensures.untouched k)
 
 pub returns-clause-was : goal.returns-clause-was
 returns-clause-was g c = λ k.
     let x = state_in c.args.tree.now in
-    let w1 = (g.D.Disk.medium c.finish_on.new.disk).now in
-    let log : c.finish_on.new.halves.geometry ≡ c.args.halves.now.geometry = ap (λ (l : Log). l.geometry) c.in_ok-finish_on.ensures.log in
+    let w1 = (g.D.Disk.medium c.finish_cut.new.disk).now in
+    let log : c.finish_cut.new.halves.geometry ≡ c.args.halves.now.geometry = ap (λ (l : Log). l.geometry) c.in_ok-finish_cut.ensures.log in
     let half = ap other c.named-behind.ensures.named in
-    let more = ap (λ (rs : List (List ℕ)). run (means c.args.halves.now.geometry) (Some x) rs) (sym (c.in_ok-finish_on.ensures.finished k).front)
+    let more = ap (λ (rs : List (List ℕ)). run (means c.args.halves.now.geometry) (Some x) rs) (sym (c.in_ok-finish_cut.ensures.finished k).front)
     ∙ sym (λ i. run (means (c.requires.geometry i)) (Some x) (front (layout_of (log i)) (half i) w1)) ∙ c.in_ok-replay.ensures.done k in
     behind_holds c.args.halves.now.geometry (g.D.Disk.medium c.args.disk.now).now c.args.halves.now.named x (c.requires.holds k) (state_in c.replay.new.tree) more
 
 pub returns-clause-sound : goal.returns-clause-sound
 returns-clause-sound g c = λ k.
     let x = state_in c.args.tree.now in
-    let w1 = (g.D.Disk.medium c.finish_on.new.disk).now in
-    let log : c.finish_on.new.halves.geometry ≡ c.args.halves.now.geometry = ap (λ (l : Log). l.geometry) c.in_ok-finish_on.ensures.log in
+    let w1 = (g.D.Disk.medium c.finish_cut.new.disk).now in
+    let log : c.finish_cut.new.halves.geometry ≡ c.args.halves.now.geometry = ap (λ (l : Log). l.geometry) c.in_ok-finish_cut.ensures.log in
     let half = ap other c.named-behind.ensures.named in
-    let more = ap (λ (rs : List (List ℕ)). run (means c.args.halves.now.geometry) (Some x) rs) (sym (c.in_ok-finish_on.ensures.finished k).front)
+    let more = ap (λ (rs : List (List ℕ)). run (means c.args.halves.now.geometry) (Some x) rs) (sym (c.in_ok-finish_cut.ensures.finished k).front)
     ∙ sym (λ i. run (means (c.requires.geometry i)) (Some x) (front (layout_of (log i)) (half i) w1)) ∙ c.in_ok-replay.ensures.done k in
     behind_fine c.args.halves.now.geometry (g.D.Disk.medium c.args.disk.now).now c.args.halves.now.named x (c.requires.holds k) (state_in c.replay.new.tree) more

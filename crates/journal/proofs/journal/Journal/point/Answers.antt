@@ -104,11 +104,11 @@ returns-clause-sound g c = λ k.
     let is : holds c.self.inside.halves.geometry w0.now ≡ Some (state_in c.args.tree.now) = ap settled c.self.view_is ∙ c.requires.state k in
     let w1 = g.D.Disk.medium c.point_on.new.disk in
     let made = subst (λ (l : List ℕ). IsPointed c.self.inside.halves l w0 w1) (c.deref.ensures.value ∙ frozen) (c.in_default.ensures.pointed k) in
-    settled_of c.point_on.new.halves (whole_items c.self.inside.frozen.len c.freeze.new.bytes c.self.inside.frozen.items) c.swap.new.x.items c.swap.new.y.items c.self.inside.due.items c.self.inside.left c.self.inside.failed w1
-    (subst (λ (o : Option ℕ). IsSound c.point_on.new.halves (whole_items c.self.inside.frozen.len c.freeze.new.bytes c.self.inside.frozen.items) c.swap.new.x.items c.swap.new.y.items c.self.inside.due.items o w1) (sym alone)
-    (subst (λ (l : List ℕ). IsSound c.point_on.new.halves l c.swap.new.x.items c.swap.new.y.items c.self.inside.due.items None w1) (sym frozen)
-    (subst (λ (l : Log). IsSound l c.freeze.new.bytes c.swap.new.x.items c.swap.new.y.items c.self.inside.due.items None w1) (sym c.in_default.ensures.log)
-    (point_sound c.self.inside.halves c.self.inside.frozen.items c.freeze.new.bytes c.self.inside.named_marks.items c.self.inside.other_marks.items c.self.inside.due.items c.self.inside.left w0 (state_in c.args.tree.now) alone (c.self.invariant.6 fine).1 (c.self.invariant.7 fine k) is is_state spelled (g.met.D.Disk.bytes c.self.inside.disk) w1 (g.met.D.Disk.bytes c.point_on.new.disk) c.swap.new.x.items c.swap.new.y.items (ap (λ v. v.items) c.swap.ensures.y_after) made))))
+    settled_of c.point_on.new.halves (whole_items c.self.inside.frozen.len c.freeze.new.bytes c.self.inside.frozen.items) c.exchange_marks.new.named.items c.exchange_marks.new.other.items c.self.inside.due.items c.self.inside.left c.self.inside.failed w1
+    (subst (λ (o : Option ℕ). IsSound c.point_on.new.halves (whole_items c.self.inside.frozen.len c.freeze.new.bytes c.self.inside.frozen.items) c.exchange_marks.new.named.items c.exchange_marks.new.other.items c.self.inside.due.items o w1) (sym alone)
+    (subst (λ (l : List ℕ). IsSound c.point_on.new.halves l c.exchange_marks.new.named.items c.exchange_marks.new.other.items c.self.inside.due.items None w1) (sym frozen)
+    (subst (λ (l : Log). IsSound l c.freeze.new.bytes c.exchange_marks.new.named.items c.exchange_marks.new.other.items c.self.inside.due.items None w1) (sym c.in_default.ensures.log)
+    (point_sound c.self.inside.halves c.self.inside.frozen.items c.freeze.new.bytes c.self.inside.named_marks.items c.self.inside.other_marks.items c.self.inside.due.items c.self.inside.left w0 (state_in c.args.tree.now) alone (c.self.invariant.6 fine).1 (c.self.invariant.7 fine k) is is_state spelled (g.met.D.Disk.bytes c.self.inside.disk) w1 (g.met.D.Disk.bytes c.point_on.new.disk) c.exchange_marks.new.named.items c.exchange_marks.new.other.items (ap (λ v. v.items) c.exchange_marks.ensures.kept) made))))
 
 pub invariant_of-self-2 : goal.invariant_of-self-2
 invariant_of-self-2 g c =
@@ -119,13 +119,12 @@ invariant_of-self-2 g c =
     let spelled : c.freeze.new.bytes ≡ image_of 2 c.self.inside.halves.geometry (state_in c.args.tree.now) = c.freeze.ensures.image ∙ ap (λ (x : Geometry). image_of 2 x (state_in c.args.tree.now)) geometry in
     let frozen = whole_put c.self.inside.frozen.len c.freeze.new.bytes c.self.inside.frozen.items (c.freeze.ensures.size ∙ ap length c.deref_mut.ensures.value) (c.freeze.ensures.size ∙ c.deref_mut.ensures.len) in
     let log = c.in_default.ensures.log in
-    let same = c.point_on.ensures.geometry in
-    let cleared = whole_put c.self.inside.other_marks.len c.clear_marks.new.marks c.self.inside.other_marks.items (ap length c.clear_marks.ensures ∙ length-replicate _ false ∙ ap length c.deref_mut-2.ensures.value) (ap length c.clear_marks.ensures ∙ length-replicate _ false ∙ c.deref_mut-2.ensures.len) in (
+    let same = c.point_on.ensures.geometry in (
       omega (arith, c.self.invariant.0, c.point_on.ensures.len, ap (λ (l : Log). device_size (layout l)) log),
       omega (arith, ap (λ (l : Log). l.used) log),
       ap length frozen ∙ c.freeze.ensures.size ∙ ap length c.deref_mut.ensures.value ∙ c.self.invariant.2 ∙ sym (ap image_size same),
-      ap (λ v. length v.items) c.swap.ensures.x_after ∙ ap length cleared ∙ ap length c.clear_marks.ensures ∙ length-replicate _ false ∙ ap length c.deref_mut-2.ensures.value ∙ c.self.invariant.4 ∙ sym (ap piece_count same),
-      ap (λ v. length v.items) c.swap.ensures.y_after ∙ c.self.invariant.3 ∙ sym (ap piece_count same),
+      ap length c.exchange_marks.ensures.written ∙ length-replicate _ false ∙ c.self.invariant.4 ∙ sym (ap piece_count same),
+      ap (λ v. length v.items) c.exchange_marks.ensures.kept ∙ c.self.invariant.3 ∙ sym (ap piece_count same),
       c.self.invariant.5 ∙ sym (ap piece_count same),
       (λ fine. (
         ap (λ (l : Log). l.failed) log ∙ (c.self.invariant.6 fine).0,
@@ -136,8 +135,8 @@ invariant_of-self-2 g c =
           let is : holds c.self.inside.halves.geometry w0.now ≡ Some (state_in c.args.tree.now) = ap settled c.self.view_is ∙ c.requires.state k in
           let w1 = g.D.Disk.medium c.point_on.new.disk in
           let made = subst (λ (l : List ℕ). IsPointed c.self.inside.halves l w0 w1) (c.deref.ensures.value ∙ frozen) (c.in_default.ensures.pointed k) in
-          subst (λ (o : Option ℕ). IsSound c.point_on.new.halves (whole_items c.self.inside.frozen.len c.freeze.new.bytes c.self.inside.frozen.items) c.swap.new.x.items c.swap.new.y.items c.self.inside.due.items o w1) (sym alone)
-          (subst (λ (l : List ℕ). IsSound c.point_on.new.halves l c.swap.new.x.items c.swap.new.y.items c.self.inside.due.items None w1) (sym frozen)
-          (subst (λ (l : Log). IsSound l c.freeze.new.bytes c.swap.new.x.items c.swap.new.y.items c.self.inside.due.items None w1) (sym c.in_default.ensures.log)
-          (point_sound c.self.inside.halves c.self.inside.frozen.items c.freeze.new.bytes c.self.inside.named_marks.items c.self.inside.other_marks.items c.self.inside.due.items c.self.inside.left w0 (state_in c.args.tree.now) alone (c.self.invariant.6 fine).1 (c.self.invariant.7 fine k) is is_state spelled (g.met.D.Disk.bytes c.self.inside.disk) w1 (g.met.D.Disk.bytes c.point_on.new.disk) c.swap.new.x.items c.swap.new.y.items (ap (λ v. v.items) c.swap.ensures.y_after) made)))),
+          subst (λ (o : Option ℕ). IsSound c.point_on.new.halves (whole_items c.self.inside.frozen.len c.freeze.new.bytes c.self.inside.frozen.items) c.exchange_marks.new.named.items c.exchange_marks.new.other.items c.self.inside.due.items o w1) (sym alone)
+          (subst (λ (l : List ℕ). IsSound c.point_on.new.halves l c.exchange_marks.new.named.items c.exchange_marks.new.other.items c.self.inside.due.items None w1) (sym frozen)
+          (subst (λ (l : Log). IsSound l c.freeze.new.bytes c.exchange_marks.new.named.items c.exchange_marks.new.other.items c.self.inside.due.items None w1) (sym c.in_default.ensures.log)
+          (point_sound c.self.inside.halves c.self.inside.frozen.items c.freeze.new.bytes c.self.inside.named_marks.items c.self.inside.other_marks.items c.self.inside.due.items c.self.inside.left w0 (state_in c.args.tree.now) alone (c.self.invariant.6 fine).1 (c.self.invariant.7 fine k) is is_state spelled (g.met.D.Disk.bytes c.self.inside.disk) w1 (g.met.D.Disk.bytes c.point_on.new.disk) c.exchange_marks.new.named.items c.exchange_marks.new.other.items (ap (λ v. v.items) c.exchange_marks.ensures.kept) made)))),
     )
