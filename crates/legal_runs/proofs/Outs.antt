@@ -9,6 +9,7 @@ use Rattle.affinity.specs.Path.{are_related}
 use Rattle.message.specs.declared.Msg.{Msg}
 use Rattle.message.specs.Messages.{place, is_in_range}
 use Rattle.plain.specs.Serial.{fold, is_loggable, next_state}
+use Rattle.plain.specs.Order.{messages}
 use Rattle.plain.specs.Shares.{AgreeOn}
 use Rattle.plain.specs.State.{State}
 use Rattle.plain.proofs.Agree.{agree-refl, agree-trans}
@@ -38,6 +39,16 @@ module _ (g : Geometry) where
       → AgreeOn g (are_related (place g m)) (fold g x ms) x
   fold_leaves x m [] apart = agree-refl x
   fold_leaves x m (n ∷ ms) apart = agree-trans (fold_leaves (next_state g x n) m ms apart.1) (left_alone g x m n apart.0)
+
+  messages_apart : (e : Entry) (es : List Entry) → AllByRecursion (λ d. touches g e d ≡ false) es
+      → AllByRecursion (λ n. are_related (place g e.1) (place g n) ≡ false) (messages es)
+  messages_apart e [] apart = tt
+  messages_apart e (d ∷ es) apart = (apart.0, messages_apart e es apart.1)
+
+  -- so do messages with their tickets
+  pub entries_leave : (x : State) (e : Entry) (es : List Entry) → AllByRecursion (λ d. touches g e d ≡ false) es
+      → AgreeOn g (are_related (place g e.1)) (fold g x (messages es)) x
+  entries_leave x e es apart = fold_leaves x e.1 (messages es) (messages_apart e es apart)
 
   module _ (e : Entry) where
     abbrev Elsewhere : Msg → Type 0

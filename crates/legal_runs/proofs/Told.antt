@@ -37,7 +37,7 @@ said-append (a ∷ as') bs = ap (λ l. (a.0, a.2) ∷ l) (said-append as' bs)
 -- ---- messages in a row
 
 module _ (g : Geometry) where
-  still_replied : (x : State) (a : Replied) (as' : List Replied) → AllByRecursion (λ d. touches g (entry a) d ≡ false) (entries as')
+  pub still_replied : (x : State) (a : Replied) (as' : List Replied) → AllByRecursion (λ d. touches g (entry a) d ≡ false) (entries as')
       → AreReplied g x as' → AreReplied g (next_state g x a.1) as'
   still_replied x a [] apart h = tt
   still_replied x a (d ∷ as') apart h =

@@ -12,21 +12,19 @@ use Rattle.disk.proofs.Moments.{leaves_now}
 use Rattle.disk.specs.Device.{Leaves, Medium}
 use Rattle.disk.specs.Moments.{LeavesOnly}
 use Rattle.journal.specs.Journal.{AreCarriedOut, HoldsSome, settled}
-use Rattle.legal_runs.proofs.Apart.{apart_turned}
 use Rattle.legal_runs.proofs.Lists.{all_back, all_front, all_join, before_back, before_front}
 use Rattle.legal_runs.proofs.Moves.{Logs}
 use Rattle.legal_runs.proofs.Room.{log_has_room}
 use Rattle.legal_runs.proofs.Sound.{move_sound}
-use Rattle.legal_runs.proofs.Told.{fold-joined}
+use Rattle.legal_runs.proofs.Told.{fold-joined, still_replied}
 use Rattle.legal_runs.specs.Events.{batch, log, loggable}
 use Rattle.legal_runs.specs.Laws.{AreApart, AreReplied, IsSound}
-use Rattle.legal_runs.specs.World.{Replied, World, entries, entry, touches}
+use Rattle.legal_runs.specs.World.{Replied, World, entries}
 use Rattle.message.specs.Messages.{IsMessage, is_in_range, kind}
 use Rattle.message.specs.declared.Msg.{Msg}
 use Rattle.oplog.specs.Logged.{AreLogged, IsLogged}
 use Rattle.parcel.specs.Holding.{TreeHolds}
 use Rattle.parcel.specs.Tree.{in_tree}
-use Rattle.plain.proofs.Frame.{same_reply}
 use Rattle.plain.proofs.Unchanged.{unlogged_changes_nothing}
 use Rattle.plain.specs.Serial.{fold, is_loggable, next_state}
 use Rattle.plain.specs.State.{State}
@@ -51,17 +49,11 @@ first_true : (b c : Bool) → (b && c) ≡ true → b ≡ true
 first_true b c e = (and_parts b c e).0
 
 module _ (g : Geometry) where
-  still_replied : (x : State) (a : Replied) (as' : List Replied) → AllByRecursion (λ d. touches g (entry a) d ≡ false) (entries as')
-      → AreReplied g x as' → AreReplied g (next_state g x a.1) as'
-  still_replied x a [] apart h = tt
-  still_replied x a (d ∷ as') apart h =
-      (h.0 ∙ sym (same_reply g x d.1 a.1 (apart_turned g (entry a) (entry d) apart.0)), still_replied x a as' apart.1 h.1)
-
   pub carried_out : (x : State) (first rest : List Replied) → AreApart g (entries (first ++ rest)) → AreReplied g x (first ++ rest) → AreKnown g first
       → AreCarriedOut g x (loggable first)
   carried_out x [] rest apart h known = tt
   carried_out x (a ∷ first) rest apart h known =
-      let k = carried_out (next_state g x a.1) first rest apart.1 (still_replied x a (first ++ rest) apart.0 h.1) known.1 in
+      let k = carried_out (next_state g x a.1) first rest apart.1 (still_replied g x a (first ++ rest) apart.0 h.1) known.1 in
       elim (is_loggable a.1 a.2) as (λ b. is_loggable a.1 a.2 ≡ b
       → AreCarriedOut g x (map (λ (a : Replied). a.1) (cond b (a ∷ filter (λ a. is_loggable a.1 a.2) first) (filter (λ a. is_loggable a.1 a.2) first)))) [
         | true ↦ λ e. (known.0.0, (first_true (is_changing (kind a.1)) _ e, known.0.1), ap (is_loggable a.1) (sym h.0) ∙ e, k)

@@ -15,6 +15,7 @@ use Rattle.legal_runs.specs.Laws.{IsSound, AreApart}
 use Rattle.legal_runs.specs.World.{Entry, Replied, World, entries, held, touches}
 use Rattle.legal_runs.proofs.Apart.{apart_turned, entries-append, granted_is_free}
 use Rattle.legal_runs.proofs.Lists.{all_back, all_front, all_weaker, before_back, before_first, before_one}
+use Rattle.legal_runs.proofs.Outs.{entries_leave}
 use Rattle.legal_runs.proofs.Sound.{row_of}
 use Rattle.legal_runs.proofs.Told.{fold-append}
 use Rattle.message.specs.Messages.{IsMessage, place}
@@ -26,19 +27,13 @@ use Rattle.parcel.specs.Run.{Shows}
 use Rattle.parcel.specs.Tree.{HasGap, IsOut, LendsAt, RestoresAt}
 use Rattle.parcel.specs.declared.parts.Parcels.{Parcels}
 use Rattle.parcel.specs.declared.parts.Standing.{Standing}
-use Rattle.plain.proofs.Agree.{agree-refl, agree-sym, agree-trans}
-use Rattle.plain.proofs.Frame.{left_alone, reads_only}
+use Rattle.plain.proofs.Agree.{agree-sym, agree-trans}
+use Rattle.plain.proofs.Frame.{reads_only}
 use Rattle.plain.specs.Order.{messages}
 use Rattle.plain.specs.Serial.{fold, next_state}
 use Rattle.plain.specs.Shares.{AgreeOn}
 use Rattle.plain.specs.State.{State}
 use Rattle.scheduler.specs.Parts.{is_below, reached}
-
--- messages at unrelated places leave what is related to a place
-pub fold_leaves : (g : Geometry) (x : State) (e : Entry) (es : List Entry) → AllByRecursion (λ d. touches g e d ≡ false) es
-    → AgreeOn g (are_related (place g e.1)) (fold g x (messages es)) x
-fold_leaves g x e [] apart = agree-refl x
-fold_leaves g x e (d ∷ es) apart = agree-trans (fold_leaves g (next_state g x d.1) e es apart.1) (left_alone g x e.1 d.1 apart.0)
 
 -- a place that is unrelated to those of some messages is unrelated to all below them
 pub apart_below : (g : Geometry) (e : Entry) (es : List Entry) → AllByRecursion (λ d. touches g e d ≡ false) es → IsApart (place g e.1) (is_below g es)
@@ -99,7 +94,7 @@ module _ (g : Geometry) (w : World) (sound : IsSound g w) (found : Entry × List
       pub grant_shows : Shows g (place g found.0.1) t l w.settled
       grant_shows = agree-trans
           (lent_shows g (is_below g w.out) (place g found.0.1) (apart_below g found.0 w.out free_of_out) t l n lent (reached g w) tree taken)
-          (fold_leaves g w.settled found.0 (entries w.ran) free_of_ran)
+          (entries_leave g w.settled found.0 (entries w.ran) free_of_ran)
 
       pub grant_tree : TreeHolds g (is_below g (w.out ++ found.0 ∷ [])) lent (reached g w)
       grant_tree = holds_alike g (with_place (place g found.0.1) (is_below g w.out)) (is_below g (w.out ++ found.0 ∷ [])) lent (reached g w)
@@ -136,7 +131,7 @@ module _ (g : Geometry) (w : World) (sound : IsSound g w) (before : List Entry) 
   -- what a run in the settled state leaves is what one leaves in the state that was reached
   back_agrees : AgreeOn g (are_related (place g e.1)) (next_state g w.settled e.1) (next_state g (reached g w) e.1)
   back_agrees = (reads_only g (are_related (place g e.1)) w.settled (reached g w) e.1
-      (agree-sym (fold_leaves g w.settled e (entries w.ran) apart_ran)) (λ q r. r)).1
+      (agree-sym (entries_leave g w.settled e (entries w.ran) apart_ran)) (λ q r. r)).1
 
   pub back_tree : (t : Standing) (l : Parcels) (new : Nodes) → RestoresAt g (place g e.1) l n new → Fits g (place g e.1) l
       → Shows g (place g e.1) t l (next_state g w.settled e.1) → IsMessage e.1
