@@ -38,7 +38,8 @@ held_places l = l.logged ++ (l.ran ++ l.out)
 
 -- whether one of the held ones passes a test
 abbrev pub held_any : (Turn → Bool) → Lines → Bool
-held_any test l = list_any (λ x. test (turn_of x)) l.logged || (list_any (λ x. test (turn_of x)) l.ran || list_any (λ x. test (turn_of x)) l.out)
+held_any test l =
+    list_any (λ x. test (turn_of x)) l.logged || (list_any (λ x. test (turn_of x)) l.ran || list_any (λ x. test (turn_of x)) l.out)
 
 pub record Parts : Type 0 where
   pub lines : Lines
@@ -126,7 +127,8 @@ pub record IsCore (keeps : Type 0) (p : Parts) : Type 0 where
   pub sound : IsSound p.journal.geometry (world_in p)
   -- the tree holds what was reached, but for the places of the messages that are out
   pub geometry : p.tree.geometry ≡ p.journal.geometry
-  pub tree : TreeHolds p.journal.geometry (is_below p.journal.geometry (map entry_of p.lines.out)) (in_tree p.tree) (reached p.journal.geometry (world_in p))
+  pub tree : TreeHolds p.journal.geometry (is_below p.journal.geometry (map entry_of p.lines.out)) (in_tree p.tree)
+      (reached p.journal.geometry (world_in p))
   -- the device
   pub is_settled : keeps → p.journal.failed ≡ false → settled p.journal ≡ Some (world_in p).settled
   pub stands : keeps → StandsNow (kept_of p)

@@ -176,12 +176,13 @@ impl<D: Disk> Core<D> {
             return Err(ArriveRefusal::Full);
         };
         self.slots.move_to(slot, WAITING);
-        self.turns.arrive(Turn {
+        let turn = Turn {
             slot,
             affinity,
             changing: changing(m.kind()),
             ticket,
-        });
+        };
+        self.turns.arrive(turn);
         self.next += 1;
         Ok(ticket)
     }

@@ -13,8 +13,9 @@ ghost use Rattle.scheduler.specs.Jobs.{IsJobOf, IsResultOf};
 /// What a job is, and what comes of it, stays so while other events come, as long as its message is out.
 pub fn jobs_stay()
     ensures ran { (g : Geometry) (w : World) (job : Asked) (done : Done) → IsJobOf g w job → IsRun job done → IsResultOf g w done }
-    ensures job { (g : Geometry) (old : Hands) (event : Event) (job : Asked) → IsAllowed g old event → IsSound g old.core → IsJobOf g old.core job
-        → Contains event.world.core.out (job.ticket, job.message) → IsJobOf g event.world.core job }
-    ensures result { (g : Geometry) (old : Hands) (event : Event) (done : Done) → IsAllowed g old event → IsSound g old.core → IsResultOf g old.core done
-        → Contains event.world.core.out (done.ticket, done.message) → IsResultOf g event.world.core done }
+    ensures job { (g : Geometry) (old : Hands) (event : Event) (job : Asked) → IsAllowed g old event → IsSound g old.core
+        → IsJobOf g old.core job → Contains event.world.core.out (job.ticket, job.message) → IsJobOf g event.world.core job }
+    ensures result { (g : Geometry) (old : Hands) (event : Event) (done : Done) → IsAllowed g old event → IsSound g old.core
+        → IsResultOf g old.core done → Contains event.world.core.out (done.ticket, done.message)
+        → IsResultOf g event.world.core done }
 {}
