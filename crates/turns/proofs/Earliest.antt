@@ -1,5 +1,5 @@
 -- The next one is the first of those that may go at each number.
-use Rattle.std.proofs.Common.{◌≡◌, ◌∙◌, ℕ, suc, ◌+◌, ◌<◌, Bool, true, false, not, ◌&&◌, ◌||◌, List, [], ◌∷◌, find, Option, Some, None, refl, ap, sym, inl, inr, arith, ◌⊎◌}
+use Rattle.std.proofs.Common.{◌≡◌, ◌∙◌, ℕ, suc, ◌+◌, ◌<◌, Bool, true, false, not, ◌&&◌, ◌||◌, List, [], ◌∷◌, find, Option, Some, None, refl, ap, sym, inl, inr, arith}
 use Rattle.std.specs.Prelude.{nat_lt, ◌==◌}
 use Rattle.std.specs.List.{list_any, AllByRecursion}
 use Rattle.std.proofs.lemmas.Bool.{eq-eqb, ne_eqb, eqb-true, ltb-true, lt-ltb, cases_Bool, cases_eq, and_parts, and_from, or_left, or_right, or_parts, true≢false, false_from_ne_true}
@@ -7,7 +7,7 @@ use Rattle.std.proofs.lemmas.Bool.Decides.{leb_tells}
 use Rattle.affinity.specs.Interval.{IsAffinity, contains, server_size}
 use Rattle.affinity.specs.declared.geometry.Geometry.{Geometry}
 use Rattle.turns.specs.Turns.{overlap, is_free_of, has_room, has_number, next_turn}
-use Rattle.turns.specs.Order.{Ascend, comes_first, is_clear, may_go_at, is_earlier, earlier}
+use Rattle.turns.specs.Order.{Ascend, comes_first, is_clear, may_go_at, earlier}
 use Rattle.turns.specs.declared.entries.Turn.{Turn}
 use Rattle.turns.proofs.ByTicket.{next_is_first}
 use Rattle.turns.proofs.Nearby.{contains-own, number-below}
@@ -38,12 +38,6 @@ takes (Some d) t later = rw (lt-ltb t.ticket d.ticket (later d refl)) refl
 
 itself : (t : Turn) → earlier (Some t) (Some t) ≡ Some t
 itself t = rw (false_from_ne_true (nat_lt t.ticket t.ticket) (λ less. let below = ltb-true t.ticket t.ticket less in omega (arith, below))) refl
-
-pub earlier-is : (o : Option Turn) (t : Turn) → is_earlier o t ≡ true → earlier o (Some t) ≡ Some t
-earlier-is o t h = rw h refl
-
-pub earlier-not : (o : Option Turn) (t : Turn) → is_earlier o t ≡ false → earlier o (Some t) ≡ o
-earlier-not o t h = rw h refl
 
 -- of two tests: the earlier one of the first that passes each
 find-either : (p q : Turn → Bool) (ts : List Turn) → Ascend ts → find (λ t. p t || q t) ts ≡ earlier (find p ts) (find q ts)
@@ -143,15 +137,6 @@ module _ (g : Geometry) (room : Bool) (held waiting : List Turn) (placed : AllBy
   pub some_at : (n : ℕ) (f : Turn) → find (has_number n) waiting ≡ Some f → (has_room room f && is_clear held waiting f) ≡ true
       → may_go_at room held waiting n ≡ Some f
   some_at n f first good = some_first (has_number n) (λ t. has_room room t && is_clear held waiting t) waiting f first good
-
-  -- so the best one stays, where the first one came later, or may not go
-  pub best_stays : (best : Option Turn) (n : ℕ) (f : Turn) → find (has_number n) waiting ≡ Some f
-      → (is_earlier best f ≡ false) ⊎ ((has_room room f && is_clear held waiting f) ≡ false) → best ≡ earlier best (may_go_at room held waiting n)
-  best_stays best n f first (inl late) = elim (cases_Bool (has_room room f && is_clear held waiting f)) [
-    | inl good ↦ sym (ap (λ (o : Option Turn). earlier best o) (some_at n f first good) ∙ earlier-not best f late)
-    | inr not_good ↦ sym (ap (λ (o : Option Turn). earlier best o) (none_at n f first not_good))
-  ]
-  best_stays best n f first (inr not_good) = sym (ap (λ (o : Option Turn). earlier best o) (none_at n f first not_good))
 
   no_first : (p q : Turn → Bool) (ts : List Turn) → find p ts ≡ None → find (λ u. p u && q u) ts ≡ None
   no_first p q [] none = refl

@@ -10,4 +10,5 @@ mod Standing
 mod Nearby
 mod Clearing
 mod Earliest
+mod Ready
 mod Turning

@@ -75,7 +75,7 @@ three_is g (a ∷ v ∷ suc zero ∷ []) h = h
 three_is g (a ∷ v ∷ suc zero ∷ s ∷ p) h = absurd h
 three_is g (a ∷ v ∷ suc (suc k) ∷ p) h = absurd h
 
-same_path : (g : Geometry) (p q : Path) → IsPath g p → IsPath g q → number g p ≡ number g q → p ≡ q
+pub same_path : (g : Geometry) (p q : Path) → IsPath g p → IsPath g q → number g p ≡ number g q → p ≡ q
 same_path g p q h k same = sym (path_at-number g p h) ∙ ap (path_at g) same ∙ path_at-number g q k
 
 -- ---- their numbers

@@ -81,7 +81,7 @@ limit-out s n h = elim (leb_tells (suc s) n) [
   | inr e ↦ rw e.0 refl
 ]
 
-limit-most : (s n : ℕ) → if◌then◌else◌ {A = ℕ} (nat_lt s n) 1 0 ≤ 1
+pub limit-most : (s n : ℕ) → if◌then◌else◌ {A = ℕ} (nat_lt s n) 1 0 ≤ 1
 limit-most s n = elim (leb_tells (suc s) n) [
   | inl e ↦ rw e.0 (omega arith)
   | inr e ↦ rw e.0 (omega arith)

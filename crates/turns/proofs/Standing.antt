@@ -86,7 +86,7 @@ pub stand-free : (places : List (Option Turn)) (n : ℕ) → StandFrom 0 places 
 stand-free places n stand = stand-free_from places 0 n stand
 
 -- what is not there is not dropped
-without-none : (n : ℕ) (ts : List Turn) → find (has_number n) ts ≡ None → without_number n ts ≡ ts
+pub without-none : (n : ℕ) (ts : List Turn) → find (has_number n) ts ≡ None → without_number n ts ≡ ts
 without-none n [] none = refl
 without-none n (t ∷ ts) none = elim (cases_Bool (has_number n t)) [
   | inl k ↦ absurd (let h = rw k at none in cc)

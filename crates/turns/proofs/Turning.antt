@@ -1,22 +1,27 @@
 -- What each call does to those that wait and those that are held.
 use Rattle.std.proofs.Common.{◌≡◌, ◌∙◌, ℕ, ◌+◌, ◌*◌, ◌<◌, ◌≤◌, Bool, true, false, not, ◌&&◌, List, [], ◌∷◌, ◌++◌, find, Option, Some, None, refl, ap, sym, subst, inl, inr, arith, length}
+use Rattle.std.specs.Prelude.{replicate}
 use Rattle.std.specs.List.{list_any, AllByRecursion}
 use Rattle.std.proofs.lemmas.Bool.{eq-eqb, eqb-true, cases_Bool, and_parts, and_from, true≢false}
 use Rattle.std.proofs.lemmas.Bool.Decides.{eqb_tells}
+use Rattle.std.proofs.lemmas.List.{length-replicate}
 use Rattle.std.proofs.lemmas.Nat.{mul-le}
 use Rattle.affinity.specs.Interval.{IsAffinity, server_size}
 use Rattle.affinity.specs.declared.geometry.Geometry.{Geometry}
-use Rattle.turns.specs.Turns.{overlap, is_free_of, has_room, has_slot, has_number, holds_at, without_slot, without_number, next_turn, CameBefore}
+use Rattle.turns.specs.Turns.{IsNext, overlap, is_free_of, has_room, has_slot, has_number, holds_at, without_slot, without_number, next_turn, CameBefore}
 use Rattle.turns.specs.Seats.{times}
 use Rattle.turns.specs.Order.{is_clear}
-use Rattle.turns.specs.Queues.{Waiting, Held, IsBetween}
-use Rattle.turns.specs.Kept.{AreTurns}
+use Rattle.turns.specs.Queues.{Waiting, Held, IsBetween, IsFirstGone}
+use Rattle.turns.specs.Marks.{IsMarked, StayMarked, AreNearMarked}
+use Rattle.turns.specs.Kept.{AreTurns, AreMarked, AreKept}
 use Rattle.turns.specs.declared.entries.Turn.{Turn}
 use Rattle.turns.proofs.ByTicket.{next_is_first}
-use Rattle.turns.proofs.Seating.{times-append, times-cons_is, times-cons_other, seated-arrived, room-arrived, seated-gone, seated-freed}
+use Rattle.turns.proofs.Seating.{limit-most, times-append, times-cons_is, times-cons_other, seated-arrived, room-arrived, seated-gone, seated-freed}
 use Rattle.turns.proofs.Sorting.{all-filter, all-last, ascend-filter, ascend-last}
 use Rattle.turns.proofs.Clearing.{find-cons, find-skip, find-all, find-passes, any-found}
 use Rattle.turns.proofs.Earliest.{own_overlap, clear-first}
+use Rattle.turns.proofs.Passing.{next_waits}
+use Rattle.turns.proofs.Ready.{none-marked, marked-arrived, marked-gone, marked-freed}
 
 -- ---- the start
 
@@ -27,15 +32,22 @@ all_below g =
     let aggregates : g.aggregates * (1 + g.volumes * (3 + g.stripes)) ≤ 4 * 89 = mul-le g.aggregates (1 + g.volumes * (3 + g.stripes)) 4 89 g.aggregates_range.1 (omega (arith, volumes)) in
     omega (arith, aggregates)
 
-pub turns-start : (g : Geometry) (slots : ℕ) → AreTurns g slots (record { numbers = 357; seats = slots; turns = [] }) (record { numbers = 357; turns = [] })
-turns-start g slots = record {
-  queues = all_below;
-  places = all_below;
-  seats = refl;
-  seated = λ s. omega arith;
-  ascends = tt;
-  waiting_placed = tt;
-  held_placed = tt;
+pub kept-start : (g : Geometry) (slots numbers : ℕ) → 357 ≤ numbers
+    → AreKept g slots (record { numbers = numbers; seats = slots; turns = [] }) (record { numbers = numbers; turns = [] }) (replicate numbers None)
+kept-start g slots numbers most = record {
+  rows = record {
+    queues = λ any. (let all = all_below any in omega (arith, all, most));
+    places = λ any. (let all = all_below any in omega (arith, all, most));
+    seats = refl;
+    seated = λ s. omega arith;
+    ascends = tt;
+    waiting_placed = tt;
+    held_placed = tt;
+  };
+  marked = record {
+    numbers = λ any. (let all = all_below any in omega (arith, all, most, length-replicate {A = Option Turn} numbers None));
+    marked = λ n. none-marked numbers n;
+  };
 }
 
 pub turns-begun : (g next : Geometry) (slots : ℕ) (w : Waiting) (h : Held) → AreTurns g slots w h → w.turns ≡ [] → h.turns ≡ [] → AreTurns next slots w h
@@ -71,6 +83,24 @@ seat-arrived g slots w h t are there new =
     let all = are.seats in
     omega (arith, room, all)
 
+pub kept-arrived : (g : Geometry) (slots : ℕ) (w v : Waiting) (h : Held) (t : Turn) (before after : List (Option Turn))
+    → AreKept g slots w h before → AreTurns g slots v h → v ≡ record w { turns = w.turns ++ t ∷ [] } → CameBefore t.ticket w.turns
+    → StayMarked h.turns v.turns before after
+    → (find (has_number t.affinity.number) w.turns ≡ None → IsMarked h.turns v.turns after t.affinity.number) → AreKept g slots v h after
+kept-arrived g slots w v h t before after are rows came later stay here = record {
+  rows = rows;
+  marked = record {
+    numbers = λ any. (let all = are.marked.numbers any in let same = stay.0 in omega (arith, all, same));
+    marked = λ n. subst (λ (ts : List Turn). IsMarked h.turns ts after n) (sym is)
+        (marked-arrived h.turns w.turns t before after later are.marked.marked
+        (subst (λ (ts : List Turn). StayMarked h.turns ts before after) is stay)
+        (λ none. subst (λ (ts : List Turn). IsMarked h.turns ts after t.affinity.number) is (here none)) n);
+  };
+}
+  where
+    is : v.turns ≡ w.turns ++ t ∷ []
+    is = ap (λ (x : Waiting). x.turns) came
+
 -- ---- what is freed
 
 pub turns-freed : (g : Geometry) (slots : ℕ) (w : Waiting) (h : Held) (n : ℕ) → AreTurns g slots w h
@@ -85,6 +115,27 @@ turns-freed g slots w h n are = record {
   held_placed = all-filter (λ d. IsAffinity g d.affinity) (λ t. not (has_number n t)) h.turns are.held_placed;
 }
 
+pub kept-freed : (g : Geometry) (slots : ℕ) (w : Waiting) (h k : Held) (t : Turn) (n : ℕ) (before after : List (Option Turn))
+    → AreKept g slots w h before → find (has_number n) h.turns ≡ Some t → k ≡ record h { turns = without_number n h.turns }
+    → AreNearMarked g t.affinity k.turns w.turns after → StayMarked k.turns w.turns before after → AreKept g slots w k after
+kept-freed g slots w h k t n before after are found freed near stay = record {
+  rows = subst (λ (x : Held). AreTurns g slots w x) (sym freed) (turns-freed g slots w h n are.rows);
+  marked = record {
+    numbers = λ any. (let all = are.marked.numbers any in let same = stay.0 in omega (arith, all, same));
+    marked = λ m. subst (λ (ts : List Turn). IsMarked ts w.turns after m) (sym is)
+        (marked-freed g t (find-all (λ d. IsAffinity g d.affinity) (has_number n) h.turns t are.rows.held_placed found)
+        h.turns w.turns before after are.rows.held_placed are.rows.waiting_placed are.marked.marked
+        (subst (λ (ts : List Turn). AreNearMarked g t.affinity ts w.turns after) is near)
+        (subst (λ (ts : List Turn). StayMarked ts w.turns before after) is stay) m);
+  };
+}
+  where
+    number : n ≡ t.affinity.number
+    number = sym (eqb-true t.affinity.number n (find-passes (has_number n) h.turns t found))
+
+    is : k.turns ≡ without_number t.affinity.number h.turns
+    is = ap (λ (x : Held). x.turns) freed ∙ ap (λ m. without_number m h.turns) number
+
 -- ---- the one whose turn it is
 
 module _ (g : Geometry) (slots : ℕ) (w : Waiting) (h : Held) (are : AreTurns g slots w h) (t : Turn) (room : Bool)
@@ -92,14 +143,18 @@ module _ (g : Geometry) (slots : ℕ) (w : Waiting) (h : Held) (are : AreTurns g
   found : find (λ u. has_room room u && is_clear h.turns w.turns u) w.turns ≡ Some t
   found = sym (next_is_first room h.turns w.turns are.ascends) ∙ next
 
-  clear : is_clear h.turns w.turns t ≡ true
-  clear = (and_parts (has_room room t) _ (find-passes (λ u. has_room room u && is_clear h.turns w.turns u) w.turns t found)).1
+  pub next-clear : is_clear h.turns w.turns t ≡ true
+  next-clear = (and_parts (has_room room t) _ (find-passes (λ u. has_room room u && is_clear h.turns w.turns u) w.turns t found)).1
 
   pub next-placed : IsAffinity g t.affinity
   next-placed = find-all (λ d. IsAffinity g d.affinity) (λ u. has_room room u && is_clear h.turns w.turns u) w.turns t are.waiting_placed found
 
   pub next-first : find (has_number t.affinity.number) w.turns ≡ Some t
-  next-first = clear-first g h.turns w.turns t (λ u. has_room room u && is_clear h.turns w.turns u) are.waiting_placed are.ascends found clear
+  next-first = clear-first g h.turns w.turns t (λ u. has_room room u && is_clear h.turns w.turns u) are.waiting_placed are.ascends found next-clear
+
+  -- no other one that waits has its slot
+  pub next-once : times t.slot w.turns ≤ 1
+  next-once = omega (arith, are.seated t.slot, limit-most t.slot slots)
 
   not_true : (b : Bool) → not b ≡ true → b ≡ false
   not_true true k = absurd (true≢false (sym k))
@@ -109,7 +164,7 @@ module _ (g : Geometry) (slots : ℕ) (w : Waiting) (h : Held) (are : AreTurns g
   next-free = by (find (has_number t.affinity.number) h.turns) refl
     where
       none : list_any (λ other. overlap t.affinity other.affinity) h.turns ≡ false
-      none = not_true _ (and_parts (is_free_of h.turns t) _ clear).0
+      none = not_true _ (and_parts (is_free_of h.turns t) _ next-clear).0
 
       by : (o : Option Turn) → find (has_number t.affinity.number) h.turns ≡ o → find (has_number t.affinity.number) h.turns ≡ None
       by None is = is
@@ -161,6 +216,38 @@ turns-gone g slots w h k t are placed waits same between = record {
       (all-between (λ d. IsAffinity g d.affinity) between.0 between.1 t
       (subst (λ (ts : List Turn). AllByRecursion (λ d. IsAffinity g d.affinity) ts) between.2 are.held_placed) placed);
 }
+
+module _ (g : Geometry) (slots : ℕ) (w v : Waiting) (h k : Held) (t : Turn) (are : AreTurns g slots w h)
+    (next : IsNext (record { geometry = g; waiting = w.turns; held = h.turns; slots = slots }) t) (n : ℕ) (number : n ≡ t.affinity.number)
+    (popped : IsFirstGone n w v) (same : k ≡ record h { turns = k.turns }) (joined : IsBetween t h.turns k.turns) where
+  first : find (has_number t.affinity.number) w.turns ≡ Some t
+  first = next-first g slots w h are t next.0 next.1
+
+  gone : v ≡ record w { turns = without_slot t.slot w.turns }
+  gone = popped t (subst (λ m. find (has_number m) w.turns ≡ Some t) (sym number) first)
+
+  pub rows-gone : AreTurns g slots v k
+  rows-gone = subst (λ (x : Waiting). AreTurns g slots x k) (sym gone)
+      (turns-gone g slots w h k t are (next-placed g slots w h are t next.0 next.1)
+      (next_waits (record { geometry = g; waiting = w.turns; held = h.turns; slots = slots }) t next) same joined)
+
+  pub kept-gone : (before after : List (Option Turn)) → AreMarked h.turns w.turns before → StayMarked k.turns v.turns before after
+      → IsMarked k.turns v.turns after n → AreKept g slots v k after
+  kept-gone before after marked stay here = record {
+    rows = rows-gone;
+    marked = record {
+      numbers = λ any. (let all = marked.numbers any in let count = stay.0 in omega (arith, all, count));
+      marked = λ m. subst (λ (ts : List Turn). IsMarked k.turns ts after m) (sym is)
+          (marked-gone h.turns k.turns w.turns t joined are.ascends (next-once g slots w h are t next.0 next.1) first
+          (next-clear g slots w h are t next.0 next.1) before after marked.marked
+          (subst (λ (ts : List Turn). StayMarked k.turns ts before after) is stay)
+          (subst (λ i. IsMarked k.turns (without_slot t.slot w.turns) after i) number
+          (subst (λ (ts : List Turn). IsMarked k.turns ts after n) is here)) m);
+    };
+  }
+    where
+      is : v.turns ≡ without_slot t.slot w.turns
+      is = ap (λ (x : Waiting). x.turns) gone
 
 -- ---- who holds
 

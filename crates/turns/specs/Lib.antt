@@ -3,4 +3,5 @@ pub mod Seats
 pub mod Order
 pub mod Queues
 pub mod Near
+pub mod Marks
 pub mod Kept

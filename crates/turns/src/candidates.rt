@@ -1,15 +1,10 @@
-//! Who goes first of those that are first in their queues.
-ghost use Rattle.std.specs.Prelude.{◌≡◌};
-ghost use Rattle.std.specs.List.{AllByRecursion};
-ghost use Rattle.affinity.specs.Interval.{IsAffinity};
+//! Who goes first of those that are clear.
+ghost use Rattle.std.specs.Prelude.{◌≡◌, option_copied};
 ghost use Rattle.turns.specs.Turns.{has_room};
-ghost use Rattle.turns.specs.Order.{Ascend, is_earlier, earlier, may_go_at};
+ghost use Rattle.turns.specs.Order.{is_earlier, earlier};
+ghost use Rattle.turns.specs.Marks.{if_passes};
 
 use crate::Turn;
-use crate::clear::is_clear;
-use crate::holders::Holders;
-use crate::queues::Queues;
-use affinity::Geometry;
 
 // Whether there is room for it.
 fn has_room(room: bool, turn: &Turn) -> bool
@@ -28,25 +23,15 @@ fn is_earlier(best: &Option<Turn>, turn: &Turn) -> bool
     }
 }
 
-/// The earlier one of the best so far and of the one that may go at this number.
-pub(crate) fn better(
-    g: &Geometry,
-    held: &Holders,
-    waiting: &Queues,
-    room: bool,
-    best: Option<Turn>,
-    number: usize,
-) -> Option<Turn>
-    requires held_placed { AllByRecursion (λ t. IsAffinity g.now t.affinity) held.now.turns }
-    requires waiting_placed { AllByRecursion (λ t. IsAffinity g.now t.affinity) waiting.now.turns }
-    requires ascends { Ascend waiting.now.turns }
-    ensures { result ≡ earlier best (may_go_at room held.now.turns waiting.now.turns number) }
+/// The earlier one of the best so far and of one that is clear, if there is room for that.
+pub(crate) fn better(room: bool, best: Option<Turn>, clear: Option<&Turn>) -> Option<Turn>
+    ensures { result ≡ earlier best (if_passes (has_room room) (option_copied clear.entry)) }
 {
-    let Some(front) = waiting.front(number) else {
+    let Some(turn) = clear else {
         return best;
     };
-    if is_earlier(&best, &front) && has_room(room, &front) && is_clear(g, held, waiting, &front) {
-        Some(front)
+    if is_earlier(&best, turn) && has_room(room, turn) {
+        Some(*turn)
     } else {
         best
     }

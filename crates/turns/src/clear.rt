@@ -20,8 +20,8 @@ fn number_at(g: &Geometry, place: Place) -> u16
     Affinity::at(g, place).number()
 }
 
-// The numbers of the affinities above this one, and its own where those are fewer than four.
-fn numbers_above(g: &Geometry, a: Affinity) -> [u16; 4]
+/// The numbers of the affinities above this one, and its own where those are fewer than four.
+pub(crate) fn numbers_above(g: &Geometry, a: Affinity) -> [u16; 4]
     requires { IsAffinity g.now a }
     ensures { (p : Path) → IsAffinityOf g.now p a → result ≡ numbers_above g.now p }
 {

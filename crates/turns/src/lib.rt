@@ -1,9 +1,11 @@
 //! Whose turn it is: which of the messages that wait may go, while others are held.
 //!
 //! Those that wait stand in a queue for each affinity, and those that are held at the number of
-//! theirs. Only the first one of a queue may go, so `next` looks at each queue once: what it costs
-//! grows with the affinities of the geometry, and neither with the slots nor with how many wait.
-//! `arrive`, `go`, `free` and `holder` cost the same however many there are.
+//! theirs. Only the first one of a queue may go, and a mark at each number says whether that one is
+//! clear: no one at a related affinity is held, or came earlier and still waits. `next` looks at each
+//! mark once, so what it costs grows with the affinities of the geometry, and neither with the slots
+//! nor with how many wait. `arrive` and `go` put one mark right, and `free` those of the affinities
+//! related to the freed one: five for a stripe. `holder` costs the same however many there are.
 
 #![tactic(auto)]
 
@@ -11,6 +13,8 @@ mod candidates;
 mod clear;
 mod entries;
 mod holders;
+mod marking;
+mod marks;
 mod queues;
 mod queuing;
 

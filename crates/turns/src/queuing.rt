@@ -7,6 +7,8 @@ ghost use Rattle.turns.specs.Turns.{next_turn, has_slot, has_number, without_slo
 use crate::Turn;
 use crate::candidates::better;
 use crate::holders::Holders;
+use crate::marking::{mark, mark_near};
+use crate::marks::Marks;
 use crate::queues::Queues;
 use affinity::{Affinity, Geometry, Place};
 use std::alloc::{AllocError, Global};
@@ -30,13 +32,14 @@ pub struct Turns {
     geometry: Geometry,
     waiting: Queues,
     held: Holders,
+    marks: Marks, // of the first one in each queue that is clear
     slots: usize,
 }
 
 impl Model for Turns {
     ghost use Rattle.std.specs.Prelude.{◌≡◌};
     ghost use Rattle.turns.specs.Turns.{Queuing};
-    ghost use Rattle.turns.specs.Kept.{AreTurns};
+    ghost use Rattle.turns.specs.Kept.{AreKept};
 
     ghost Value = { Queuing };
 
@@ -47,7 +50,7 @@ impl Model for Turns {
       slots = t.slots;
     } };
 
-    ghost invariant = { λ t. AreTurns t.geometry t.slots t.waiting t.held };
+    ghost invariant = { λ t. AreKept t.geometry t.slots t.waiting t.held t.marks };
 }
 
 impl Turns {
@@ -60,10 +63,14 @@ impl Turns {
         requires { slots < usize.MAX }
         ensures { IfOk result (λ turns. turns ≡ at_start geometry.now slots) }
     {
+        let waiting = Queues::new(alloc, MOST_AFFINITIES, slots)?;
+        let held = Holders::new(alloc, MOST_AFFINITIES)?;
+        let marks = Marks::new(alloc, MOST_AFFINITIES)?;
         Ok(Turns {
             geometry: *geometry,
-            waiting: Queues::new(alloc, MOST_AFFINITIES, slots)?,
-            held: Holders::new(alloc, MOST_AFFINITIES)?,
+            waiting,
+            held,
+            marks,
             slots,
         })
     }
@@ -85,14 +92,7 @@ impl Turns {
     {
         let mut best = None;
         for number in 0..affinities(&self.geometry) {
-            best = better(
-                &self.geometry,
-                &self.held,
-                &self.waiting,
-                room,
-                best,
-                number,
-            );
+            best = better(room, best, self.marks.at(number));
         }
         best
     }
@@ -114,7 +114,18 @@ impl Turns {
         requires new_slot { list_any (has_slot turn.slot) (self.old.waiting ++ self.old.held) ≡ false }
         ensures { self.new ≡ record self.old { waiting = self.old.waiting ++ turn ∷ [] } }
     {
+        let number = usize::from(turn.affinity.number());
+        let is_first = self.waiting.front(number).is_none();
         self.waiting.push(turn);
+        if is_first {
+            mark(
+                &mut self.marks,
+                &self.geometry,
+                &self.held,
+                &self.waiting,
+                number,
+            );
+        }
     }
 
     /// The one that `next` gave goes: it waits no longer, and is held. All others stay.
@@ -125,14 +136,32 @@ impl Turns {
         ensures held { HasJoined turn self.old.held self.new.held }
         ensures count { length self.new.held ≡ length self.old.held + 1 }
     {
-        self.waiting.pop(usize::from(turn.affinity.number()));
+        let number = usize::from(turn.affinity.number());
+        self.waiting.pop(number);
         self.held.hold(turn);
+        mark(
+            &mut self.marks,
+            &self.geometry,
+            &self.held,
+            &self.waiting,
+            number,
+        );
     }
 
     /// What is held at an affinity is held no longer. Nothing changes where nothing is held there.
     pub fn free(&mut self, a: Affinity)
         ensures { self.new ≡ record self.old { held = without_number a.number self.old.held } }
     {
-        self.held.free(usize::from(a.number()));
+        let number = usize::from(a.number());
+        if let Some(turn) = self.held.at(number) {
+            self.held.free(number);
+            mark_near(
+                &mut self.marks,
+                &self.geometry,
+                &self.held,
+                &self.waiting,
+                turn.affinity,
+            );
+        }
     }
 }

@@ -1,19 +1,21 @@
--- The slot is a new one, so there is a seat.
-use Rattle.std.proofs.Common.{◌≡◌, ◌<◌, ◌++◌, arith, sym, subst, false}
+-- The slot is a new one, so there is a seat. Where it is first in its queue, it's marked if it is clear.
+use Rattle.std.proofs.Common.{◌≡◌, ◌∙◌, ◌<◌, ◌++◌, ap, arith, sym, subst, refl, true, false, not, find, is_some}
 use Rattle.std.specs.List.{list_any}
+use Rattle.std.proofs.lemmas.Bool.{true≢false}
 use Rattle.affinity.specs.Interval.{IsAffinity}
-use Rattle.turns.specs.Turns.{Queuing, has_slot, CameBefore}
+use Rattle.turns.specs.Turns.{Queuing, has_slot, has_number, CameBefore}
 use Rattle.turns.specs.Queues.{Waiting}
+use Rattle.turns.specs.Marks.{IsMarked}
 use Rattle.turns.specs.Kept.{AreTurns}
 use Rattle.turns.proofs.Nearby.{number-below}
-use Rattle.turns.proofs.Turning.{turns-arrived, seat-arrived}
+use Rattle.turns.proofs.Turning.{turns-arrived, seat-arrived, kept-arrived}
 use Rattle.turns.proofs.queuing.Turns.arrive.Goals as goal
 
 pub push-requires-clause-number : goal.push-requires-clause-number
 push-requires-clause-number c =
     let placed = subst (λ (q : Queuing). IsAffinity q.geometry c.args.turn.affinity) (sym c.self.view_is) c.requires.placed in
     let below = number-below c.self.inside.geometry c.args.turn.affinity placed in
-    let all = c.self.invariant.queues c.self.inside.geometry in
+    let all = c.self.invariant.rows.queues c.self.inside.geometry in
     omega (arith, below, all)
 
 pub push-requires-clause-seat : goal.push-requires-clause-seat
@@ -21,7 +23,18 @@ push-requires-clause-seat c =
     let t = c.args.turn in
     let there = subst (λ (q : Queuing). t.slot < q.slots) (sym c.self.view_is) c.requires.slot in
     let new = subst (λ (q : Queuing). list_any (has_slot t.slot) (q.waiting ++ q.held) ≡ false) (sym c.self.view_is) c.requires.new_slot in
-    seat-arrived c.self.inside.geometry c.self.inside.slots c.self.inside.waiting c.self.inside.held t c.self.invariant there new
+    seat-arrived c.self.inside.geometry c.self.inside.slots c.self.inside.waiting c.self.inside.held t c.self.invariant.rows there new
+
+pub mark-requires-clause-ascends : goal.mark-requires-clause-ascends
+mark-requires-clause-ascends c =
+    let t = c.args.turn in
+    let placed = subst (λ (q : Queuing). IsAffinity q.geometry t.affinity) (sym c.self.view_is) c.requires.placed in
+    let later = subst (λ (q : Queuing). CameBefore t.ticket q.waiting) (sym c.self.view_is) c.requires.later in
+    let there = subst (λ (q : Queuing). t.slot < q.slots) (sym c.self.view_is) c.requires.slot in
+    let new = subst (λ (q : Queuing). list_any (has_slot t.slot) (q.waiting ++ q.held) ≡ false) (sym c.self.view_is) c.requires.new_slot in
+    let rows = subst (λ (w : Waiting). AreTurns c.self.inside.geometry c.self.inside.slots w c.self.inside.held) (sym c.push.ensures)
+    (turns-arrived c.self.inside.geometry c.self.inside.slots c.self.inside.waiting c.self.inside.held _ c.self.invariant.rows placed later there new) in
+    rows.ascends
 
 -- whatever waits in this slot, at this affinity
 pub invariant_of-self : goal.invariant_of-self
@@ -31,5 +44,24 @@ invariant_of-self c =
     let later = subst (λ (q : Queuing). CameBefore t.ticket q.waiting) (sym c.self.view_is) c.requires.later in
     let there = subst (λ (q : Queuing). t.slot < q.slots) (sym c.self.view_is) c.requires.slot in
     let new = subst (λ (q : Queuing). list_any (has_slot t.slot) (q.waiting ++ q.held) ≡ false) (sym c.self.view_is) c.requires.new_slot in
-    subst (λ (w : Waiting). AreTurns c.self.inside.geometry c.self.inside.slots w c.self.inside.held) (sym c.push.ensures)
-    (turns-arrived c.self.inside.geometry c.self.inside.slots c.self.inside.waiting c.self.inside.held _ c.self.invariant placed later there new)
+    let rows = subst (λ (w : Waiting). AreTurns c.self.inside.geometry c.self.inside.slots w c.self.inside.held) (sym c.push.ensures)
+    (turns-arrived c.self.inside.geometry c.self.inside.slots c.self.inside.waiting c.self.inside.held _ c.self.invariant.rows placed later there new) in
+    let number : c.from-number.result ≡ t.affinity.number = omega arith in
+    kept-arrived c.self.inside.geometry c.self.inside.slots c.self.inside.waiting c.push.new.self c.self.inside.held t
+    c.self.inside.marks c.mark.new.marks c.self.invariant rows c.push.ensures later c.mark.ensures.others
+    (λ none. subst (λ n. IsMarked c.self.inside.held.turns c.push.new.self.turns c.mark.new.marks n) number c.mark.ensures.marked)
+
+pub invariant_of-self-else-is_first : goal.invariant_of-self-else-is_first
+invariant_of-self-else-is_first c =
+    let t = c.args.turn in
+    let placed = subst (λ (q : Queuing). IsAffinity q.geometry t.affinity) (sym c.self.view_is) c.requires.placed in
+    let later = subst (λ (q : Queuing). CameBefore t.ticket q.waiting) (sym c.self.view_is) c.requires.later in
+    let there = subst (λ (q : Queuing). t.slot < q.slots) (sym c.self.view_is) c.requires.slot in
+    let new = subst (λ (q : Queuing). list_any (has_slot t.slot) (q.waiting ++ q.held) ≡ false) (sym c.self.view_is) c.requires.new_slot in
+    let rows = subst (λ (w : Waiting). AreTurns c.self.inside.geometry c.self.inside.slots w c.self.inside.held) (sym c.push.ensures)
+    (turns-arrived c.self.inside.geometry c.self.inside.slots c.self.inside.waiting c.self.inside.held _ c.self.invariant.rows placed later there new) in
+    let number : c.from-number.result ≡ t.affinity.number = omega arith in
+    let some : is_some c.front.result ≡ true = c.is_none-is_first.ensures ∙ ap not c.if-is_first.false in
+    kept-arrived c.self.inside.geometry c.self.inside.slots c.self.inside.waiting c.push.new.self c.self.inside.held t
+    c.self.inside.marks c.self.inside.marks c.self.invariant rows c.push.ensures later (refl, λ n right. right)
+    (λ none. absurd (true≢false (sym some ∙ ap is_some (c.front.ensures.first ∙ ap (λ n. find (has_number n) c.self.inside.waiting.turns) number ∙ none))))

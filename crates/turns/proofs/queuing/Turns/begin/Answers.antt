@@ -8,4 +8,7 @@ pub invariant_of-self : goal.invariant_of-self
 invariant_of-self c =
     let waits = subst (λ (q : Queuing). q.waiting ≡ []) (sym c.self.view_is) c.requires.none_waits in
     let held = subst (λ (q : Queuing). q.held ≡ []) (sym c.self.view_is) c.requires.none_held in
-    turns-begun c.self.inside.geometry c.args.geometry.now c.self.inside.slots c.self.inside.waiting c.self.inside.held c.self.invariant waits held
+    record {
+      rows = turns-begun c.self.inside.geometry c.args.geometry.now c.self.inside.slots c.self.inside.waiting c.self.inside.held c.self.invariant.rows waits held;
+      marked = c.self.invariant.marked;
+    }
