@@ -1,5 +1,5 @@
 -- What the flags of a desk say of its places.
-use Rattle.std.proofs.Common.{◌≡◌, ℕ, zero, suc, ◌+◌, Bool, true, false, List, [], ◌∷◌, map, length, not, cond, nat_lt, replicate, position, Option, None, Some, is_some, is_none, refl, sym, ap, ◌∙◌}
+use Rattle.std.proofs.Common.{◌≡◌, ℕ, zero, suc, ◌+◌, Bool, false, List, [], ◌∷◌, map, length, not, cond, nat_lt, replicate, position, Option, None, Some, is_some, is_none, refl, sym, ap, ◌∙◌}
 use Rattle.std.specs.List.{list_any, prefix_len}
 use Rattle.parcel.specs.Run.{Asked}
 use Rattle.workers.specs.Rule.{Row}

@@ -1,9 +1,12 @@
 -- The seats as clauses see them.
-use Rattle.std.specs.Prelude.{◌≡◌, ℕ, ◌+◌, ◌≤◌, suc, Bool, List, [], ◌∷◌, ◌++◌, length, map, take, drop, is_some, Option, None, Some}
+use Rattle.std.specs.Prelude.{◌≡◌, ℕ, ◌+◌, ◌≤◌, suc, Bool, List, [], ◌∷◌, ◌++◌, length, map, take, drop, slice_set, is_some, Option, None, Some}
 use Rattle.atomic_table.specs.Table.{Me}
 use Rattle.atomic_table.specs.Seated.{TableId}
-use Rattle.parcel.specs.Run.{Asked}
+use Rattle.parcel.specs.Run.{Asked, IsRun}
+use Rattle.parcel.specs.declared.job.Done.{Done}
+use Rattle.workers.specs.Rule.{lent_at}
 use Rattle.workers.specs.declared.tray.Load.{Load}
+use Rattle.workers.specs.declared.tray.Load.TheVariants.{Answered}
 use Rattle.workers.specs.declared.seats.View.{View}
 use Rattle.workers.specs.declared.seats.View.TheVariants.{Dispatcher, Idle}
 
@@ -40,3 +43,11 @@ pub record IsDesk (z : TableId) (me : Me (Option Load) View) (flags : List Bool)
   pub seat : me ≡ (Dispatcher 0 (lent_of me.0), spare 0 (lent_of me.0))
   pub flagged : flags ≡ map is_some (lent_of me.0)
   pub places : length flags ≡ z.slots
+
+-- A dispatcher's seat that has just won place k of what was lent: it took the slot there, with the result of that job.
+pub record IsWon (k : ℕ) (lent : List (Option Asked)) (me : Me (Option Load) View) : Type 0 where
+  pub job : Asked
+  pub done : Done
+  pub asked : lent_at lent k ≡ Some job
+  pub run : IsRun job done
+  pub seat : me ≡ (Dispatcher 0 (slice_set lent k None), (k, Some (Answered done)) ∷ spare_from k lent)

@@ -1,8 +1,10 @@
 //! The bench: its table, and what the dispatcher does there.
-ghost use Rattle.std.specs.Prelude.{◌≡◌, ℕ, ◌+◌, ◌<◌, ◌≤◌, [], ◌∷◌, map, replicate, is_some, slice_set, Option, None, Some, IfOk, IfSome, IfNone, All, MatchOption, vec_len, Ok, Err};
+ghost use Rattle.std.specs.Prelude.{◌≡◌, ℕ, ◌+◌, ◌<◌, ◌≤◌, [], ◌∷◌, map, replicate, is_some, slice_set, Option, None, Some, IfOk, IfSome, IfNone, All, MatchOption, IsTrue, IsFalse, length, vec_len, Ok, Err};
+ghost use Rattle.atomic_table.specs.Table.{rest};
 ghost use Rattle.parcel.specs.Run.{Asked, IsRun};
-ghost use Rattle.workers.specs.Rule.{lent_at};
-ghost use Rattle.workers.specs.Desk.{IsBench, IsDesk, lent_of, spare};
+ghost use Rattle.workers.specs.Rule.{Row, lent_at};
+ghost use Rattle.workers.specs.Desk.{IsBench, IsDesk, IsWon, lent_of, spare};
+ghost use Rattle.workers.specs.declared.tray.Load.TheVariants.{Answered};
 ghost use Rattle.workers.specs.declared.seats.View.TheVariants.{Dispatcher};
 
 use crate::seats::{DispatchSeat, Seat, View, WorkSeat, turn_to};
@@ -84,7 +86,11 @@ impl Bench {
         if !seat.lent[k] {
             return None;
         }
-        take_back(&self.table.shared, &mut seat.seat, &mut seat.lent, k)
+        let words = &self.table.shared;
+        if !win(words, &mut seat.seat, &seat.lent, k) {
+            return None;
+        }
+        Some(take_back(words, &mut seat.seat, &mut seat.lent, k))
     }
 
     /// Tells the workers to end, each once it has delivered what it has claimed.
@@ -179,22 +185,33 @@ fn lend(words: &Words, seat: &mut Seat, lent: &mut [bool], k: usize, job: Job)
     turn_to(seat, lent, k + 1, lent.len());
 }
 
-// Takes the result from a place where something is lent, if it was delivered.
-fn take_back(words: &Words, seat: &mut Seat, lent: &mut [bool], k: usize) -> Option<Done>
+// Takes the slot of a place where something is lent, if its result was delivered. Else all stays.
+fn win(words: &Words, seat: &mut Seat, lent: &[bool], k: usize) -> bool
     requires bench { (seat.old.table_id ≡ words.now.table_id) × (k < words.now.table_id.slots) }
-    requires desk { IsDesk words.now.table_id seat.old.me lent.old }
+    requires desk { IsDesk words.now.table_id seat.old.me lent.now }
     ensures bench { seat.new.table_id ≡ seat.old.table_id }
-    ensures desk { IsDesk words.now.table_id seat.new.me lent.new }
-    ensures some { IfSome result (λ done. (job : Asked) × (lent_at (lent_of seat.old.me.0) k ≡ Some job) × IsRun job done × (lent_of seat.new.me.0 ≡ slice_set (lent_of seat.old.me.0) k None)) }
-    ensures none { IfNone result (lent_of seat.new.me.0 ≡ lent_of seat.old.me.0) }
+    ensures won { IsTrue result → IsWon k (lent_of seat.old.me.0) seat.new.me }
+    ensures lost { IsFalse result → seat.new.me ≡ seat.old.me }
 {
     turn_to(seat, lent, 0, k);
-    if !steps::collect(words, seat, k) {
-        turn_to(seat, lent, k, lent.len());
-        return None;
+    if steps::collect(words, seat, k) {
+        return true;
     }
-    let done = steps::take_result(words, seat, k);
-    lent[k] = false;
     turn_to(seat, lent, k, lent.len());
-    Some(done)
+    false
+}
+
+// Takes the result out of the slot of a place that was won.
+fn take_back(words: &Words, seat: &mut Seat, lent: &mut [bool], k: usize) -> Done
+    requires bench { (seat.old.table_id ≡ words.now.table_id) × (k < words.now.table_id.slots) × IsBench words.now.table_id }
+    requires won { (row : Row) × IsWon k row seat.old.me × (lent.old ≡ map is_some row) × (length lent.old ≡ words.now.table_id.slots) }
+    ensures bench { seat.new.table_id ≡ seat.old.table_id }
+    ensures desk { IsDesk words.now.table_id seat.new.me lent.new }
+    ensures lent { lent_of seat.new.me.0 ≡ lent_of seat.old.me.0 }
+    ensures result { seat.old.me.1 ≡ (k, Some (Answered result)) ∷ rest seat.old.me.1 }
+{
+    lent[k] = false;
+    let done = steps::take_result(words, seat, k);
+    turn_to(seat, lent, k, lent.len());
+    done
 }
