@@ -16,5 +16,6 @@ pub mod Inside
 pub mod Served
 pub mod Rows
 pub mod Said
+pub mod Advancing
 -- ---- this crate's own
 mod Examples

@@ -6,3 +6,4 @@ pub mod Steps
 pub mod Pointing
 pub mod Lending
 pub mod Ends
+pub mod Stops

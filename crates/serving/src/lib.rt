@@ -3,15 +3,20 @@
 //!
 //! The definitions stand in `specs/`, and the laws that they obey are the contracts of the functions of `laws`, which do
 //! nothing. `row` has the lines that were read and not answered, and `saying` writes their answers. `steps`, `lending` and
-//! `points` have the calls that a server makes between lines; the loop over them is yet to come.
+//! `points` have the calls that a server makes between lines, and `session` with `turn` and `ending` what it does with them
+//! while it reads no line; the loop that reads is yet to come.
 #![tactic(auto)]
 
+mod course;
+mod ending;
 mod fault;
 pub mod laws;
 mod lending;
 mod points;
 mod row;
 mod saying;
+mod session;
 mod steps;
+mod turn;
 
 pub use fault::ServeFault;

@@ -1,0 +1,72 @@
+//! How a session ends before it has answered what it has read: jobs that are out come back, and what can still be done is
+//! done.
+
+ghost use Rattle.std.specs.Prelude.{◌≡◌, ℕ, Bool, List, [], Option, None, Ok, OnOk};
+ghost use Rattle.machine.specs.Machine.{Handed};
+ghost use Rattle.message.specs.Waiting.{so_far};
+ghost use Rattle.serving.specs.Going.{Goes};
+ghost use Rattle.serving.specs.Runs.{with_lent};
+ghost use Rattle.serving.specs.Steps.{Holds};
+ghost use Rattle.serving.specs.Stops.{Advances, place_of};
+
+use crate::course::Halt;
+use crate::lending::bring_home;
+use crate::session::Session;
+use disk::Disk;
+use std::io::Write;
+use std::sync::Wait;
+use workers::{Bench, Gate};
+
+impl<D: Disk> Session<D> {
+    /// Waits for the jobs that are out, and takes back what comes of them.
+    fn come_home<T: Wait>(&mut self, rt: &T, bench: &Bench)
+        requires bench { self.old.desk.bench ≡ bench.now }
+        requires holds { Holds (with_lent self.old.core self.old.desk.lent) }
+        ensures holds { Holds (with_lent self.new.core self.new.desk.lent) }
+        ensures kept { (contents : Option (List ℕ)) → Advances D.keeps
+            (place_of self.old.core self.old.desk.lent self.old.row.lines (so_far contents self.old.out))
+            (place_of self.new.core self.new.desk.lent self.new.row.lines (so_far contents self.new.out)) (Ok (tt {0})) }
+        ensures bench { self.new.desk.bench ≡ self.old.desk.bench }
+    {
+        bring_home(rt, &mut self.core, bench, &mut self.desk);
+    }
+
+    /// Where the device has failed: nothing more is logged. Jobs that are out come back, and the lines next in order are still
+    /// written.
+    pub(crate) fn end_without_device<T: Wait, W: Write, G: Gate>(
+        &mut self,
+        rt: &T,
+        bench: &Bench,
+        w: &mut W,
+        gate: &G,
+    ) -> Result<(), Halt>
+        requires bench { self.old.desk.bench ≡ bench.now }
+        requires holds { Holds (with_lent self.old.core self.old.desk.lent) }
+        ensures holds { Holds (with_lent self.new.core self.new.desk.lent) }
+        ensures kept { Advances D.keeps
+            (place_of self.old.core self.old.desk.lent self.old.row.lines (so_far (W.contents w.old) self.old.out))
+            (place_of self.new.core self.new.desk.lent self.new.row.lines (so_far (W.contents w.new) self.new.out)) result }
+        ensures none_waits { OnOk result (self.new.out ≡ []) }
+        ensures bench { self.new.desk.bench ≡ self.old.desk.bench }
+    {
+        self.come_home(rt, bench);
+        self.say_what_is_logged(w, gate)?;
+        self.send(w)
+    }
+
+    /// Where the output has failed: nothing more is read or written. Jobs that are out come back, and are logged and answered.
+    pub(crate) fn end_without_output<T: Wait, G: Gate>(&mut self, rt: &T, bench: &Bench, gate: &G)
+        requires bench { self.old.desk.bench ≡ bench.now }
+        requires holds { Holds (with_lent self.old.core self.old.desk.lent) }
+        ensures holds { Holds (with_lent self.new.core self.new.desk.lent) }
+        ensures kept { (start : Handed) (input left : Option (List ℕ)) (ended : Bool)
+            → Goes D.keeps start (with_lent self.old.core self.old.desk.lent) self.old.row.lines input left ended None None
+            → Goes D.keeps start (with_lent self.new.core self.new.desk.lent) self.new.row.lines input left ended None None }
+        ensures bench { self.new.desk.bench ≡ self.old.desk.bench }
+    {
+        self.come_home(rt, bench);
+        // A fault of the device changes nothing any more.
+        let _logged = self.log_what_ran();
+        self.answer_what_is_logged(gate);
+    }
+}
