@@ -13,6 +13,7 @@ pub mod Places
 pub mod Serial
 pub mod Counting
 pub mod Inside
+pub mod Slots
 pub mod Served
 pub mod Rows
 pub mod Said

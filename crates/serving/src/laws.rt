@@ -1,15 +1,17 @@
 //! What holds of a server that runs many messages at once: laws of the definitions alone. No function here does anything; its
 //! contract is the law.
 
-ghost use Rattle.std.specs.Prelude.{◌≡◌, ◌≤◌, ◌++◌, ◌-◌, ◌^◌, ℕ, Bool, true, false, List, [], length, map, take, Option, Some, None, Ok, Err, IfSome};
+ghost use Rattle.std.specs.Prelude.{◌≡◌, ◌≢◌, ◌+◌, ◌<◌, ◌≤◌, ◌++◌, ◌-◌, ◌^◌, ℕ, Bool, true, false, List, [], length, map, take, Option, Some, None, Ok, Err, IfSome};
 ghost use Rattle.std.specs.Io.KnownBytes.{IsAtEnd};
 ghost use Rattle.std.specs.List.{AllByRecursion, Contains};
 ghost use Rattle.affinity.specs.declared.geometry.Geometry.{Geometry};
 ghost use Rattle.legal_runs.specs.Crash.{IsLeftSince};
-ghost use Rattle.legal_runs.specs.Events.{Event, Hands};
+ghost use Rattle.legal_runs.specs.Events.{Event, Hands, arrive};
 ghost use Rattle.legal_runs.specs.Laws.{IsIdle, IsSound};
 ghost use Rattle.legal_runs.specs.Runs.{IsLegal};
 ghost use Rattle.legal_runs.specs.World.{Entry};
+ghost use Rattle.legal_runs.specs.declared.outcomes.ArriveRefusal.TheVariants as arrivals;
+ghost use Rattle.legal_runs.specs.declared.outcomes.Outcome.TheVariants as outcomes;
 ghost use Rattle.message.specs.Grammar.{message_of};
 ghost use Rattle.message.specs.Messages.{is_in_range};
 ghost use Rattle.message.specs.Reader.{GivesLine, LosesFront};
@@ -49,6 +51,19 @@ pub fn what_is_left_in_a_run_is_left_by_it()
 pub fn stretches_join<D: Disk>()
     ensures { (old mid new : Handed) (come more : List Entry) (replies others : List (ℕ × Reply)) → Passes D.keeps old mid come replies
         → Passes D.keeps mid new more others → Passes D.keeps old new (come ++ more) (replies ++ others) }
+{}
+
+/// How many messages wait or are held grows by those that arrive, less those that are answered, and always as many fit in. So a
+/// message isn't refused for want of a slot while fewer lines are read and not answered in the output than there are slots.
+pub fn what_is_inside_is_what_arrived_less_what_was_answered<D: Disk>()
+    ensures count { (old new : Handed) (come : List Entry) (replies : List (ℕ × Reply)) → Passes D.keeps old new come replies
+        → inside (world_of new.core) + length replies ≡ inside (world_of old.core) + length come }
+    ensures slots { (old new : Handed) (come : List Entry) (replies : List (ℕ × Reply)) → Passes D.keeps old new come replies
+        → new.core.slots ≡ old.core.slots }
+    ensures a_slot { (start now : Handed) (row : List Line) (input left : Option (List ℕ)) (ended : Bool) (before written : Option (List ℕ))
+        (m : Msg) → IsIdle (world_of start.core) → Goes D.keeps start now row input left ended before written
+        → length row < start.core.slots
+        → (arrive now.core.geometry (world_of now.core) m).0 ≢ outcomes.ArriveRefused arrivals.Full }
 {}
 
 /// No more messages wait or are held than there are lines that were read and are not answered in the output.

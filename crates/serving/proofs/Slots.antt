@@ -1,0 +1,81 @@
+-- How many messages fit in, and that one finds a slot.
+use Rattle.std.proofs.Common.{◌≡◌, ◌≢◌, ℕ, ◌+◌, ◌<◌, ◌≤◌, Bool, true, false, List, [], ◌∷◌, ◌++◌, Option, refl, ap, sym, ◌∙◌, length, arith}
+use Rattle.std.specs.Prelude.{if◌then◌else◌, nat_le, not, ◌==◌, ◌^◌, ◌-◌}
+use Rattle.std.proofs.lemmas.Bool.{leb-true}
+use Rattle.affinity.specs.declared.geometry.Geometry.{Geometry}
+use Rattle.legal_runs.proofs.Moves.{Answers, Arrives, Backs, Grants, Logs, Move, Passed, Stays, moves}
+use Rattle.legal_runs.specs.Events.{Event, Hands, arrive}
+use Rattle.legal_runs.specs.Laws.{IsIdle}
+use Rattle.legal_runs.specs.Runs.{IsLegal, last}
+use Rattle.legal_runs.specs.World.{Entry, World}
+use Rattle.legal_runs.specs.declared.outcomes.ArriveRefusal.TheVariants as arrivals
+use Rattle.legal_runs.specs.declared.outcomes.Outcome.{Outcome}
+use Rattle.legal_runs.specs.declared.outcomes.Outcome.TheVariants as outcomes
+use Rattle.machine.specs.Machine.{Handed, machine_of}
+use Rattle.message.specs.Messages.{is_in_range}
+use Rattle.message.specs.declared.Msg.{Msg}
+use Rattle.message.specs.declared.Reply.{Reply}
+use Rattle.scheduler.specs.Kept.{world_of}
+use Rattle.serving.proofs.Counting.{run_counts}
+use Rattle.serving.proofs.Inside.{few_inside}
+use Rattle.serving.specs.Going.{Goes}
+use Rattle.serving.specs.Lines.{Line}
+use Rattle.serving.specs.Runs.{Passes, inside}
+
+pub passes_count : (keeps : Type 0) (old new : Handed) (come : List Entry) (told : List (ℕ × Reply)) → Passes keeps old new come told
+    → inside (world_of new.core) + length told ≡ inside (world_of old.core) + length come
+passes_count keeps old new come told p =
+    let run = run_counts old.core.geometry (machine_of old) p.events p.legal in
+    let ends : inside (last (machine_of old) p.events).core ≡ inside (world_of new.core) = ap (λ (w : Hands). inside w.core) p.ends in
+    let came = ap length p.come_are in
+    let tells = ap length p.told_are in
+    omega (arith, run, ends, came, tells)
+
+-- ---- how many fit in
+
+move_slots : (g : Geometry) (old new : World) (p : Passed) → Move g old new p → new.slots ≡ old.slots
+move_slots g old new p (Stays s e) = s.slots
+move_slots g old new p (Arrives m fits is e) = ap (λ (w : World). w.slots) is
+move_slots g old new p (Grants found first is e) = ap (λ (w : World). w.slots) is
+move_slots g old new p (Backs ticket found one_out is e) = ap (λ (w : World). w.slots) is
+move_slots g old new p (Logs n is e) = ap (λ (w : World). w.slots) is
+move_slots g old new p (Answers a rest front is e) = ap (λ (w : World). w.slots) is
+
+run_slots : (g : Geometry) (old : Hands) (events : List Event) → IsLegal g old events → (last old events).core.slots ≡ old.core.slots
+run_slots g old [] legal = refl
+run_slots g old (event ∷ events) legal =
+    run_slots g event.world events legal.1 ∙ move_slots g old.core event.world.core _ (moves g old event legal.0)
+
+pub passes_slots : (keeps : Type 0) (old new : Handed) (come : List Entry) (told : List (ℕ × Reply)) → Passes keeps old new come told
+    → new.core.slots ≡ old.core.slots
+passes_slots keeps old new come told p =
+    ap (λ (w : Hands). w.core.slots) (sym p.ends) ∙ run_slots old.core.geometry (machine_of old) p.events p.legal
+
+-- ---- a slot for the next
+
+abbrev outcome_of : Outcome × World → Outcome
+outcome_of x = x.0
+
+-- A message that finds fewer inside than fit in isn't refused for want of a slot.
+isnt_full : (g : Geometry) (w : World) (m : Msg) → inside w < w.slots → (arrive g w m).0 ≢ outcomes.ArriveRefused arrivals.Full
+isnt_full g w m few = of w.failed (not (is_in_range g m)) (w.next == 2 ^ 64 - 1) (nat_le w.slots (inside w)) (λ e. leb-true w.slots (inside w) e)
+  where
+    of : (a b c d : Bool) → (d ≡ true → w.slots ≤ inside w) → outcome_of (if a then (outcomes.ArriveRefused arrivals.Failed, w)
+        else if b then (outcomes.ArriveRefused arrivals.Range, w) else if c then (outcomes.ArriveRefused arrivals.Exhausted, w)
+        else if d then (outcomes.ArriveRefused arrivals.Full, w)
+        else (outcomes.Ticket w.next, record w { waiting = w.waiting ++ (w.next, m) ∷ []; next = w.next + 1 }))
+        ≢ outcomes.ArriveRefused arrivals.Full
+    of true b c d le e = cc
+    of false true c d le e = cc
+    of false false true d le e = cc
+    of false false false true le e = let full = le refl in omega (arith, few, full)
+    of false false false false le e = cc
+
+-- Where fewer lines are in the row than there are slots, a message finds one.
+pub finds_a_slot : (keeps : Type 0) (start now : Handed) → IsIdle (world_of start.core) → (row : List Line) (input left : Option (List ℕ))
+    (ended : Bool) (before written : Option (List ℕ)) (m : Msg) → Goes keeps start now row input left ended before written
+    → length row < start.core.slots → (arrive now.core.geometry (world_of now.core) m).0 ≢ outcomes.ArriveRefused arrivals.Full
+finds_a_slot keeps start now idle row input left ended before written m h few =
+    let most = few_inside keeps start now idle row input left ended before written h in
+    let same = passes_slots keeps start now _ _ h.serving.passes in
+    isnt_full now.core.geometry (world_of now.core) m (omega (arith, most, same, few))
