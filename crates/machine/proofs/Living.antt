@@ -2,6 +2,7 @@
 use Rattle.std.proofs.Common.{◌≡◌, ◌⊎◌, ℕ, ◌≤◌, List, [], ◌∷◌, ◌++◌, Option, Some, refl, ap, sym, ◌∙◌, subst, append_assoc, inl, inr, ⊎_elim}
 use Rattle.std.proofs.lemmas.List.{append-nil}
 use Rattle.affinity.specs.declared.geometry.Geometry.{Geometry}
+use Rattle.checkpoint.proofs.OneGeometry.{one_geometry}
 use Rattle.checkpoint.specs.Recovery.{holds}
 use Rattle.disk.proofs.Leaves.{calm_left, itself}
 use Rattle.disk.proofs.Moments.{counts_now, only_now}
@@ -11,7 +12,9 @@ use Rattle.journal.specs.Opening.{IsPastSync, OpeningLeaves, StandsAs}
 use Rattle.legal_runs.proofs.Living.{all_answered, life_of_run, next_life, no_life}
 use Rattle.legal_runs.specs.Events.{Event, Hands}
 use Rattle.legal_runs.specs.Lives.{IsLeftByLives, Life, Ran, Unopened}
-use Rattle.machine.specs.Lives.{DeviceLife, HasLives, IsLifeOf, IsPassedOn, IsRunLife, LeftByLast, StandsForLives, lives_of}
+use Rattle.legal_runs.specs.Runs.{IsLegal}
+use Rattle.machine.specs.Lives.{DeviceLife, HasLives, HaveGeometry, IsLifeOf, IsOfGeometry, IsPassedOn, IsRunLife, LeftByLast, StandsForLives, lives_of}
+use Rattle.machine.specs.Stages.{StandsForRun}
 use Rattle.plain.specs.State.{State, empty}
 
 -- What a crash leaves while a device is opened, it might have left before, or it stands for the same.
@@ -50,13 +53,24 @@ module _ (g : Geometry) where
     nothing_more : (c : List ℕ) → Stands lives c → Stands (lives ++ Unopened ∷ []) c
     nothing_more c h = record { state = h.state; is = h.is; left = next_life g lives Unopened h.state [] h.left refl }
 
-    run_left : (start : Hands) (events : List Event) (k : ℕ) → IsRunLife g l start events k → (c : List ℕ) → left_since l.ended l.since c
+    -- The header tells the numbers, and there is one for all lives.
+    run_geometry : (start : Hands) (events : List Event) (k : ℕ) → IsRunLife l start events k → l.geometry ≡ g
+    run_geometry start events k run = one_geometry l.geometry g l.began.now run.header at_first.state at_first.is
+
+    of_geometry : (life : Life) → IsLifeOf l life → IsOfGeometry g l.geometry life
+    of_geometry Unopened h = tt
+    of_geometry (Ran start events k) h = run_geometry start events k h
+
+    run_left : (start : Hands) (events : List Event) (k : ℕ) → IsRunLife l start events k → (c : List ℕ) → left_since l.ended l.since c
         → Stands (lives ++ Ran start events k ∷ []) c
     run_left start events k run c since =
-        let ran = run.crash c since in
+        let one = run_geometry start events k run in
+        let ran = subst (λ (h : Geometry). StandsForRun h start events k c) one (run.crash c since) in
+        let legal = subst (λ (h : Geometry). IsLegal h start events) one run.legal in
+        let stood = subst (λ (h : Geometry). holds h l.began.now ≡ Some start.core.settled) one run.stood in
         let x = start.core.settled in
-        let same : at_first.state ≡ x = some_same (sym at_first.is ∙ run.stood) in
-        let life = life_of_run g start events k ran.state run.idle run.legal ran.left in
+        let same : at_first.state ≡ x = some_same (sym at_first.is ∙ stood) in
+        let life = life_of_run g start events k ran.state run.idle legal ran.left in
         record {
           state = ran.state;
           is = ran.is;
@@ -64,7 +78,7 @@ module _ (g : Geometry) where
               (next_life g lives (Ran start events k) x life.0 (subst (IsLeftByLives g lives) same at_first.left) life.1);
         }
 
-    one_more : (life : Life) → IsLifeOf g l life → (c : List ℕ) → left_since l.ended l.since c → Stands (lives ++ life ∷ []) c
+    one_more : (life : Life) → IsLifeOf l life → (c : List ℕ) → left_since l.ended l.since c → Stands (lives ++ life ∷ []) c
     one_more Unopened h c since = nothing_more c (⊎_elim (at_once c)
         (λ (k : StandsAs l.began.now c). record { state = at_first.state; is = k.same g at_first.state at_first.is; left = at_first.left })
         (opening_leaves l.began l.ended c h.0 (subst (λ (n : ℕ). left_since l.ended n c) h.1 since)))
@@ -73,21 +87,36 @@ module _ (g : Geometry) where
   -- ---- all lives
 
   all_lives : (before : List Life) (m : Medium) (t : ℕ) → ((c : List ℕ) → left_since m t c → Stands before c) → (ls : List DeviceLife)
-      → HasLives g m t ls → (c : List ℕ) → LeftByLast m t ls c → Stands (before ++ lives_of ls) c
+      → HasLives m t ls → (c : List ℕ) → LeftByLast m t ls c → Stands (before ++ lives_of ls) c
   all_lives before m t so_far [] h c left = subst (λ (lives : List Life). Stands lives c) (sym (append-nil before)) (so_far c left)
   all_lives before m t so_far (l ∷ ls) h c left =
       subst (λ (lives : List Life). Stands lives c) (append_assoc before (l.life ∷ []) (lives_of ls))
       (all_lives (before ++ l.life ∷ []) l.ended l.since (one_more before m t so_far l h.0 l.life h.1) ls h.2 c left)
 
+  all_geometry : (before : List Life) (m : Medium) (t : ℕ) → ((c : List ℕ) → left_since m t c → Stands before c) → (ls : List DeviceLife)
+      → HasLives m t ls → HaveGeometry g ls
+  all_geometry before m t so_far [] h = tt
+  all_geometry before m t so_far (l ∷ ls) h = (
+    of_geometry before m t so_far l h.0 l.life h.1,
+    all_geometry (before ++ l.life ∷ []) l.ended l.since (one_more before m t so_far l h.0 l.life h.1) ls h.2,
+  )
+
+  begun : (formatted : Medium) → holds g formatted.now ≡ Some empty → IsSynced formatted
+      → (c : List ℕ) → left_since formatted (moment formatted) c → Stands [] c
+  begun formatted stood calm c since = record {
+    state = empty;
+    is = ap (holds g) (calm_left formatted c calm (only_now formatted c since)) ∙ stood;
+    left = no_life g;
+  }
+
+  pub lives_agree : (formatted : Medium) (ls : List DeviceLife) → holds g formatted.now ≡ Some empty → IsSynced formatted
+      → HasLives formatted (moment formatted) ls → HaveGeometry g ls
+  lives_agree formatted ls stood calm h = all_geometry [] formatted (moment formatted) (begun formatted stood calm) ls h
+
   pub lives_stand : (formatted : Medium) (ls : List DeviceLife) (c : List ℕ) → holds g formatted.now ≡ Some empty → IsSynced formatted
-      → HasLives g formatted (moment formatted) ls → LeftByLast formatted (moment formatted) ls c → StandsForLives g (lives_of ls) c
+      → HasLives formatted (moment formatted) ls → LeftByLast formatted (moment formatted) ls c → StandsForLives g (lives_of ls) c
   lives_stand formatted ls c stood calm h left =
-      let begun : (c : List ℕ) → left_since formatted (moment formatted) c → Stands [] c = λ c since. record {
-        state = empty;
-        is = ap (holds g) (calm_left formatted c calm (only_now formatted c since)) ∙ stood;
-        left = no_life g;
-      } in
-      let k = all_lives [] formatted (moment formatted) begun ls h c left in
+      let k = all_lives [] formatted (moment formatted) (begun formatted stood calm) ls h c left in
       record {
         logs = k.left.logs;
         are_logs = k.left.are_logs;

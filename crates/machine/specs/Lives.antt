@@ -1,6 +1,8 @@
 -- The lives of a device: it is formatted, opened, a machine runs on it, and a crash comes. Then it is opened again.
 use Rattle.std.specs.Prelude.{◌≡◌, ◌⊎◌, ◌≤◌, ℕ, List, [], ◌∷◌, map, Some}
+use Rattle.std.specs.List.{AllByRecursion}
 use Rattle.affinity.specs.declared.geometry.Geometry.{Geometry}
+use Rattle.checkpoint.specs.Header.{HasHeader}
 use Rattle.checkpoint.specs.Recovery.{holds}
 use Rattle.disk.specs.Device.{Medium, AreBytes, IsSynced}
 use Rattle.disk.specs.Moments.{moment, left_since}
@@ -14,12 +16,13 @@ use Rattle.message.specs.declared.Msg.{Msg}
 use Rattle.plain.specs.Serial.{fold}
 use Rattle.plain.specs.State.{empty}
 
--- A life: the device when it was opened, and as the last call left it; since which moment the crash may have come; and the
--- life that its messages had.
+-- A life: the device when it was opened, and as the last call left it; since which moment the crash may have come; the
+-- numbers of the server that was opened; and the life that its messages had.
 pub record DeviceLife : Type 0 where
   pub began : Medium
   pub ended : Medium
   pub since : ℕ
+  pub geometry : Geometry
   pub life : Life
 
 -- What the next life begins with: what a crash leaves that comes at moment t or later, with nothing loose; or the device as it
@@ -28,22 +31,32 @@ abbrev pub IsPassedOn : Medium → ℕ → Medium → Type 0
 IsPassedOn m t next =
     ((left_since m t next.now) × IsSynced next) ⊎ ((next ≡ m) × (t ≤ moment m) × AreBytes m.now)
 
--- It was opened as a server in which no message is, a run was made, and the crash came when so many events or more had ended.
-pub record IsRunLife (g : Geometry) (l : DeviceLife) (start : Hands) (events : List Event) (k : ℕ) : Type 0 where
-  pub stood : holds g l.began.now ≡ Some start.core.settled
+-- It was opened, with the numbers of its header, as a server in which no message is; a run was made, and the crash came when so
+-- many events or more had ended.
+pub record IsRunLife (l : DeviceLife) (start : Hands) (events : List Event) (k : ℕ) : Type 0 where
+  pub header : HasHeader l.geometry l.began.now
+  pub stood : holds l.geometry l.began.now ≡ Some start.core.settled
   pub idle : IsIdle start.core
-  pub legal : IsLegal g start events
-  pub crash : (c : List ℕ) → left_since l.ended l.since c → StandsForRun g start events k c
+  pub legal : IsLegal l.geometry start events
+  pub crash : (c : List ℕ) → left_since l.ended l.since c → StandsForRun l.geometry start events k c
 
 -- The crash came while it was opened, or it came in a run.
-abbrev pub IsLifeOf : Geometry → DeviceLife → Life → Type 0
-IsLifeOf g l Unopened = OpeningLeaves l.began l.ended × (l.since ≡ moment l.began)
-IsLifeOf g l (Ran start events k) = IsRunLife g l start events k
+abbrev pub IsLifeOf : DeviceLife → Life → Type 0
+IsLifeOf l Unopened = OpeningLeaves l.began l.ended × (l.since ≡ moment l.began)
+IsLifeOf l (Ran start events k) = IsRunLife l start events k
 
 -- The lives of a device that may have been left by a crash of this one at moment t or later, one after the other.
-abbrev pub HasLives : Geometry → Medium → ℕ → List DeviceLife → Type 0
-HasLives g m t [] = Unit {0}
-HasLives g m t (l ∷ lives) = IsPassedOn m t l.began × IsLifeOf g l l.life × HasLives g l.ended l.since lives
+abbrev pub HasLives : Medium → ℕ → List DeviceLife → Type 0
+HasLives m t [] = Unit {0}
+HasLives m t (l ∷ lives) = IsPassedOn m t l.began × IsLifeOf l l.life × HasLives l.ended l.since lives
+
+-- Each server that was opened had these numbers.
+abbrev pub IsOfGeometry : Geometry → Geometry → Life → Type 0
+IsOfGeometry g opened Unopened = Unit {0}
+IsOfGeometry g opened (Ran start events k) = opened ≡ g
+
+abbrev pub HaveGeometry : Geometry → List DeviceLife → Type 0
+HaveGeometry g lives = AllByRecursion (λ l. IsOfGeometry g l.geometry l.life) lives
 
 -- A crash of the last life may have left these bytes.
 abbrev pub LeftByLast : Medium → ℕ → List DeviceLife → List ℕ → Type 0
@@ -54,8 +67,8 @@ abbrev pub lives_of : List DeviceLife → List Life
 lives_of lives = map (λ l. l.life) lives
 
 -- The bytes stand for what the serial server reaches, from none on, by the logs of all lives, one after the other. The log of
--- each life is one that a crash of its run leaves: a beginning of what it logged or was to log, that begins itself with every change that was
--- answered.
+-- each life is one that a crash of its run leaves: a beginning of what it logged or was to log, that begins itself with every
+-- change that was answered.
 pub record StandsForLives (g : Geometry) (lives : List Life) (c : List ℕ) : Type 0 where
   pub logs : List (List Msg)
   pub are_logs : AreLogsOf g empty lives logs

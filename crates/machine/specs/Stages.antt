@@ -26,7 +26,8 @@ device_after m (stage ∷ stages) = device_after stage.medium stages
 abbrev pub AreSafe : Geometry → Hands → Medium → List Stage → Type 0
 AreSafe g w m [] = Unit {0}
 AreSafe g w m (stage ∷ stages) =
-    LeavesOnly m stage.medium (HoldsSome g w.core.settled (in_doubt w.core (stage.event ∷ []))) × AreSafe g stage.event.world stage.medium stages
+    LeavesOnly m stage.medium (HoldsSome g w.core.settled (in_doubt w.core (stage.event ∷ [])))
+    × AreSafe g stage.event.world stage.medium stages
 
 -- These bytes stand for a state that a crash of a run may leave, if it comes when k events or more have ended.
 pub record StandsForRun (g : Geometry) (start : Hands) (events : List Event) (k : ℕ) (c : List ℕ) : Type 0 where

@@ -1,6 +1,9 @@
--- The lemma on lives.
-use Rattle.machine.proofs.Living.{lives_stand}
+-- The lemmas on lives.
+use Rattle.machine.proofs.Living.{lives_agree, lives_stand}
 use Rattle.machine.proofs.laws.lives_leave_what_was_answered.Goals as goal
 
-pub returns : goal.returns
-returns c = lives_stand
+pub returns-clause-geometry : goal.returns-clause-geometry
+returns-clause-geometry c = lives_agree
+
+pub returns-clause-stands : goal.returns-clause-stands
+returns-clause-stands c = lives_stand
