@@ -68,7 +68,11 @@ impl<D: Disk> Machine<D> {
     pub fn into_core(self) -> Core<D>
         ensures { result ≡ self.core }
     {
-        self.core
+        let Machine {
+            core,
+            hands: _hands,
+        } = self;
+        core
     }
 }
 

@@ -14,7 +14,8 @@ use scheduler::{Core, Granted};
 /// Makes one step, and tells what came of it.
 pub(crate) fn make_step<D: Disk>(core: &mut Core<D>, hands: &mut [Hand], step: &Step) -> Outcome
     requires { HoldsJobs core.old.geometry (world_of core.old) hands.old }
-    ensures step { IsStep D.keeps (record { core = core.old; hands = hands.old }) (record { core = core.new; hands = hands.new }) step.now result }
+    ensures step { IsStep D.keeps (record { core = core.old; hands = hands.old })
+        (record { core = core.new; hands = hands.new }) step.now result }
     ensures holds { HoldsJobs core.new.geometry (world_of core.new) hands.new }
 {
     match *step {
@@ -36,7 +37,8 @@ pub(crate) fn make_step<D: Disk>(core: &mut Core<D>, hands: &mut [Hand], step: &
 // Lets the eligible message with the least ticket go to the least empty hand.
 fn grant<D: Disk>(core: &mut Core<D>, hands: &mut [Hand]) -> Outcome
     requires { HoldsJobs core.old.geometry (world_of core.old) hands.old }
-    ensures step { IsStep D.keeps (record { core = core.old; hands = hands.old }) (record { core = core.new; hands = hands.new }) steps.Grant result }
+    ensures step { IsStep D.keeps (record { core = core.old; hands = hands.old })
+        (record { core = core.new; hands = hands.new }) steps.Grant result }
     ensures holds { HoldsJobs core.new.geometry (world_of core.new) hands.new }
 {
     core.stands();
@@ -58,7 +60,8 @@ fn grant<D: Disk>(core: &mut Core<D>, hands: &mut [Hand]) -> Outcome
 // Runs the job in a hand. The core is left alone.
 fn run_job<D: Disk>(core: &Core<D>, hands: &mut [Hand], hand: usize) -> Outcome
     requires { HoldsJobs core.now.geometry (world_of core.now) hands.old }
-    ensures step { IsStep D.keeps (record { core = core.now; hands = hands.old }) (record { core = core.now; hands = hands.new }) (steps.Run hand) result }
+    ensures step { IsStep D.keeps (record { core = core.now; hands = hands.old })
+        (record { core = core.now; hands = hands.new }) (steps.Run hand) result }
     ensures holds { HoldsJobs core.now.geometry (world_of core.now) hands.new }
 {
     core.stands();
@@ -75,7 +78,8 @@ fn run_job<D: Disk>(core: &Core<D>, hands: &mut [Hand], hand: usize) -> Outcome
 // Gives back the result in a hand.
 fn give_back<D: Disk>(core: &mut Core<D>, hands: &mut [Hand], hand: usize) -> Outcome
     requires { HoldsJobs core.old.geometry (world_of core.old) hands.old }
-    ensures step { IsStep D.keeps (record { core = core.old; hands = hands.old }) (record { core = core.new; hands = hands.new }) (steps.Back hand) result }
+    ensures step { IsStep D.keeps (record { core = core.old; hands = hands.old })
+        (record { core = core.new; hands = hands.new }) (steps.Back hand) result }
     ensures holds { HoldsJobs core.new.geometry (world_of core.new) hands.new }
 {
     core.stands();
