@@ -34,6 +34,11 @@ impl Questions {
         Ok(questions)
     }
 
+    /// What is asked, one after the other.
+    pub fn messages(&self) -> &[Msg] {
+        self.messages.as_slice()
+    }
+
     fn ask_volume(
         &mut self,
         alloc: Global,

@@ -2,8 +2,16 @@
 #![tactic(auto)]
 
 #[cfg(test)]
+mod areas;
+#[cfg(test)]
+mod drawing;
+#[cfg(test)]
 mod making;
 #[cfg(test)]
 mod random;
 #[cfg(test)]
 mod rows;
+#[cfg(test)]
+mod serial;
+#[cfg(test)]
+mod world;

@@ -1,58 +1,76 @@
-//! Machines over devices in memory, and what the tests ask of them.
-use affinity::Geometry;
-use checkpoint::format;
+//! Machines over devices in memory, and lists of steps with what comes of them.
+use checkpoint::OpenFault;
 use disk::MemDisk;
+use harness::Wrong;
 use legal_runs::{Outcome, Step};
 use machine::Machine;
+use message::{LONGEST_REPLY, Msg, Reply, parse_line, write_reply};
 use scheduler::Core;
 use std::alloc::Global;
 use std::process::Abort;
-use std::test::Fail;
 
 /// One volume of two files of four blocks, in two stripes that hold two blocks each, and four records in a half.
+/// Neighboring blocks of a file lie in different stripes.
 pub(crate) const SMALL: [u16; 8] = [1, 1, 2, 1, 2, 4, 2, 4];
 
-/// The length of its device.
-pub(crate) const LEN: u64 = 8840;
+/// One volume of one file of four blocks, each in a stripe of its own, and eight records in a half.
+pub(crate) const FLAT: [u16; 8] = [1, 1, 4, 1, 1, 4, 1, 8];
+
+/// What a machine is to do, and what comes of it.
+#[derive(Clone, Copy, Drop)]
+pub(crate) enum Row {
+    /// The message of this line arrives.
+    Arrives(&'static str, Outcome),
+    Does(Step, Outcome),
+    /// The message of this line arrives, and goes by hand 0 until it is answered with this line.
+    Serves(&'static str, &'static str),
+}
+
+/// All that is done with one message behind its arrival.
+pub(crate) const WHOLE: [Step; 5] = [
+    Step::Grant,
+    Step::Run(0),
+    Step::Back(0),
+    Step::Log(1),
+    Step::Answer,
+];
 
 pub(crate) fn holds(rt: &impl Abort, fact: bool) {
     assert!(rt; fact);
 }
 
-/// A device that was just formatted.
-pub(crate) fn formatted(rt: &impl Abort, alloc: Global) -> Result<Option<MemDisk>, Fail> {
-    let g = Geometry::new(SMALL)?;
-    match format(alloc, MemDisk::new(alloc, LEN)?, g) {
-        Ok(disk) => Ok(Some(disk)),
-        Err(_) => {
-            holds(rt, false);
-            Ok(None)
-        }
-    }
-}
-
-/// A machine on it, with so many slots and hands.
-pub(crate) fn machine_on(
-    rt: &impl Abort,
+/// A machine with so many slots and hands on this device; where it is refused, the device and why.
+pub(crate) fn open_machine(
     alloc: Global,
-    disk: MemDisk,
+    device: MemDisk,
     slots: usize,
     hands: usize,
-) -> Option<Machine<MemDisk>> {
-    let Ok(core) = Core::open(alloc, disk, slots) else {
-        holds(rt, false);
-        return None;
+) -> Result<Machine<MemDisk>, (MemDisk, OpenFault)> {
+    let core = match Core::open(alloc, device, slots) {
+        Ok(core) => core,
+        Err(e) => return Err((e.disk, e.fault)),
     };
     match Machine::new(alloc, core, hands) {
-        Ok(machine) => Some(machine),
-        Err(_) => {
-            holds(rt, false);
-            None
-        }
+        Ok(machine) => Ok(machine),
+        Err(e) => Err((e.core.into_disk(), OpenFault::OutOfMemory)),
     }
 }
 
-/// One step.
+/// The same on a device that isn't refused.
+pub(crate) fn machine_on(
+    alloc: Global,
+    device: MemDisk,
+    slots: usize,
+    hands: usize,
+) -> Result<Machine<MemDisk>, Wrong> {
+    match open_machine(alloc, device, slots, hands) {
+        Ok(machine) => Ok(machine),
+        Err((_, OpenFault::OutOfMemory)) => Err(Wrong::OutOfMemory),
+        Err(_) => Err(Wrong::Unfit),
+    }
+}
+
+/// What comes of one step.
 pub(crate) fn one(machine: &mut Machine<MemDisk>, step: Step) -> Outcome {
     let steps = [step];
     let mut outcomes = [Outcome::Idle];
@@ -60,7 +78,50 @@ pub(crate) fn one(machine: &mut Machine<MemDisk>, step: Step) -> Outcome {
     outcomes[0]
 }
 
-/// The step gives this outcome.
-pub(crate) fn gives(rt: &impl Abort, machine: &mut Machine<MemDisk>, step: Step, want: Outcome) {
-    holds(rt, one(machine, step) == want);
+/// The message of a line.
+fn message_of(rt: &impl Abort, line: &str) -> Msg {
+    parse_line(line.as_bytes()).expect(rt, "a message")
+}
+
+/// The reply to this message, which no other one is in the way of.
+fn serve(rt: &impl Abort, machine: &mut Machine<MemDisk>, message: Msg) -> Option<Reply> {
+    let Outcome::Ticket(ticket) = one(machine, Step::Arrive(message)) else {
+        return None;
+    };
+    let mut outcomes = [Outcome::Idle; 5];
+    machine.run(&WHOLE, &mut outcomes);
+    match outcomes[4] {
+        Outcome::Answered(answered, reply) => {
+            holds(rt, answered == ticket);
+            Some(reply)
+        }
+        _ => None,
+    }
+}
+
+fn is_served(rt: &impl Abort, machine: &mut Machine<MemDisk>, line: &str, want: &str) {
+    let reply = serve(rt, machine, message_of(rt, line)).expect(rt, "an answer");
+    let mut out = [0; LONGEST_REPLY];
+    let size = write_reply(&reply, &mut out);
+    assert_eq!(rt;
+        str::from_utf8(&out[..size - 1]),
+        str::from_utf8(want.as_bytes())
+    );
+}
+
+fn comes_of(rt: &impl Abort, machine: &mut Machine<MemDisk>, step: Step, want: Outcome) {
+    assert_eq!(rt; one(machine, step), want);
+}
+
+/// The machine does these things, with these outcomes.
+pub(crate) fn goes_so(rt: &impl Abort, machine: &mut Machine<MemDisk>, rows: &[Row]) {
+    for row in rows {
+        match *row {
+            Row::Arrives(line, want) => {
+                comes_of(rt, machine, Step::Arrive(message_of(rt, line)), want);
+            }
+            Row::Does(step, want) => comes_of(rt, machine, step, want),
+            Row::Serves(line, want) => is_served(rt, machine, line, want),
+        }
+    }
 }

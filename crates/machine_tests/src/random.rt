@@ -1,226 +1,71 @@
-//! Lists of random steps, against a volume in plain rows: what each message is answered, in log order.
-ghost use Rattle.std.specs.Prelude.{◌<◌};
-
-use crate::making::{formatted, holds, machine_on, one};
-use legal_runs::{Outcome, Step};
-use message::{Block, Msg, Refusal, Reply};
-use std::alloc::{AllocError, Global};
+//! Long lists of random steps, beside plain rows.
+use crate::drawing::Drawing;
+use crate::making::{FLAT, SMALL, holds, machine_on, one};
+use crate::world::World;
+use affinity::Geometry;
+use harness::{Wrong, device_with};
+use std::alloc::Global;
+use std::env;
 use std::process::Abort;
+use std::rt::Env;
 use std::test::Fail;
 
-/// How many steps a list has.
-const STEPS: usize = 2000;
+/// How many steps each list has, unless `MACHINE_STEPS` in the environment says otherwise.
+const STEPS: u32 = 2500;
 
-/// Volume 0 of aggregate 0: two files, of whose blocks only 0 and 1 are written, so that no stripe is ever full.
-#[derive(Drop)]
-struct Plain {
-    made: bool,
-    files: [bool; 2],
-    blocks: [[Option<u8>; 2]; 2],
-}
+/// Many volumes of few blocks, and four records in a half.
+const WIDE: [u16; 8] = [4, 8, 2, 1, 4, 8, 2, 4];
 
-impl Plain {
-    fn new() -> Plain {
-        Plain {
-            made: false,
-            files: [false; 2],
-            blocks: [[None; 2]; 2],
-        }
-    }
+/// The numbers of a server that nothing else is said of.
+const USUAL: [u16; 8] = [1, 4, 4, 4, 16, 64, 64, 256];
 
-    /// What the message is answered, which it does.
-    fn answer(&mut self, message: &Msg) -> Reply {
-        match *message {
-            Msg::MakeVol(_, _) => {
-                if self.made {
-                    return Reply::Refused(Refusal::Exists);
-                }
-                self.made = true;
-                Reply::Done
-            }
-            Msg::Create(_, _, f) => self.create(f as usize % 2),
-            Msg::Write(_, _, f, b, block) => self.write(f as usize % 2, b as usize % 2, block.0[0]),
-            Msg::Read(_, _, f, b) => self.read(f as usize % 2, b as usize % 2),
-            _ => Reply::Done,
-        }
-    }
+/// Numbers, slots and hands.
+const MACHINES: [([u16; 8], usize, usize); 8] = [
+    (SMALL, 1, 1),
+    (SMALL, 2, 2),
+    (SMALL, 16, 8),
+    (FLAT, 3, 8),
+    (WIDE, 16, 8),
+    (WIDE, 2, 1),
+    (USUAL, 16, 2),
+    (USUAL, 3, 8),
+];
 
-    fn create(&mut self, f: usize) -> Reply {
-        if !self.made {
-            return Reply::Refused(Refusal::Volume);
-        }
-        if f < 2 {
-            if self.files[f] {
-                return Reply::Refused(Refusal::Exists);
-            }
-            self.files[f] = true;
-        }
-        Reply::Done
-    }
-
-    fn write(&mut self, f: usize, b: usize, byte: u8) -> Reply {
-        if !self.made {
-            return Reply::Refused(Refusal::Volume);
-        }
-        if f < 2 && b < 2 {
-            if !self.files[f] {
-                return Reply::Refused(Refusal::File);
-            }
-            self.blocks[f][b] = Some(byte);
-        }
-        Reply::Done
-    }
-
-    fn read(&self, f: usize, b: usize) -> Reply {
-        if !self.made {
-            return Reply::Refused(Refusal::Volume);
-        }
-        if f < 2 && b < 2 {
-            if !self.files[f] {
-                return Reply::Refused(Refusal::File);
-            }
-            if let Some(byte) = self.blocks[f][b] {
-                return Reply::Block(Block([byte; 512]));
-            }
-        }
-        Reply::Hole
+fn steps_wanted<R: Env + Alloc>(rt: &R) -> u32 {
+    match env::var(rt, "MACHINE_STEPS") {
+        Ok(text) => text.as_str().parse::<u32>().unwrap_or(STEPS),
+        Err(_) => STEPS,
     }
 }
 
-/// The messages that came, by ticket, those that ran, and what is still to be answered, in log order.
-#[derive(Drop)]
-struct Awaited {
-    plain: Plain,
-    came: Vec<Msg>,
-    ran: Vec<u64>,
-    logged: usize,
-    told: Vec<(u64, Reply)>,
-    answered: usize,
-}
-
-impl Awaited {
-    fn new(alloc: Global) -> Awaited {
-        Awaited {
-            plain: Plain::new(),
-            came: Vec::new(alloc),
-            ran: Vec::new(alloc),
-            logged: 0,
-            told: Vec::new(alloc),
-            answered: 0,
-        }
-    }
-
-    /// Takes note of what came of a step, and whether it is as it has to be.
-    fn note(&mut self, step: &Step, outcome: &Outcome) -> Result<bool, AllocError> {
-        match (*step, *outcome) {
-            (Step::Arrive(message), Outcome::Ticket(ticket)) => {
-                let fits = ticket == self.came.len() as u64;
-                self.came.push(message)?;
-                Ok(fits)
-            }
-            (Step::Back(_), Outcome::Back(ticket)) => {
-                self.ran.push(ticket)?;
-                Ok(true)
-            }
-            (Step::Log(_), Outcome::Logged(count)) => self.log(count),
-            (Step::Answer, Outcome::Answered(ticket, reply)) => {
-                let fits = self.told.get(self.answered) == Some(&(ticket, reply));
-                self.answered = self.answered.saturating_add(1);
-                Ok(fits)
-            }
-            (Step::Answer, Outcome::Idle) => Ok(self.answered == self.told.len()),
-            _ => Ok(true),
-        }
-    }
-
-    fn log(&mut self, count: usize) -> Result<bool, AllocError> {
-        for _ in 0..count {
-            let Some(ticket) = self.ran.get(self.logged) else {
-                return Ok(false);
-            };
-            let ticket = *ticket;
-            let Some(message) = self.came.get(ticket as usize) else {
-                return Ok(false);
-            };
-            let reply = self.plain.answer(message);
-            self.told.push((ticket, reply))?;
-            self.logged = self.logged.saturating_add(1);
-        }
-        Ok(true)
-    }
-}
-
-/// The next number of a fixed sequence.
-fn next(seed: &mut u64) -> u64 {
-    *seed = seed
-        .wrapping_mul(6364136223846793005)
-        .wrapping_add(1442695040888963407);
-    *seed >> 33
-}
-
-fn random_message(seed: &mut u64) -> Msg {
-    let f = (next(seed) % 2) as u16;
-    let b = (next(seed) % 2) as u16;
-    match next(seed) % 8 {
-        0 => Msg::MakeVol(0, 0),
-        1 => Msg::Create(0, 0, f),
-        2 | 3 | 4 => Msg::Write(0, 0, f, b, Block([(next(seed) % 256) as u8; 512])),
-        _ => Msg::Read(0, 0, f, b),
-    }
-}
-
-fn random_step(seed: &mut u64, hands: usize) -> Step
-    requires { hands < 64 }
-{
-    let hand = (next(seed) % 8) as usize % (hands + 1);
-    match next(seed) % 16 {
-        0 | 1 | 2 => Step::Arrive(random_message(seed)),
-        3 | 4 => Step::Grant,
-        5 | 6 => Step::Run(hand),
-        7 | 8 => Step::Back(hand),
-        9 | 10 => Step::Log((next(seed) % 3) as usize),
-        11 | 12 => Step::Answer,
-        13 => Step::Point,
-        14 => Step::Cut,
-        _ => if next(seed) % 4 == 0 {
-            Step::Flip
-        } else {
-            Step::Piece
-        },
-    }
-}
-
-/// A list of random steps on a device that was just formatted.
-fn random_run(
+/// So many steps from this seed come out as they have to.
+fn random_steps(
     rt: &impl Abort,
     alloc: Global,
+    machine: ([u16; 8], usize, usize),
     seed: u64,
-    slots: usize,
-    hands: usize,
-) -> Result<(), Fail>
-    requires { hands < 64 }
-{
-    let Some(disk) = formatted(rt, alloc)? else {
-        return Ok(());
+    steps: u32,
+) -> Result<(), Wrong> {
+    let (numbers, slots, hands) = machine;
+    let Ok(g) = Geometry::new(numbers) else {
+        return Err(Wrong::Unfit);
     };
-    let Some(mut machine) = machine_on(rt, alloc, disk, slots, hands) else {
-        return Ok(());
-    };
-    let mut seed = seed;
-    let mut awaited = Awaited::new(alloc);
-    for _ in 0..STEPS {
-        let step = random_step(&mut seed, hands);
+    let mut machine = machine_on(alloc, device_with(alloc, numbers, &[])?, slots, hands)?;
+    let mut world = World::new(alloc, g, slots, hands)?;
+    let mut drawing = Drawing::new(seed);
+    for _ in 0..steps {
+        let step = drawing.step(&g, hands);
         let outcome = one(&mut machine, step);
-        holds(rt, awaited.note(&step, &outcome)?);
+        holds(rt, world.note(&step, &outcome)?);
     }
     Ok(())
 }
 
 #[test]
-fn random_steps_are_answered_in_log_order(rt: HostRuntime) -> Result<(), Fail> {
-    random_run(&rt, rt.alloc(), 1, 1, 1)?;
-    random_run(&rt, rt.alloc(), 2, 3, 2)?;
-    random_run(&rt, rt.alloc(), 3, 16, 4)?;
-    random_run(&rt, rt.alloc(), 4, 64, 8)?;
+fn random_steps_come_out_as_they_have_to(rt: HostRuntime) -> Result<(), Fail> {
+    let steps = steps_wanted(&rt);
+    for (seed, machine) in MACHINES.iter().enumerate() {
+        random_steps(&rt, rt.alloc(), *machine, seed as u64, steps)?;
+    }
     Ok(())
 }

@@ -1,132 +1,536 @@
 //! Worked lists of steps, with outcomes by hand.
-use crate::making::{formatted, gives, machine_on};
+use crate::making::Row::{Arrives, Does, Serves};
+use crate::making::{FLAT, Row, SMALL, goes_so, holds, machine_on};
+use checkpoint::inspect;
 use disk::MemDisk;
-use legal_runs::{Outcome, PointRefusal, Step};
-use machine::Machine;
-use message::{Block, Msg, Reply};
+use harness::{MIXED, NEW, OLD, Wrong, device_with, torn};
+use legal_runs::{ArriveRefusal, CoreFault, Outcome, PointRefusal, Step};
+use message::Reply;
+use std::alloc::Global;
 use std::process::Abort;
 use std::test::Fail;
 
-/// All that is done with one message, in hand 0.
-const WHOLE: [Step; 5] = [
-    Step::Grant,
-    Step::Run(0),
-    Step::Back(0),
-    Step::Log(1),
-    Step::Answer,
-];
-
-/// Makes a volume with a file, in a life of the device before that of the test.
-fn make_a_file(rt: &impl Abort, machine: &mut Machine<MemDisk>) {
-    let mut ignored = [Outcome::Idle; 5];
-    gives(
-        rt,
-        machine,
-        Step::Arrive(Msg::MakeVol(0, 0)),
-        Outcome::Ticket(0),
-    );
-    machine.run(&WHOLE, &mut ignored);
-    gives(
-        rt,
-        machine,
-        Step::Arrive(Msg::Create(0, 0, 0)),
-        Outcome::Ticket(1),
-    );
-    machine.run(&WHOLE, &mut ignored);
+/// A machine that was just opened, and all that it does.
+#[derive(Clone, Copy, Drop)]
+struct Life {
+    slots: usize,
+    hands: usize,
+    rows: &'static [Row],
 }
 
-/// Two writes of one file arrive, at stripes that aren't related.
-fn take_in_two_writes(rt: &impl Abort, machine: &mut Machine<MemDisk>) {
-    let block = Block([0x61; 512]);
-    gives(
-        rt,
-        machine,
-        Step::Arrive(Msg::Write(0, 0, 0, 0, block)),
-        Outcome::Ticket(0),
-    );
-    gives(
-        rt,
-        machine,
-        Step::Arrive(Msg::Write(0, 0, 0, 1, block)),
-        Outcome::Ticket(1),
-    );
+/// A device that was just formatted, and on which machines then live one after the other.
+#[derive(Clone, Copy, Drop)]
+struct Lives {
+    numbers: [u16; 8],
+    lives: &'static [Life],
 }
+
+/// The call of the device that fails, counted from where this is set.
+#[derive(Clone, Copy, Drop)]
+enum Fuse {
+    /// This call alone.
+    FailAt(u64),
+    /// This call and all behind it.
+    StopAt(u64),
+}
+
+/// A machine does these things on a device, which it gives back.
+fn lived(rt: &impl Abort, alloc: Global, device: MemDisk, life: &Life) -> Result<MemDisk, Wrong> {
+    let mut machine = machine_on(alloc, device, life.slots, life.hands)?;
+    goes_so(rt, &mut machine, life.rows);
+    Ok(machine.into_core().into_disk())
+}
+
+/// The device behind all lives.
+fn left_by(rt: &impl Abort, alloc: Global, lives: &Lives) -> Result<MemDisk, Wrong> {
+    let mut device = device_with(alloc, lives.numbers, &[])?;
+    for life in lives.lives {
+        device = lived(rt, alloc, device, life)?;
+    }
+    Ok(device)
+}
+
+/// How many calls a new device meets in the first so many rows of a life.
+fn calls_of(
+    rt: &impl Abort,
+    alloc: Global,
+    numbers: [u16; 8],
+    life: &Life,
+    first: usize,
+) -> Result<u64, Wrong> {
+    let rows = life.rows.get(..first).unwrap_or(&[]);
+    let device = device_with(alloc, numbers, &[])?;
+    let beginning = Life {
+        slots: life.slots,
+        hands: life.hands,
+        rows,
+    };
+    Ok(lived(rt, alloc, device, &beginning)?.calls())
+}
+
+/// The device behind a life on a new one, where this fuse is set behind the first so many rows.
+fn left_with(
+    rt: &impl Abort,
+    alloc: Global,
+    numbers: [u16; 8],
+    life: &Life,
+    first: usize,
+    fuse: Fuse,
+) -> Result<MemDisk, Wrong> {
+    let calls = calls_of(rt, alloc, numbers, life, first)?;
+    let mut device = device_with(alloc, numbers, &[])?;
+    match fuse {
+        Fuse::FailAt(n) => device.fail_at(calls.saturating_add(n.max(1))),
+        Fuse::StopAt(n) => device.stop_at(calls.saturating_add(n.max(1))),
+    }
+    lived(rt, alloc, device, life)
+}
+
+/// What is told of a device: the area that is named, how many records are in force, and how many volumes, files and
+/// blocks there are. Gives the device.
+fn is_shown(
+    rt: &impl Abort,
+    alloc: Global,
+    device: MemDisk,
+    area: usize,
+    records: usize,
+    summary: [u32; 3],
+) -> Result<MemDisk, Wrong> {
+    let Ok((shown, device)) = inspect(alloc, device) else {
+        return Err(Wrong::Unfit);
+    };
+    let [volumes, files, blocks] = summary;
+    let summary = Reply::Summary {
+        volumes,
+        files,
+        blocks,
+    };
+    holds(rt, shown.area == area && shown.records == records);
+    holds(rt, shown.summary == summary);
+    Ok(device)
+}
+
+// ---- what comes of steps
+
+/// A volume with a file.
+const A_FILE: Life = Life {
+    slots: 1,
+    hands: 1,
+    rows: &[
+        Serves("makevol 0 0", "done"),
+        Serves("create 0 0 0", "done"),
+    ],
+};
+
+/// What a refusal changes isn't logged.
+const REFUSED: Lives = Lives {
+    numbers: SMALL,
+    lives: &[Life {
+        slots: 1,
+        hands: 1,
+        rows: &[
+            Serves("makevol 0 0", "done"),
+            Serves("makevol 0 0", "error exists"),
+        ],
+    }],
+};
+
+/// A half of four records is full, and a point makes room.
+const FULL_LOG: Lives = Lives {
+    numbers: SMALL,
+    lives: &[Life {
+        slots: 1,
+        hands: 1,
+        rows: &[
+            Serves("makevol 0 0", "done"),
+            Serves("create 0 0 0", "done"),
+            Serves("create 0 0 1", "done"),
+            Serves("write 0 0 0 0 61", "done"),
+            Arrives("write 0 0 0 1 62", Outcome::Ticket(4)),
+            Does(Step::Grant, Outcome::NoRoom),
+            Does(Step::Point, Outcome::Pointed),
+            Does(Step::Grant, Outcome::Granted(0, 4)),
+        ],
+    }],
+};
+
+/// One hand, with and without something to do.
+const ONE_HAND: Life = Life {
+    slots: 1,
+    hands: 1,
+    rows: &[
+        Does(Step::Back(0), Outcome::Idle),
+        Does(Step::Run(0), Outcome::Idle),
+        Does(Step::Answer, Outcome::Idle),
+        Arrives("summary", Outcome::Ticket(0)),
+        Does(Step::Grant, Outcome::Granted(0, 0)),
+        Does(Step::Back(0), Outcome::Idle),
+        Does(Step::Run(0), Outcome::Ran),
+        Does(Step::Back(0), Outcome::Back(0)),
+        Does(Step::Log(1), Outcome::Logged(1)),
+        Does(
+            Step::Answer,
+            Outcome::Answered(
+                0,
+                Reply::Summary {
+                    volumes: 0,
+                    files: 0,
+                    blocks: 0,
+                },
+            ),
+        ),
+    ],
+};
+
+/// A write is related to no other stripe, but to the making of a file, which waits before it.
+const THREE_SLOTS: Lives = Lives {
+    numbers: SMALL,
+    lives: &[
+        A_FILE,
+        Life {
+            slots: 3,
+            hands: 3,
+            rows: &[
+                Arrives("write 0 0 0 0 61", Outcome::Ticket(0)),
+                Arrives("create 0 0 1", Outcome::Ticket(1)),
+                Arrives("write 0 0 0 1 62", Outcome::Ticket(2)),
+                Does(Step::Grant, Outcome::Granted(0, 0)),
+                Does(Step::Grant, Outcome::NoneEligible),
+                Does(Step::Run(0), Outcome::Ran),
+                Does(Step::Back(0), Outcome::Back(0)),
+                Does(Step::Grant, Outcome::NoneEligible),
+                Does(Step::Log(1), Outcome::Logged(1)),
+                Does(Step::Grant, Outcome::NoneEligible),
+                Does(Step::Answer, Outcome::Answered(0, Reply::Done)),
+                Does(Step::Grant, Outcome::Granted(0, 1)),
+                Arrives("summary", Outcome::Ticket(3)),
+                Arrives("summary", Outcome::ArriveRefused(ArriveRefusal::Full)),
+                Arrives("read 1 0 0 0", Outcome::ArriveRefused(ArriveRefusal::Range)),
+            ],
+        },
+    ],
+};
+
+/// A label and a block go side by side, and the seal behind them waits for both.
+const LABEL: Lives = Lives {
+    numbers: SMALL,
+    lives: &[
+        A_FILE,
+        Life {
+            slots: 3,
+            hands: 3,
+            rows: &[
+                Arrives("setlabel 0 0 61", Outcome::Ticket(0)),
+                Arrives("write 0 0 0 0 61", Outcome::Ticket(1)),
+                Arrives("seal 0 0", Outcome::Ticket(2)),
+                Does(Step::Grant, Outcome::Granted(0, 0)),
+                Does(Step::Grant, Outcome::Granted(1, 1)),
+                Does(Step::Grant, Outcome::NoneEligible),
+                Does(Step::Run(1), Outcome::Ran),
+                Does(Step::Back(1), Outcome::Back(1)),
+                Does(Step::Log(1), Outcome::Logged(1)),
+                Does(Step::Answer, Outcome::Answered(1, Reply::Done)),
+                Does(Step::Grant, Outcome::NoneEligible),
+                Does(Step::Run(0), Outcome::Ran),
+                Does(Step::Back(0), Outcome::Back(0)),
+                Does(Step::Log(1), Outcome::Logged(1)),
+                Does(Step::Grant, Outcome::NoneEligible),
+                Does(Step::Answer, Outcome::Answered(0, Reply::Done)),
+                Does(Step::Grant, Outcome::Granted(0, 2)),
+            ],
+        },
+    ],
+};
+
+/// Two writes of one file, in two stripes, go side by side.
+const SIDE_BY_SIDE: Lives = Lives {
+    numbers: SMALL,
+    lives: &[
+        A_FILE,
+        Life {
+            slots: 2,
+            hands: 2,
+            rows: &[
+                Arrives("write 0 0 0 0 61", Outcome::Ticket(0)),
+                Arrives("write 0 0 0 1 62", Outcome::Ticket(1)),
+                Does(Step::Grant, Outcome::Granted(0, 0)),
+                Does(Step::Grant, Outcome::Granted(1, 1)),
+                Does(Step::Point, Outcome::PointRefused(PointRefusal::Held)),
+                Does(Step::Run(1), Outcome::Ran),
+                Does(Step::Back(1), Outcome::Back(1)),
+                Does(Step::Log(1), Outcome::Logged(1)),
+                Does(Step::Answer, Outcome::Answered(1, Reply::Done)),
+                Does(Step::Run(0), Outcome::Ran),
+                Does(Step::Back(0), Outcome::Back(0)),
+                Does(Step::Log(4), Outcome::Logged(1)),
+                Does(Step::Answer, Outcome::Answered(0, Reply::Done)),
+                Does(Step::Point, Outcome::Pointed),
+            ],
+        },
+    ],
+};
+
+/// The steps of a point in pieces, in and out of place.
+const IN_PIECES: Lives = Lives {
+    numbers: SMALL,
+    lives: &[Life {
+        slots: 1,
+        hands: 1,
+        rows: &[
+            Does(Step::Cut, Outcome::Cut),
+            Does(Step::Cut, Outcome::PointRefused(PointRefusal::Running)),
+            Does(Step::Flip, Outcome::PointRefused(PointRefusal::Unfinished)),
+            Does(Step::Piece, Outcome::Left(2)),
+            Does(Step::Piece, Outcome::Left(1)),
+            Does(Step::Piece, Outcome::Left(0)),
+            Does(Step::Piece, Outcome::Left(0)),
+            Does(Step::Flip, Outcome::Flipped),
+            Does(Step::Flip, Outcome::PointRefused(PointRefusal::NotRunning)),
+        ],
+    }],
+};
 
 #[test]
-fn two_writes_go_side_by_side(rt: HostRuntime) -> Result<(), Fail> {
-    let Some(disk) = formatted(&rt, rt.alloc())? else {
-        return Ok(());
-    };
-    let Some(mut machine) = machine_on(&rt, rt.alloc(), disk, 4, 2) else {
-        return Ok(());
-    };
-    make_a_file(&rt, &mut machine);
-    let disk = machine.into_core().into_disk();
-    let Some(mut machine) = machine_on(&rt, rt.alloc(), disk, 2, 2) else {
-        return Ok(());
-    };
-    take_in_two_writes(&rt, &mut machine);
-    gives(&rt, &mut machine, Step::Grant, Outcome::Granted(0, 0));
-    gives(&rt, &mut machine, Step::Grant, Outcome::Granted(1, 1));
-    gives(
-        &rt,
-        &mut machine,
-        Step::Point,
-        Outcome::PointRefused(PointRefusal::Held),
-    );
-    gives(&rt, &mut machine, Step::Run(1), Outcome::Ran);
-    gives(&rt, &mut machine, Step::Back(1), Outcome::Back(1));
-    gives(&rt, &mut machine, Step::Log(1), Outcome::Logged(1));
-    gives(
-        &rt,
-        &mut machine,
-        Step::Answer,
-        Outcome::Answered(1, Reply::Done),
-    );
-    gives(&rt, &mut machine, Step::Run(0), Outcome::Ran);
-    gives(&rt, &mut machine, Step::Back(0), Outcome::Back(0));
-    gives(&rt, &mut machine, Step::Log(4), Outcome::Logged(1));
-    gives(
-        &rt,
-        &mut machine,
-        Step::Answer,
-        Outcome::Answered(0, Reply::Done),
-    );
-    gives(&rt, &mut machine, Step::Point, Outcome::Pointed);
+fn steps_come_out_so(rt: HostRuntime) -> Result<(), Fail> {
+    for lives in [FULL_LOG, THREE_SLOTS, LABEL, SIDE_BY_SIDE, IN_PIECES] {
+        left_by(&rt, rt.alloc(), &lives)?;
+    }
     Ok(())
 }
 
 #[test]
-fn a_point_in_pieces(rt: HostRuntime) -> Result<(), Fail> {
-    let Some(disk) = formatted(&rt, rt.alloc())? else {
-        return Ok(());
-    };
-    let Some(mut machine) = machine_on(&rt, rt.alloc(), disk, 1, 1) else {
-        return Ok(());
-    };
-    gives(&rt, &mut machine, Step::Cut, Outcome::Cut);
-    gives(
-        &rt,
-        &mut machine,
-        Step::Cut,
-        Outcome::PointRefused(PointRefusal::Running),
-    );
-    gives(
-        &rt,
-        &mut machine,
-        Step::Flip,
-        Outcome::PointRefused(PointRefusal::Unfinished),
-    );
-    gives(&rt, &mut machine, Step::Piece, Outcome::Left(2));
-    gives(&rt, &mut machine, Step::Piece, Outcome::Left(1));
-    gives(&rt, &mut machine, Step::Piece, Outcome::Left(0));
-    gives(&rt, &mut machine, Step::Piece, Outcome::Left(0));
-    gives(&rt, &mut machine, Step::Flip, Outcome::Flipped);
-    gives(
-        &rt,
-        &mut machine,
-        Step::Flip,
-        Outcome::PointRefused(PointRefusal::NotRunning),
-    );
+fn a_refusal_is_no_record(rt: HostRuntime) -> Result<(), Fail> {
+    let device = left_by(&rt, rt.alloc(), &REFUSED)?;
+    is_shown(&rt, rt.alloc(), device, 1, 1, [1, 0, 0])?;
+    Ok(())
+}
+
+#[test]
+fn a_query_leaves_the_device_alone(rt: HostRuntime) -> Result<(), Fail> {
+    let opening = calls_of(&rt, rt.alloc(), SMALL, &ONE_HAND, 0)?;
+    let calls = calls_of(&rt, rt.alloc(), SMALL, &ONE_HAND, ONE_HAND.rows.len())?;
+    holds(&rt, calls == opening);
+    Ok(())
+}
+
+// ---- what a fault and a crash leave
+
+/// A change that runs, and the device fails where it is logged.
+const LOG_FAILS: Life = Life {
+    slots: 2,
+    hands: 1,
+    rows: &[
+        Arrives("makevol 0 0", Outcome::Ticket(0)),
+        Does(Step::Grant, Outcome::Granted(0, 0)),
+        Does(Step::Run(0), Outcome::Ran),
+        Does(Step::Back(0), Outcome::Back(0)),
+        Does(Step::Log(1), Outcome::LogFault(CoreFault::Device)),
+        Does(Step::Grant, Outcome::Failed),
+        Arrives("summary", Outcome::ArriveRefused(ArriveRefusal::Failed)),
+        Does(Step::Answer, Outcome::Idle),
+        Does(Step::Log(1), Outcome::LogFault(CoreFault::Failed)),
+        Does(Step::Point, Outcome::PointRefused(PointRefusal::Failed)),
+        Does(Step::Cut, Outcome::PointRefused(PointRefusal::Failed)),
+        Does(Step::Piece, Outcome::PointRefused(PointRefusal::Failed)),
+        Does(Step::Flip, Outcome::PointRefused(PointRefusal::Failed)),
+    ],
+};
+
+/// How many volumes there are once the device has failed so in a log, and a crash of this kind came, or none.
+fn leaves_volumes(
+    rt: &impl Abort,
+    alloc: Global,
+    fuse: Fuse,
+    crash: Option<usize>,
+    volumes: u32,
+) -> Result<(), Wrong> {
+    let mut device = left_with(rt, alloc, SMALL, &LOG_FAILS, 4, fuse)?;
+    if let Some(kind) = crash {
+        device = device.crash(torn(alloc, kind)?);
+    }
+    let machine = machine_on(alloc, device, 1, 1)?;
+    let device = machine.into_core().into_disk();
+    is_shown(rt, alloc, device, 0, 0, [volumes, 0, 0])?;
+    Ok(())
+}
+
+#[test]
+fn a_fault_of_a_log_leaves_a_beginning(rt: HostRuntime) -> Result<(), Fail> {
+    // Its third call writes the gate, and its fourth one syncs that.
+    leaves_volumes(&rt, rt.alloc(), Fuse::StopAt(3), Some(OLD), 0)?;
+    leaves_volumes(&rt, rt.alloc(), Fuse::StopAt(3), Some(NEW), 1)?;
+    leaves_volumes(&rt, rt.alloc(), Fuse::FailAt(2), None, 0)?;
+    leaves_volumes(&rt, rt.alloc(), Fuse::FailAt(3), None, 0)?;
+    leaves_volumes(&rt, rt.alloc(), Fuse::FailAt(4), None, 1)?;
+    Ok(())
+}
+
+/// Three blocks are written side by side, and the device stops where they are logged, at the write of their gates.
+const THREE_WRITES: Life = Life {
+    slots: 3,
+    hands: 3,
+    rows: &[
+        Serves("makevol 0 0", "done"),
+        Serves("create 0 0 0", "done"),
+        Does(Step::Point, Outcome::Pointed),
+        Arrives("write 0 0 0 0 61", Outcome::Ticket(2)),
+        Arrives("write 0 0 0 1 62", Outcome::Ticket(3)),
+        Arrives("write 0 0 0 2 63", Outcome::Ticket(4)),
+        Does(Step::Grant, Outcome::Granted(0, 2)),
+        Does(Step::Grant, Outcome::Granted(1, 3)),
+        Does(Step::Grant, Outcome::Granted(2, 4)),
+        Does(Step::Run(0), Outcome::Ran),
+        Does(Step::Run(1), Outcome::Ran),
+        Does(Step::Run(2), Outcome::Ran),
+        Does(Step::Back(0), Outcome::Back(2)),
+        Does(Step::Back(1), Outcome::Back(3)),
+        Does(Step::Back(2), Outcome::Back(4)),
+        Does(Step::Log(3), Outcome::LogFault(CoreFault::Device)),
+    ],
+};
+
+/// The gates are open, shut and open: the first block alone is there. Another one takes its place.
+const FIRST_BLOCK: Life = Life {
+    slots: 1,
+    hands: 1,
+    rows: &[
+        Serves("read 0 0 0 0", "block 61"),
+        Serves("read 0 0 0 1", "hole"),
+        Serves("read 0 0 0 2", "hole"),
+        Serves("punch 0 0 0 0", "done"),
+        Serves("write 0 0 0 3 64", "done"),
+    ],
+};
+
+/// What lay behind the shut gate is gone.
+const LAST_BLOCK: Life = Life {
+    slots: 1,
+    hands: 1,
+    rows: &[
+        Serves("read 0 0 0 0", "hole"),
+        Serves("read 0 0 0 1", "hole"),
+        Serves("read 0 0 0 2", "hole"),
+        Serves("read 0 0 0 3", "block 64"),
+    ],
+};
+
+#[test]
+fn torn_gates_leave_a_beginning(rt: HostRuntime) -> Result<(), Fail> {
+    let alloc = rt.alloc();
+    let device = left_with(&rt, alloc, FLAT, &THREE_WRITES, 15, Fuse::StopAt(3))?;
+    let device = device.crash(torn(alloc, MIXED)?);
+    let device = lived(&rt, alloc, device, &FIRST_BLOCK)?;
+    let device = device.crash(torn(alloc, OLD)?);
+    lived(&rt, alloc, device, &LAST_BLOCK)?;
+    Ok(())
+}
+
+/// A change before a cut, and one behind it.
+const BEHIND_A_CUT: Lives = Lives {
+    numbers: SMALL,
+    lives: &[Life {
+        slots: 1,
+        hands: 1,
+        rows: &[
+            Serves("makevol 0 0", "done"),
+            Does(Step::Cut, Outcome::Cut),
+            Serves("create 0 0 0", "done"),
+        ],
+    }],
+};
+
+/// The same, and the point is ended.
+const BEHIND_A_FLIP: Lives = Lives {
+    numbers: SMALL,
+    lives: &[Life {
+        slots: 1,
+        hands: 1,
+        rows: &[
+            Serves("makevol 0 0", "done"),
+            Does(Step::Cut, Outcome::Cut),
+            Serves("create 0 0 0", "done"),
+            Does(Step::Piece, Outcome::Left(2)),
+            Does(Step::Piece, Outcome::Left(1)),
+            Does(Step::Piece, Outcome::Left(0)),
+            Does(Step::Flip, Outcome::Flipped),
+        ],
+    }],
+};
+
+/// Both changes are there.
+const BOTH: Life = Life {
+    slots: 1,
+    hands: 1,
+    rows: &[Serves("list 0 0", "files 0")],
+};
+
+/// What a crash behind these lives leaves is shown so. Both changes are there once it is opened, and area 1 is named.
+fn has_both(
+    rt: &impl Abort,
+    alloc: Global,
+    lives: &Lives,
+    area: usize,
+    records: usize,
+) -> Result<(), Wrong> {
+    let device = left_by(rt, alloc, lives)?.crash(torn(alloc, OLD)?);
+    let device = is_shown(rt, alloc, device, area, records, [1, 1, 0])?;
+    let device = lived(rt, alloc, device, &BOTH)?;
+    is_shown(rt, alloc, device, 1, 0, [1, 1, 0])?;
+    Ok(())
+}
+
+#[test]
+fn changes_behind_a_cut_are_there(rt: HostRuntime) -> Result<(), Fail> {
+    has_both(&rt, rt.alloc(), &BEHIND_A_CUT, 1, 2)?;
+    has_both(&rt, rt.alloc(), &BEHIND_A_FLIP, 0, 1)?;
+    Ok(())
+}
+
+/// Cuts, of which each writes the pieces that have changed since its area was written.
+const CHANGED_PIECES: Life = Life {
+    slots: 1,
+    hands: 1,
+    rows: &[
+        // Into area 0, of which nothing is known.
+        Does(Step::Cut, Outcome::Cut),
+        Does(Step::Piece, Outcome::Left(2)),
+        Does(Step::Piece, Outcome::Left(1)),
+        Does(Step::Piece, Outcome::Left(0)),
+        Does(Step::Flip, Outcome::Flipped),
+        Serves("makevol 0 0", "done"),
+        Does(Step::Cut, Outcome::Cut),
+        Does(Step::Piece, Outcome::Left(0)),
+        Does(Step::Flip, Outcome::Flipped),
+        Serves("create 0 0 0", "done"),
+        Serves("write 0 0 0 0 61", "done"),
+        // Into area 0, which lacks the volume too.
+        Does(Step::Cut, Outcome::Cut),
+        Does(Step::Piece, Outcome::Left(1)),
+        Does(Step::Piece, Outcome::Left(0)),
+        Does(Step::Flip, Outcome::Flipped),
+        // Area 1 lacks the file and its block.
+        Does(Step::Cut, Outcome::Cut),
+        Does(Step::Piece, Outcome::Left(1)),
+        Does(Step::Piece, Outcome::Left(0)),
+        Does(Step::Flip, Outcome::Flipped),
+        // Area 0 lacks nothing.
+        Does(Step::Cut, Outcome::Cut),
+        Does(Step::Piece, Outcome::Left(0)),
+        Does(Step::Flip, Outcome::Flipped),
+    ],
+};
+
+#[test]
+fn cuts_write_what_has_changed(rt: HostRuntime) -> Result<(), Fail> {
+    let alloc = rt.alloc();
+    let last_cut = calls_of(&rt, alloc, SMALL, &CHANGED_PIECES, 20)?;
+    let no_piece = calls_of(&rt, alloc, SMALL, &CHANGED_PIECES, 21)?;
+    holds(&rt, no_piece == last_cut);
+    let device = device_with(alloc, SMALL, &[])?;
+    let device = lived(&rt, alloc, device, &CHANGED_PIECES)?;
+    let device = device.crash(torn(alloc, OLD)?);
+    let machine = machine_on(alloc, device, 1, 1)?;
+    let device = machine.into_core().into_disk();
+    is_shown(&rt, alloc, device, 1, 0, [1, 1, 1])?;
     Ok(())
 }
