@@ -90,11 +90,11 @@ impl Turns {
     pub fn next(&self, room: bool) -> Option<Turn>
         ensures { result ≡ next_turn room self.now.held self.now.waiting }
     {
-        let mut best = None;
+        let mut best = self.marks.len(); // no one is marked there
         for number in 0..affinities(&self.geometry) {
-            best = better(room, best, self.marks.at(number));
+            best = better(room, &self.marks, best, number);
         }
-        best
+        self.marks.at(best).copied()
     }
 
     /// The slot of the one that is held at an affinity. None where no one is held there.
