@@ -171,7 +171,8 @@ fn help_goes_to_the_output(rt: HostRuntime) -> Result<(), Fail> {
     expect_helps(&rt, &HELP, "Usage: waffd ")
 }
 
-const COMMANDS: [&str; 3] = [
+const COMMANDS: [&str; 4] = [
+    "A server for messages about files of 512-byte blocks\n",
     "  plain   Answers the messages",
     "  format  Makes a device",
     "  show    Tells what the device",
