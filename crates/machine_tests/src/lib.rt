@@ -14,4 +14,6 @@ mod rows;
 #[cfg(test)]
 mod serial;
 #[cfg(test)]
+mod trials;
+#[cfg(test)]
 mod world;
