@@ -18,5 +18,7 @@ pub mod Served
 pub mod Rows
 pub mod Said
 pub mod Advancing
+pub mod Starting
+pub mod Promises
 -- ---- this crate's own
 mod Examples

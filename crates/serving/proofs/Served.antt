@@ -45,7 +45,7 @@ module _ (keeps : Type 0) (start now : Handed) (idle : IsIdle (world_of start.co
   abbrev x : State
   x = settled start.core
 
-  sound : IsSound g (world_of start.core)
+  pub sound : IsSound g (world_of start.core)
   sound = idle_sound (world_of start.core) idle g
 
   -- ---- of a run
@@ -164,11 +164,11 @@ module _ (keeps : Type 0) (start now : Handed) (idle : IsIdle (world_of start.co
       ∙ ap (λ ls. take (length h.said) (output_lines g x ls)) (sym h.takes.2.to_come) in
       (failed, (joined (map text h.said), h.output, (length h.said, ap joined all)))
 
-  first_taken : (input left : Option (List ℕ)) (ended : Bool) (taken : List (List ℕ)) → Takes input left ended taken → AreFirst input taken
+  pub first_taken : (input left : Option (List ℕ)) (ended : Bool) (taken : List (List ℕ)) → Takes input left ended taken → AreFirst input taken
   first_taken None left ended taken t = tt
   first_taken (Some input) left ended taken t = (lines t.0, t.2.to_come)
 
-  pub has_served : (row : List Line) (input left : Option (List ℕ)) (ended : Bool) (before written : Option (List ℕ))
+  unfoldable pub has_served : (row : List Line) (input left : Option (List ℕ)) (ended : Bool) (before written : Option (List ℕ))
       → Goes keeps start now row input left ended before written → HasServed keeps start now.core row input before written
   has_served row input left ended before written h =
       let p = h.serving.passes in

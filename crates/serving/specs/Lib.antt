@@ -7,3 +7,4 @@ pub mod Pointing
 pub mod Lending
 pub mod Ends
 pub mod Stops
+pub mod Serve

@@ -4,10 +4,13 @@
 //! The definitions stand in `specs/`, and the laws that they obey are the contracts of the functions of `laws`, which do
 //! nothing. `row` has the lines that were read and not answered, and `saying` writes their answers. `steps`, `lending` and
 //! `points` have the calls that a server makes between lines, and `session` with `turn` and `ending` what it does with them
-//! while it reads no line; the loop that reads is yet to come.
+//! while it reads no line. The loop that reads is yet to come: `dispatch` has its contract alone, over which `serve`, the whole
+//! call with its memory and its threads, is proved.
 #![tactic(auto)]
 
 mod course;
+mod crew;
+mod dispatch;
 mod ending;
 mod fault;
 pub mod laws;
@@ -15,6 +18,7 @@ mod lending;
 mod points;
 mod row;
 mod saying;
+mod serve;
 mod session;
 mod steps;
 mod turn;

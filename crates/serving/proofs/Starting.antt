@@ -1,0 +1,80 @@
+-- Where a server begins: nothing is read or written, nothing is lent, and no message is in it.
+use Rattle.std.proofs.Common.{◌≡◌, ℕ, zero, suc, false, List, [], Option, Some, None, refl, ap, sym, ◌∙◌, subst, map, take, inr, append-nil, arith, replicate}
+use Rattle.std.specs.Io.KnownBytes.{Appends}
+use Rattle.std.proofs.Math.Seq.{take-nil}
+use Rattle.std.proofs.lemmas.Option.{none-some}
+use Rattle.affinity.specs.declared.geometry.Geometry.{Geometry}
+use Rattle.disk.proofs.Moments.{started}
+use Rattle.journal.specs.Journal.{HoldsSome}
+use Rattle.legal_runs.specs.Laws.{IsSound}
+use Rattle.machine.specs.Machine.{Handed, IsHandOf, hand_at, machine_of, ticket_in}
+use Rattle.machine.specs.declared.hands.Hand.TheVariants as has
+use Rattle.plain.specs.Progress.{Takes}
+use Rattle.plain.specs.Serial.{fold}
+use Rattle.scheduler.specs.Kept.{Kept, StandsNow, world_of}
+use Rattle.serving.specs.Going.{Goes}
+use Rattle.serving.specs.Runs.{IsLeftBy, Passes, hand_of, with_lent}
+use Rattle.serving.specs.Steps.{Holds}
+
+-- ---- nothing is lent
+
+all_empty : (n i : ℕ) → hand_at (map hand_of (replicate n None)) i ≡ has.Empty
+all_empty zero i = refl
+all_empty (suc n) zero = refl
+all_empty (suc n) (suc i) = all_empty n i
+
+-- ---- nothing has happened
+
+takes_none : (input : Option (List ℕ)) → Takes input input false []
+takes_none None = tt
+takes_none (Some input) = (input, refl, record { to_come = refl; are_lines = tt; whole = inr refl })
+
+adds_none : (known : Option (List ℕ)) → Appends known known []
+adds_none None = tt
+adds_none (Some bytes) = sym (append-nil bytes)
+
+module _ (keeps : Type 0) (start : Handed) (works : start.core.failed ≡ false) (no_doubt : start.core.doubt ≡ [])
+    (stands : keeps → StandsNow start.core) where
+  abbrev g : Geometry
+  g = start.core.geometry
+
+  left_now : (c : List ℕ) → HoldsSome g (world_of start.core).settled start.core.doubt c → IsLeftBy g (machine_of start) [] c
+  left_now c h =
+      let none : take h.added start.core.doubt ≡ [] = ap (take h.added) no_doubt ∙ take-nil h.added in
+      record {
+        state = fold g (world_of start.core).settled (take h.added start.core.doubt);
+        is = h.is;
+        left = record { some = 0; at_most = omega arith; state = ap (fold g (world_of start.core).settled) none };
+      }
+
+  stays : Passes keeps start start [] []
+  stays = record {
+    events = [];
+    legal = tt;
+    ends = refl;
+    geometry = refl;
+    come_are = refl;
+    told_are = refl;
+    crash = λ kept. started start.core.medium (IsLeftBy g (machine_of start) []) (λ c left. left_now c (stands kept c left));
+  }
+
+  pub starts : (input before : Option (List ℕ)) → Goes keeps start start [] input input false before before
+  starts input before = record {
+    taken = [];
+    said = [];
+    takes = takes_none input;
+    serving = record { told = []; passes = stays; known = tt; answered = tt };
+    output = adds_none before;
+  }
+
+-- ---- what is lent
+
+none_in_hand : (n i ticket : ℕ) → ticket_in (hand_at (map hand_of (replicate n None)) i) ≡ Some ticket → ⊥
+none_in_hand n i ticket at = none-some (ticket) (sym (ap ticket_in (all_empty n i)) ∙ at)
+
+pub holds_at_start : (core : Kept) (n : ℕ) → IsSound core.geometry (world_of core) → Holds (with_lent core (replicate n None))
+holds_at_start core n sound = record {
+  sound = sound;
+  each = λ i. subst (IsHandOf core.geometry (world_of core)) (sym (all_empty n i)) tt;
+  once = λ i k ticket at others. absurd (none_in_hand n i ticket at);
+}

@@ -1,0 +1,56 @@
+-- What a server promises of its whole call, by the answer that it gives.
+use Rattle.std.specs.Prelude.{◌≡◌, ◌≢◌, ℕ, List, [], Option, Some, None, Result, Ok, Err}
+use Rattle.legal_runs.specs.Events.{Event}
+use Rattle.machine.specs.Machine.{Handed}
+use Rattle.message.specs.Lines.{lines}
+use Rattle.oplog.specs.Layout.{layout_of}
+use Rattle.oplog.specs.Stands.{in_force, named_area}
+use Rattle.scheduler.specs.Kept.{Kept}
+use Rattle.serving.specs.Ends.{HasRun, HasServed}
+use Rattle.serving.specs.Lines.{Line}
+use Rattle.serving.specs.declared.fault.ServeFault.{ServeFault}
+use Rattle.serving.specs.declared.fault.ServeFault.TheVariants as faults
+
+-- the lines are all of the input, where it is known
+abbrev pub AreAll : Option (List ℕ) → List (List ℕ) → Type 0
+AreAll None taken = Unit {0}
+AreAll (Some input) taken = lines input ≡ taken
+
+-- There is a run behind what was written, and each line of the input is answered in the output.
+pub record HasServedAll (keeps : Type 0) (start : Handed) (new : Kept) (input before written : Option (List ℕ)) : Type 0 where
+  pub served : HasServed keeps start new [] input before written
+  pub all : AreAll input served.taken
+
+-- There is a run behind what was written. Each line that was taken is answered in the output, but for a row of them where the device
+-- failed. Where the output failed it is open what was written.
+abbrev pub HasRunSo : Type 0 → Handed → Kept → Option (List ℕ) → Option (List ℕ) → Option (List ℕ) → Result (Unit {0}) ServeFault → Type 0
+HasRunSo keeps start new input before written (Ok _) = HasServedAll keeps start new input before written
+HasRunSo keeps start new input before written (Err faults.Device) = (row : List Line) × HasServed keeps start new row input before written
+HasRunSo keeps start new input before written (Err faults.Write) =
+    (taken : List (List ℕ)) × (events : List Event) × HasRun keeps start new input taken events
+HasRunSo keeps start new input before written (Err _) = HasServed keeps start new [] input before written
+
+-- None of the answers waits to be written, unless the output failed.
+abbrev pub AllSent : List ℕ → Result (Unit {0}) ServeFault → Type 0
+AllSent waiting (Err faults.Write) = Unit {0}
+AllSent waiting _ = waiting ≡ []
+
+-- It is refused for want of workers just where there are none.
+abbrev pub RefusesNone : ℕ → Result (Unit {0}) ServeFault → Type 0
+RefusesNone workers (Err faults.NoWorkers) = workers ≡ 0
+RefusesNone workers _ = workers ≢ 0
+
+-- It is no refusal of a server that has not begun.
+abbrev pub HasBegun : Result (Unit {0}) ServeFault → Type 0
+HasBegun (Err faults.NoWorkers) = ⊥
+HasBegun (Err faults.OutOfMemory) = ⊥
+HasBegun _ = Unit {0}
+
+-- It is no refusal for want of workers.
+abbrev pub HasWorkers : Result (Unit {0}) ServeFault → Type 0
+HasWorkers (Err faults.NoWorkers) = ⊥
+HasWorkers _ = Unit {0}
+
+-- no record of the log is in force
+abbrev pub HasEmptyLog : Kept → Type 0
+HasEmptyLog c = in_force (layout_of c.geometry) (named_area (layout_of c.geometry) c.medium.now) c.medium.now ≡ []

@@ -1,0 +1,79 @@
+//! Workers in threads of their own, for as long as a duty at their bench takes.
+
+ghost use Rattle.std.specs.Prelude.{◌≡◌, ◌≤◌, All, None, replicate};
+
+use std::alloc::Global;
+use std::sync::Wait;
+use std::thread;
+use std::thread::Threads;
+use workers::{Bench, DispatchSeat, Gate};
+
+/// What the calling thread does at a bench while others work there.
+pub(crate) trait Duty {
+    /// What comes of it.
+    type Output;
+
+    ghost use Rattle.std.specs.Prelude.{◌≡◌, ℕ, None, replicate};
+
+    /// Whether it can be begun.
+    ghost can_begin: { Self → Type 0 };
+
+    /// What comes of it at a bench of so many places, where nothing is lent at first.
+    ghost gives: { Self → ℕ → Self.Output → Type 0 };
+
+    /// Does it.
+    fn fulfil<T: Wait, G: Gate>(
+        self,
+        rt: &T,
+        bench: &Bench,
+        desk: &mut DispatchSeat,
+        gate: &G,
+    ) -> Self::Output
+        requires can_begin { can_begin self }
+        requires bench { desk.old.bench ≡ bench.now }
+        requires lent { desk.old.lent ≡ replicate bench.now.slots None }
+        ensures gives { gives self bench.now.slots result }
+        ensures bench { desk.new.bench ≡ desk.old.bench };
+
+    /// Leaves it undone, since there is no memory or a worker can't be started.
+    fn decline(self) -> Self::Output
+        requires can_begin { can_begin self }
+        ensures gives { (places : ℕ) → gives self places result };
+}
+
+/// Does a duty while so many workers run at a bench of as many places. Declines it where there is no
+/// memory or one of them can't be started.
+pub(crate) fn with_workers<T: Threads + Wait + Sync, G: Gate + Sync, S: Duty<Output = A> + Drop, A>(
+    rt: &T,
+    alloc: Global,
+    workers: usize,
+    gate: &G,
+    duty: S,
+) -> A
+    requires places { workers ≤ 64 }
+    requires can_begin { S.can_begin duty }
+    ensures { S.gives duty workers result }
+{
+    let Ok((bench, desk, seats)) = Bench::open(alloc, workers, workers) else {
+        return duty.decline();
+    };
+    let bench = &bench;
+    thread::scope(
+        thread::scope_env(),
+        rt,
+        move |scope| -> A
+            requires can_begin { S.can_begin duty }
+            requires desk { (desk.bench ≡ bench.now) × (desk.lent ≡ replicate bench.now.slots None) }
+            requires seats { All (λ w. w ≡ bench.now) seats.items }
+            ensures { S.gives duty bench.entry.now.slots result }
+        {
+            let mut desk = desk;
+            if bench.start(rt, scope, &mut desk, seats, gate).is_err() {
+                return duty.decline();
+            }
+            let output = duty.fulfil(rt, bench, &mut desk, gate);
+            bench.stop(&mut desk);
+            output
+        },
+    )
+}

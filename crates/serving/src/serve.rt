@@ -1,0 +1,228 @@
+//! The whole call of a server: its memory, its workers and its end. It is not given out while the loop in it has no body.
+
+ghost use Rattle.std.specs.Prelude.{◌≡◌, ◌≤◌, ℕ, false, List, [], None, Ok, Err, IfOk, MatchResult, OnOk, replicate, vec_len};
+ghost use Rattle.legal_runs.specs.Laws.{IsIdle};
+ghost use Rattle.scheduler.specs.Kept.{world_of};
+ghost use Rattle.serving.specs.Ends.{EndsSo};
+ghost use Rattle.serving.specs.Runs.{with_lent};
+ghost use Rattle.serving.specs.Serve.{HasBegun, HasEmptyLog, HasRunSo, RefusesNone};
+
+use crate::crew::{Duty, with_workers};
+use crate::dispatch::dispatch;
+use crate::fault::ServeFault;
+use disk::Disk;
+use message::{LentReader, LineReader, Loan, ReplyBuffer};
+use scheduler::Core;
+use std::alloc::{AllocError, Global};
+use std::io::{Read, Write};
+use std::marker::{Brand, PhantomData};
+use std::sync::Wait;
+use std::thread::Threads;
+use workers::{Bench, DispatchSeat, Gate};
+
+/// How many bytes are read at a time.
+const READ_SIZE: usize = 65536;
+
+/// The core of a server that ended before the end of its input, and why it did.
+#[derive(Drop)]
+pub struct ServeError<D: Disk> {
+    /// The core, as the server left it.
+    pub core: Core<D>,
+    /// Why the server ended.
+    pub fault: ServeFault,
+}
+
+// What a server takes before it reads: room for what is read, and for the answers that wait.
+#[derive(Drop)]
+struct Buffers {
+    input: Vec<u8>,
+    out: ReplyBuffer,
+}
+
+// Takes the memory that the lines need.
+fn take_buffers(alloc: Global) -> Result<Buffers, AllocError>
+    ensures room { IfOk result (λ buffers. 1101 ≤ vec_len buffers.input) }
+    ensures none_waits { IfOk result (λ buffers. buffers.out ≡ []) }
+{
+    Ok(Buffers {
+        input: vec![in alloc; 0; READ_SIZE]?,
+        out: ReplyBuffer::new(alloc)?,
+    })
+}
+
+// Serves the lines of a reader that is lent, and gives it back.
+fn serve_lent<'a, T: Wait, R: Read, W: Write, D: Disk, G: Gate, L: Loan>(
+    rt: &T,
+    reader: &'a mut R,
+    w: &mut W,
+    buffers: Buffers,
+    core: &mut Core<D>,
+    bench: &Bench,
+    desk: &mut DispatchSeat,
+    gate: &G,
+    every: usize,
+    of: PhantomData<L>,
+) -> (Result<(), ServeFault>, &'a mut R)
+    requires name { reader.ghost_name ≡ L.name }
+    requires room { 1101 ≤ vec_len buffers.input }
+    requires none_waits { buffers.out ≡ [] }
+    requires bench { desk.old.bench ≡ bench.now }
+    requires lent { desk.old.lent ≡ replicate bench.now.slots None }
+    requires idle { IsIdle (world_of core.old) }
+    requires works { core.old.failed ≡ false }
+    ensures same { result.1.ghost_name ≡ reader.entry.ghost_name }
+    ensures run { HasRunSo D.keeps (with_lent core.old desk.old.lent) core.new (R.remaining reader.old)
+        (W.contents w.old) (W.contents w.new) result.0 }
+    ensures ends { EndsSo core.old core.new (R.remaining reader.old) (R.remaining result.1.now)
+        (W.contents w.old) (W.contents w.new) result.0 }
+    ensures emptied { OnOk result.0 (D.keeps → HasEmptyLog core.new) }
+    ensures begun { HasBegun result.0 }
+    ensures bench { desk.new.bench ≡ desk.old.bench }
+{
+    let Buffers { input, mut out } = buffers;
+    let mut lines = LineReader::new(LentReader { reader, of }, input);
+    let ended = dispatch(rt, &mut lines, w, &mut out, core, bench, desk, gate, every);
+    let LentReader { reader, of: _ } = lines.into_inner();
+    (ended, reader)
+}
+
+// What the calling thread of a server has: it serves with it.
+#[derive(Drop)]
+struct Serving<'a, 'b, D: Disk, R, W> {
+    core: Core<D>,
+    reader: &'a mut R,
+    writer: &'b mut W,
+    buffers: Buffers,
+    every: usize,
+}
+
+impl<'a, 'b, D: Disk, R: Read, W: Write> Duty for Serving<'a, 'b, D, R, W> {
+    type Output = (Core<D>, Result<(), ServeFault>, &'a mut R, &'b mut W);
+
+    ghost use Rattle.std.specs.Prelude.{◌≡◌, ◌≤◌, ℕ, false, List, [], None, OnOk, replicate, vec_len};
+    ghost use Rattle.legal_runs.specs.Laws.{IsIdle};
+    ghost use Rattle.scheduler.specs.Kept.{world_of};
+    ghost use Rattle.serving.specs.Ends.{EndsSo};
+    ghost use Rattle.serving.specs.Runs.{with_lent};
+    ghost use Rattle.serving.specs.Serve.{HasEmptyLog, HasRunSo, HasWorkers};
+
+    ghost can_begin = { λ s. IsIdle (world_of s.core) × (s.core.failed ≡ false) × (1101 ≤ vec_len s.buffers.input) × (s.buffers.out ≡ []) };
+
+    ghost gives = { λ s places end. (end.2.ghost_name ≡ s.reader.ghost_name) × (end.3.ghost_name ≡ s.writer.ghost_name)
+        × HasRunSo D.keeps (with_lent s.core (replicate places None)) end.0 (R.remaining s.reader.now) (W.contents s.writer.now) (W.contents end.3.now) end.1
+        × EndsSo s.core end.0 (R.remaining s.reader.now) (R.remaining end.2.now) (W.contents s.writer.now) (W.contents end.3.now) end.1
+        × OnOk end.1 (D.keeps → HasEmptyLog end.0)
+        × HasWorkers end.1 };
+
+    fn fulfil<T: Wait, G: Gate>(
+        self,
+        rt: &T,
+        bench: &Bench,
+        desk: &mut DispatchSeat,
+        gate: &G,
+    ) -> (Core<D>, Result<(), ServeFault>, &'a mut R, &'b mut W) {
+        let Serving {
+            mut core,
+            reader,
+            writer,
+            buffers,
+            every,
+        } = self;
+        let (ended, back) = serve_lent::<T, R, W, D, G, Brand>(
+            rt,
+            reader,
+            writer,
+            buffers,
+            &mut core,
+            bench,
+            desk,
+            gate,
+            every,
+            PhantomData,
+        );
+        (core, ended, back, writer)
+    }
+
+    fn decline(self) -> (Core<D>, Result<(), ServeFault>, &'a mut R, &'b mut W) {
+        let Serving {
+            core,
+            reader,
+            writer,
+            ..
+        } = self;
+        core.stands();
+        (core, Err(ServeFault::OutOfMemory), reader, writer)
+    }
+}
+
+// Tells the proof that what was lent through this reference is its owner's again.
+fn come_back<T>(lent: &mut T)
+    ensures { lent.new ≡ lent.old }
+{
+    let _ = lent;
+}
+
+/// Answers each line that a reader has left with one line of the output, while so many workers, each a thread of its own, run
+/// the messages. The lines and the core are as the serial server would leave them, whatever the workers do when. A consistency
+/// point is made after `every` records, if that isn't 0, where the log has no room, and at the end. All memory is taken before
+/// the first read, and the threads have ended when it returns.
+///
+/// # Errors
+///
+/// The core, as it is then, and a fault. `ServeFault::NoWorkers` where there are none, and `ServeFault::OutOfMemory` where there
+/// is no memory or a thread can't be started: nothing was read or written. Then `ServeFault::Read`, `ServeFault::Exhausted`,
+/// `ServeFault::Device` and `ServeFault::Write`, as they say.
+pub(crate) fn serve<T: Threads + Wait + Sync, R: Read, W: Write, D: Disk + Drop, G: Gate + Sync>(
+    alloc: Global,
+    rt: &T,
+    core: Core<D>,
+    r: &mut R,
+    w: &mut W,
+    workers: usize,
+    every: usize,
+    gate: &G,
+) -> Result<Core<D>, ServeError<D>>
+    requires idle { IsIdle (world_of core) }
+    requires works { core.failed ≡ false }
+    requires few { workers ≤ 64 }
+    ensures run { MatchResult result
+        (λ after. HasRunSo D.keeps (with_lent core (replicate workers None)) after (R.remaining r.old)
+        (W.contents w.old) (W.contents w.new) (Ok tt))
+        (λ e. HasRunSo D.keeps (with_lent core (replicate workers None)) e.core (R.remaining r.old)
+        (W.contents w.old) (W.contents w.new) (Err e.fault)) }
+    ensures ends { MatchResult result
+        (λ after. EndsSo core after (R.remaining r.old) (R.remaining r.new)
+        (W.contents w.old) (W.contents w.new) (Ok tt))
+        (λ e. EndsSo core e.core (R.remaining r.old) (R.remaining r.new)
+        (W.contents w.old) (W.contents w.new) (Err e.fault)) }
+    ensures no_workers { MatchResult result (λ _. RefusesNone workers (Ok tt)) (λ e. RefusesNone workers (Err e.fault)) }
+    ensures emptied { IfOk result (λ after. D.keeps → HasEmptyLog after) }
+{
+    core.stands();
+    if workers == 0 {
+        return Err(ServeError {
+            core,
+            fault: ServeFault::NoWorkers,
+        });
+    }
+    let Ok(buffers) = take_buffers(alloc) else {
+        return Err(ServeError {
+            core,
+            fault: ServeFault::OutOfMemory,
+        });
+    };
+    let serving = Serving {
+        core,
+        reader: r,
+        writer: w,
+        buffers,
+        every,
+    };
+    let (core, ended, reader, writer) = with_workers(rt, alloc, workers, gate, serving);
+    come_back(reader);
+    come_back(writer);
+    match ended {
+        Ok(()) => Ok(core),
+        Err(fault) => Err(ServeError { core, fault }),
+    }
+}
