@@ -31,7 +31,7 @@ use Rattle.serving.proofs.Tickets.{next-append, run_next, ticketed-append}
 
 -- ---- one line more
 
-known_push : (g : Geometry) (told : List (ℕ × Reply)) (n : ℕ) (ls : List (List ℕ)) (l : List ℕ) (row : List Line) (known : Line)
+pub known_push : (g : Geometry) (told : List (ℕ × Reply)) (n : ℕ) (ls : List (List ℕ)) (l : List ℕ) (row : List Line) (known : Line)
     → AreKnown g told n ls row → IsKnown g told (next_ticket n (asked g ls)) (message_of l) known
     → AreKnown g told n (ls ++ l ∷ []) (row ++ known ∷ [])
 known_push g told n [] l [] known k one = (one, tt)

@@ -10,6 +10,7 @@ pub mod Answering
 pub mod Arriving
 pub mod Pointing
 pub mod Places
+pub mod Taken
 pub mod Serial
 pub mod Counting
 pub mod Inside

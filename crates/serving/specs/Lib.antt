@@ -5,6 +5,7 @@ pub mod Going
 pub mod Steps
 pub mod Pointing
 pub mod Lending
+pub mod Reads
 pub mod Ends
 pub mod Stops
 pub mod Serve

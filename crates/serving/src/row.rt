@@ -71,6 +71,13 @@ impl Row {
         self.lines.len()
     }
 
+    /// How many lines there is room for.
+    pub(crate) fn slots(&self) -> usize
+        ensures { result ≡ self.now.slots }
+    {
+        self.slots
+    }
+
     /// Whether there is room for a further line.
     pub(crate) fn has_room(&self) -> bool
         ensures { IsTrue result ↔ (length self.now.lines < self.now.slots) }
