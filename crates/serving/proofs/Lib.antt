@@ -19,7 +19,9 @@ pub mod Served
 pub mod Rows
 pub mod Said
 pub mod Advancing
+pub mod Stopping
 pub mod Starting
 pub mod Promises
+pub mod Closing
 -- ---- this crate's own
 mod Examples

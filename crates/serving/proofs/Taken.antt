@@ -1,25 +1,23 @@
 -- Lines that are taken of the input, each with its message.
-use Rattle.std.proofs.Common.{◌≡◌, ℕ, false, Bool, List, [], ◌∷◌, ◌++◌, Option, Some, None, Ok, Err, ap, sym, ◌∙◌, refl, subst, append_assoc, append-nil}
-use Rattle.std.specs.Prelude.{IfSome, Result}
+use Rattle.std.proofs.Common.{◌≡◌, ℕ, false, Bool, List, [], ◌∷◌, ◌++◌, Option, Some, None, ap, sym, ◌∙◌, refl, subst, append_assoc, append-nil}
+use Rattle.std.specs.Prelude.{IfSome}
 use Rattle.std.specs.Io.KnownBytes.{IsAtEnd}
 use Rattle.affinity.specs.declared.geometry.Geometry.{Geometry}
 use Rattle.legal_runs.specs.Events.{arrive}
-use Rattle.legal_runs.specs.World.{Entry, World}
+use Rattle.legal_runs.specs.World.{World}
 use Rattle.legal_runs.specs.declared.outcomes.ArriveRefusal.{ArriveRefusal}
 use Rattle.legal_runs.specs.declared.outcomes.Outcome.{Outcome}
 use Rattle.legal_runs.specs.declared.outcomes.Outcome.TheVariants.{ArriveRefused}
 use Rattle.machine.specs.Machine.{Handed}
 use Rattle.message.specs.Grammar.{message_of}
-use Rattle.message.specs.Reader.{GivesLine, IsAtEndOf, IsClosed, LosesFront, PassesLine}
+use Rattle.message.specs.Reader.{GivesLine, IsAtEndOf, IsClosed, PassesLine}
 use Rattle.message.specs.declared.Msg.{Msg}
-use Rattle.message.specs.declared.Reply.{Reply}
 use Rattle.plain.proofs.Taking.{takes_line, takes_long_line}
-use Rattle.scheduler.specs.Kept.{world_of}
-use Rattle.serving.specs.Going.{Goes, IsServing}
+use Rattle.serving.specs.Going.{IsServing}
 use Rattle.serving.specs.Lines.{AreKnown, IsKnown, Line, NoMessage, asked, asked_in, next_ticket, ticketed}
-use Rattle.serving.specs.Reads.{IsRefused, ReadsOn, TakesMessage, TakesText, TakesTextSo}
+use Rattle.serving.specs.Reads.{ReadsOn, TakesText}
 use Rattle.serving.specs.Runs.{Passes}
-use Rattle.serving.specs.Steps.{Holds, KeepsOn, TakesLine}
+use Rattle.serving.specs.Steps.{Holds, TakesLine}
 use Rattle.serving.proofs.Arriving.{known_push}
 use Rattle.serving.proofs.Serial.{asked-append}
 

@@ -5,6 +5,7 @@ use Rattle.affinity.specs.declared.geometry.Geometry.{Geometry}
 use Rattle.legal_runs.specs.Events.{arrive}
 use Rattle.legal_runs.specs.World.{World}
 use Rattle.legal_runs.specs.declared.outcomes.ArriveRefusal.{ArriveRefusal}
+use Rattle.legal_runs.specs.declared.outcomes.ArriveRefusal.TheVariants as arrivals
 use Rattle.legal_runs.specs.declared.outcomes.Outcome.TheVariants.{ArriveRefused}
 use Rattle.machine.specs.Machine.{Handed}
 use Rattle.message.specs.Grammar.{message_of}
@@ -20,16 +21,23 @@ use Rattle.serving.specs.declared.reading.Came.TheVariants as came
 
 -- ---- a message, and a line
 
+-- A message that is out of range isn't refused: that it is so is known of its line.
+abbrev pub IsRefusal : ArriveRefusal → Type 0
+IsRefusal arrivals.Range = ⊥
+IsRefusal _ = Unit {0}
+
 -- This is known of the line of the message, which is taken; or the message is refused, and its line isn't taken.
 abbrev pub TakesMessage : Type 0 → Handed → Handed → Msg → Result Line ArriveRefusal → Type 0
 TakesMessage keeps old new m (Ok known) = TakesLine keeps old new m known
-TakesMessage keeps old new m (Err why) = KeepsOn keeps old new × ((arrive old.core.geometry (world_of old.core) m).0 ≡ ArriveRefused why)
+TakesMessage keeps old new m (Err why) =
+    KeepsOn keeps old new × ((arrive old.core.geometry (world_of old.core) m).0 ≡ ArriveRefused why) × IsRefusal why
 
 -- The line spells a message that is refused so.
 pub record IsRefused (g : Geometry) (w : World) (line : List ℕ) (why : ArriveRefusal) : Type 0 where
   pub message : Msg
   pub is_message : message_of line ≡ Some message
   pub refused : (arrive g w message).0 ≡ ArriveRefused why
+  pub in_range : IsRefusal why
 
 -- The line is taken: the machine holds what it should, and the line is the last of the new row.
 pub record TakesText (keeps : Type 0) (old : Handed) (row : List Line) (new : Handed) (new_row : List Line) (line : List ℕ) : Type 0 where
@@ -85,3 +93,13 @@ abbrev pub ReadsSome : Type 0 → Handed → List Line → Option (List ℕ) →
 ReadsSome keeps old row left ended new new_row now_left now_ended (Ok came.Line) = ReadsOn keeps old row left ended new new_row now_left now_ended
 ReadsSome keeps old row left ended new new_row now_left now_ended result =
     ReadsUpTo keeps old row left ended new new_row now_left now_ended result
+
+-- where a message is refused
+abbrev pub OnRefused : Result Came ReadFault → Type 0 → Type 0
+OnRefused (Ok (came.Refused why)) P = P
+OnRefused _ P = Unit {0}
+
+-- where the input has ended
+abbrev pub OnEnd : Result Came ReadFault → Type 0 → Type 0
+OnEnd (Ok came.End) P = P
+OnEnd _ P = Unit {0}

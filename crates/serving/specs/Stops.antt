@@ -1,5 +1,5 @@
 -- Where a session is, how it goes on from there, and why it reads no more or ends before it has answered what it has read.
-use Rattle.std.specs.Prelude.{◌≡◌, ◌-◌, ◌^◌, ℕ, Bool, true, false, List, Option, Some, None, IfSome, Result, Ok, Err}
+use Rattle.std.specs.Prelude.{◌≡◌, ◌≤◌, ◌-◌, ◌^◌, ℕ, Bool, true, false, List, [], Option, Some, None, IfSome, Result, Ok, Err}
 use Rattle.std.specs.Io.KnownBytes.{IsAtEnd}
 use Rattle.affinity.specs.declared.geometry.Geometry.{Geometry}
 use Rattle.machine.specs.Machine.{Handed}
@@ -10,9 +10,11 @@ use Rattle.message.specs.declared.Msg.{Msg}
 use Rattle.parcel.specs.Run.{Asked}
 use Rattle.legal_runs.specs.Laws.{IsIdle}
 use Rattle.scheduler.specs.Kept.{Kept, world_of}
+use Rattle.serving.specs.Ends.{EndsSo}
 use Rattle.serving.specs.Going.{Goes}
 use Rattle.serving.specs.Lines.{Line}
 use Rattle.serving.specs.Runs.{with_lent}
+use Rattle.serving.specs.Serve.{HasRunSo}
 use Rattle.serving.specs.Steps.{Holds}
 use Rattle.serving.specs.declared.course.Halt.{Halt}
 use Rattle.serving.specs.declared.course.Halt.TheVariants as halts
@@ -78,18 +80,34 @@ HasEnded keeps start p input behind before (Ok stop) = HasStopped keeps start p 
 HasEnded keeps start p input behind before (Err why) =
     (left : Option (List ℕ)) × (ended : Bool) × HasCome {A = Unit {0}} keeps start p input left ended before (Err why)
 
--- A session that began with nothing in it has come to this place.
-pub record IsUnderWay (keeps : Type 0) (p : Place) : Type 0 where
-  pub start : Handed
-  pub idle : IsIdle (world_of start.core)
-  pub input : Option (List ℕ)
-  pub left : Option (List ℕ)
-  pub ended : Bool
-  pub before : Option (List ℕ)
-  pub goes : Goes keeps start p.machine p.row input left ended before p.written
-
 -- Lines were read on; or the session has stopped reading. So much is unread now, and so much is behind what is held of it.
 abbrev pub HasRead : {A : Type 0} → Type 0 → Handed → Place → Option (List ℕ) → Option (List ℕ) → Bool → Option (List ℕ) → Option (List ℕ)
     → Result A Stop → Type 0
 HasRead keeps start p input left ended behind before (Ok _) = Goes keeps start p.machine p.row input left ended before p.written
 HasRead keeps start p input left ended behind before (Err stop) = HasStopped keeps start p input behind before stop
+
+-- A session that began with nothing in it, in a core with so many slots, has come to this place. So much of the input is left.
+pub record IsUnderWay (keeps : Type 0) (p : Place) (slots : ℕ) (left : Option (List ℕ)) (ended : Bool) : Type 0 where
+  pub start : Handed
+  pub idle : IsIdle (world_of start.core)
+  pub fits : slots ≤ start.core.slots
+  pub input : Option (List ℕ)
+  pub before : Option (List ℕ)
+  pub goes : Goes keeps start p.machine p.row input left ended before p.written
+
+-- Each line that was read is answered in the output, and no answer waits, where nothing has failed.
+abbrev pub AllServed : Result Stop Halt → List Line → List ℕ → Type 0
+AllServed (Ok stops.Failed) row waiting = ⊥
+AllServed (Ok _) row waiting = (row ≡ []) × (waiting ≡ [])
+AllServed (Err _) row waiting = Unit {0}
+
+-- where the input has ended
+abbrev pub AtEnd : Result Stop Halt → Type 0 → Type 0
+AtEnd (Ok stops.End) P = P
+AtEnd _ P = Unit {0}
+
+-- What a server promises of its whole call, by its answer: of the run behind it, and of its end.
+pub record PromisesAll (keeps : Type 0) (start : Handed) (new : Kept) (input behind before written : Option (List ℕ))
+    (result : Result (Unit {0}) ServeFault) : Type 0 where
+  pub run : HasRunSo keeps start new input before written result
+  pub ends : EndsSo start.core new input behind before written result

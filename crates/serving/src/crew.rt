@@ -21,19 +21,19 @@ pub(crate) trait Duty {
     /// What comes of it at a bench of so many places, where nothing is lent at first.
     ghost gives: { Self → ℕ → Self.Output → Type 0 };
 
-    /// Does it.
+    /// Does it, and hands the seat back.
     fn fulfil<T: Wait, G: Gate>(
         self,
         rt: &T,
         bench: &Bench,
-        desk: &mut DispatchSeat,
+        desk: DispatchSeat,
         gate: &G,
-    ) -> Self::Output
+    ) -> (Self::Output, DispatchSeat)
         requires can_begin { can_begin self }
-        requires bench { desk.old.bench ≡ bench.now }
-        requires lent { desk.old.lent ≡ replicate bench.now.slots None }
-        ensures gives { gives self bench.now.slots result }
-        ensures bench { desk.new.bench ≡ desk.old.bench };
+        requires bench { desk.bench ≡ bench.now }
+        requires lent { desk.lent ≡ replicate bench.now.slots None }
+        ensures gives { gives self bench.now.slots result.0 }
+        ensures bench { result.1.bench ≡ desk.bench };
 
     /// Leaves it undone, since there is no memory or a worker can't be started.
     fn decline(self) -> Self::Output
@@ -71,7 +71,7 @@ pub(crate) fn with_workers<T: Threads + Wait + Sync, G: Gate + Sync, S: Duty<Out
             if bench.start(rt, scope, &mut desk, seats, gate).is_err() {
                 return duty.decline();
             }
-            let output = duty.fulfil(rt, bench, &mut desk, gate);
+            let (output, mut desk) = duty.fulfil(rt, bench, desk, gate);
             bench.stop(&mut desk);
             output
         },

@@ -1,15 +1,19 @@
 //! How a session ends before it has answered what it has read: jobs that are out come back, and what can still be done is
 //! done.
 
-ghost use Rattle.std.specs.Prelude.{◌≡◌, ℕ, Bool, List, [], Option, None, Ok, OnOk};
+ghost use Rattle.std.specs.Prelude.{◌≡◌, ℕ, Bool, List, [], Option, None, Ok, Err, OnOk, IsErr};
+ghost use Rattle.legal_runs.specs.Laws.{IsIdle};
 ghost use Rattle.machine.specs.Machine.{Handed};
 ghost use Rattle.message.specs.Waiting.{so_far};
+ghost use Rattle.scheduler.specs.Kept.{world_of};
 ghost use Rattle.serving.specs.Going.{Goes};
 ghost use Rattle.serving.specs.Runs.{with_lent};
 ghost use Rattle.serving.specs.Steps.{Holds};
-ghost use Rattle.serving.specs.Stops.{Advances, place_of};
+ghost use Rattle.serving.specs.Serve.{AllSent, HasBegun};
+ghost use Rattle.serving.specs.Stops.{Advances, HasEnded, PromisesAll, place_of};
 
 use crate::course::Halt;
+use crate::fault::ServeFault;
 use crate::lending::bring_home;
 use crate::session::Session;
 use disk::Disk;
@@ -68,5 +72,36 @@ impl<D: Disk> Session<D> {
         // A fault of the device changes nothing any more.
         let _logged = self.log_what_ran();
         self.answer_what_is_logged(gate);
+    }
+
+    /// Ends where something has failed: jobs that are out come back, and what can still be done is done.
+    pub(crate) fn end_early<T: Wait, W: Write, G: Gate>(
+        &mut self,
+        why: Halt,
+        rt: &T,
+        w: &mut W,
+        bench: &Bench,
+        gate: &G,
+    ) -> Result<(), ServeFault>
+        requires bench { self.old.desk.bench ≡ bench.now }
+        requires holds { Holds (with_lent self.old.core self.old.desk.lent) }
+        ensures kept { (start : Handed) (input behind before : Option (List ℕ)) → IsIdle (world_of start.core)
+            → HasEnded D.keeps start (place_of self.old.core self.old.desk.lent self.old.row.lines (so_far (W.contents w.old) self.old.out))
+            input behind before (Err why) → PromisesAll D.keeps start self.new.core input behind before (so_far (W.contents w.new) self.new.out) result }
+        ensures sent { AllSent self.new.out result }
+        ensures halted { IsErr result }
+        ensures begun { HasBegun result }
+        ensures bench { self.new.desk.bench ≡ self.old.desk.bench }
+    {
+        match why {
+            Halt::Device => match self.end_without_device(rt, bench, w, gate) {
+                Ok(()) => Err(ServeFault::Device),
+                Err(_) => Err(ServeFault::Write),
+            },
+            Halt::Write => {
+                self.end_without_output(rt, bench, gate);
+                Err(ServeFault::Write)
+            }
+        }
     }
 }

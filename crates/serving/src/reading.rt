@@ -1,9 +1,9 @@
 //! Lines that are read: each is in the row then, and its message in the core.
 
-ghost use Rattle.std.specs.Prelude.{◌≡◌, ◌<◌, List, IsTrue, OnErr, Ok, length};
+ghost use Rattle.std.specs.Prelude.{◌≡◌, ◌<◌, List, IsTrue, OnErr, length};
 ghost use Rattle.machine.specs.declared.hands.Hand.{Hand};
 ghost use Rattle.message.specs.Reader.{HoldsLine, KnowsEnd, has_ended, is_drained, source, unread};
-ghost use Rattle.serving.specs.Reads.{ReadsNext, ReadsSome, TakesMessage, TakesTextSo};
+ghost use Rattle.serving.specs.Reads.{OnEnd, OnRefused, ReadsNext, ReadsSome, TakesMessage, TakesTextSo};
 ghost use Rattle.serving.specs.Steps.{Holds};
 
 use crate::row::{Line, Row};
@@ -46,6 +46,7 @@ fn take_text<D: Disk>(core: &mut Core<D>, row: &mut Row, line: &[u8]) -> Result<
         → TakesTextSo D.keeps (record { core = core.old; hands = hands }) row.old.lines
         (record { core = core.new; hands = hands }) row.new.lines line.now result }
     ensures slots { row.new.slots ≡ row.old.slots }
+    ensures same { OnErr result (row.new ≡ row.old) }
 {
     let Some(m) = parse_line(line) else {
         row.push(Line::NoMessage);
@@ -77,7 +78,8 @@ pub(crate) fn read_next<R: Read, D: Disk>(
     ensures slots { row.new.slots ≡ row.old.slots }
     ensures lost { OnErr result (unread R.remaining lines.new ≡ R.remaining (source lines.new)) }
     ensures at_once { HoldsLine lines.old → source lines.new ≡ source lines.old }
-    ensures end { result ≡ Ok Came.End → IsTrue (has_ended lines.new) }
+    ensures room { OnRefused result (length row.new.lines < row.new.slots) }
+    ensures end { OnEnd result (IsTrue (has_ended lines.new)) }
     ensures knows { KnowsEnd R.remaining lines.old → KnowsEnd R.remaining lines.new }
 {
     if lines.is_drained() {
@@ -112,7 +114,10 @@ pub(crate) fn read_held<R: Read, D: Disk>(
         → ReadsSome D.keeps (record { core = core.old; hands = hands }) row.old.lines (unread R.remaining lines.old) (is_drained lines.old)
         (record { core = core.new; hands = hands }) row.new.lines (unread R.remaining lines.new) (is_drained lines.new) result }
     ensures slots { row.new.slots ≡ row.old.slots }
+    ensures lost { OnErr result (unread R.remaining lines.new ≡ R.remaining (source lines.new)) }
     ensures at_once { source lines.new ≡ source lines.old }
+    ensures room { OnRefused result (length row.new.lines < row.new.slots) }
+    ensures end { OnEnd result (IsTrue (has_ended lines.new)) }
     ensures knows { KnowsEnd R.remaining lines.old → KnowsEnd R.remaining lines.new }
 {
     for _ in row.len()..row.slots() {

@@ -38,6 +38,7 @@ impl<D: Disk> Session<D> {
     pub(crate) fn log_what_ran(&mut self) -> Result<(), Halt>
         requires holds { Holds (with_lent self.old.core self.old.desk.lent) }
         ensures holds { Holds (with_lent self.new.core self.new.desk.lent) }
+        ensures slots { self.new.row.slots ≡ self.old.row.slots }
         ensures desk { self.new.desk ≡ self.old.desk }
         ensures kept { (contents : Option (List ℕ)) → Advances D.keeps
             (place_of self.old.core self.old.desk.lent self.old.row.lines (so_far contents self.old.out))
@@ -53,6 +54,7 @@ impl<D: Disk> Session<D> {
     pub(crate) fn answer_what_is_logged<G: Gate>(&mut self, gate: &G)
         requires holds { Holds (with_lent self.old.core self.old.desk.lent) }
         ensures holds { Holds (with_lent self.new.core self.new.desk.lent) }
+        ensures slots { self.new.row.slots ≡ self.old.row.slots }
         ensures desk { self.new.desk ≡ self.old.desk }
         ensures kept { (contents : Option (List ℕ)) → Advances D.keeps
             (place_of self.old.core self.old.desk.lent self.old.row.lines (so_far contents self.old.out))
@@ -65,6 +67,7 @@ impl<D: Disk> Session<D> {
     fn say_what_is_next<W: Write>(&mut self, w: &mut W) -> Result<(), Halt>
         requires holds { Holds (with_lent self.old.core self.old.desk.lent) }
         ensures holds { Holds (with_lent self.new.core self.new.desk.lent) }
+        ensures slots { self.new.row.slots ≡ self.old.row.slots }
         ensures desk { self.new.desk ≡ self.old.desk }
         ensures kept { Advances D.keeps
             (place_of self.old.core self.old.desk.lent self.old.row.lines (so_far (W.contents w.old) self.old.out))
@@ -84,6 +87,7 @@ impl<D: Disk> Session<D> {
     ) -> Result<(), Halt>
         requires holds { Holds (with_lent self.old.core self.old.desk.lent) }
         ensures holds { Holds (with_lent self.new.core self.new.desk.lent) }
+        ensures slots { self.new.row.slots ≡ self.old.row.slots }
         ensures desk { self.new.desk ≡ self.old.desk }
         ensures kept { Advances D.keeps
             (place_of self.old.core self.old.desk.lent self.old.row.lines (so_far (W.contents w.old) self.old.out))
@@ -97,6 +101,7 @@ impl<D: Disk> Session<D> {
     pub(crate) fn send<W: Write>(&mut self, w: &mut W) -> Result<(), Halt>
         requires holds { Holds (with_lent self.old.core self.old.desk.lent) }
         ensures holds { Holds (with_lent self.new.core self.new.desk.lent) }
+        ensures slots { self.new.row.slots ≡ self.old.row.slots }
         ensures desk { self.new.desk ≡ self.old.desk }
         ensures kept { Advances D.keeps
             (place_of self.old.core self.old.desk.lent self.old.row.lines (so_far (W.contents w.old) self.old.out))
@@ -114,6 +119,7 @@ impl<D: Disk> Session<D> {
     pub(crate) fn move_point_on(&mut self) -> Result<bool, Halt>
         requires holds { Holds (with_lent self.old.core self.old.desk.lent) }
         ensures holds { Holds (with_lent self.new.core self.new.desk.lent) }
+        ensures slots { self.new.row.slots ≡ self.old.row.slots }
         ensures desk { self.new.desk ≡ self.old.desk }
         ensures kept { (contents : Option (List ℕ)) → Advances D.keeps
             (place_of self.old.core self.old.desk.lent self.old.row.lines (so_far contents self.old.out))
@@ -130,6 +136,7 @@ impl<D: Disk> Session<D> {
     fn end_point(&mut self) -> Result<bool, Halt>
         requires holds { Holds (with_lent self.old.core self.old.desk.lent) }
         ensures holds { Holds (with_lent self.new.core self.new.desk.lent) }
+        ensures slots { self.new.row.slots ≡ self.old.row.slots }
         ensures desk { self.new.desk ≡ self.old.desk }
         ensures kept { (contents : Option (List ℕ)) → Advances D.keeps
             (place_of self.old.core self.old.desk.lent self.old.row.lines (so_far contents self.old.out))
@@ -146,6 +153,7 @@ impl<D: Disk> Session<D> {
         requires progress { (n : ℕ) × (self.old.core.left ≡ Some n) }
         requires holds { Holds (with_lent self.old.core self.old.desk.lent) }
         ensures holds { Holds (with_lent self.new.core self.new.desk.lent) }
+        ensures slots { self.new.row.slots ≡ self.old.row.slots }
         ensures desk { self.new.desk ≡ self.old.desk }
         ensures kept { (contents : Option (List ℕ)) → Advances D.keeps
             (place_of self.old.core self.old.desk.lent self.old.row.lines (so_far contents self.old.out))
@@ -161,6 +169,7 @@ impl<D: Disk> Session<D> {
     pub(crate) fn begin_point(&mut self) -> Result<(), Halt>
         requires holds { Holds (with_lent self.old.core self.old.desk.lent) }
         ensures holds { Holds (with_lent self.new.core self.new.desk.lent) }
+        ensures slots { self.new.row.slots ≡ self.old.row.slots }
         ensures desk { self.new.desk ≡ self.old.desk }
         ensures kept { (contents : Option (List ℕ)) → Advances D.keeps
             (place_of self.old.core self.old.desk.lent self.old.row.lines (so_far contents self.old.out))

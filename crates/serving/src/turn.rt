@@ -21,6 +21,7 @@ impl<D: Disk> Session<D> {
         requires bench { self.old.desk.bench ≡ bench.now }
         requires holds { Holds (with_lent self.old.core self.old.desk.lent) }
         ensures holds { Holds (with_lent self.new.core self.new.desk.lent) }
+        ensures slots { self.new.row.slots ≡ self.old.row.slots }
         ensures kept { (contents : Option (List ℕ)) → Advances D.keeps
             (place_of self.old.core self.old.desk.lent self.old.row.lines (so_far contents self.old.out))
             (place_of self.new.core self.new.desk.lent self.new.row.lines (so_far contents self.new.out)) (Ok (tt {0})) }
@@ -37,6 +38,7 @@ impl<D: Disk> Session<D> {
         requires places { length self.old.desk.lent ≡ bench.now.slots }
         requires holds { Holds (with_lent self.old.core self.old.desk.lent) }
         ensures holds { Holds (with_lent self.new.core self.new.desk.lent) }
+        ensures slots { self.new.row.slots ≡ self.old.row.slots }
         ensures kept { (contents : Option (List ℕ)) → Advances D.keeps
             (place_of self.old.core self.old.desk.lent self.old.row.lines (so_far contents self.old.out))
             (place_of self.new.core self.new.desk.lent self.new.row.lines (so_far contents self.new.out)) result }
@@ -64,6 +66,7 @@ impl<D: Disk> Session<D> {
         requires bench { self.old.desk.bench ≡ bench.now }
         requires holds { Holds (with_lent self.old.core self.old.desk.lent) }
         ensures holds { Holds (with_lent self.new.core self.new.desk.lent) }
+        ensures slots { self.new.row.slots ≡ self.old.row.slots }
         ensures kept { Advances D.keeps
             (place_of self.old.core self.old.desk.lent self.old.row.lines (so_far (W.contents w.old) self.old.out))
             (place_of self.new.core self.new.desk.lent self.new.row.lines (so_far (W.contents w.new) self.new.out)) result }
@@ -88,6 +91,7 @@ impl<D: Disk> Session<D> {
         requires bench { self.old.desk.bench ≡ bench.now }
         requires holds { Holds (with_lent self.old.core self.old.desk.lent) }
         ensures holds { Holds (with_lent self.new.core self.new.desk.lent) }
+        ensures slots { self.new.row.slots ≡ self.old.row.slots }
         ensures kept { Advances D.keeps
             (place_of self.old.core self.old.desk.lent self.old.row.lines (so_far (W.contents w.old) self.old.out))
             (place_of self.new.core self.new.desk.lent self.new.row.lines (so_far (W.contents w.new) self.new.out)) result }
@@ -119,6 +123,7 @@ impl<D: Disk> Session<D> {
         requires places { length self.old.desk.lent ≡ bench.now.slots }
         requires holds { Holds (with_lent self.old.core self.old.desk.lent) }
         ensures holds { Holds (with_lent self.new.core self.new.desk.lent) }
+        ensures slots { self.new.row.slots ≡ self.old.row.slots }
         ensures kept { Advances D.keeps
             (place_of self.old.core self.old.desk.lent self.old.row.lines (so_far (W.contents w.old) self.old.out))
             (place_of self.new.core self.new.desk.lent self.new.row.lines (so_far (W.contents w.new) self.new.out)) result }

@@ -1,7 +1,6 @@
 -- The lemmas on some lines.
-use Rattle.std.proofs.Common.{List, Ok, refl, subst, ◌∙◌}
+use Rattle.std.proofs.Common.{Ok, refl, subst, ◌∙◌}
 use Rattle.machine.specs.Machine.{Handed}
-use Rattle.machine.specs.declared.hands.Hand.{Hand}
 use Rattle.message.specs.Reader.{is_drained, unread}
 use Rattle.serving.specs.Reads.{ReadsNext}
 use Rattle.serving.specs.declared.reading.Came.{Came}

@@ -28,6 +28,7 @@ returns-in-Err-Full g c =
         why_refused (world_of old) (world_of new) old.geometry c.args.m.now arrivals.Full
             (subst (λ (why : ArriveRefusal). (arrived (Err why), world_of new) ≡ arrive old.geometry (world_of old) c.args.m.now)
             c.in-Err-Full.field-0-is c.in-Err-Full.ensures.arrived),
+        tt,
       );
     }
 
@@ -42,6 +43,7 @@ returns-in-Err-Exhausted g c =
         why_refused (world_of old) (world_of new) old.geometry c.args.m.now arrivals.Exhausted
             (subst (λ (why : ArriveRefusal). (arrived (Err why), world_of new) ≡ arrive old.geometry (world_of old) c.args.m.now)
             c.in-Err-Exhausted.field-0-is c.in-Err-Exhausted.ensures.arrived),
+        tt,
       );
     }
 
@@ -56,5 +58,6 @@ returns-in-Err-Failed g c =
         why_refused (world_of old) (world_of new) old.geometry c.args.m.now arrivals.Failed
             (subst (λ (why : ArriveRefusal). (arrived (Err why), world_of new) ≡ arrive old.geometry (world_of old) c.args.m.now)
             c.in-Err-Failed.field-0-is c.in-Err-Failed.ensures.arrived),
+        tt,
       );
     }

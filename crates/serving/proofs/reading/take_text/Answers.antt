@@ -17,4 +17,4 @@ returns-in-Ok-clause-kept g c hands h =
 pub returns-in-Err-clause-kept : goal.returns-in-Err-clause-kept
 returns-in-Err-clause-kept g c hands h =
     let k = c.in-Err.ensures.kept hands h in
-    (k.0, refl, record { message = c.in-Some.m; is_message = sym c.in-Some.ensures.value; refused = k.1 })
+    (k.0, refl, record { message = c.in-Some.m; is_message = sym c.in-Some.ensures.value; refused = k.1; in_range = k.2 })

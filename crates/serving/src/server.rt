@@ -1,4 +1,4 @@
-//! The whole call of a server: its memory, its workers and its end. It is not given out while the loop in it has no body.
+//! The whole call of a server: its memory, its workers and its end.
 
 ghost use Rattle.std.specs.Prelude.{◌≡◌, ◌≤◌, ℕ, false, List, [], None, Ok, Err, IfOk, MatchResult, OnOk, replicate, vec_len};
 ghost use Rattle.legal_runs.specs.Laws.{IsIdle};
@@ -7,9 +7,11 @@ ghost use Rattle.serving.specs.Ends.{EndsSo};
 ghost use Rattle.serving.specs.Runs.{with_lent};
 ghost use Rattle.serving.specs.Serve.{HasBegun, HasEmptyLog, HasRunSo, RefusesNone};
 
+use crate::course::Course;
 use crate::crew::{Duty, with_workers};
-use crate::dispatch::dispatch;
 use crate::fault::ServeFault;
+use crate::row::Row;
+use crate::session::Session;
 use disk::Disk;
 use message::{LentReader, LineReader, Loan, ReplyBuffer};
 use scheduler::Core;
@@ -32,20 +34,23 @@ pub struct ServeError<D: Disk> {
     pub fault: ServeFault,
 }
 
-// What a server takes before it reads: room for what is read, and for the answers that wait.
+// What a server takes before it reads: room for what is read, for the lines that are not answered, and for the answers that wait.
 #[derive(Drop)]
 struct Buffers {
     input: Vec<u8>,
+    row: Row,
     out: ReplyBuffer,
 }
 
-// Takes the memory that the lines need.
-fn take_buffers(alloc: Global) -> Result<Buffers, AllocError>
+// Takes the memory that the lines need, of which so many are read and not answered at once.
+fn take_buffers(alloc: Global, slots: usize) -> Result<Buffers, AllocError>
     ensures room { IfOk result (λ buffers. 1101 ≤ vec_len buffers.input) }
+    ensures row { IfOk result (λ buffers. (buffers.row.lines ≡ []) × (buffers.row.slots ≡ slots)) }
     ensures none_waits { IfOk result (λ buffers. buffers.out ≡ []) }
 {
     Ok(Buffers {
         input: vec![in alloc; 0; READ_SIZE]?,
+        row: Row::new(alloc, slots)?,
         out: ReplyBuffer::new(alloc)?,
     })
 }
@@ -55,33 +60,31 @@ fn serve_lent<'a, T: Wait, R: Read, W: Write, D: Disk, G: Gate, L: Loan>(
     rt: &T,
     reader: &'a mut R,
     w: &mut W,
-    buffers: Buffers,
-    core: &mut Core<D>,
+    input: Vec<u8>,
+    session: &mut Session<D>,
     bench: &Bench,
-    desk: &mut DispatchSeat,
     gate: &G,
-    every: usize,
     of: PhantomData<L>,
 ) -> (Result<(), ServeFault>, &'a mut R)
     requires name { reader.ghost_name ≡ L.name }
-    requires room { 1101 ≤ vec_len buffers.input }
-    requires none_waits { buffers.out ≡ [] }
-    requires bench { desk.old.bench ≡ bench.now }
-    requires lent { desk.old.lent ≡ replicate bench.now.slots None }
-    requires idle { IsIdle (world_of core.old) }
-    requires works { core.old.failed ≡ false }
+    requires room { 1101 ≤ vec_len input }
+    requires row { (session.old.row.lines ≡ []) × (session.old.row.slots ≤ session.old.core.slots) }
+    requires none_waits { session.old.out ≡ [] }
+    requires bench { session.old.desk.bench ≡ bench.now }
+    requires lent { session.old.desk.lent ≡ replicate bench.now.slots None }
+    requires idle { IsIdle (world_of session.old.core) }
+    requires works { session.old.core.failed ≡ false }
     ensures same { result.1.ghost_name ≡ reader.entry.ghost_name }
-    ensures run { HasRunSo D.keeps (with_lent core.old desk.old.lent) core.new (R.remaining reader.old)
+    ensures run { HasRunSo D.keeps (with_lent session.old.core session.old.desk.lent) session.new.core (R.remaining reader.old)
         (W.contents w.old) (W.contents w.new) result.0 }
-    ensures ends { EndsSo core.old core.new (R.remaining reader.old) (R.remaining result.1.now)
+    ensures ends { EndsSo session.old.core session.new.core (R.remaining reader.old) (R.remaining result.1.now)
         (W.contents w.old) (W.contents w.new) result.0 }
-    ensures emptied { OnOk result.0 (D.keeps → HasEmptyLog core.new) }
+    ensures emptied { OnOk result.0 (D.keeps → HasEmptyLog session.new.core) }
     ensures begun { HasBegun result.0 }
-    ensures bench { desk.new.bench ≡ desk.old.bench }
+    ensures bench { session.new.desk.bench ≡ session.old.desk.bench }
 {
-    let Buffers { input, mut out } = buffers;
     let mut lines = LineReader::new(LentReader { reader, of }, input);
-    let ended = dispatch(rt, &mut lines, w, &mut out, core, bench, desk, gate, every);
+    let ended = session.serve_all(rt, &mut lines, w, bench, gate);
     let LentReader { reader, of: _ } = lines.into_inner();
     (ended, reader)
 }
@@ -93,7 +96,7 @@ struct Serving<'a, 'b, D: Disk, R, W> {
     reader: &'a mut R,
     writer: &'b mut W,
     buffers: Buffers,
-    every: usize,
+    every: u64,
 }
 
 impl<'a, 'b, D: Disk, R: Read, W: Write> Duty for Serving<'a, 'b, D, R, W> {
@@ -106,7 +109,8 @@ impl<'a, 'b, D: Disk, R: Read, W: Write> Duty for Serving<'a, 'b, D, R, W> {
     ghost use Rattle.serving.specs.Runs.{with_lent};
     ghost use Rattle.serving.specs.Serve.{HasEmptyLog, HasRunSo, HasWorkers};
 
-    ghost can_begin = { λ s. IsIdle (world_of s.core) × (s.core.failed ≡ false) × (1101 ≤ vec_len s.buffers.input) × (s.buffers.out ≡ []) };
+    ghost can_begin = { λ s. IsIdle (world_of s.core) × (s.core.failed ≡ false) × (1101 ≤ vec_len s.buffers.input) × (s.buffers.out ≡ [])
+        × (s.buffers.row.lines ≡ []) × (s.buffers.row.slots ≤ s.core.slots) };
 
     ghost gives = { λ s places end. (end.2.ghost_name ≡ s.reader.ghost_name) × (end.3.ghost_name ≡ s.writer.ghost_name)
         × HasRunSo D.keeps (with_lent s.core (replicate places None)) end.0 (R.remaining s.reader.now) (W.contents s.writer.now) (W.contents end.3.now) end.1
@@ -118,29 +122,39 @@ impl<'a, 'b, D: Disk, R: Read, W: Write> Duty for Serving<'a, 'b, D, R, W> {
         self,
         rt: &T,
         bench: &Bench,
-        desk: &mut DispatchSeat,
+        desk: DispatchSeat,
         gate: &G,
-    ) -> (Core<D>, Result<(), ServeFault>, &'a mut R, &'b mut W) {
+    ) -> (
+        (Core<D>, Result<(), ServeFault>, &'a mut R, &'b mut W),
+        DispatchSeat,
+    ) {
         let Serving {
-            mut core,
+            core,
             reader,
             writer,
             buffers,
             every,
         } = self;
+        let Buffers { input, row, out } = buffers;
+        let mut session = Session {
+            core,
+            desk,
+            row,
+            out,
+            course: Course::new(every),
+        };
         let (ended, back) = serve_lent::<T, R, W, D, G, Brand>(
             rt,
             reader,
             writer,
-            buffers,
-            &mut core,
+            input,
+            &mut session,
             bench,
-            desk,
             gate,
-            every,
             PhantomData,
         );
-        (core, ended, back, writer)
+        let Session { core, desk, .. } = session;
+        ((core, ended, back, writer), desk)
     }
 
     fn decline(self) -> (Core<D>, Result<(), ServeFault>, &'a mut R, &'b mut W) {
@@ -172,14 +186,14 @@ fn come_back<T>(lent: &mut T)
 /// The core, as it is then, and a fault. `ServeFault::NoWorkers` where there are none, and `ServeFault::OutOfMemory` where there
 /// is no memory or a thread can't be started: nothing was read or written. Then `ServeFault::Read`, `ServeFault::Exhausted`,
 /// `ServeFault::Device` and `ServeFault::Write`, as they say.
-pub(crate) fn serve<T: Threads + Wait + Sync, R: Read, W: Write, D: Disk + Drop, G: Gate + Sync>(
+pub fn serve<T: Threads + Wait + Sync, R: Read, W: Write, D: Disk + Drop, G: Gate + Sync>(
     alloc: Global,
     rt: &T,
     core: Core<D>,
     r: &mut R,
     w: &mut W,
     workers: usize,
-    every: usize,
+    every: u64,
     gate: &G,
 ) -> Result<Core<D>, ServeError<D>>
     requires idle { IsIdle (world_of core) }
@@ -205,7 +219,7 @@ pub(crate) fn serve<T: Threads + Wait + Sync, R: Read, W: Write, D: Disk + Drop,
             fault: ServeFault::NoWorkers,
         });
     }
-    let Ok(buffers) = take_buffers(alloc) else {
+    let Ok(buffers) = take_buffers(alloc, core.slots()) else {
         return Err(ServeError {
             core,
             fault: ServeFault::OutOfMemory,

@@ -1,7 +1,7 @@
 -- The lemmas on a server that could not begin.
 use Rattle.std.proofs.Common.{refl}
 use Rattle.serving.proofs.Promises.{no_memory_ran}
-use Rattle.serving.proofs.serve.ServingDuty.decline.Goals as goal
+use Rattle.serving.proofs.server.ServingDuty.decline.Goals as goal
 
 pub returns : goal.returns
 returns g c = record {
