@@ -78,15 +78,15 @@ idle_at keeps p q slots left ended u k none =
 
 module _ (keeps : Type 0) (start : Handed) (idle : IsIdle (world_of start.core)) (p : Place) (input behind before : Option (List ℕ)) where
   by_line : (left : Option (List ℕ)) (ended : Bool) (line : List ℕ) (m : Msg) → Goes keeps start p.machine [] input left ended before p.written
-      → p.machine.core.next ≡ 2 ^ 64 - 1 → IfSome left (λ bs. (rest : Option (List ℕ)) × GivesLine line bs rest)
+      → p.machine.core.failed ≡ false → p.machine.core.next ≡ 2 ^ 64 - 1 → IfSome left (λ bs. (rest : Option (List ℕ)) × GivesLine line bs rest)
       → message_of line ≡ Some m → is_in_range start.core.geometry m ≡ true
       → EndsSo start.core p.machine.core input behind before p.written (Err faults.Exhausted)
-  by_line None ended line m h next found is fits =
-      ends_exhausted keeps start p.machine idle input None behind ended before p.written line m h next tt is fits
-  by_line (Some bs) ended line m h next found is fits =
-      ends_exhausted keeps start p.machine idle input (Some bs) found.0 ended before p.written line m h next found.1 is fits
+  by_line None ended line m h works next found is fits =
+      ends_exhausted keeps start p.machine idle input None behind ended before p.written line m h works next tt is fits
+  by_line (Some bs) ended line m h works next found is fits =
+      ends_exhausted keeps start p.machine idle input (Some bs) found.0 ended before p.written line m h works next found.1 is fits
 
-  module _ (none : p.row ≡ []) where
+  module _ (none : p.row ≡ []) (works : p.machine.core.failed ≡ false) where
     all_said : (left : Option (List ℕ)) (ended : Bool) → Goes keeps start p.machine p.row input left ended before p.written
         → Goes keeps start p.machine [] input left ended before p.written
     all_said left ended h = subst (λ (l : List Line). Goes keeps start p.machine l input left ended before p.written) none h
@@ -94,13 +94,13 @@ module _ (keeps : Type 0) (start : Handed) (idle : IsIdle (world_of start.core))
     pub ends_by : (stop : Stop) → HasStopped keeps start p input behind before stop
         → EndsSo start.core p.machine.core input behind before p.written (answer_at stop)
     ends_by stops.End h =
-        let k = ends_whole keeps start p.machine idle input h.left h.ended before p.written (all_said h.left h.ended h.goes) h.why.0 in
-        (k.0, h.why.1, k.2)
+        let k = ends_whole keeps start p.machine idle input h.left h.ended before p.written (all_said h.left h.ended h.goes) works h.why.0 in
+        (k.0, k.1, h.why.1, k.3)
     ends_by stops.Fault h =
         ends_at_read keeps start p.machine idle input h.left behind before p.written
-        (subst (λ (b : Bool). Goes keeps start p.machine [] input h.left b before p.written) h.why.0 (all_said h.left h.ended h.goes)) h.why.1
+        (subst (λ (b : Bool). Goes keeps start p.machine [] input h.left b before p.written) h.why.0 (all_said h.left h.ended h.goes)) works h.why.1
     ends_by stops.Exhausted h =
-        by_line h.left h.ended h.why.1.0 h.why.1.1 (all_said h.left h.ended h.goes) h.why.0 h.why.1.2 h.why.1.3 h.why.1.4
+        by_line h.left h.ended h.why.1.0 h.why.1.1 (all_said h.left h.ended h.goes) works h.why.0 h.why.1.2 h.why.1.3 h.why.1.4
     ends_by stops.Failed h = ends_at_device keeps start p.machine idle p.row input h.left h.ended before p.written h.goes h.why
 
     pub runs_by : (stop : Stop) → HasStopped keeps start p input behind before stop

@@ -1,12 +1,12 @@
 -- Pieces of a consistency point: what they leave as it is, and that they fail only where the device does.
-use Rattle.std.proofs.Common.{◌≡◌, ℕ, ◌-◌, true, false, Option, Some, None, Result, Ok, Err, refl, ap, sym, ◌∙◌, subst}
-use Rattle.std.specs.Prelude.{Bool, if◌then◌else◌, is_none, OnErr, OnOk}
+use Rattle.std.proofs.Common.{◌≡◌, ℕ, ◌-◌, true, false, length, Option, Some, None, Result, Ok, Err, refl, ap, sym, ◌∙◌, subst}
+use Rattle.std.specs.Prelude.{Bool, if◌then◌else◌, is_none, is_some, nat_lt, OnErr, OnOk}
 use Rattle.std.proofs.lemmas.Option.{none-some}
-use Rattle.legal_runs.specs.Events.{fewer, piece_refusal}
-use Rattle.legal_runs.specs.World.{World}
+use Rattle.legal_runs.specs.Events.{fewer, piece_refusal, point_refusal}
+use Rattle.legal_runs.specs.World.{World, held}
 use Rattle.legal_runs.specs.declared.outcomes.PointRefusal.{PointRefusal}
 use Rattle.legal_runs.specs.declared.outcomes.PointRefusal.TheVariants as points
-use Rattle.scheduler.specs.Calls.{IsPieceStep}
+use Rattle.scheduler.specs.Calls.{IsPieceStep, IsPointStep}
 use Rattle.serving.specs.Pointing.{IsUnmoved}
 
 -- ---- nothing has moved
@@ -35,6 +35,18 @@ failed_so : (b : Bool) (o : Option PointRefusal) (why : PointRefusal) → (if b 
     → (o ≡ Some why → b ≡ true) → b ≡ true
 failed_so true o why e not_else = refl
 failed_so false o why e not_else = not_else e
+
+works_so : (b : Bool) (o : Option PointRefusal) → (if b then Some points.Failed else o) ≡ None → b ≡ false
+works_so true o e = absurd (none-some points.Failed (sym e))
+works_so false o e = refl
+
+-- ---- a point at once
+
+pub point_works : (old new : World) (room : ℕ) (r : Result (Unit {0}) PointRefusal)
+    → IsPointStep old new (point_refusal old) (new ≡ record old { room = room }) r → OnOk r (new.failed ≡ false)
+point_works old new room (Ok x) h = ap (λ (w : World). w.failed) h.1
+    ∙ works_so old.failed (if is_some old.left then Some points.Running else if nat_lt 0 (length (held old)) then Some points.Held else None) h.0
+point_works old new room (Err why) h = tt
 
 -- ---- a piece
 

@@ -82,15 +82,16 @@ module _ (keeps : Type 0) (start now : Handed) (idle : IsIdle (world_of start.co
   -- ---- the ends
 
   pub ends_whole : (input left : Option (List ℕ)) (ended : Bool) (before written : Option (List ℕ)) → Goes keeps start now [] input left ended before written
-      → IsAtEnd left → EndsSo start.core now.core input left before written (Ok tt)
-  ends_whole None left ended before written h at_end = (idle_again keeps start now idle None left ended before written h, at_end, tt)
-  ends_whole (Some input) None ended before written h at_end = absurd (none-some h.takes.0 h.takes.1)
-  ends_whole (Some input) (Some bs) ended before written h at_end =
+      → now.core.failed ≡ false → IsAtEnd left → EndsSo start.core now.core input left before written (Ok tt)
+  ends_whole None left ended before written h works at_end = (idle_again keeps start now idle None left ended before written h, works, at_end, tt)
+  ends_whole (Some input) None ended before written h works at_end = absurd (none-some h.takes.0 h.takes.1)
+  ends_whole (Some input) (Some bs) ended before written h works at_end =
       let ends = idle_again keeps start now idle (Some input) (Some bs) ended before written h in
       let rest = h.takes.0 in
       let none : rest ≡ [] = sym (same_Some bs rest h.takes.1) ∙ at_end in
       let all : lines input ≡ h.taken = h.takes.2.to_come ∙ ap (λ l. h.taken ++ lines l) none ∙ append-nil h.taken in (
         ends,
+        works,
         at_end,
         (
           joined (map text h.said),
@@ -101,10 +102,10 @@ module _ (keeps : Type 0) (start now : Handed) (idle : IsIdle (world_of start.co
       )
 
   pub ends_at_read : (input left behind before written : Option (List ℕ)) → Goes keeps start now [] input left false before written
-      → IfSome left (λ bs. LosesFront bs behind) → EndsSo start.core now.core input behind before written (Err faults.Read)
-  ends_at_read None left behind before written h lost = (idle_again keeps start now idle None left false before written h, tt)
-  ends_at_read (Some input) None behind before written h lost = absurd (none-some h.takes.0 h.takes.1)
-  ends_at_read (Some input) (Some bs) behind before written h lost =
+      → now.core.failed ≡ false → IfSome left (λ bs. LosesFront bs behind) → EndsSo start.core now.core input behind before written (Err faults.Read)
+  ends_at_read None left behind before written h works lost = (idle_again keeps start now idle None left false before written h, works, tt)
+  ends_at_read (Some input) None behind before written h works lost = absurd (none-some h.takes.0 h.takes.1)
+  ends_at_read (Some input) (Some bs) behind before written h works lost =
       let ends = idle_again keeps start now idle (Some input) (Some bs) false before written h in
       let t : AreTaken input h.takes.0 false h.taken = h.takes.2 in
       let parts : input ≡ with_newlines h.taken ++ lost.got ++ lost.rest =
@@ -122,22 +123,23 @@ module _ (keeps : Type 0) (start now : Handed) (idle : IsIdle (world_of start.co
         no_line = recursion_from_All (λ b. b ≢ 10) lost.got lost.within_line;
         answered = k.output;
       } in
-      (ends, (joined (map text h.said), h.output, record { output = output; state = k.state }))
+      (ends, works, (joined (map text h.said), h.output, record { output = output; state = k.state }))
 
   pub ends_exhausted : (input left behind : Option (List ℕ)) (ended : Bool) (before written : Option (List ℕ)) (line : List ℕ) (m : Msg)
-      → Goes keeps start now [] input left ended before written → now.core.next ≡ 2 ^ 64 - 1
+      → Goes keeps start now [] input left ended before written → now.core.failed ≡ false → now.core.next ≡ 2 ^ 64 - 1
       → IfSome left (λ bs. GivesLine line bs behind) → message_of line ≡ Some m → is_in_range g m ≡ true
       → EndsSo start.core now.core input behind before written (Err faults.Exhausted)
-  ends_exhausted None left behind ended before written line m h next found is in_range =
-      (idle_again keeps start now idle None left ended before written h, next, tt)
-  ends_exhausted (Some input) None behind ended before written line m h next found is in_range = absurd (none-some h.takes.0 h.takes.1)
-  ends_exhausted (Some input) (Some bs) behind ended before written line m h next found is in_range =
+  ends_exhausted None left behind ended before written line m h works next found is in_range =
+      (idle_again keeps start now idle None left ended before written h, works, next, tt)
+  ends_exhausted (Some input) None behind ended before written line m h works next found is in_range = absurd (none-some h.takes.0 h.takes.1)
+  ends_exhausted (Some input) (Some bs) behind ended before written line m h works next found is in_range =
       let ends = idle_again keeps start now idle (Some input) (Some bs) ended before written h in
       let same = same_Some bs h.takes.0 h.takes.1 in
       let parts : lines input ≡ h.taken ++ line ∷ lines (behind_first_line bs) =
       h.takes.2.to_come ∙ ap (λ z. h.taken ++ lines z) (sym same) ∙ ap (λ z. h.taken ++ z) (lines-first bs found.more)
       ∙ ap (λ z. h.taken ++ z ∷ lines (behind_first_line bs)) (sym found.line_is) in (
         ends,
+        works,
         next,
         (
           joined (map text h.said),

@@ -148,6 +148,10 @@ logs_all g old new n (Ok count) h sound all =
     )
 logs_all g old new n (Err why) h sound all = tt
 
+pub log_works : (g : Geometry) (old new : World) (n : ℕ) (r : Result ℕ CoreFault) → IsLogStep g old new n r → OnOk r (new.failed ≡ false)
+log_works g old new n (Ok count) h = ap (λ (w : World). w.failed) h.2 ∙ h.0
+log_works g old new n (Err why) h = tt
+
 pub log_fails : (g : Geometry) (old new : World) (n : ℕ) (r : Result ℕ CoreFault) → IsLogStep g old new n r → OnErr r (new.failed ≡ true)
 log_fails g old new n (Ok count) h = tt
 log_fails g old new n (Err faults.Device) h = ap (λ (w : World). w.failed) h.2

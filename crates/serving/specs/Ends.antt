@@ -1,5 +1,5 @@
 -- What a server has done when it ends.
-use Rattle.std.specs.Prelude.{◌≡◌, ◌-◌, ◌^◌, ℕ, true, List, ◌∷◌, ◌++◌, map, Option, Some, None, Result, Ok, Err}
+use Rattle.std.specs.Prelude.{◌≡◌, ◌-◌, ◌^◌, ℕ, true, false, List, ◌∷◌, ◌++◌, map, Option, Some, None, Result, Ok, Err}
 use Rattle.std.specs.Io.KnownBytes.{Appends, IsAtEnd}
 use Rattle.std.specs.List.{AllByRecursion}
 use Rattle.affinity.specs.declared.geometry.Geometry.{Geometry}
@@ -74,16 +74,17 @@ pub record HasServed (keeps : Type 0) (start : Handed) (new : Kept) (row : List 
   pub output : Appends before written (joined (map text said))
 
 -- ---- what each answer says of the core before and after, of the input and what is left of it, and of what was written
+-- Where each line that was read is answered, nothing waits or is held, and the device works.
 
 abbrev pub settled : Kept → State
 settled core = (world_of core).settled
 
 abbrev pub EndsSo : Kept → Kept → Option (List ℕ) → Option (List ℕ) → Option (List ℕ) → Option (List ℕ) → Result (Unit {0}) ServeFault → Type 0
-EndsSo old new input left before written (Ok _) = IsIdle (world_of new) × IsAtEnd left
+EndsSo old new input left before written (Ok _) = IsIdle (world_of new) × (new.failed ≡ false) × IsAtEnd left
     × Writes input before written (λ bytes w. AreServed old.geometry (settled old) (settled new) (lines bytes) w)
-EndsSo old new input left before written (Err faults.Read) = IsIdle (world_of new)
+EndsSo old new input left before written (Err faults.Read) = IsIdle (world_of new) × (new.failed ≡ false)
     × Writes input before written (ServesWholeLines old.geometry (settled old) (settled new) left)
-EndsSo old new input left before written (Err faults.Exhausted) = IsIdle (world_of new) × (new.next ≡ 2 ^ 64 - 1)
+EndsSo old new input left before written (Err faults.Exhausted) = IsIdle (world_of new) × (new.failed ≡ false) × (new.next ≡ 2 ^ 64 - 1)
     × Writes input before written (ServesLinesBefore old.geometry (settled old) (settled new))
 EndsSo old new input left before written (Err faults.Device) = (new.failed ≡ true) × Writes input before written (IsBeginning old.geometry (settled old))
 EndsSo old new input left before written (Err faults.Write) = Unit {0}

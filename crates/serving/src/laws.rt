@@ -80,14 +80,14 @@ pub fn each_message_inside_has_its_line<D: Disk>()
 /// there is a legal run.
 pub fn serving_ends_as_the_serial_server<D: Disk>()
     ensures whole { (start now : Handed) (input left : Option (List ℕ)) (ended : Bool) (before written : Option (List ℕ))
-        → IsIdle (world_of start.core) → Goes D.keeps start now [] input left ended before written → IsAtEnd left
+        → IsIdle (world_of start.core) → Goes D.keeps start now [] input left ended before written → now.core.failed ≡ false → IsAtEnd left
         → EndsSo start.core now.core input left before written (Ok tt) }
     ensures read { (start now : Handed) (input left behind before written : Option (List ℕ)) → IsIdle (world_of start.core)
-        → Goes D.keeps start now [] input left false before written → IfSome left (λ bs. LosesFront bs behind)
+        → Goes D.keeps start now [] input left false before written → now.core.failed ≡ false → IfSome left (λ bs. LosesFront bs behind)
         → EndsSo start.core now.core input behind before written (Err faults.Read) }
     ensures exhausted { (start now : Handed) (input left behind : Option (List ℕ)) (ended : Bool) (before written : Option (List ℕ))
         (line : List ℕ) (m : Msg) → IsIdle (world_of start.core) → Goes D.keeps start now [] input left ended before written
-        → now.core.next ≡ 2 ^ 64 - 1 → IfSome left (λ bs. GivesLine line bs behind)
+        → now.core.failed ≡ false → now.core.next ≡ 2 ^ 64 - 1 → IfSome left (λ bs. GivesLine line bs behind)
         → message_of line ≡ Some m → is_in_range start.core.geometry m ≡ true
         → EndsSo start.core now.core input behind before written (Err faults.Exhausted) }
     ensures device { (start now : Handed) (row : List Line) (input left : Option (List ℕ)) (ended : Bool) (before written : Option (List ℕ))

@@ -58,7 +58,8 @@ impl<D: Disk> Session<D> {
         unreachable!()
     }
 
-    /// Goes on without reading until each line that was read is answered, and sends all that waits.
+    /// Goes on without reading until each line that was read is answered, and sends all that waits. The device works then: nothing
+    /// is left to log, and a log of nothing tells whether it has failed.
     fn answer_the_rest<T: Wait, W: Write, G: Gate>(
         &mut self,
         rt: &T,
@@ -75,8 +76,10 @@ impl<D: Disk> Session<D> {
         ensures holds { Holds (with_lent self.new.core self.new.desk.lent) }
         ensures bench { self.new.desk.bench ≡ self.old.desk.bench }
         ensures all { OnOk result ((self.new.row.lines ≡ []) × (self.new.out ≡ [])) }
+        ensures works { OnOk result (self.new.core.failed ≡ false) }
     {
         self.finish_row(rt, bench, w, gate)?;
+        self.log_what_ran()?;
         self.send(w)
     }
 
@@ -89,6 +92,7 @@ impl<D: Disk> Session<D> {
             (place_of self.new.core self.new.desk.lent self.new.row.lines (so_far contents self.new.out)) result }
         ensures holds { Holds (with_lent self.new.core self.new.desk.lent) }
         ensures same { (self.new.desk ≡ self.old.desk) × (self.new.row ≡ self.old.row) × (self.new.out ≡ self.old.out) }
+        ensures works { OnOk result (self.new.core.failed ≡ false) }
         ensures emptied { OnOk result (D.keeps → HasEmptyLog self.new.core) }
     {
         match last_point(&mut self.core) {
@@ -116,6 +120,7 @@ impl<D: Disk> Session<D> {
         ensures holds { Holds (with_lent self.new.core self.new.desk.lent) }
         ensures bench { self.new.desk.bench ≡ self.old.desk.bench }
         ensures all { OnOk result ((self.new.row.lines ≡ []) × (self.new.out ≡ [])) }
+        ensures works { OnOk result (self.new.core.failed ≡ false) }
         ensures emptied { OnOk result (D.keeps → HasEmptyLog self.new.core) }
     {
         self.answer_the_rest(rt, w, bench, gate)?;
@@ -143,6 +148,7 @@ impl<D: Disk> Session<D> {
         ensures holds { Holds (with_lent self.new.core self.new.desk.lent) }
         ensures bench { self.new.desk.bench ≡ self.old.desk.bench }
         ensures all { AllServed result self.new.row.lines self.new.out }
+        ensures works { OnOk result (self.new.core.failed ≡ false) }
         ensures emptied { AtEnd result (D.keeps → HasEmptyLog self.new.core) }
     {
         match stop {
@@ -185,6 +191,7 @@ impl<D: Disk> Session<D> {
         ensures holds { Holds (with_lent self.new.core self.new.desk.lent) }
         ensures bench { self.new.desk.bench ≡ self.old.desk.bench }
         ensures all { AllServed result self.new.row.lines self.new.out }
+        ensures works { OnOk result (self.new.core.failed ≡ false) }
         ensures emptied { AtEnd result (D.keeps → HasEmptyLog self.new.core) }
     {
         match self.serve_lines(rt, lines, w, bench, gate) {

@@ -1,6 +1,6 @@
 //! Consistency points of a server: the one in progress is carried to its end, and the last one is made.
 
-ghost use Rattle.std.specs.Prelude.{◌≡◌, ◌≢◌, true, List, [], None, Some, IfOk, OnOk, OnErr, MatchBool};
+ghost use Rattle.std.specs.Prelude.{◌≡◌, ◌≢◌, true, false, List, [], None, Some, IfOk, OnOk, OnErr, MatchBool};
 ghost use Rattle.legal_runs.specs.Laws.{IsIdle};
 ghost use Rattle.legal_runs.specs.declared.outcomes.PointRefusal.TheVariants as refusals;
 ghost use Rattle.machine.specs.declared.hands.Hand.{Hand};
@@ -78,6 +78,7 @@ pub(crate) fn last_point<D: Disk>(core: &mut Core<D>) -> Result<(), PointRefusal
         → KeepsOn D.keeps (record { core = core.old; hands = hands }) (record { core = core.new; hands = hands }) }
     ensures unmoved { IsUnmoved (world_of core.old) (world_of core.new) }
     ensures idle { IsIdle (world_of core.new) }
+    ensures works { OnOk result (core.new.failed ≡ false) }
     ensures emptied { OnOk result (D.keeps → in_force (layout_of core.new.geometry)
         (named_area (layout_of core.new.geometry) core.new.medium.now) core.new.medium.now ≡ []) }
     ensures failed { OnErr result (core.new.failed ≡ true) }

@@ -1,7 +1,7 @@
 //! A session: the core, the dispatcher's seat, the lines that were read, and the answers that wait. Each step of it goes on
 //! with its run.
 
-ghost use Rattle.std.specs.Prelude.{◌≡◌, ℕ, List, [], Option, Some, OnOk, Ok};
+ghost use Rattle.std.specs.Prelude.{◌≡◌, ℕ, false, List, [], Option, Some, OnOk, Ok};
 ghost use Rattle.message.specs.Waiting.{so_far};
 ghost use Rattle.serving.specs.Runs.{with_lent};
 ghost use Rattle.serving.specs.Steps.{Holds};
@@ -34,7 +34,7 @@ pub(crate) struct Session<D: Disk> {
 }
 
 impl<D: Disk> Session<D> {
-    /// Logs all that ran, in one go.
+    /// Logs all that ran, in one go. Where nothing ran, it tells no more than whether the device works.
     pub(crate) fn log_what_ran(&mut self) -> Result<(), Halt>
         requires holds { Holds (with_lent self.old.core self.old.desk.lent) }
         ensures holds { Holds (with_lent self.new.core self.new.desk.lent) }
@@ -43,6 +43,8 @@ impl<D: Disk> Session<D> {
         ensures kept { (contents : Option (List ℕ)) → Advances D.keeps
             (place_of self.old.core self.old.desk.lent self.old.row.lines (so_far contents self.old.out))
             (place_of self.new.core self.new.desk.lent self.new.row.lines (so_far contents self.new.out)) result }
+        ensures same { (self.new.row ≡ self.old.row) × (self.new.out ≡ self.old.out) }
+        ensures works { OnOk result (self.new.core.failed ≡ false) }
     {
         match log_all(&mut self.core) {
             Ok(_) => Ok(()),

@@ -1,6 +1,6 @@
 //! What a server does with its core between one line and the next: each call goes on with its run.
 
-ghost use Rattle.std.specs.Prelude.{◌≡◌, ◌≤◌, ◌++◌, ℕ, true, List, [], Some, None, OnOk, OnErr};
+ghost use Rattle.std.specs.Prelude.{◌≡◌, ◌≤◌, ◌++◌, ℕ, true, false, List, [], Some, None, OnOk, OnErr};
 ghost use Rattle.image.specs.Pieces.{piece_count};
 ghost use Rattle.legal_runs.specs.Events.{answer, arrive, flip_refusal, point_refusal};
 ghost use Rattle.machine.specs.declared.hands.Hand.{Hand};
@@ -20,6 +20,7 @@ pub(crate) fn log_all<D: Disk>(core: &mut Core<D>) -> Result<usize, CoreFault>
     ensures kept { (hands : List Hand) → Holds (record { core = core.old; hands = hands })
         → KeepsOn D.keeps (record { core = core.old; hands = hands }) (record { core = core.new; hands = hands }) }
     ensures logged { OnOk result ((core.new.ran ≡ []) × (core.new.logged ≡ core.old.logged ++ core.old.ran)) }
+    ensures works { OnOk result (core.new.failed ≡ false) }
     ensures failed { OnErr result (core.new.failed ≡ true) }
 {
     let count = core.slots();
@@ -83,6 +84,7 @@ pub(crate) fn make_point<D: Disk>(core: &mut Core<D>) -> Result<(), PointRefusal
         → KeepsOn D.keeps (record { core = core.old; hands = hands }) (record { core = core.new; hands = hands }) }
     ensures made { IsPointStep (world_of core.old) (world_of core.new) (point_refusal (world_of core.old))
         (world_of core.new ≡ record (world_of core.old) { room = core.old.geometry.half }) result }
+    ensures works { OnOk result (core.new.failed ≡ false) }
     ensures emptied { OnOk result (D.keeps → in_force (layout_of core.new.geometry)
         (named_area (layout_of core.new.geometry) core.new.medium.now) core.new.medium.now ≡ []) }
 {

@@ -3,16 +3,16 @@ use Rattle.serving.proofs.Served.{ends_at_device, ends_at_read, ends_exhausted, 
 use Rattle.serving.proofs.laws.serving_ends_as_the_serial_server.Goals as goal
 
 pub returns-clause-whole : goal.returns-clause-whole
-returns-clause-whole g c start now input left ended before written idle h at_end =
-    ends_whole g.D.Disk.keeps start now idle input left ended before written h at_end
+returns-clause-whole g c start now input left ended before written idle h works at_end =
+    ends_whole g.D.Disk.keeps start now idle input left ended before written h works at_end
 
 pub returns-clause-read : goal.returns-clause-read
-returns-clause-read g c start now input left behind before written idle h lost =
-    ends_at_read g.D.Disk.keeps start now idle input left behind before written h lost
+returns-clause-read g c start now input left behind before written idle h works lost =
+    ends_at_read g.D.Disk.keeps start now idle input left behind before written h works lost
 
 pub returns-clause-exhausted : goal.returns-clause-exhausted
-returns-clause-exhausted g c start now input left behind ended before written line m idle h next found is in_range =
-    ends_exhausted g.D.Disk.keeps start now idle input left behind ended before written line m h next found is in_range
+returns-clause-exhausted g c start now input left behind ended before written line m idle h works next found is in_range =
+    ends_exhausted g.D.Disk.keeps start now idle input left behind ended before written line m h works next found is in_range
 
 pub returns-clause-device : goal.returns-clause-device
 returns-clause-device g c start now row input left ended before written idle h failed =

@@ -1,6 +1,6 @@
 -- The lemmas on where it begins and ends.
-use Rattle.std.proofs.Common.{Ok, ap, ◌∙◌, subst}
-use Rattle.std.specs.Prelude.{Result}
+use Rattle.std.proofs.Common.{◌≡◌, false, Ok, ap, ◌∙◌, subst}
+use Rattle.std.specs.Prelude.{OnOk, Result}
 use Rattle.message.specs.Reader.{is_drained, source, unread}
 use Rattle.message.specs.Waiting.{so_far}
 use Rattle.serving.specs.Runs.{with_lent}
@@ -50,7 +50,8 @@ returns-in-Ok-End-clause-promises g c =
     let k = c.serve_to_end.ensures.kept start (unread rest c.args.lines.now) (so_far w s.out) first in
     let e = c.in-Ok-End.is ∙ ap Ok c.in-Ok-End.field-0-is in
     promises_by g.D.Disk.keeps start c.requires.idle p (unread rest c.args.lines.now) (rest (source n.lines)) (so_far w s.out)
-    (subst (λ (r : Result Stop Halt). AllServed r n.self.row.lines n.self.out) e c.serve_to_end.ensures.all).0 stops.End
+    (subst (λ (r : Result Stop Halt). AllServed r n.self.row.lines n.self.out) e c.serve_to_end.ensures.all).0
+    (subst (λ (r : Result Stop Halt). OnOk r (n.self.core.failed ≡ false)) e c.serve_to_end.ensures.works) stops.End
     (subst (λ (r : Result Stop Halt). HasEnded g.D.Disk.keeps start p (unread rest c.args.lines.now) (rest (source n.lines)) (so_far w s.out) r) e k)
 
 pub returns-in-Ok-Fault-clause-promises : goal.returns-in-Ok-Fault-clause-promises
@@ -66,7 +67,8 @@ returns-in-Ok-Fault-clause-promises g c =
     let k = c.serve_to_end.ensures.kept start (unread rest c.args.lines.now) (so_far w s.out) first in
     let e = c.in-Ok-Fault.is ∙ ap Ok c.in-Ok-Fault.field-0-is in
     promises_by g.D.Disk.keeps start c.requires.idle p (unread rest c.args.lines.now) (rest (source n.lines)) (so_far w s.out)
-    (subst (λ (r : Result Stop Halt). AllServed r n.self.row.lines n.self.out) e c.serve_to_end.ensures.all).0 stops.Fault
+    (subst (λ (r : Result Stop Halt). AllServed r n.self.row.lines n.self.out) e c.serve_to_end.ensures.all).0
+    (subst (λ (r : Result Stop Halt). OnOk r (n.self.core.failed ≡ false)) e c.serve_to_end.ensures.works) stops.Fault
     (subst (λ (r : Result Stop Halt). HasEnded g.D.Disk.keeps start p (unread rest c.args.lines.now) (rest (source n.lines)) (so_far w s.out) r) e k)
 
 pub returns-in-Ok-Exhausted-clause-promises : goal.returns-in-Ok-Exhausted-clause-promises
@@ -82,7 +84,8 @@ returns-in-Ok-Exhausted-clause-promises g c =
     let k = c.serve_to_end.ensures.kept start (unread rest c.args.lines.now) (so_far w s.out) first in
     let e = c.in-Ok-Exhausted.is ∙ ap Ok c.in-Ok-Exhausted.field-0-is in
     promises_by g.D.Disk.keeps start c.requires.idle p (unread rest c.args.lines.now) (rest (source n.lines)) (so_far w s.out)
-    (subst (λ (r : Result Stop Halt). AllServed r n.self.row.lines n.self.out) e c.serve_to_end.ensures.all).0 stops.Exhausted
+    (subst (λ (r : Result Stop Halt). AllServed r n.self.row.lines n.self.out) e c.serve_to_end.ensures.all).0
+    (subst (λ (r : Result Stop Halt). OnOk r (n.self.core.failed ≡ false)) e c.serve_to_end.ensures.works) stops.Exhausted
     (subst (λ (r : Result Stop Halt). HasEnded g.D.Disk.keeps start p (unread rest c.args.lines.now) (rest (source n.lines)) (so_far w s.out) r) e k)
 
 pub returns-in-Err-clause-promises : goal.returns-in-Err-clause-promises
