@@ -1,25 +1,39 @@
 //! An ordinary serial server over `BTreeMap`s, unproved: what `waffd plain` is measured against.
-//! It gives the same bytes for the same input, at the default geometry.
+//! It gives the same bytes for the same input, at the default geometry; another one is said when this is compiled, by the
+//! environment (AGGREGATES=4 VOLUMES=8 ..). benchmark/serve/server.rs takes its messages from here.
 
 use std::collections::{BTreeMap, BTreeSet};
 use std::io::{self, BufRead, BufReader, BufWriter, Write};
 
-const AGGREGATES: u16 = 1;
-const VOLUMES: u16 = 4;
-const STRIPES: u16 = 4;
-const WIDTH: u16 = 4;
-const FILES: u16 = 16;
-const BLOCKS: u16 = 64;
-const QUOTA: u16 = 64;
+const AGGREGATES: u16 = chosen(option_env!("AGGREGATES"), 1);
+const VOLUMES: u16 = chosen(option_env!("VOLUMES"), 4);
+const STRIPES: u16 = chosen(option_env!("STRIPES"), 4);
+const WIDTH: u16 = chosen(option_env!("WIDTH"), 4);
+const FILES: u16 = chosen(option_env!("FILES"), 16);
+const BLOCKS: u16 = chosen(option_env!("BLOCKS"), 64);
+const QUOTA: u16 = chosen(option_env!("QUOTA"), 64);
+
+const fn chosen(said: Option<&str>, otherwise: u16) -> u16 {
+    let Some(digits) = said else {
+        return otherwise;
+    };
+    let mut value = 0;
+    let mut i = 0;
+    while i < digits.len() {
+        value = value * 10 + (digits.as_bytes()[i] - b'0') as u16;
+        i += 1;
+    }
+    value
+}
 
 #[derive(Default)]
-struct Server {
+pub struct Server {
     made: BTreeSet<(u16, u16)>,
     sealed: BTreeSet<(u16, u16)>,
     labels: BTreeMap<(u16, u16), [u8; 32]>,
     files: BTreeSet<(u16, u16, u16)>,
     blocks: BTreeMap<(u16, u16, u16, u16), [u8; 512]>,
-    used: BTreeMap<(u16, u16, u16), u16>,
+    used: BTreeMap<(u16, u16, usize), u16>,
 }
 
 fn number(word: &[u8]) -> Option<u16> {
@@ -68,7 +82,7 @@ fn bytes<const N: usize>(word: &[u8]) -> Option<[u8; N]> {
 }
 
 /// The numbers that the words say, where there are just so many.
-fn numbers<'a, const N: usize>(words: &mut impl Iterator<Item = &'a [u8]>) -> Option<[u16; N]> {
+pub fn numbers<'a, const N: usize>(words: &mut impl Iterator<Item = &'a [u8]>) -> Option<[u16; N]> {
     let mut all = [0; N];
     for n in &mut all {
         *n = number(words.next()?)?;
@@ -190,7 +204,7 @@ impl Server {
 
     fn clear(&mut self, (a, v, f, b): (u16, u16, u16, u16)) {
         if self.blocks.remove(&(a, v, f, b)).is_some() {
-            *self.used.entry((a, v, (f + b / WIDTH) % STRIPES)).or_insert(1) -= 1;
+            *self.used.entry((a, v, stripe_of(f, b))).or_insert(1) -= 1;
         }
     }
 
@@ -199,7 +213,7 @@ impl Server {
             return Err(b"error range\n");
         }
         self.file([a, v, f])?;
-        let used = self.used.entry((a, v, (f + b / WIDTH) % STRIPES)).or_insert(0);
+        let used = self.used.entry((a, v, stripe_of(f, b))).or_insert(0);
         if !self.blocks.contains_key(&(a, v, f, b)) {
             if *used >= QUOTA {
                 return Err(b"error space\n");
@@ -288,7 +302,7 @@ impl Server {
         }
     }
 
-    fn answer(&mut self, line: &[u8], out: &mut impl Write) -> io::Result<()> {
+    pub fn answer(&mut self, line: &[u8], out: &mut impl Write) -> io::Result<()> {
         let mut words = line.split(|c| *c == b' ');
         let keyword = words.next().unwrap_or(b"");
         match keyword {
@@ -322,6 +336,19 @@ fn only<'a, const N: usize>(words: &mut impl Iterator<Item = &'a [u8]>) -> Optio
     let n = numbers(words)?;
     words.next().is_none().then_some(n)
 }
+
+/// The stripe of its volume on which a block lies.
+pub fn stripe_of(f: u16, b: u16) -> usize {
+    usize::from((f + b / WIDTH) % STRIPES)
+}
+
+/// The number of a volume among those of all aggregates, where there is such a volume.
+pub fn volume_number(a: u16, v: u16) -> Option<usize> {
+    (a < AGGREGATES && v < VOLUMES).then(|| usize::from(a * VOLUMES + v))
+}
+
+/// How many volumes there can be, and how many stripes each has.
+pub const SIZES: [usize; 2] = [(AGGREGATES * VOLUMES) as usize, STRIPES as usize];
 
 fn main() -> io::Result<()> {
     let mut input = BufReader::with_capacity(1 << 16, io::stdin().lock());
