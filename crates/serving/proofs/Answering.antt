@@ -141,21 +141,25 @@ all_answered old w new is none = is ∙ ap (λ (l : List Replied). record (world
 
 -- ---- one after the other
 
-module _ (keeps : Type 0) (old mid new : Handed) (row mid_row : List Line) where
-  pub serves_none : (r : Option (ℕ × Reply)) → ServesOn keeps old row mid mid_row → ((told : ℕ × Reply) → r ≡ Some told → ⊥)
-      → AnswersOn keeps mid new r → ServesOn keeps old row new mid_row
-  serves_none (Some told) s not a = absurd (not told refl)
-  serves_none None s not a = record {
-    holds = a.holds;
-    goes = λ start input left ended before written h.
-        a.goes mid_row start input left ended before written (s.goes start input left ended before written h);
-  }
+module _ (keeps : Type 0) (old new : Handed) (row : List Line) where
+  pub serves_none : (r : Option (ℕ × Reply)) → ((told : ℕ × Reply) → r ≡ Some told → ⊥) → AnswersOn keeps old new r
+      → ServesOn keeps old row new row
+  serves_none (Some told) not a = absurd (not told refl)
+  serves_none None not a = record { holds = a.holds; goes = a.goes row }
 
-  pub serves_one : (new_row : List Line) (ticket : ℕ) (reply : Reply) → ServesOn keeps old row mid mid_row
-      → AnswersOn keeps mid new (Some (ticket, reply)) → new_row ≡ map (answer_one ticket reply) mid_row → ServesOn keeps old row new new_row
-  serves_one new_row ticket reply s a is = record {
+  pub serves_one : (new_row : List Line) (ticket : ℕ) (reply : Reply) → AnswersOn keeps old new (Some (ticket, reply))
+      → new_row ≡ map (answer_one ticket reply) row → ServesOn keeps old row new new_row
+  serves_one new_row ticket reply a is = record {
     holds = a.0;
     goes = λ start input left ended before written h.
         subst (λ (l : List Line). Goes keeps start new l input left ended before written) (sym is)
-        (a.1 mid_row start input left ended before written (s.goes start input left ended before written h));
+        (a.1 row start input left ended before written h);
   }
+
+pub serves_then : (keeps : Type 0) (old mid new : Handed) (row mid_row new_row : List Line) → ServesOn keeps old row mid mid_row
+    → ServesOn keeps mid mid_row new new_row → ServesOn keeps old row new new_row
+serves_then keeps old mid new row mid_row new_row s t = record {
+  holds = t.holds;
+  goes = λ start input left ended before written h.
+      t.goes start input left ended before written (s.goes start input left ended before written h);
+}

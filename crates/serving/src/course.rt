@@ -1,4 +1,8 @@
-//! How a session goes: when its consistency points are due, and why it ends.
+//! How a session goes: when its consistency points are due, how much comes back in one turn, and why it ends.
+
+/// How many messages may come back before what ran is logged: the log writes as many records with one write of their bodies and
+/// one of their gates.
+const BATCH: usize = 64;
 
 /// Why a server reads no more.
 #[derive(Clone, Copy, Debug, PartialEq, Eq)]
@@ -45,5 +49,35 @@ impl Course {
     /// Whether one is due by the number of records.
     pub(crate) fn is_due(&self) -> bool {
         self.every != 0 && self.since >= self.every
+    }
+}
+
+/// What has come back in one turn, and what kept messages from going out. A wrong count makes a longer or a shorter batch, which
+/// no contract forbids.
+#[derive(Clone, Copy, Debug, PartialEq, Eq)]
+pub(crate) struct Batch {
+    /// How many more messages may come back before what ran is logged.
+    pub(crate) left: usize,
+    /// Whether some message lacked room in the log alone, when messages went out last.
+    pub(crate) lacks_room: bool,
+}
+
+impl Batch {
+    /// One in which nothing has come back yet.
+    pub(crate) fn new(lacks_room: bool) -> Batch {
+        Batch {
+            left: BATCH,
+            lacks_room,
+        }
+    }
+
+    /// Whether something has come back.
+    pub(crate) fn has_come(&self) -> bool {
+        self.left < BATCH
+    }
+
+    /// Whether what ran is to be logged before more comes back.
+    pub(crate) fn is_full(&self) -> bool {
+        self.left == 0
     }
 }

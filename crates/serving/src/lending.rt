@@ -11,10 +11,6 @@ use scheduler::{Core, Granted};
 use std::sync::Wait;
 use workers::{Bench, DispatchSeat};
 
-/// How often the places are looked at before what came back is logged: each further look lets one write of the log take what
-/// came during the look before it, and while more and more comes back, this bounds how long a reply waits for the log.
-const LOOKS: usize = 4;
-
 /// Takes back what came of the job at place k, if it is there: whether it was.
 pub(crate) fn take_back<D: Disk>(
     core: &mut Core<D>,
@@ -38,11 +34,12 @@ pub(crate) fn take_back<D: Disk>(
     true
 }
 
-/// Looks once at each place, and takes back what came there: whether something did.
+/// Looks once at each place, and takes back what came there, while so many more are `left` to come back: whether something did.
 pub(crate) fn take_all_back<D: Disk>(
     core: &mut Core<D>,
     bench: &Bench,
     desk: &mut DispatchSeat,
+    left: &mut usize,
 ) -> bool
     requires bench { desk.old.bench ≡ bench.now }
     requires holds { Holds (with_lent core.old desk.old.lent) }
@@ -53,29 +50,13 @@ pub(crate) fn take_all_back<D: Disk>(
 {
     let mut came = false;
     for k in 0..desk.places() {
-        if take_back(core, bench, desk, k) {
-            came = true;
-        }
-    }
-    came
-}
-
-/// Looks at the places again and again while something comes back, some few times at most, and waits for nobody: whether
-/// something came.
-pub(crate) fn gather<D: Disk>(core: &mut Core<D>, bench: &Bench, desk: &mut DispatchSeat) -> bool
-    requires bench { desk.old.bench ≡ bench.now }
-    requires holds { Holds (with_lent core.old desk.old.lent) }
-    ensures kept { KeepsOn D.keeps (with_lent core.old desk.old.lent) (with_lent core.new desk.new.lent) }
-    ensures bench { desk.new.bench ≡ desk.old.bench }
-    ensures places { length desk.new.lent ≡ length desk.old.lent }
-    ensures none { IsFalse result → (core.new ≡ core.old) × (desk.new ≡ desk.old) }
-{
-    let mut came = false;
-    for _ in 0..LOOKS {
-        if !take_all_back(core, bench, desk) {
+        if *left == 0 {
             return came;
         }
-        came = true;
+        if take_back(core, bench, desk, k) {
+            came = true;
+            *left -= 1;
+        }
     }
     came
 }
@@ -95,7 +76,8 @@ pub(crate) fn bring_home<T: Wait, D: Disk>(
     ensures home { IsHome desk.new.lent }
 {
     for _ in rt.forever() {
-        take_all_back(core, bench, desk);
+        let mut left = desk.places();
+        take_all_back(core, bench, desk, &mut left);
         if !desk.any_lent() {
             break;
         }

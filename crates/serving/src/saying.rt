@@ -1,6 +1,6 @@
 //! What the lines of the row are answered in the output.
 
-ghost use Rattle.std.specs.Prelude.{◌≡◌, ℕ, List, [], Option, false, IfOk, OnErr, OnOk};
+ghost use Rattle.std.specs.Prelude.{◌≡◌, ◌+◌, ℕ, List, [], Option, false, length, IfOk, IsFalse, IsTrue, OnErr, OnOk};
 ghost use Rattle.std.specs.Io.KnownBytes.{Appends};
 ghost use Rattle.message.specs.Waiting.{so_far};
 ghost use Rattle.serving.specs.Lines.{is_answered, text};
@@ -17,6 +17,32 @@ use scheduler::Core;
 use std::io::Write;
 use workers::Gate;
 
+/// Answers the message that was logged first, if there is one: its line in the row has its reply then. Adds it to `records` where
+/// it changed something, as far as that counts. Whether there was one.
+pub(crate) fn answer_one<D: Disk, G: Gate>(
+    core: &mut Core<D>,
+    row: &mut Row,
+    gate: &G,
+    records: &mut u64,
+) -> bool
+    ensures kept { (hands : List Hand) → Holds (record { core = core.old; hands = hands })
+        → ServesOn D.keeps (record { core = core.old; hands = hands }) row.old.lines (record { core = core.new; hands = hands }) row.new.lines }
+    ensures world { world_of core.new ≡ record (world_of core.old) { logged = core.new.logged } }
+    ensures fewer { IsTrue result → length core.new.logged + 1 ≡ length core.old.logged }
+    ensures none { IsFalse result → core.new.logged ≡ [] }
+    ensures slots { row.new.slots ≡ row.old.slots }
+{
+    let Some((ticket, reply)) = answer_next(core) else {
+        return false;
+    };
+    gate.answered(ticket);
+    if reply == Reply::Done {
+        *records = records.saturating_add(1);
+    }
+    row.answer(ticket, reply);
+    true
+}
+
 /// Answers each message that is logged: its line in the row has its reply then. Adds those that changed something to
 /// `records`, as far as that counts.
 pub(crate) fn answer_all<D: Disk, G: Gate>(
@@ -31,14 +57,9 @@ pub(crate) fn answer_all<D: Disk, G: Gate>(
     ensures slots { row.new.slots ≡ row.old.slots }
 {
     for _ in 0..core.slots() {
-        let Some((ticket, reply)) = answer_next(core) else {
+        if !answer_one(core, row, gate, records) {
             return;
-        };
-        gate.answered(ticket);
-        if reply == Reply::Done {
-            *records = records.saturating_add(1);
         }
-        row.answer(ticket, reply);
     }
 }
 

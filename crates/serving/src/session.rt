@@ -10,7 +10,7 @@ ghost use Rattle.serving.specs.Stops.{Advances, place_of};
 use crate::course::{Course, Halt};
 use crate::points::{finish_cut, next_point};
 use crate::row::Row;
-use crate::saying::{answer_all, say_all};
+use crate::saying::{answer_all, answer_one, say_all};
 use crate::steps::{log_all, write_piece};
 use disk::Disk;
 use message::ReplyBuffer;
@@ -65,6 +65,38 @@ impl<D: Disk> Session<D> {
         answer_all(&mut self.core, &mut self.row, gate, &mut self.course.since);
     }
 
+    /// Answers the message that was logged first, if there is one: whether there was.
+    fn answer_first<G: Gate>(&mut self, gate: &G) -> bool
+        requires holds { Holds (with_lent self.old.core self.old.desk.lent) }
+        ensures holds { Holds (with_lent self.new.core self.new.desk.lent) }
+        ensures slots { self.new.row.slots ≡ self.old.row.slots }
+        ensures desk { self.new.desk ≡ self.old.desk }
+        ensures kept { (contents : Option (List ℕ)) → Advances D.keeps
+            (place_of self.old.core self.old.desk.lent self.old.row.lines (so_far contents self.old.out))
+            (place_of self.new.core self.new.desk.lent self.new.row.lines (so_far contents self.new.out)) (Ok (tt {0})) }
+    {
+        answer_one(&mut self.core, &mut self.row, gate, &mut self.course.since)
+    }
+
+    /// Answers all that is logged, and takes the consistency point in progress a step on behind each answer.
+    fn answer_and_move_on<G: Gate>(&mut self, gate: &G) -> Result<(), Halt>
+        requires holds { Holds (with_lent self.old.core self.old.desk.lent) }
+        ensures holds { Holds (with_lent self.new.core self.new.desk.lent) }
+        ensures slots { self.new.row.slots ≡ self.old.row.slots }
+        ensures desk { self.new.desk ≡ self.old.desk }
+        ensures kept { (contents : Option (List ℕ)) → Advances D.keeps
+            (place_of self.old.core self.old.desk.lent self.old.row.lines (so_far contents self.old.out))
+            (place_of self.new.core self.new.desk.lent self.new.row.lines (so_far contents self.new.out)) result }
+    {
+        for _ in 0..self.core.slots() {
+            if !self.answer_first(gate) {
+                return Ok(());
+            }
+            self.move_point_on()?;
+        }
+        Ok(())
+    }
+
     /// Writes the lines that are next in order behind those that wait.
     fn say_what_is_next<W: Write>(&mut self, w: &mut W) -> Result<(), Halt>
         requires holds { Holds (with_lent self.old.core self.old.desk.lent) }
@@ -99,6 +131,24 @@ impl<D: Disk> Session<D> {
         self.say_what_is_next(w)
     }
 
+    /// The same, with a step of the consistency point in progress behind each answer.
+    pub(crate) fn say_and_move_on<W: Write, G: Gate>(
+        &mut self,
+        w: &mut W,
+        gate: &G,
+    ) -> Result<(), Halt>
+        requires holds { Holds (with_lent self.old.core self.old.desk.lent) }
+        ensures holds { Holds (with_lent self.new.core self.new.desk.lent) }
+        ensures slots { self.new.row.slots ≡ self.old.row.slots }
+        ensures desk { self.new.desk ≡ self.old.desk }
+        ensures kept { Advances D.keeps
+            (place_of self.old.core self.old.desk.lent self.old.row.lines (so_far (W.contents w.old) self.old.out))
+            (place_of self.new.core self.new.desk.lent self.new.row.lines (so_far (W.contents w.new) self.new.out)) result }
+    {
+        self.answer_and_move_on(gate)?;
+        self.say_what_is_next(w)
+    }
+
     /// Writes all that waits, and flushes the output.
     pub(crate) fn send<W: Write>(&mut self, w: &mut W) -> Result<(), Halt>
         requires holds { Holds (with_lent self.old.core self.old.desk.lent) }
@@ -115,6 +165,11 @@ impl<D: Disk> Session<D> {
             Ok(()) => Ok(()),
             Err(_) => Err(Halt::Write),
         }
+    }
+
+    /// Whether a consistency point is due by the number of records. None is while one is in progress.
+    pub(crate) fn point_is_due(&self) -> bool {
+        self.core.left().is_none() && self.course.is_due()
     }
 
     /// Takes the consistency point in progress a step on, if there is one: whether there was.

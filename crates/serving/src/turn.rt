@@ -1,5 +1,5 @@
-//! One turn of a session: what came back is logged and answered, and messages go out; where nothing else can be done, it
-//! waits or begins a consistency point.
+//! One turn of a session: messages go out, and what came back is logged in one go and answered; where nothing else can be done,
+//! it waits or begins a consistency point.
 
 ghost use Rattle.std.specs.Prelude.{◌≡◌, ℕ, List, [], Option, OnOk, length};
 ghost use Rattle.message.specs.Waiting.{so_far};
@@ -7,17 +7,27 @@ ghost use Rattle.serving.specs.Runs.{with_lent};
 ghost use Rattle.serving.specs.Steps.{Holds};
 ghost use Rattle.serving.specs.Stops.{Advances, place_of};
 
-use crate::course::Halt;
-use crate::lending::{Sent, gather, send_all};
+use crate::course::{Batch, Halt};
+use crate::lending::{Sent, send_all, take_all_back};
 use crate::session::Session;
 use disk::Disk;
 use std::io::Write;
 use std::sync::Wait;
 use workers::{Bench, Gate};
 
+/// How many looks at a place there are in one turn, over all places. Each further look lets one write of the log take more with
+/// it, and while more and more comes back, this bounds how long a reply waits for the log.
+const PATIENCE: usize = 4096;
+
+/// How often each of so many places is looked at in one turn.
+fn looks(places: usize) -> usize {
+    if places == 0 { 0 } else { PATIENCE / places }
+}
+
 impl<D: Disk> Session<D> {
-    /// Takes back what came of jobs that are out: whether something did.
-    fn take_what_came(&mut self, bench: &Bench) -> bool
+    /// Looks once at each place, and takes back what came of jobs that are out, while so many are `left` to come back: whether
+    /// something did.
+    fn take_what_came(&mut self, bench: &Bench, left: &mut usize) -> bool
         requires bench { self.old.desk.bench ≡ bench.now }
         requires holds { Holds (with_lent self.old.core self.old.desk.lent) }
         ensures holds { Holds (with_lent self.new.core self.new.desk.lent) }
@@ -28,7 +38,7 @@ impl<D: Disk> Session<D> {
         ensures bench { self.new.desk.bench ≡ self.old.desk.bench }
         ensures places { length self.new.desk.lent ≡ length self.old.desk.lent }
     {
-        gather(&mut self.core, bench, &mut self.desk)
+        take_all_back(&mut self.core, bench, &mut self.desk, left)
     }
 
     /// Lets messages go out, unless a consistency point is due by the number of records: whether one lacks room in the log
@@ -45,7 +55,7 @@ impl<D: Disk> Session<D> {
         ensures bench { self.new.desk.bench ≡ self.old.desk.bench }
         ensures places { length self.new.desk.lent ≡ length self.old.desk.lent }
     {
-        if self.course.is_due() {
+        if self.point_is_due() {
             return Ok(false);
         }
         match send_all(&mut self.core, bench, &mut self.desk) {
@@ -56,14 +66,80 @@ impl<D: Disk> Session<D> {
         }
     }
 
-    /// Takes back what came, logs it in one go, answers it and writes the lines that are next in order: whether something came.
+    /// Looks once at each place, and lets messages go out where something came back.
+    fn look(&mut self, bench: &Bench, batch: &mut Batch) -> Result<(), Halt>
+        requires bench { self.old.desk.bench ≡ bench.now }
+        requires places { length self.old.desk.lent ≡ bench.now.slots }
+        requires holds { Holds (with_lent self.old.core self.old.desk.lent) }
+        ensures holds { Holds (with_lent self.new.core self.new.desk.lent) }
+        ensures slots { self.new.row.slots ≡ self.old.row.slots }
+        ensures kept { (contents : Option (List ℕ)) → Advances D.keeps
+            (place_of self.old.core self.old.desk.lent self.old.row.lines (so_far contents self.old.out))
+            (place_of self.new.core self.new.desk.lent self.new.row.lines (so_far contents self.new.out)) result }
+        ensures bench { self.new.desk.bench ≡ self.old.desk.bench }
+        ensures places { length self.new.desk.lent ≡ length self.old.desk.lent }
+    {
+        if !self.take_what_came(bench, &mut batch.left) {
+            return Ok(());
+        }
+        let lacks_room = self.send_out(bench)?;
+        batch.lacks_room = lacks_room;
+        Ok(())
+    }
+
+    /// Looks at the places again and again, until the batch is full, nothing is lent any more, or it has looked often enough. It
+    /// waits for nobody.
+    fn look_on(&mut self, bench: &Bench, batch: &mut Batch) -> Result<(), Halt>
+        requires bench { self.old.desk.bench ≡ bench.now }
+        requires places { length self.old.desk.lent ≡ bench.now.slots }
+        requires holds { Holds (with_lent self.old.core self.old.desk.lent) }
+        ensures holds { Holds (with_lent self.new.core self.new.desk.lent) }
+        ensures slots { self.new.row.slots ≡ self.old.row.slots }
+        ensures kept { (contents : Option (List ℕ)) → Advances D.keeps
+            (place_of self.old.core self.old.desk.lent self.old.row.lines (so_far contents self.old.out))
+            (place_of self.new.core self.new.desk.lent self.new.row.lines (so_far contents self.new.out)) result }
+        ensures bench { self.new.desk.bench ≡ self.old.desk.bench }
+        ensures places { length self.new.desk.lent ≡ length self.old.desk.lent }
+    {
+        for _ in 0..looks(self.desk.places()) {
+            if batch.is_full() || !self.desk.any_lent() {
+                return Ok(());
+            }
+            self.look(bench, batch)?;
+        }
+        Ok(())
+    }
+
+    /// Lets messages go out and takes back what comes of them, until it is worth a write of the log. Jobs are out then as far as
+    /// may be, so that they run meanwhile.
+    fn gather(&mut self, bench: &Bench) -> Result<Batch, Halt>
+        requires bench { self.old.desk.bench ≡ bench.now }
+        requires places { length self.old.desk.lent ≡ bench.now.slots }
+        requires holds { Holds (with_lent self.old.core self.old.desk.lent) }
+        ensures holds { Holds (with_lent self.new.core self.new.desk.lent) }
+        ensures slots { self.new.row.slots ≡ self.old.row.slots }
+        ensures kept { (contents : Option (List ℕ)) → Advances D.keeps
+            (place_of self.old.core self.old.desk.lent self.old.row.lines (so_far contents self.old.out))
+            (place_of self.new.core self.new.desk.lent self.new.row.lines (so_far contents self.new.out)) result }
+        ensures bench { self.new.desk.bench ≡ self.old.desk.bench }
+        ensures places { length self.new.desk.lent ≡ length self.old.desk.lent }
+    {
+        let lacks_room = self.send_out(bench)?;
+        let mut batch = Batch::new(lacks_room);
+        self.look_on(bench, &mut batch)?;
+        Ok(batch)
+    }
+
+    /// Lets messages go out, takes back what comes, logs it in one go, answers it and writes the lines that are next in order. A
+    /// consistency point in progress goes on by one step behind each answer.
     fn work_off<W: Write, G: Gate>(
         &mut self,
         bench: &Bench,
         w: &mut W,
         gate: &G,
-    ) -> Result<bool, Halt>
+    ) -> Result<Batch, Halt>
         requires bench { self.old.desk.bench ≡ bench.now }
+        requires places { length self.old.desk.lent ≡ bench.now.slots }
         requires holds { Holds (with_lent self.old.core self.old.desk.lent) }
         ensures holds { Holds (with_lent self.new.core self.new.desk.lent) }
         ensures slots { self.new.row.slots ≡ self.old.row.slots }
@@ -73,10 +149,10 @@ impl<D: Disk> Session<D> {
         ensures bench { self.new.desk.bench ≡ self.old.desk.bench }
         ensures places { length self.new.desk.lent ≡ length self.old.desk.lent }
     {
-        let came = self.take_what_came(bench);
+        let batch = self.gather(bench)?;
         self.log_what_ran()?;
-        self.say_what_is_logged(w, gate)?;
-        Ok(came)
+        self.say_and_move_on(w, gate)?;
+        Ok(batch)
     }
 
     /// Sends what waits, and waits for a result where one is to come, or begins a consistency point where one is due or a
@@ -103,7 +179,7 @@ impl<D: Disk> Session<D> {
             bench.wait(rt, &mut self.desk);
             return Ok(false);
         }
-        if !lacks_room && !self.course.is_due() {
+        if !lacks_room && !self.point_is_due() {
             return Ok(true);
         }
         self.begin_point()?;
@@ -130,13 +206,15 @@ impl<D: Disk> Session<D> {
         ensures bench { self.new.desk.bench ≡ self.old.desk.bench }
         ensures places { length self.new.desk.lent ≡ length self.old.desk.lent }
     {
-        let came = self.work_off(bench, w, gate)?;
-        let pointed = self.move_point_on()?;
-        let lacks_room = self.send_out(bench)?;
-        if read || came || pointed {
+        let batch = self.work_off(bench, w, gate)?;
+        if read || batch.has_come() {
             return Ok(false);
         }
-        self.rest(rt, bench, w, lacks_room)
+        let pointed = self.move_point_on()?;
+        if pointed {
+            return Ok(false);
+        }
+        self.rest(rt, bench, w, batch.lacks_room)
     }
 
     /// Goes on without reading until each line that was read is answered in the output.
