@@ -1,11 +1,8 @@
--- A row whose lines are looked at one after the other, and answered where they are those of a ticket.
-use Rattle.std.proofs.Common.{◌≡◌, ℕ, ◌+◌, ◌<◌, ◌≤◌, zero, suc, List, [], ◌∷◌, drop, length, map, set, get_or, refl, ap, sym, ◌∙◌, arith}
+-- A row whose lines with tickets lie beside the kinds of all: its lines, as it grows, shrinks and is answered.
+use Rattle.std.proofs.Common.{◌≡◌, ℕ, ◌+◌, ◌<◌, ◌≤◌, suc, List, [], ◌∷◌, ◌++◌, drop, length, map, refl, ap, sym, ◌∙◌, append-nil, arith}
 use Rattle.message.specs.declared.Reply.{Reply}
-use Rattle.serving.specs.Lines.{Line, answer_one}
-
-pub front_is : (row : List Line) (line : Line) → 0 < length row → line ≡ get_or row 0 line → row ≡ line ∷ drop 1 row
-front_is [] line within is = absurd (omega (arith, within))
-front_is (first ∷ row) line within is = ap (λ (l : Line). l ∷ row) (sym is)
+use Rattle.serving.specs.Lines.{Line, NoMessage, OutOfRange, answer_one}
+use Rattle.serving.specs.Rows.{Ticketed, LineKind, Outside, RowView, Stray, ticketed_among, lines_of}
 
 -- one line fewer, and one more that was taken off
 pub one_fewer : (n : ℕ) (old row now : List Line) (line : Line) → row ≡ line ∷ drop 1 row → now ≡ drop 1 row → n + length row ≡ length old
@@ -15,39 +12,64 @@ one_fewer n old row now line parts is many =
     let same : length now ≡ length (drop 1 row) = ap (λ (l : List Line). length l) is in
     omega (arith, longer, same, many)
 
-module _ (ticket : ℕ) (reply : Reply) where
-  -- the first so many were looked at
-  abbrev pub looked : ℕ → List Line → List Line
-  looked zero row = row
-  looked (suc k) [] = []
-  looked (suc k) (line ∷ row) = answer_one ticket reply line ∷ looked k row
+-- ---- how many lines there are
 
-  pub length-looked : (k : ℕ) (row : List Line) → length (looked k row) ≡ length row
-  length-looked zero row = refl
-  length-looked (suc k) [] = refl
-  length-looked (suc k) (line ∷ row) = ap suc (length-looked k row)
+length-lines_of : (kinds : List LineKind) (ticketed : List Line) → ticketed_among kinds ≡ length ticketed → length (lines_of kinds ticketed) ≡ length kinds
+length-lines_of [] ticketed many = refl
+length-lines_of (Stray ∷ kinds) ticketed many = ap suc (length-lines_of kinds ticketed many)
+length-lines_of (Outside ∷ kinds) ticketed many = ap suc (length-lines_of kinds ticketed many)
+length-lines_of (Ticketed ∷ kinds) [] many = absurd (omega (arith, many))
+length-lines_of (Ticketed ∷ kinds) (line ∷ ticketed) many = ap suc (length-lines_of kinds ticketed (omega (arith, many)))
 
-  pub looked_none : (row : List Line) → looked 0 row ≡ row
-  looked_none row = refl
+pub length-row : (kinds : List LineKind) (ticketed : List Line) (slots : ℕ) (row : RowView) → record { lines = lines_of kinds ticketed; slots = slots } ≡ row
+    → ticketed_among kinds ≡ length ticketed → length row.lines ≡ length kinds
+length-row kinds ticketed slots row is many = sym (ap (λ (v : RowView). length v.lines) is) ∙ length-lines_of kinds ticketed many
 
-  pub looked_all : (k : ℕ) (row : List Line) → length row ≤ k → looked k row ≡ map (answer_one ticket reply) row
-  looked_all zero [] le = refl
-  looked_all (suc k) [] le = refl
-  looked_all zero (line ∷ row) le = absurd (omega (arith, le))
-  looked_all (suc k) (line ∷ row) le = ap (λ l. answer_one ticket reply line ∷ l) (looked_all k row (omega (arith, le)))
+-- where there is room for a line, there is for its kind
+pub kinds_have_room : (kinds : List LineKind) (ticketed : List Line) (slots : ℕ) (row : RowView) → record { lines = lines_of kinds ticketed; slots = slots } ≡ row
+    → ticketed_among kinds ≡ length ticketed → length row.lines < row.slots → length kinds < slots
+kinds_have_room kinds ticketed slots row is many room =
+    let lines = length-row kinds ticketed slots row is many in
+    let same : slots ≡ row.slots = ap (λ (v : RowView). v.slots) is in
+    omega (arith, lines, same, room)
 
-  then_next : (k : ℕ) (row : List Line) (d : Line) → k < length row
-      → set (looked k row) k (answer_one ticket reply (get_or (looked k row) k d)) ≡ looked (suc k) row
-  then_next zero [] d within = absurd (omega (arith, within))
-  then_next (suc k) [] d within = absurd (omega (arith, within))
-  then_next zero (line ∷ row) d within = refl
-  then_next (suc k) (line ∷ row) d within = ap (λ l. answer_one ticket reply line ∷ l) (then_next k row d (omega (arith, within)))
+pub fewer_are_ticketed : (kinds : List LineKind) → ticketed_among kinds ≤ length kinds
+fewer_are_ticketed [] = omega arith
+fewer_are_ticketed (Stray ∷ kinds) = omega (arith, fewer_are_ticketed kinds)
+fewer_are_ticketed (Outside ∷ kinds) = omega (arith, fewer_are_ticketed kinds)
+fewer_are_ticketed (Ticketed ∷ kinds) = omega (arith, fewer_are_ticketed kinds)
 
-  one_more : (k : ℕ) → suc k ≡ k + 1
-  one_more k = omega arith
+-- ---- one line more
 
-  -- the next one is looked at
-  pub looks_at : (k : ℕ) (row : List Line) (line : Line) → k < length row → line ≡ get_or (looked k row) k line
-      → set (looked k row) k (answer_one ticket reply line) ≡ looked (k + 1) row
-  looks_at k row line within is =
-      ap (λ l. set (looked k row) k (answer_one ticket reply l)) is ∙ then_next k row line within ∙ ap (λ n. looked n row) (one_more k)
+pub ticketed_among-append : (kinds more : List LineKind) → ticketed_among (kinds ++ more) ≡ ticketed_among kinds + ticketed_among more
+ticketed_among-append [] more = omega arith
+ticketed_among-append (Stray ∷ kinds) more = ticketed_among-append kinds more
+ticketed_among-append (Outside ∷ kinds) more = ticketed_among-append kinds more
+ticketed_among-append (Ticketed ∷ kinds) more = omega (arith, ticketed_among-append kinds more)
+
+pub lines_of-append : (kinds more : List LineKind) (ticketed rest : List Line) → ticketed_among kinds ≡ length ticketed
+    → lines_of (kinds ++ more) (ticketed ++ rest) ≡ lines_of kinds ticketed ++ lines_of more rest
+lines_of-append [] more [] rest many = refl
+lines_of-append [] more (line ∷ ticketed) rest many = absurd (omega (arith, many))
+lines_of-append (Stray ∷ kinds) more ticketed rest many = ap (λ l. NoMessage ∷ l) (lines_of-append kinds more ticketed rest many)
+lines_of-append (Outside ∷ kinds) more ticketed rest many = ap (λ l. OutOfRange ∷ l) (lines_of-append kinds more ticketed rest many)
+lines_of-append (Ticketed ∷ kinds) more [] rest many = absurd (omega (arith, many))
+lines_of-append (Ticketed ∷ kinds) more (line ∷ ticketed) rest many =
+    ap (λ l. line ∷ l) (lines_of-append kinds more ticketed rest (omega (arith, many)))
+
+-- one without a ticket
+pub lines_of-plain : (kinds more : List LineKind) (ticketed : List Line) → ticketed_among kinds ≡ length ticketed
+    → lines_of (kinds ++ more) ticketed ≡ lines_of kinds ticketed ++ lines_of more []
+lines_of-plain kinds more ticketed many =
+    ap (λ (l : List Line). lines_of (kinds ++ more) l) (sym (append-nil ticketed)) ∙ lines_of-append kinds more ticketed [] many
+
+-- ---- every line answered where it is the ticket's
+
+pub lines_of-answered : (ticket : ℕ) (reply : Reply) (kinds : List LineKind) (ticketed : List Line)
+    → lines_of kinds (map (answer_one ticket reply) ticketed) ≡ map (answer_one ticket reply) (lines_of kinds ticketed)
+lines_of-answered ticket reply [] ticketed = refl
+lines_of-answered ticket reply (Stray ∷ kinds) ticketed = ap (λ l. NoMessage ∷ l) (lines_of-answered ticket reply kinds ticketed)
+lines_of-answered ticket reply (Outside ∷ kinds) ticketed = ap (λ l. OutOfRange ∷ l) (lines_of-answered ticket reply kinds ticketed)
+lines_of-answered ticket reply (Ticketed ∷ kinds) [] = refl
+lines_of-answered ticket reply (Ticketed ∷ kinds) (line ∷ ticketed) =
+    ap (λ l. answer_one ticket reply line ∷ l) (lines_of-answered ticket reply kinds ticketed)

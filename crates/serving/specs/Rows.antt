@@ -1,9 +1,11 @@
--- The lines that were read and are not answered in the output: the row, and what is written of it.
-use Rattle.std.specs.Prelude.{◌≡◌, ℕ, Bool, true, false, List, [], ◌∷◌, ◌++◌, map, Option}
+-- The lines that were read and are not answered in the output: the row, how it is kept, and what is written of it.
+use Rattle.std.specs.Prelude.{◌≡◌, ℕ, ◌+◌, Bool, true, false, List, [], ◌∷◌, ◌++◌, map, Option}
 use Rattle.std.specs.Io.KnownBytes.{Appends}
 use Rattle.std.specs.List.{AllByRecursion}
 use Rattle.plain.specs.Output.{joined}
-use Rattle.serving.specs.Lines.{Line, is_answered, text}
+use Rattle.serving.specs.Lines.{Answered, Line, NoMessage, OutOfRange, Unanswered, is_answered, text}
+pub use Rattle.serving.specs.declared.row.LineKind.{LineKind}
+pub use Rattle.serving.specs.declared.row.LineKind.TheVariants.{NoMessage as Stray, OutOfRange as Outside, Ticketed}
 
 -- A row as contracts see it.
 pub record RowView : Type 0 where
@@ -23,3 +25,35 @@ pub record Says (old new : List Line) (before written : Option (List ℕ)) : Typ
   pub were : old ≡ said ++ new
   pub are_answered : AllByRecursion (λ line. is_answered line ≡ true) said
   pub output : Appends before written (joined (map text said))
+
+-- ---- how a row is kept
+
+-- the lines of these kinds, where those of messages with tickets are these
+abbrev pub lines_of : List LineKind → List Line → List Line
+lines_of [] ticketed = []
+lines_of (Stray ∷ kinds) ticketed = NoMessage ∷ lines_of kinds ticketed
+lines_of (Outside ∷ kinds) ticketed = OutOfRange ∷ lines_of kinds ticketed
+lines_of (Ticketed ∷ kinds) [] = []
+lines_of (Ticketed ∷ kinds) (line ∷ ticketed) = line ∷ lines_of kinds ticketed
+
+-- how many of them are those of messages with tickets
+abbrev pub ticketed_among : List LineKind → ℕ
+ticketed_among [] = 0
+ticketed_among (Stray ∷ kinds) = ticketed_among kinds
+ticketed_among (Outside ∷ kinds) = ticketed_among kinds
+ticketed_among (Ticketed ∷ kinds) = ticketed_among kinds + 1
+
+-- this is the line of the message with this ticket
+abbrev pub IsOf : ℕ → Line → Type 0
+IsOf ticket (Unanswered t) = t ≡ ticket
+IsOf ticket (Answered t reply) = t ≡ ticket
+IsOf ticket _ = ⊥
+
+-- these are the lines of the messages with the tickets from this one on
+abbrev pub AreFrom : ℕ → List Line → Type 0
+AreFrom ticket [] = Unit {0}
+AreFrom ticket (line ∷ ticketed) = IsOf ticket line × AreFrom (ticket + 1) ticketed
+
+-- their tickets go up by one
+abbrev pub AreInOrder : List Line → Type 0
+AreInOrder ticketed = (first : ℕ) × AreFrom first ticketed

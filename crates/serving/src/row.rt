@@ -1,12 +1,16 @@
 //! The row of the lines that were read and are not answered in the output, oldest first.
 
-ghost use Rattle.std.specs.Prelude.{◌≡◌, ◌<◌, ◌≤◌, ◌↔◌, ◌++◌, ◌∷◌, [], IfOk, IsTrue, MatchOption, drop, length, map};
-ghost use Rattle.serving.specs.Lines.{answer_one};
+ghost use Rattle.std.specs.Prelude.{◌≡◌, ◌<◌, ◌≤◌, ◌+◌, ◌↔◌, ◌++◌, ◌∷◌, [], true, IfOk, IsTrue, MatchOption, ℕ, drop, length, map, take};
+ghost use Rattle.std.specs.VecDeque.{deque_len};
+ghost use Rattle.message.specs.declared.Reply.{Reply};
+ghost use Rattle.serving.specs.Lines.{Line, answer_one};
+ghost use Rattle.serving.specs.Rows.{AreFrom, AreInOrder, IsOf};
 
 use message::Reply;
 use std::alloc::{AllocError, Global};
 use std::collections::VecDeque;
 use std::marker::Model;
+use std::ops::Range;
 
 /// What is known of a line that was read.
 #[derive(Clone, Copy, Debug, PartialEq, Eq)]
@@ -21,34 +25,94 @@ pub enum Line {
     Answered(u64, Reply),
 }
 
+/// Which kind of line lies at a place of the row.
+#[derive(Clone, Copy)]
+enum LineKind {
+    /// One that is no message.
+    NoMessage,
+    /// A message with a number that is out of range.
+    OutOfRange,
+    /// A message with a ticket.
+    Ticketed,
+}
+
 /// The lines that were read and are not answered in the output, oldest first. A contract sees them, and how many there is
 /// room for. Once made it takes no memory.
+///
+/// The lines of messages with tickets lie beside the others, of which their kind is all. They mostly come with tickets that go up by
+/// one: then where a message's line lies is known from its ticket.
 #[derive(Drop)]
 pub(crate) struct Row {
-    lines: VecDeque<Line>,
+    kinds: VecDeque<LineKind>,
+    /// The lines of the messages with tickets.
+    ticketed: VecDeque<Line>,
+    /// Whether each ticket of `ticketed` is one more than the one before.
+    in_order: bool,
     slots: usize,
 }
 
 impl Model for Row {
-    ghost use Rattle.std.specs.Prelude.{◌≤◌, length};
+    ghost use Rattle.std.specs.Prelude.{◌≡◌, ◌≤◌, ℕ, true, length};
     ghost use Rattle.std.specs.VecDeque.{deque_capacity};
-    ghost use Rattle.serving.specs.Rows.{RowView};
+    ghost use Rattle.serving.specs.Rows.{AreInOrder, RowView, ticketed_among, lines_of};
 
     ghost Value = { RowView };
 
-    ghost view = { λ r. record { lines = r.lines.items; slots = r.slots } };
+    ghost view = { λ r. record { lines = lines_of r.kinds.items r.ticketed.items; slots = r.slots } };
 
-    ghost invariant = { λ r. (r.slots ≤ deque_capacity r.lines) × (length r.lines.items ≤ r.slots) };
+    ghost invariant = { λ r. (r.slots ≤ deque_capacity r.kinds) × (r.slots ≤ deque_capacity r.ticketed) × (length r.kinds.items ≤ r.slots)
+        × (ticketed_among r.kinds.items ≡ length r.ticketed.items) × (r.in_order ≡ true → AreInOrder r.ticketed.items) };
 }
 
 /// Puts the reply to the message with this ticket to a line, where it is that message's and not answered.
-fn answer_line(line: &mut Line, ticket: u64, reply: Reply)
-    ensures { line.new ≡ answer_one ticket reply line.old }
+fn answer_line(line: &mut Line, ticket: u64, reply: &Reply)
+    ensures { line.new ≡ answer_one ticket reply.now line.old }
 {
     match line {
-        Line::Unanswered(its) if *its == ticket => *line = Line::Answered(ticket, reply),
+        Line::Unanswered(its) if *its == ticket => *line = Line::Answered(ticket, *reply),
         Line::NoMessage | Line::OutOfRange | Line::Unanswered(_) | Line::Answered(..) => {}
     }
+}
+
+/// The ticket of the oldest of these lines.
+fn first_ticket(ticketed: &VecDeque<Line>) -> Option<u64>
+    ensures { (first : ℕ) → AreFrom first ticketed.now.items → MatchOption result (ticketed.now.items ≡ []) (λ ticket. ticket ≡ first) }
+{
+    match ticketed.front()? {
+        Line::Unanswered(ticket) | Line::Answered(ticket, _) => Some(*ticket),
+        Line::NoMessage | Line::OutOfRange => None,
+    }
+}
+
+/// Whether the tickets go up by one where a line with this one comes behind these lines.
+fn stays_in_order(ticketed: &VecDeque<Line>, in_order: bool, ticket: u64) -> bool
+    requires { in_order ≡ true → AreInOrder ticketed.now.items }
+    ensures { result ≡ true → (line : Line) → IsOf ticket line → AreInOrder (ticketed.now.items ++ line ∷ []) }
+{
+    match first_ticket(ticketed) {
+        Some(first) => in_order && ticket >= first && ticket - first == ticketed.len() as u64,
+        None => ticketed.is_empty(),
+    }
+}
+
+/// The places of the lines that an answer to this ticket can change: one at most, if their tickets go up by one, and else all.
+fn places_of(ticketed: &VecDeque<Line>, in_order: bool, ticket: u64) -> Range<usize>
+    requires { in_order ≡ true → AreInOrder ticketed.now.items }
+    ensures within { (result.start ≤ result.end) × (result.end ≤ deque_len ticketed.now) }
+    ensures before { (reply : Reply) → map (answer_one ticket reply) (take result.start ticketed.now.items) ≡ take result.start ticketed.now.items }
+    ensures behind { (reply : Reply) → map (answer_one ticket reply) (drop result.end ticketed.now.items) ≡ drop result.end ticketed.now.items }
+{
+    if !in_order {
+        return 0..ticketed.len();
+    }
+    let Some(first) = first_ticket(ticketed) else {
+        return 0..0;
+    };
+    if ticket < first || ticket - first >= ticketed.len() as u64 {
+        return 0..0;
+    }
+    let place = (ticket - first) as usize;
+    place..place + 1
 }
 
 impl Row {
@@ -58,7 +122,9 @@ impl Row {
         ensures slots { IfOk result (λ row. row.slots ≡ slots) }
     {
         Ok(Row {
-            lines: VecDeque::with_capacity(alloc, slots)?,
+            kinds: VecDeque::with_capacity(alloc, slots)?,
+            ticketed: VecDeque::with_capacity(alloc, slots)?,
+            in_order: true,
             slots,
         })
     }
@@ -68,7 +134,7 @@ impl Row {
         ensures len { result ≡ length self.now.lines }
         ensures within { result ≤ self.now.slots }
     {
-        self.lines.len()
+        self.kinds.len()
     }
 
     /// How many lines there is room for.
@@ -82,14 +148,18 @@ impl Row {
     pub(crate) fn has_room(&self) -> bool
         ensures { IsTrue result ↔ (length self.now.lines < self.now.slots) }
     {
-        self.lines.len() < self.slots
+        self.kinds.len() < self.slots
     }
 
     /// The oldest line.
     pub(crate) fn front(&self) -> Option<&Line>
         ensures { MatchOption result (self.now.lines ≡ []) (λ line. self.now.lines ≡ line.now ∷ drop 1 self.now.lines) }
     {
-        self.lines.front()
+        match self.kinds.front()? {
+            LineKind::NoMessage => Some(&Line::NoMessage),
+            LineKind::OutOfRange => Some(&Line::OutOfRange),
+            LineKind::Ticketed => self.ticketed.front(),
+        }
     }
 
     /// Puts a line behind the others.
@@ -98,9 +168,15 @@ impl Row {
         ensures lines { self.new.lines ≡ self.old.lines ++ line ∷ [] }
         ensures slots { self.new.slots ≡ self.old.slots }
     {
-        let Ok(()) = self.lines.push_back(line) else {
-            unreachable!()
-        };
+        match line {
+            Line::NoMessage => self.kinds.push_back_reserved(LineKind::NoMessage),
+            Line::OutOfRange => self.kinds.push_back_reserved(LineKind::OutOfRange),
+            Line::Unanswered(ticket) | Line::Answered(ticket, _) => {
+                self.in_order = stays_in_order(&self.ticketed, self.in_order, ticket);
+                self.kinds.push_back_reserved(LineKind::Ticketed);
+                self.ticketed.push_back_reserved(line);
+            }
+        }
     }
 
     /// Lets go of the oldest line, if there is one.
@@ -108,7 +184,9 @@ impl Row {
         ensures lines { self.new.lines ≡ drop 1 self.old.lines }
         ensures slots { self.new.slots ≡ self.old.slots }
     {
-        self.lines.pop_front();
+        if let Some(LineKind::Ticketed) = self.kinds.pop_front() {
+            self.ticketed.pop_front();
+        }
     }
 
     /// Puts the reply to the message with this ticket to its line, where it is in the row and not answered.
@@ -116,8 +194,9 @@ impl Row {
         ensures lines { self.new.lines ≡ map (answer_one ticket reply) self.old.lines }
         ensures slots { self.new.slots ≡ self.old.slots }
     {
-        for k in 0..self.lines.len() {
-            answer_line(&mut self.lines[k], ticket, reply);
+        let places = places_of(&self.ticketed, self.in_order, ticket);
+        for k in places.start..places.end {
+            answer_line(&mut self.ticketed[k], ticket, &reply);
         }
     }
 }

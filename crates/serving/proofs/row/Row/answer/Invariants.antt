@@ -1,13 +1,16 @@
--- The lines so far were looked at.
+-- The lines with tickets were looked at so far.
 use Rattle.std.proofs.Common.{◌≡◌, length}
 use Rattle.std.specs.VecDeque.{deque_capacity}
-use Rattle.serving.proofs.Rows.{looked}
+use Rattle.serving.proofs.Order.{looked}
 use Rattle.serving.proofs.row.Row.answer.Given as goal
 
 abbrev pub invariant-loop-k : goal.invariant-loop-k
 invariant-loop-k l = record {
-  lines : l.self-inside.lines.items ≡ looked l.ticket l.reply l.k l.initial.self-inside.lines.items;
-  many : length l.self-inside.lines.items ≡ length l.initial.self-inside.lines.items;
+  ticketed : l.self-inside.ticketed.items ≡ looked l.ticket l.reply l.k l.initial.self-inside.ticketed.items;
+  many : length l.self-inside.ticketed.items ≡ length l.initial.self-inside.ticketed.items;
+  kinds : l.self-inside.kinds.items ≡ l.initial.self-inside.kinds.items;
+  kinds_capacity : deque_capacity l.self-inside.kinds ≡ deque_capacity l.initial.self-inside.kinds;
+  in_order : l.self-inside.in_order ≡ l.initial.self-inside.in_order;
   slots : l.self-inside.slots ≡ l.initial.self-inside.slots;
-  capacity : deque_capacity l.self-inside.lines ≡ deque_capacity l.initial.self-inside.lines;
+  ticketed_capacity : deque_capacity l.self-inside.ticketed ≡ deque_capacity l.initial.self-inside.ticketed;
 }
