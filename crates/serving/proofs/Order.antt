@@ -1,21 +1,24 @@
 -- Lines whose tickets go up by one: each has its place, and an answer leaves the others as they are. And lines that are looked at one
 -- after the other, and answered where they are those of a ticket.
-use Rattle.std.proofs.Common.{◌≡◌, ℕ, ◌+◌, ◌<◌, ◌≤◌, Bool, true, false, zero, suc, List, [], ◌∷◌, ◌++◌, ◌⊎◌, inl, inr, if◌then◌else◌, ◌==◌, drop, take, length, map, set, get_or, refl, ap, sym, ◌∙◌, subst, arith}
+use Rattle.std.proofs.Common.{◌≡◌, ℕ, ◌+◌, ◌<◌, ◌≤◌, Bool, true, false, zero, suc, List, [], ◌∷◌, ◌++◌, ◌⊎◌, inl, inr}
+use Rattle.std.proofs.Common.{if◌then◌else◌, ◌==◌, drop, take, length, map, set, get_or, refl, ap, sym, ◌∙◌, subst, arith}
 use Rattle.std.proofs.lemmas.Bool.{ne_eqb}
 use Rattle.message.specs.declared.Reply.{Reply}
 use Rattle.serving.specs.Lines.{Answered, Line, NoMessage, OutOfRange, Unanswered, answer_one}
 use Rattle.serving.specs.Rows.{AreFrom, AreInOrder, IsOf}
 
 -- a line that has a ticket is that ticket's
-pub is_of : (line : Line) (ticket : ℕ) → (line ≡ Unanswered ticket) ⊎ ((reply : Reply) × (line ≡ Answered ticket reply)) → IsOf ticket line
-is_of line ticket (inl is) = subst (λ (l : Line). IsOf ticket l) (sym is) refl
-is_of line ticket (inr (reply, is)) = subst (λ (l : Line). IsOf ticket l) (sym is) refl
+pub is_of : (pushed line : Line) (ticket : ℕ) → pushed ≡ line
+    → (line ≡ Unanswered ticket) ⊎ ((reply : Reply) × (line ≡ Answered ticket reply)) → IsOf ticket pushed
+is_of pushed line ticket same (inl is) = subst (λ (l : Line). IsOf ticket l) (sym (same ∙ is)) refl
+is_of pushed line ticket same (inr (reply, is)) = subst (λ (l : Line). IsOf ticket l) (sym (same ∙ is)) refl
 
 -- one more at their end
-from-append : (n : ℕ) (ticketed : List Line) (line : Line) (ticket : ℕ) → ticket ≡ n + length ticketed → IsOf ticket line → AreFrom n ticketed
-    → AreFrom n (ticketed ++ line ∷ [])
+from-append : (n : ℕ) (ticketed : List Line) (line : Line) (ticket : ℕ) → ticket ≡ n + length ticketed → IsOf ticket line
+    → AreFrom n ticketed → AreFrom n (ticketed ++ line ∷ [])
 from-append n [] line ticket is of from = (subst (λ (t : ℕ). IsOf t line) (omega (arith, is)) of, tt)
-from-append n (first ∷ ticketed) line ticket is of from = (from.0, from-append (n + 1) ticketed line ticket (omega (arith, is)) of from.1)
+from-append n (first ∷ ticketed) line ticket is of from =
+    (from.0, from-append (n + 1) ticketed line ticket (omega (arith, is)) of from.1)
 
 pub alone_in_order : (line : Line) (ticket : ℕ) → IsOf ticket line → AreInOrder (line ∷ [])
 alone_in_order line ticket of = (ticket, (of, tt))
@@ -24,16 +27,15 @@ pub goes_on_in_order : (ticketed : List Line) (ticket : ℕ) → ((n : ℕ) → 
     → IsOf ticket line → AreInOrder ticketed → AreInOrder (ticketed ++ line ∷ [])
 goes_on_in_order ticketed ticket is line of order = (order.0, from-append order.0 ticketed line ticket (is order.0 order.1) of order.1)
 
--- without the oldest
-pub drop_in_order : (ticketed : List Line) → AreInOrder ticketed → AreInOrder (drop 1 ticketed)
-drop_in_order [] order = order
-drop_in_order (line ∷ ticketed) order = (order.0 + 1, order.1.1)
-
 one_more : (k : ℕ) → suc k ≡ k + 1
 one_more k = omega arith
 
 module _ (ticket : ℕ) (reply : Reply) where
   -- ---- what an answer leaves
+
+  -- these lines, as they are
+  abbrev Left : List Line → Type 0
+  Left lines = map (answer_one ticket reply) lines ≡ lines
 
   -- the line of another message
   left : (n : ℕ) (line : Line) → IsOf n line → (n ≡ ticket → ⊥) → answer_one ticket reply line ≡ line
@@ -43,39 +45,39 @@ module _ (ticket : ℕ) (reply : Reply) where
   left n (Unanswered t) of differs =
       ap (λ (b : Bool). if b then Answered t reply else Unanswered t) (ne_eqb t ticket (λ e. differs (sym of ∙ e)))
 
-  both_left : (line : Line) (ticketed : List Line) → answer_one ticket reply line ≡ line → map (answer_one ticket reply) ticketed ≡ ticketed
-      → map (answer_one ticket reply) (line ∷ ticketed) ≡ line ∷ ticketed
-  both_left line ticketed first rest = ap (λ (l : Line). l ∷ map (answer_one ticket reply) ticketed) first ∙ ap (λ (l : List Line). line ∷ l) rest
+  both_left : (line : Line) (ticketed : List Line) → answer_one ticket reply line ≡ line → Left ticketed → Left (line ∷ ticketed)
+  both_left line ticketed first rest =
+      ap (λ (l : Line). l ∷ map (answer_one ticket reply) ticketed) first ∙ ap (λ (l : List Line). line ∷ l) rest
 
   -- those that all have greater tickets
-  pub greater_left : (n : ℕ) (ticketed : List Line) → ticket < n → AreFrom n ticketed → map (answer_one ticket reply) ticketed ≡ ticketed
+  pub greater_left : (n : ℕ) (ticketed : List Line) → ticket < n → AreFrom n ticketed → Left ticketed
   greater_left n [] lt from = refl
   greater_left n (line ∷ ticketed) lt from =
       both_left line ticketed (left n line from.0 (λ e. omega (arith, e, lt))) (greater_left (n + 1) ticketed (omega (arith, lt)) from.1)
 
   -- those that all have smaller ones
-  pub smaller_left : (n : ℕ) (ticketed : List Line) → n + length ticketed ≤ ticket → AreFrom n ticketed → map (answer_one ticket reply) ticketed ≡ ticketed
+  pub smaller_left : (n : ℕ) (ticketed : List Line) → n + length ticketed ≤ ticket → AreFrom n ticketed → Left ticketed
   smaller_left n [] le from = refl
   smaller_left n (line ∷ ticketed) le from =
       both_left line ticketed (left n line from.0 (λ e. omega (arith, e, le))) (smaller_left (n + 1) ticketed (omega (arith, le)) from.1)
 
   -- those before the place of the ticket
-  pub before_left : (n i : ℕ) (ticketed : List Line) → n + i ≡ ticket → AreFrom n ticketed → map (answer_one ticket reply) (take i ticketed) ≡ take i ticketed
+  pub before_left : (n i : ℕ) (ticketed : List Line) → n + i ≡ ticket → AreFrom n ticketed → Left (take i ticketed)
   before_left n zero ticketed is from = refl
   before_left n (suc i) [] is from = refl
   before_left n (suc i) (line ∷ ticketed) is from =
-      both_left line (take i ticketed) (left n line from.0 (λ e. omega (arith, e, is))) (before_left (n + 1) i ticketed (omega (arith, is)) from.1)
+      both_left line (take i ticketed) (left n line from.0 (λ e. omega (arith, e, is)))
+      (before_left (n + 1) i ticketed (omega (arith, is)) from.1)
 
   -- those behind it
-  behind : (n i : ℕ) (ticketed : List Line) → n + i ≡ ticket → AreFrom n ticketed → map (answer_one ticket reply) (drop (suc i) ticketed) ≡ drop (suc i) ticketed
+  behind : (n i : ℕ) (ticketed : List Line) → n + i ≡ ticket → AreFrom n ticketed → Left (drop (suc i) ticketed)
   behind n i [] is from = refl
   behind n zero (line ∷ ticketed) is from = greater_left (n + 1) ticketed (omega (arith, is)) from.1
   behind n (suc i) (line ∷ ticketed) is from = behind (n + 1) i ticketed (omega (arith, is)) from.1
 
-  pub behind_left : (n i : ℕ) (ticketed : List Line) → n + i ≡ ticket → AreFrom n ticketed
-      → map (answer_one ticket reply) (drop (i + 1) ticketed) ≡ drop (i + 1) ticketed
+  pub behind_left : (n i : ℕ) (ticketed : List Line) → n + i ≡ ticket → AreFrom n ticketed → Left (drop (i + 1) ticketed)
   behind_left n i ticketed is from =
-      subst (λ (k : ℕ). map (answer_one ticket reply) (drop k ticketed) ≡ drop k ticketed) (one_more i) (behind n i ticketed is from)
+      subst (λ (k : ℕ). Left (drop k ticketed)) (one_more i) (behind n i ticketed is from)
 
   -- ---- lines that are looked at
 
@@ -85,13 +87,8 @@ module _ (ticket : ℕ) (reply : Reply) where
   looked (suc k) [] = []
   looked (suc k) (line ∷ row) = answer_one ticket reply line ∷ looked k row
 
-  pub length-looked : (k : ℕ) (row : List Line) → length (looked k row) ≡ length row
-  length-looked zero row = refl
-  length-looked (suc k) [] = refl
-  length-looked (suc k) (line ∷ row) = ap suc (length-looked k row)
-
   -- it begins where those before are left as they are
-  pub looked_first : (k : ℕ) (row : List Line) → map (answer_one ticket reply) (take k row) ≡ take k row → row ≡ looked k row
+  pub looked_first : (k : ℕ) (row : List Line) → Left (take k row) → row ≡ looked k row
   looked_first zero row same = refl
   looked_first (suc k) [] same = refl
   looked_first (suc k) (line ∷ row) same =
@@ -99,7 +96,7 @@ module _ (ticket : ℕ) (reply : Reply) where
       (looked_first k row (ap (λ (l : List Line). drop 1 l) same))
 
   -- it ends where those behind are left as they are
-  pub looked_last : (k : ℕ) (row : List Line) → map (answer_one ticket reply) (drop k row) ≡ drop k row → looked k row ≡ map (answer_one ticket reply) row
+  pub looked_last : (k : ℕ) (row : List Line) → Left (drop k row) → looked k row ≡ map (answer_one ticket reply) row
   looked_last zero row same = sym same
   looked_last (suc k) [] same = refl
   looked_last (suc k) (line ∷ row) same = ap (λ (l : List Line). answer_one ticket reply line ∷ l) (looked_last k row same)

@@ -14,20 +14,21 @@ one_fewer n old row now line parts is many =
 
 -- ---- how many lines there are
 
-length-lines_of : (kinds : List LineKind) (ticketed : List Line) → ticketed_among kinds ≡ length ticketed → length (lines_of kinds ticketed) ≡ length kinds
+length-lines_of : (kinds : List LineKind) (ticketed : List Line) → ticketed_among kinds ≡ length ticketed
+    → length (lines_of kinds ticketed) ≡ length kinds
 length-lines_of [] ticketed many = refl
 length-lines_of (Stray ∷ kinds) ticketed many = ap suc (length-lines_of kinds ticketed many)
 length-lines_of (Outside ∷ kinds) ticketed many = ap suc (length-lines_of kinds ticketed many)
 length-lines_of (Ticketed ∷ kinds) [] many = absurd (omega (arith, many))
 length-lines_of (Ticketed ∷ kinds) (line ∷ ticketed) many = ap suc (length-lines_of kinds ticketed (omega (arith, many)))
 
-pub length-row : (kinds : List LineKind) (ticketed : List Line) (slots : ℕ) (row : RowView) → record { lines = lines_of kinds ticketed; slots = slots } ≡ row
-    → ticketed_among kinds ≡ length ticketed → length row.lines ≡ length kinds
+pub length-row : (kinds : List LineKind) (ticketed : List Line) (slots : ℕ) (row : RowView)
+    → record { lines = lines_of kinds ticketed; slots = slots } ≡ row → ticketed_among kinds ≡ length ticketed → length row.lines ≡ length kinds
 length-row kinds ticketed slots row is many = sym (ap (λ (v : RowView). length v.lines) is) ∙ length-lines_of kinds ticketed many
 
 -- where there is room for a line, there is for its kind
-pub kinds_have_room : (kinds : List LineKind) (ticketed : List Line) (slots : ℕ) (row : RowView) → record { lines = lines_of kinds ticketed; slots = slots } ≡ row
-    → ticketed_among kinds ≡ length ticketed → length row.lines < row.slots → length kinds < slots
+pub kinds_have_room : (kinds : List LineKind) (ticketed : List Line) (slots : ℕ) (row : RowView)
+    → record { lines = lines_of kinds ticketed; slots = slots } ≡ row → ticketed_among kinds ≡ length ticketed → length row.lines < row.slots → length kinds < slots
 kinds_have_room kinds ticketed slots row is many room =
     let lines = length-row kinds ticketed slots row is many in
     let same : slots ≡ row.slots = ap (λ (v : RowView). v.slots) is in

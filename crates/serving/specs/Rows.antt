@@ -3,7 +3,8 @@ use Rattle.std.specs.Prelude.{◌≡◌, ℕ, ◌+◌, Bool, true, false, List, 
 use Rattle.std.specs.Io.KnownBytes.{Appends}
 use Rattle.std.specs.List.{AllByRecursion}
 use Rattle.plain.specs.Output.{joined}
-use Rattle.serving.specs.Lines.{Answered, Line, NoMessage, OutOfRange, Unanswered, is_answered, text}
+use Rattle.message.specs.declared.Reply.{Reply}
+use Rattle.serving.specs.Lines.{Answered, Line, NoMessage, OutOfRange, Unanswered, answer_one, is_answered, text}
 pub use Rattle.serving.specs.declared.row.LineKind.{LineKind}
 pub use Rattle.serving.specs.declared.row.LineKind.TheVariants.{NoMessage as Stray, OutOfRange as Outside, Ticketed}
 
@@ -57,3 +58,7 @@ AreFrom ticket (line ∷ ticketed) = IsOf ticket line × AreFrom (ticket + 1) ti
 -- their tickets go up by one
 abbrev pub AreInOrder : List Line → Type 0
 AreInOrder ticketed = (first : ℕ) × AreFrom first ticketed
+
+-- a reply to this ticket leaves these lines as they are
+abbrev pub AreLeft : ℕ → List Line → Type 0
+AreLeft ticket lines = (reply : Reply) → map (answer_one ticket reply) lines ≡ lines

@@ -2,9 +2,8 @@
 
 ghost use Rattle.std.specs.Prelude.{◌≡◌, ◌<◌, ◌≤◌, ◌+◌, ◌↔◌, ◌++◌, ◌∷◌, [], true, IfOk, IsTrue, MatchOption, ℕ, drop, length, map, take};
 ghost use Rattle.std.specs.VecDeque.{deque_len};
-ghost use Rattle.message.specs.declared.Reply.{Reply};
 ghost use Rattle.serving.specs.Lines.{Line, answer_one};
-ghost use Rattle.serving.specs.Rows.{AreFrom, AreInOrder, IsOf};
+ghost use Rattle.serving.specs.Rows.{AreFrom, AreInOrder, AreLeft, IsOf};
 
 use message::Reply;
 use std::alloc::{AllocError, Global};
@@ -39,14 +38,14 @@ enum LineKind {
 /// The lines that were read and are not answered in the output, oldest first. A contract sees them, and how many there is
 /// room for. Once made it takes no memory.
 ///
-/// The lines of messages with tickets lie beside the others, of which their kind is all. They mostly come with tickets that go up by
-/// one: then where a message's line lies is known from its ticket.
+/// A line without a ticket is its kind alone. Those with tickets lie in a queue of their own. While their tickets go up by one, as
+/// they do where lines are read, a ticket tells where its line lies.
 #[derive(Drop)]
 pub(crate) struct Row {
     kinds: VecDeque<LineKind>,
-    /// The lines of the messages with tickets.
+    /// The lines with tickets, oldest first.
     ticketed: VecDeque<Line>,
-    /// Whether each ticket of `ticketed` is one more than the one before.
+    /// Only where each of their tickets is one more than the one before.
     in_order: bool,
     slots: usize,
 }
@@ -74,7 +73,7 @@ fn answer_line(line: &mut Line, ticket: u64, reply: &Reply)
     }
 }
 
-/// The ticket of the oldest of these lines.
+/// The ticket of the oldest of these lines, if it has one.
 fn first_ticket(ticketed: &VecDeque<Line>) -> Option<u64>
     ensures { (first : ℕ) → AreFrom first ticketed.now.items → MatchOption result (ticketed.now.items ≡ []) (λ ticket. ticket ≡ first) }
 {
@@ -84,7 +83,7 @@ fn first_ticket(ticketed: &VecDeque<Line>) -> Option<u64>
     }
 }
 
-/// Whether the tickets go up by one where a line with this one comes behind these lines.
+/// Whether the tickets go up by one, where a line with this ticket comes behind these.
 fn stays_in_order(ticketed: &VecDeque<Line>, in_order: bool, ticket: u64) -> bool
     requires { in_order ≡ true → AreInOrder ticketed.now.items }
     ensures { result ≡ true → (line : Line) → IsOf ticket line → AreInOrder (ticketed.now.items ++ line ∷ []) }
@@ -95,12 +94,12 @@ fn stays_in_order(ticketed: &VecDeque<Line>, in_order: bool, ticket: u64) -> boo
     }
 }
 
-/// The places of the lines that an answer to this ticket can change: one at most, if their tickets go up by one, and else all.
+/// The places of the lines that a reply to this ticket can change: one at most if their tickets go up by one, and else all.
 fn places_of(ticketed: &VecDeque<Line>, in_order: bool, ticket: u64) -> Range<usize>
     requires { in_order ≡ true → AreInOrder ticketed.now.items }
     ensures within { (result.start ≤ result.end) × (result.end ≤ deque_len ticketed.now) }
-    ensures before { (reply : Reply) → map (answer_one ticket reply) (take result.start ticketed.now.items) ≡ take result.start ticketed.now.items }
-    ensures behind { (reply : Reply) → map (answer_one ticket reply) (drop result.end ticketed.now.items) ≡ drop result.end ticketed.now.items }
+    ensures before { AreLeft ticket (take result.start ticketed.now.items) }
+    ensures behind { AreLeft ticket (drop result.end ticketed.now.items) }
 {
     if !in_order {
         return 0..ticketed.len();
@@ -162,7 +161,8 @@ impl Row {
         }
     }
 
-    /// Puts a line behind the others.
+    /// Puts a line behind the others. It is inlined, so that no line is copied with the room for a reply that it doesn't have.
+    #[inline(always)]
     pub(crate) fn push(&mut self, line: Line)
         requires room { length self.old.lines < self.old.slots }
         ensures lines { self.new.lines ≡ self.old.lines ++ line ∷ [] }

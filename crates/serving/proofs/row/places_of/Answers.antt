@@ -1,7 +1,8 @@
 -- The place of a ticket is as far behind the first as it is greater; no other line is its.
 use Rattle.std.proofs.Common.{◌-◌, arith}
 use Rattle.serving.proofs.Order.{before_left, behind_left, greater_left, smaller_left}
-use Rattle.serving.proofs.row.places_of.Goals.{then-ticket-first-via-then-ticket-first, then-ticket-first-via-else-ticket-first+then-ticket-first-2}
+use Rattle.serving.proofs.row.places_of.Goals.{then-ticket-first-via-then-ticket-first}
+use Rattle.serving.proofs.row.places_of.Goals.{then-ticket-first-via-else-ticket-first+then-ticket-first-2}
 use Rattle.serving.proofs.row.places_of.Goals as goal
 
 pub returns-then-ticket-first-clause-behind : goal.returns-then-ticket-first-clause-behind
@@ -28,11 +29,13 @@ returns-clause-before c reply =
     let n = (c.requires c.if-not-in_order.false).0 in
     let is = c.in-Some.ensures n (c.requires c.if-not-in_order.false).1 in
     let le = c.if-ticket-first.false in
-    before_left c.args.ticket reply n (c.args.ticket - c.in-Some.first) c.args.ticketed.now.items (omega (arith, is, le)) (c.requires c.if-not-in_order.false).1
+    before_left c.args.ticket reply n (c.args.ticket - c.in-Some.first) c.args.ticketed.now.items (omega (arith, is, le))
+    (c.requires c.if-not-in_order.false).1
 
 pub returns-clause-behind : goal.returns-clause-behind
 returns-clause-behind c reply =
     let n = (c.requires c.if-not-in_order.false).0 in
     let is = c.in-Some.ensures n (c.requires c.if-not-in_order.false).1 in
     let le = c.if-ticket-first.false in
-    behind_left c.args.ticket reply n (c.args.ticket - c.in-Some.first) c.args.ticketed.now.items (omega (arith, is, le)) (c.requires c.if-not-in_order.false).1
+    behind_left c.args.ticket reply n (c.args.ticket - c.in-Some.first) c.args.ticketed.now.items (omega (arith, is, le))
+    (c.requires c.if-not-in_order.false).1

@@ -9,7 +9,8 @@ use Rattle.serving.proofs.row.Row.answer.Goals as goal
 
 pub loop-k-init : goal.loop-k-init
 loop-k-init c = record {
-  ticketed = looked_first c.args.ticket c.args.reply c.places_of-places.result.start c.self.inside.ticketed.items (c.places_of-places.ensures.before c.args.reply);
+  ticketed = looked_first c.args.ticket c.args.reply c.places_of-places.result.start c.self.inside.ticketed.items
+      (c.places_of-places.ensures.before c.args.reply);
   many = refl;
   kinds = refl;
   kinds_capacity = refl;
@@ -45,7 +46,8 @@ loop-k-preserved c =
     record {
       ticketed = ap (λ (l : Line). set c.loop-k.self-inside.ticketed.items k l) c.answer_line.ensures
           ∙ ap (λ (l : List Line). set l k (answer_one c.args.ticket c.args.reply line)) i.ticketed
-          ∙ looks_at c.args.ticket c.args.reply k ticketed line within (c.index_mut.ensures.value ∙ ap (λ (l : List Line). get_or l k line) i.ticketed);
+          ∙ looks_at c.args.ticket c.args.reply k ticketed line within
+          (c.index_mut.ensures.value ∙ ap (λ (l : List Line). get_or l k line) i.ticketed);
       many = length-set c.loop-k.self-inside.ticketed.items k c.answer_line.new.line ∙ i.many;
       kinds = i.kinds;
       kinds_capacity = i.kinds_capacity;

@@ -2,7 +2,7 @@
 use Rattle.std.proofs.Common.{◌++◌, ◌∷◌, [], List, ap, arith, length, subst, sym, ◌∙◌}
 use Rattle.std.proofs.lemmas.List.{length_push}
 use Rattle.serving.specs.Lines.{Line, NoMessage, OutOfRange}
-use Rattle.serving.specs.Rows.{AreInOrder, Ticketed, IsOf, LineKind, Outside, RowView, Stray, ticketed_among, lines_of}
+use Rattle.serving.specs.Rows.{AreInOrder, Ticketed, LineKind, Outside, RowView, Stray, ticketed_among, lines_of}
 use Rattle.serving.proofs.Order.{is_of}
 use Rattle.serving.proofs.Rows.{ticketed_among-append, fewer_are_ticketed, kinds_have_room, lines_of-append, lines_of-plain}
 use Rattle.serving.proofs.row.Row.push.Goals as goal
@@ -86,12 +86,13 @@ invariant_of-self-in-Unanswered c =
     let more = ap (λ (l : List LineKind). length l) pushed.items ∙ length_push k.kinds.items Ticketed in
     let among = ap (λ (l : List LineKind). ticketed_among l) pushed.items ∙ ticketed_among-append k.kinds.items (Ticketed ∷ []) in
     let ticketed = ap (λ (l : List Line). length l) beside.items ∙ length_push k.ticketed.items it.line in
-    let of = subst (λ (l : Line). IsOf it.ticket l) (sym it.line-is) (is_of c.args.line it.ticket it.is) in (
+    let of = is_of it.line c.args.line it.ticket it.line-is it.is in (
       omega (arith, was.0, pushed.capacity),
       omega (arith, was.1, beside.capacity),
       omega (arith, more, room),
       omega (arith, among, ticketed, was.3),
-      λ ordered. subst (λ (l : List Line). AreInOrder l) (sym beside.items) (c.stays_in_order-self-inside.ensures ordered it.line of),
+      λ ordered. subst (λ (l : List Line). AreInOrder l) (sym {A = List Line} beside.items)
+          (c.stays_in_order-self-inside.ensures ordered it.line of),
     )
 
 pub returns-in-Unanswered-clause-lines : goal.returns-in-Unanswered-clause-lines
