@@ -16,15 +16,19 @@ use Rattle.plain.specs.Output.{Writes, IsBeginning}
 use Rattle.plain.specs.State.{empty}
 use Rattle.command_line.proofs.Options.{in_range}
 use Rattle.commands.specs.Ends.{EndsMaking, EndsServing}
-use Rattle.command_line.specs.Ends.{Ends, EndsFormat, EndsHelp, EndsPlain, EndsRefused, EndsShow, status_at}
+use Rattle.commands.specs.Serving.{EndsInFile}
+use Rattle.commands.specs.declared.service.Service.{Service}
+use Rattle.command_line.proofs.Services.{service_same}
+use Rattle.disk.specs.declared.fault.FileFault.TheVariants as file
+use Rattle.command_line.specs.Ends.{Ends, EndsFormat, EndsHelp, EndsPlain, EndsRefused, EndsServe, EndsShow, status_at}
 use Rattle.commands.specs.Faults.{status_of}
-use Rattle.command_line.specs.Words.{Asks, AsksFormat, AsksNoService, AsksPlain, AsksShow, IsNamed, IsReason, IsRefused, command_of, findings, is_mistake}
+use Rattle.command_line.specs.Words.{Asks, AsksFormat, AsksNoService, AsksPlain, AsksServe, AsksShow, IsNamed, IsReason, IsRefused, command_of, findings, is_mistake}
 use Rattle.commands.specs.declared.faults.Fault.{Fault}
-use Rattle.commands.specs.declared.faults.Fault.TheVariants.{Read, Write, GeometryOutOfRange, OutOfMemory, Device, Format as ByFormat, Open as ByOpen}
+use Rattle.commands.specs.declared.faults.Fault.TheVariants.{Read, Write, GeometryOutOfRange, OutOfMemory, Device, NoWorkers, NoTicketLeft, Format as ByFormat, Open as ByOpen}
 use Rattle.command_line.specs.declared.words.Refusal.TheVariants.{Fault as by_fault, Words as by_words}
 use Rattle.clap.specs.declared.error.Error.{Error}
 use Rattle.command_line.specs.declared.words.Request.{Request}
-use Rattle.command_line.specs.declared.words.Request.TheVariants.{Help, Plain, Format, Show}
+use Rattle.command_line.specs.declared.words.Request.TheVariants.{Help, Plain, Format, Show, Serve}
 
 -- ---- words that are wrong
 
@@ -37,11 +41,13 @@ mistake_among (x ∷ xs) k all among = elim among [
 
 pub ask_for_nothing : (words : List Text) (request : Request) → Asks words request → IsRefused words → ⊥
 ask_for_nothing words (Plain g) asks (inl wrong) = wrong.0 asks.0
-ask_for_nothing words (Plain g) asks (inr out_of_range) = out_of_range.2 (subst AreInRange asks.2 (in_range g))
+ask_for_nothing words (Plain g) asks (inr out_of_range) = out_of_range.3 (subst AreInRange asks.2 (in_range g))
 ask_for_nothing words (Format path g) asks (inl wrong) = wrong.0 asks.0
-ask_for_nothing words (Format path g) asks (inr out_of_range) = out_of_range.2 (subst AreInRange asks.3 (in_range g))
+ask_for_nothing words (Format path g) asks (inr out_of_range) = out_of_range.3 (subst AreInRange asks.3 (in_range g))
 ask_for_nothing words (Show path) asks (inl wrong) = wrong.0 asks.0
 ask_for_nothing words (Show path) asks (inr out_of_range) = out_of_range.1 asks.1
+ask_for_nothing words (Serve path s) asks (inl wrong) = wrong.0 asks.0
+ask_for_nothing words (Serve path s) asks (inr out_of_range) = out_of_range.2 asks.1
 ask_for_nothing words (Help text) asks (inl wrong) =
     let bad : true ≡ false = sym (mistake_among _ (kind_of text) wrong.1 asks.0) ∙ asks.1 in
     cc
@@ -59,6 +65,7 @@ pub helped : (words : List Text) (request : Request) (end : Result (Unit {0}) Fa
 helped words (Plain g) end input left old new no_service asks ends = absurd (no_service asks.0)
 helped words (Format path g) end input left old new no_service asks ends = absurd (no_service asks.0)
 helped words (Show path) end input left old new no_service asks ends = absurd (no_service asks.0)
+helped words (Serve path s) end input left old new no_service asks ends = absurd (no_service asks.0)
 helped words (Help text) (Ok _) input left old new no_service asks ends = (inl refl, ends)
 helped words (Help text) (Err Write) input left old new no_service asks ends = (inr (inl refl), ends)
 helped words (Help text) (Err fault) input left old new no_service asks ends = absurd ends
@@ -71,6 +78,8 @@ is_told Write none = cc
 is_told GeometryOutOfRange none = cc
 is_told OutOfMemory none = cc
 is_told Device none = cc
+is_told NoWorkers none = cc
+is_told NoTicketLeft none = cc
 is_told (ByFormat formatting.OutOfMemory) none = cc
 is_told (ByFormat fault) none = cc
 is_told (ByOpen opening.OutOfMemory) none = cc
@@ -85,13 +94,13 @@ nothing_written g (Some bytes) old = ([], Appends-nil old, (0, refl))
 pub served_nothing : (words : List Text) (g : Geometry) (fault : Fault) (input old : Option (List ℕ)) → AsksPlain words g → IsReason words (by_fault fault)
     → EndsPlain g (status_of fault) input input old old
 served_nothing words g OutOfMemory input old asks reason = (Err OutOfMemory, refl, nothing_written g input old)
-served_nothing words g GeometryOutOfRange input old asks reason = absurd (reason.2 (subst AreInRange asks.2 (in_range g)))
+served_nothing words g GeometryOutOfRange input old asks reason = absurd (reason.3 (subst AreInRange asks.2 (in_range g)))
 served_nothing words g fault input old asks reason = absurd reason
 
 pub formatted_nothing : (words : List Text) (path : List ℕ) (g : Geometry) (fault : Fault) (old : Option (List ℕ)) → AsksFormat words path g → IsReason words (by_fault fault)
     → EndsFormat g (status_of fault) old old
 formatted_nothing words path g OutOfMemory old asks reason = (Err OutOfMemory, refl, refl)
-formatted_nothing words path g GeometryOutOfRange old asks reason = absurd (reason.2 (subst AreInRange asks.3 (in_range g)))
+formatted_nothing words path g GeometryOutOfRange old asks reason = absurd (reason.3 (subst AreInRange asks.3 (in_range g)))
 formatted_nothing words path g fault old asks reason = absurd reason
 
 pub shown_nothing : (words : List Text) (path : List ℕ) (fault : Fault) (old : Option (List ℕ)) → AsksShow words path → IsReason words (by_fault fault)
@@ -99,6 +108,13 @@ pub shown_nothing : (words : List Text) (path : List ℕ) (fault : Fault) (old :
 shown_nothing words path OutOfMemory old asks reason = (Err OutOfMemory, refl, refl)
 shown_nothing words path GeometryOutOfRange old asks reason = absurd (reason.1 asks.1)
 shown_nothing words path fault old asks reason = absurd reason
+
+pub served_on_nothing : (words : List Text) (path : List ℕ) (s : Service) (fault : Fault) (input old : Option (List ℕ)) → AsksServe words path s
+    → IsReason words (by_fault fault) → EndsServe s (status_of fault) input input old old
+served_on_nothing words path s OutOfMemory input old asks reason =
+    (Err OutOfMemory, refl, inl (record { why = file.OutOfMemory; ends = refl; unread = refl; unwritten = refl }))
+served_on_nothing words path s GeometryOutOfRange input old asks reason = absurd (reason.2 asks.1)
+served_on_nothing words path s fault input old asks reason = absurd reason
 
 -- ---- what the words ask for is done
 
@@ -108,6 +124,7 @@ served words (Plain h) g end input left old new given asks ends =
     (end, refl, subst (λ k. EndsServing k end input left old new) (geometry_same h g (given.2 ∙ sym asks.2)) ends)
 served words (Format path h) g end input left old new given asks ends = absurd (asks.1.0 given.1)
 served words (Show path) g end input left old new given asks ends = absurd (asks.1.1 given.1)
+served words (Serve path s) g end input left old new given asks ends = absurd (asks.1.2 given.1)
 served words (Help text) g end input left old new given asks ends = absurd (subst (IsAmong (kind_of text)) asks.0 given.0)
 
 -- a command has one name
@@ -121,6 +138,8 @@ formatted words (Format there h) path g end input left old new given asks ends =
     ((end, refl, subst (λ k. EndsMaking k end old new) (geometry_same h g (given.3 ∙ sym asks.3)) ends.1), ends.0)
 formatted words (Show there) path g end input left old new given asks ends =
     let same : codes "format" ≡ codes "show" = two_names _ _ (command_of words) asks.1 given.1 in cc
+formatted words (Serve there s) path g end input left old new given asks ends =
+    let same : codes "format" ≡ codes "serve" = two_names _ _ (command_of words) asks.1 given.1 in cc
 formatted words (Help text) path g end input left old new given asks ends = absurd (subst (IsAmong (kind_of text)) asks.0 given.0)
 
 pub shown : (words : List Text) (request : Request) (path : List ℕ) (end : Result (Unit {0}) Fault) (input left old new : Option (List ℕ)) → Asks words request
@@ -129,7 +148,20 @@ shown words (Plain h) path end input left old new given asks ends = absurd (give
 shown words (Format there h) path end input left old new given asks ends =
     let same : codes "format" ≡ codes "show" = two_names _ _ (command_of words) given.1 asks.1 in cc
 shown words (Show there) path end input left old new given asks ends = ((end, refl, ends.1), ends.0)
+shown words (Serve there s) path end input left old new given asks ends =
+    let same : codes "show" ≡ codes "serve" = two_names _ _ (command_of words) asks.1 given.1 in cc
 shown words (Help text) path end input left old new given asks ends = absurd (subst (IsAmong (kind_of text)) asks.0 given.0)
+
+pub served_on : (words : List Text) (request : Request) (path : List ℕ) (s : Service) (end : Result (Unit {0}) Fault) (input left old new : Option (List ℕ))
+    → Asks words request → AsksServe words path s → Ends request end input left old new → EndsServe s (status_at end) input left old new
+served_on words (Plain h) path s end input left old new given asks ends = absurd (given.1.2 asks.1)
+served_on words (Format there h) path s end input left old new given asks ends =
+    let same : codes "format" ≡ codes "serve" = two_names _ _ (command_of words) given.1 asks.1 in cc
+served_on words (Show there) path s end input left old new given asks ends =
+    let same : codes "show" ≡ codes "serve" = two_names _ _ (command_of words) given.1 asks.1 in cc
+served_on words (Serve there t) path s end input left old new given asks ends =
+    (end, refl, subst (λ u. EndsInFile u end input left old new) (service_same t s (given.3 ∙ sym asks.3)) ends)
+served_on words (Help text) path s end input left old new given asks ends = absurd (subst (IsAmong (kind_of text)) asks.0 given.0)
 
 -- ---- words that name a command have no mistakes
 

@@ -1,4 +1,5 @@
 pub mod Reading
 pub mod Ending
 pub mod Options
+pub mod Services
 pub mod Examples

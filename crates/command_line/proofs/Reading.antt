@@ -8,7 +8,7 @@ use Rattle.clap.specs.declared.error.kind.ErrorKind.TheVariants as kind
 use Rattle.command_line.specs.Words.{Asks, IsReason, IsRequested, findings, waffd, answer_by, answer_of, is_mistake}
 use Rattle.commands.specs.declared.faults.Fault.TheVariants.{GeometryOutOfRange}
 use Rattle.command_line.specs.declared.words.Request.{Request}
-use Rattle.command_line.specs.declared.words.Request.TheVariants.{Plain, Format, Show}
+use Rattle.command_line.specs.declared.words.Request.TheVariants.{Plain, Format, Show, Serve}
 use Rattle.command_line.specs.declared.words.Refusal.TheVariants.{Fault}
 use Rattle.command_line.specs.declared.words.Refusal.{Refusal}
 use Rattle.std.specs.Result.{IfErr, IfOk, MatchResult}
@@ -37,7 +37,8 @@ pub holds_requested : (words : List Text) (r : Result Request Refusal) → findi
 holds_requested words (Ok (Plain g)) nothing is = (nothing, is.0, is.1)
 holds_requested words (Ok (Format path g)) nothing is = (nothing, is.0, is.1, is.2)
 holds_requested words (Ok (Show path)) nothing is = (nothing, is.0, is.1)
-holds_requested words (Err (Fault GeometryOutOfRange)) nothing is = (nothing, is.0, is.1)
+holds_requested words (Ok (Serve path s)) nothing is = (nothing, is.0, is.1, is.2)
+holds_requested words (Err (Fault GeometryOutOfRange)) nothing is = (nothing, is.0, is.1, is.2)
 holds_requested words _ nothing is = absurd is
 
 pub if_ok : (words : List Text) (r : Result Request Refusal) → Holds words r → IfOk r (Asks words)

@@ -3,10 +3,12 @@ use Rattle.std.specs.Prelude.{◌≡◌, ◌⊎◌, ℕ, List, Option, Result, O
 use Rattle.affinity.specs.declared.geometry.Geometry.{Geometry}
 use Rattle.commands.specs.Ends.{EndsMaking, EndsServing, EndsShowing}
 use Rattle.commands.specs.Faults.{status_of}
+use Rattle.commands.specs.Serving.{EndsInFile}
 use Rattle.commands.specs.declared.faults.Fault.{Fault}
 use Rattle.commands.specs.declared.faults.Fault.TheVariants.{Write, OutOfMemory}
+use Rattle.commands.specs.declared.service.Service.{Service}
 use Rattle.command_line.specs.declared.words.Request.{Request}
-use Rattle.command_line.specs.declared.words.Request.TheVariants.{Help, Plain, Format, Show}
+use Rattle.command_line.specs.declared.words.Request.TheVariants.{Help, Plain, Format, Show, Serve}
 
 -- What was written where the request came to this end, and what is left of the input: that of its command.
 -- Help reads nothing. Its text, and whether it was written, is open.
@@ -17,6 +19,7 @@ Ends (Help text) (Err _) input left old new = ⊥
 Ends (Plain g) end input left old new = EndsServing g end input left old new
 Ends (Format path g) end input left old new = (left ≡ input) × EndsMaking g end old new
 Ends (Show path) end input left old new = (left ≡ input) × EndsShowing end old new
+Ends (Serve path s) end input left old new = EndsInFile s end input left old new
 
 abbrev pub status_at : Result (Unit {0}) Fault → ℕ
 status_at (Ok _) = 0
@@ -33,6 +36,10 @@ EndsFormat g status old new = (end : Result (Unit {0}) Fault) × (status ≡ sta
 -- The telling of what a device holds came to an end that has this status.
 abbrev pub EndsShow : ℕ → Option (List ℕ) → Option (List ℕ) → Type 0
 EndsShow status old new = (end : Result (Unit {0}) Fault) × (status ≡ status_at end) × EndsShowing end old new
+
+-- The service with a device came to an end that has this status.
+abbrev pub EndsServe : Service → ℕ → Option (List ℕ) → Option (List ℕ) → Option (List ℕ) → Option (List ℕ) → Type 0
+EndsServe s status input left old new = (end : Result (Unit {0}) Fault) × (status ≡ status_at end) × EndsInFile s end input left old new
 
 -- Help was printed, or could not be written, or there was no memory.
 abbrev pub EndsHelp : ℕ → Type 0

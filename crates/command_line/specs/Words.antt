@@ -1,5 +1,5 @@
 -- What the words of a call ask for. `clap` reads them, by its rules for the commands and options that stand here.
-use Rattle.std.specs.Prelude.{◌≡◌, ◌≢◌, ◌&&◌, ◌⊎◌, ℕ, Bool, true, false, List, [], ◌∷◌, fold, length, Option, Some, None, option_and_then, option_map, unwrap_or, Result, Ok, Err, codes, if◌then◌else◌, nat_lt, pos}
+use Rattle.std.specs.Prelude.{◌≡◌, ◌≢◌, ◌&&◌, ◌⊎◌, ℕ, Bool, true, false, List, [], ◌∷◌, fold, length, Option, Some, None, option_and_then, option_map, unwrap_or, min, Result, Ok, Err, codes, if◌then◌else◌, nat_lt, ℤ, pos}
 use Rattle.std.specs.Char.{digit_value}
 use Rattle.std.specs.List.{list_all}
 use Rattle.std.specs.Str.Parse.{digits_value, without_leading_plus}
@@ -14,9 +14,11 @@ use Rattle.clap.specs.declared.error.Error.{Error}
 use Rattle.clap.specs.declared.error.kind.ErrorKind.{ErrorKind}
 use Rattle.clap.specs.declared.error.kind.ErrorKind.TheVariants.{DisplayHelp, DisplayVersion}
 use Rattle.clap.specs.declared.error.kind.ErrorKind.TheVariants as kind
+use Rattle.commands.specs.Serving.{numbers_of_service}
 use Rattle.commands.specs.declared.faults.Fault.TheVariants.{GeometryOutOfRange, OutOfMemory}
+use Rattle.commands.specs.declared.service.Service.{Service}
 use Rattle.command_line.specs.declared.words.Request.{Request}
-use Rattle.command_line.specs.declared.words.Request.TheVariants.{Help, Plain, Format, Show}
+use Rattle.command_line.specs.declared.words.Request.TheVariants.{Help, Plain, Format, Show, Serve}
 use Rattle.command_line.specs.declared.words.Refusal.{Refusal}
 use Rattle.command_line.specs.declared.words.Refusal.TheVariants.{Words, Fault}
 
@@ -30,8 +32,19 @@ names = codes "aggregates" ∷ codes "volumes" ∷ codes "stripes" ∷ codes "wi
 abbrev pub number_rule : Text → Rule
 number_rule name = record (new_rule name) { long = Some name; value_names = 1; parser = Some (Signed (pos 0) (pos 65535)) }
 
+-- an option with one value, a number from the one to the other
+abbrev pub rule_within : Text → ℤ → ℤ → Rule
+rule_within name least most = record (new_rule name) { long = Some name; value_names = 1; parser = Some (Signed least most) }
+
 abbrev pub with_numbers : App → App
 with_numbers a = fold (λ b name. with_rule b (number_rule name)) a names
+
+-- the options of a service: how many workers it has, how many lines it reads before it has answered them, and after how many records
+-- it makes a point
+abbrev pub with_service : App → App
+with_service a =
+    with_rule (with_rule (with_rule a (rule_within (codes "workers") (pos 0) (pos 64))) (rule_within (codes "slots") (pos 1) (pos 1024)))
+    (rule_within (codes "every") (pos 0) (pos 1024))
 
 -- the file of a device, which has to be given
 abbrev pub device_rule : Rule
@@ -49,13 +62,17 @@ format = with_numbers (with_rule (new_app (codes "format")) device_rule)
 abbrev pub show : App
 show = with_rule (new_app (codes "show")) device_rule
 
+-- the command `serve`
+abbrev pub serve : App
+serve = with_service (with_rule (new_app (codes "serve")) device_rule)
+
 -- the program without its commands, of which one has to be given
 abbrev pub bare : App
 bare = on_top (λ s. record s { subcommand_required = true; arg_required_else_help = true }) (new_app (codes "waffd"))
 
 -- the program
 abbrev pub waffd : App
-waffd = with_subcommand (with_subcommand (with_subcommand bare plain.top) format.top) show.top
+waffd = with_subcommand (with_subcommand (with_subcommand (with_subcommand bare plain.top) format.top) show.top) serve.top
 
 -- ---- what the words say
 
@@ -82,6 +99,14 @@ numbers_in rows =
     ∷ number_in rows (codes "half") standard.half
     ∷ []
 
+-- the numbers of a service; no words pass that give it more than 64 workers
+abbrev pub service_in : List Row → List ℕ
+service_in rows =
+    min (number_in rows (codes "workers") 2) 64
+    ∷ number_in rows (codes "slots") 16
+    ∷ number_in rows (codes "every") 0
+    ∷ []
+
 -- the file of the device; no words pass that don't tell it
 abbrev pub device_in : List Row → Text
 device_in rows = unwrap_or (first_of (codes "device") rows) []
@@ -106,12 +131,17 @@ IsNamed name command = option_map (λ c. c.0) command ≡ Some name
 
 -- The command is `plain`: it is none of the others, and no words pass that name none.
 abbrev pub IsPlain : Option (Text × List Row) → Type 0
-IsPlain command = (¬ (IsNamed (codes "format") command)) × (¬ (IsNamed (codes "show") command))
+IsPlain command = (¬ (IsNamed (codes "format") command)) × (¬ (IsNamed (codes "show") command)) × (¬ (IsNamed (codes "serve") command))
 
 -- the numbers that the options of the command give
 abbrev pub numbers_at : Option (Text × List Row) → List ℕ
 numbers_at None = numbers_of standard
 numbers_at (Some command) = numbers_in command.1
+
+-- the numbers of the service that the options of the command give
+abbrev pub service_at : Option (Text × List Row) → List ℕ
+service_at None = 2 ∷ 16 ∷ 0 ∷ []
+service_at (Some command) = service_in command.1
 
 -- the file of the device that is given to the command
 abbrev pub device_at : Option (Text × List Row) → Text
@@ -128,7 +158,9 @@ abbrev pub IsRequested : Option (Text × List Row) → Result Request Refusal �
 IsRequested command (Ok (Plain g)) = IsPlain command × (numbers_of g ≡ numbers_at command)
 IsRequested command (Ok (Format path g)) = IsNamed (codes "format") command × (path.now ≡ device_at command) × (numbers_of g ≡ numbers_at command)
 IsRequested command (Ok (Show path)) = IsNamed (codes "show") command × (path.now ≡ device_at command)
-IsRequested command (Err (Fault GeometryOutOfRange)) = (¬ (IsNamed (codes "show") command)) × (¬ (AreInRange (numbers_at command)))
+IsRequested command (Ok (Serve path s)) = IsNamed (codes "serve") command × (path.now ≡ device_at command) × (numbers_of_service s ≡ service_at command)
+IsRequested command (Err (Fault GeometryOutOfRange)) =
+    (¬ (IsNamed (codes "show") command)) × (¬ (IsNamed (codes "serve") command)) × (¬ (AreInRange (numbers_at command)))
 IsRequested command _ = ⊥
 
 -- The words ask for service without a device at this geometry.
@@ -143,9 +175,17 @@ AsksFormat words path g = (findings words ≡ []) × IsNamed (codes "format") (c
 abbrev pub AsksShow : List Text → Text → Type 0
 AsksShow words path = (findings words ≡ []) × IsNamed (codes "show") (command_of words) × (path ≡ device_at (command_of words))
 
--- The words ask for service or for a device at numbers that are no geometry.
+-- The words ask for service with the device in the file of this path.
+abbrev pub AsksServe : List Text → Text → Service → Type 0
+AsksServe words path s =
+    (findings words ≡ []) × IsNamed (codes "serve") (command_of words) × (path ≡ device_at (command_of words))
+    × (numbers_of_service s ≡ service_at (command_of words))
+
+-- The words ask for service without a device, or for a device, at numbers that are no geometry.
 abbrev pub AsksOutOfRange : List Text → Type 0
-AsksOutOfRange words = (findings words ≡ []) × (¬ (IsNamed (codes "show") (command_of words))) × (¬ (AreInRange (numbers_at (command_of words))))
+AsksOutOfRange words =
+    (findings words ≡ []) × (¬ (IsNamed (codes "show") (command_of words))) × (¬ (IsNamed (codes "serve") (command_of words)))
+    × (¬ (AreInRange (numbers_at (command_of words))))
 
 -- The words ask for help.
 abbrev pub AsksHelp : List Text → Type 0
@@ -169,6 +209,7 @@ Asks words (Help text) = IsAmong (kind_of text) (findings words) × (is_mistake 
 Asks words (Plain g) = AsksPlain words g
 Asks words (Format path g) = AsksFormat words path.now g
 Asks words (Show path) = AsksShow words path.now
+Asks words (Serve path s) = AsksServe words path.now s
 
 -- The words give no request for this reason. Memory may be wanting at any words.
 abbrev pub IsReason : List Text → Refusal → Type 0

@@ -1,19 +1,24 @@
 //! The program over a reader and two writers.
 ghost use Rattle.std.specs.Prelude.{◌≡◌, ◌⊎◌, ℕ, List, [], ◌∷◌, codes, map, string_bytes};
 ghost use Rattle.affinity.specs.Geometry.{standard};
-ghost use Rattle.command_line.specs.Ends.{Ends, EndsFormat, EndsHelp, EndsPlain, EndsRefused, EndsShow};
-ghost use Rattle.command_line.specs.Words.{AsksFormat, AsksHelp, AsksNoService, AsksPlain, AsksShow, IsRefused};
+ghost use Rattle.command_line.specs.Ends.{Ends, EndsFormat, EndsHelp, EndsPlain, EndsRefused, EndsServe, EndsShow};
+ghost use Rattle.command_line.specs.Words.{AsksFormat, AsksHelp, AsksNoService, AsksPlain, AsksServe, AsksShow, IsRefused};
 ghost use Rattle.affinity.specs.declared.geometry.Geometry.{Geometry};
+ghost use Rattle.commands.specs.declared.service.Service.{Service};
 
 use crate::words::{Refusal, Request, read_words};
-use commands::{Fault, WRONG_WORDS, answer_input, format_device, report, show_device};
+use commands::{
+    Fault, WRONG_WORDS, answer_input, format_device, report, serve_device, show_device,
+};
 use std::alloc::Global;
 use std::fs::File;
 use std::io::{Read, Write};
 use std::rt::Files;
+use std::sync::Wait;
+use std::thread::Threads;
 
 /// Does what was asked for, from `r` to `w`.
-pub fn run<T: Files<File = File>, R: Read, W: Write>(
+pub fn run<T: Files<File = File> + Threads + Wait + Sync, R: Read, W: Write>(
     rt: &T,
     alloc: Global,
     request: Request<'_>,
@@ -31,12 +36,13 @@ pub fn run<T: Files<File = File>, R: Read, W: Write>(
         Request::Plain(geometry) => answer_input(alloc, &geometry, r, w),
         Request::Format(path, geometry) => format_device(rt, alloc, path, geometry, w),
         Request::Show(path) => show_device(rt, alloc, path, w),
+        Request::Serve(path, service) => serve_device(rt, alloc, path, service, r, w),
     }
 }
 
 /// Reads the words, the program's own name first, does what they ask for from `r` to `w`, prints a
 /// fault on `e`, and answers the exit status. Files are those of `rt`.
-pub fn command<T: Files<File = File>, R: Read, W: Write, E: Write>(
+pub fn command<T: Files<File = File> + Threads + Wait + Sync, R: Read, W: Write, E: Write>(
     rt: &T,
     alloc: Global,
     words: &[String],
@@ -56,6 +62,9 @@ pub fn command<T: Files<File = File>, R: Read, W: Write, E: Write>(
     ensures shown { (path : List ℕ) → AsksShow (map string_bytes words.now) path
         → EndsShow result (W.contents w.old) (W.contents w.new)
         × (R.remaining r.new ≡ R.remaining r.old) }
+    ensures served_on { (path : List ℕ) → (s : Service) → AsksServe (map string_bytes words.now) path s
+        → EndsServe s result (R.remaining r.old) (R.remaining r.new)
+        (W.contents w.old) (W.contents w.new) }
     ensures help { AsksHelp (map string_bytes words.now)
         → EndsHelp result × (R.remaining r.new ≡ R.remaining r.old) }
     ensures refused { IsRefused (map string_bytes words.now)

@@ -1,18 +1,23 @@
 //! The words that the program is called with, and what they ask for.
 ghost use Rattle.std.specs.Prelude.{◌≡◌, IfOk, IfErr, false, map, string_bytes};
 ghost use Rattle.clap.specs.Words.{app_of, found_of, new_app, rows_of, rule_of, subcommand_rows_of, with_rule};
-ghost use Rattle.command_line.specs.Words.{Asks, GivesGeometry, IsReason, IsRequested, answer_of, device_in, device_rule, no_memory, number_in, number_rule, numbers_in, waffd, with_numbers};
+ghost use Rattle.command_line.specs.Words.{Asks, GivesGeometry, IsReason, IsRequested, answer_of, device_in, device_rule, no_memory, number_in, number_rule, numbers_in, rule_within, service_in, waffd, with_numbers, with_service};
+ghost use Rattle.commands.specs.Serving.{numbers_of_service};
 
 use affinity::{BadGeometry, Geometry};
+use clap::builder::ValueParser;
 use clap::error::ErrorKind;
 use clap::{Arg, ArgMatches, Command, value_parser};
-use commands::Fault;
+use commands::{Fault, Service};
 use std::alloc::{AllocError, Global};
 
 // What help says of the commands.
 const PLAIN: &str = "Answers the messages on standard input, one line each, from an empty state on";
 
 const FORMAT: &str = "Makes a device of an empty state in a file, instead of a file that is there";
+
+const SERVE: &str =
+    "Answers the messages on standard input, one line each, with the device in a file";
 
 const SHOW: &str = "Tells what the device in a file holds, and leaves it as it is";
 
@@ -36,6 +41,14 @@ const QUOTA: &str = "Blocks that a stripe can hold, 1 to 64 [default: 64]";
 
 const HALF: &str = "Records in each half of the log, 4 to 1024 [default: 256]";
 
+// What help says of the options of a service.
+const WORKERS: &str = "Threads that run messages, 0 to 64 [default: 2]";
+
+const SLOTS: &str = "Lines that are read and not answered yet, 1 to 1024 [default: 16]";
+
+const EVERY: &str =
+    "Changes between consistency points, 0 to 1024; 0 makes them where the log is full [default: 0]";
+
 /// What the words ask for.
 #[derive(Drop)]
 pub enum Request<'a> {
@@ -47,6 +60,8 @@ pub enum Request<'a> {
     Format(&'a str, Geometry),
     /// Tell what the device in the file of this path holds.
     Show(&'a str),
+    /// Serve standard input to standard output with the device in the file of this path.
+    Serve(&'a str, Service),
 }
 
 /// Why the words give no request.
@@ -91,6 +106,18 @@ fn number<'a>(alloc: Global, name: &'a str, help: &'a str) -> Arg<'a>
         .help(help)
 }
 
+/// An option that takes a number from `least` to `most`.
+fn number_within<'a>(alloc: Global, name: &'a str, help: &'a str, least: i64, most: i64) -> Arg<'a>
+    ensures rule { rule_of result ≡ rule_within name.entry.now least most }
+    ensures local { result.global ≡ false }
+{
+    Arg::new(alloc, name)
+        .long(name)
+        .value_name("N")
+        .value_parser(ValueParser::signed(least, most))
+        .help(help)
+}
+
 /// The argument that tells the file of a device. It has to be given.
 fn device<'a>(alloc: Global) -> Arg<'a>
     ensures rule { rule_of result ≡ device_rule }
@@ -117,6 +144,16 @@ fn with_geometry<'a>(alloc: Global, command: Command<'a>) -> Result<Command<'a>,
         .arg(number(alloc, "half", HALF))
 }
 
+/// The command with the options of a service added.
+fn with_service<'a>(alloc: Global, command: Command<'a>) -> Result<Command<'a>, AllocError>
+    ensures { IfOk result (λ c. app_of c ≡ with_service (app_of command.entry)) }
+{
+    command
+        .arg(number_within(alloc, "workers", WORKERS, 0, 64))?
+        .arg(number_within(alloc, "slots", SLOTS, 1, 1024))?
+        .arg(number_within(alloc, "every", EVERY, 0, 1024))
+}
+
 /// A command with the file of a device.
 fn of_device<'a>(alloc: Global, name: &'a str, about: &'a str) -> Result<Command<'a>, AllocError>
     ensures { IfOk result (λ c. app_of c ≡ with_rule (new_app name.entry.now) device_rule) }
@@ -131,13 +168,15 @@ fn commands<'a>(alloc: Global) -> Result<Command<'a>, AllocError>
     let plain = with_geometry(alloc, Command::new(alloc, "plain").about(PLAIN))?;
     let format = with_geometry(alloc, of_device(alloc, "format", FORMAT)?)?;
     let show = of_device(alloc, "show", SHOW)?;
+    let serve = with_service(alloc, of_device(alloc, "serve", SERVE)?)?;
     Command::new(alloc, "waffd")
         .about("A server for messages about files of 512-byte blocks")
         .subcommand_required(true)
         .arg_required_else_help(true)
         .subcommand(plain)?
         .subcommand(format)?
-        .subcommand(show)
+        .subcommand(show)?
+        .subcommand(serve)
 }
 
 /// The number that was given to an option, or the program's own.
@@ -174,6 +213,17 @@ fn geometry_given(options: &ArgMatches<'_>) -> Result<Geometry, Refusal>
     }
 }
 
+/// The service that the options ask for.
+fn service_given(options: &ArgMatches<'_>) -> Service
+    ensures { numbers_of_service result ≡ service_in (rows_of (found_of options.now)) }
+{
+    Service::new(
+        number_given(options, "workers", 2),
+        number_given(options, "slots", 16),
+        number_given(options, "every", 0),
+    )
+}
+
 /// The file of the device that was given.
 fn device_given<'a>(options: &ArgMatches<'a>) -> &'a str
     ensures { result.now ≡ device_in (rows_of (found_of options.now)) }
@@ -191,6 +241,10 @@ fn requested<'a>(matches: &ArgMatches<'a>) -> Result<Request<'a>, Refusal>
             geometry_given(options)?,
         )),
         Some(("show", options)) => Ok(Request::Show(device_given(options))),
+        Some(("serve", options)) => Ok(Request::Serve(
+            device_given(options),
+            service_given(options),
+        )),
         Some((_plain, options)) => Ok(Request::Plain(geometry_given(options)?)),
         None => Ok(Request::Plain(Geometry::default())),
     }

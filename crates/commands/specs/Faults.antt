@@ -1,5 +1,5 @@
 -- The exit status of each fault.
-use Rattle.std.specs.Prelude.{ℕ}
+use Rattle.std.specs.Prelude.{ℕ, Result, Ok, Err}
 use Rattle.std.specs.declared.io.ErrorKind.{ErrorKind}
 use Rattle.std.specs.declared.io.ErrorKind.TheVariants as kind
 use Rattle.disk.specs.declared.fault.FileFault.{FileFault}
@@ -8,8 +8,10 @@ use Rattle.checkpoint.specs.declared.fault.FormatFault.TheVariants as formatting
 use Rattle.checkpoint.specs.declared.fault.OpenFault.TheVariants as opening
 use Rattle.plain.specs.declared.fault.PlainFault.{PlainFault}
 use Rattle.plain.specs.declared.fault.PlainFault.TheVariants as plain
+use Rattle.serving.specs.declared.fault.ServeFault.{ServeFault}
+use Rattle.serving.specs.declared.fault.ServeFault.TheVariants as serving
 use Rattle.commands.specs.declared.faults.Fault.{Fault}
-use Rattle.commands.specs.declared.faults.Fault.TheVariants.{Read, Write, GeometryOutOfRange, OutOfMemory, Device, Format, Open}
+use Rattle.commands.specs.declared.faults.Fault.TheVariants.{Read, Write, GeometryOutOfRange, OutOfMemory, Device, NoWorkers, NoTicketLeft, Format, Open}
 
 abbrev pub status_of : Fault → ℕ
 status_of Read = 1
@@ -17,6 +19,8 @@ status_of Write = 1
 status_of GeometryOutOfRange = 2
 status_of OutOfMemory = 3
 status_of Device = 1
+status_of NoWorkers = 2
+status_of NoTicketLeft = 1
 status_of (Format formatting.OutOfMemory) = 3
 status_of (Format _) = 1
 status_of (Open opening.OutOfMemory) = 3
@@ -32,6 +36,20 @@ abbrev pub of_plain : PlainFault → Fault
 of_plain plain.Read = Read
 of_plain plain.Write = Write
 of_plain plain.OutOfMemory = OutOfMemory
+
+-- the fault of the program where the server on a device ends by one of its own
+abbrev pub of_serve : ServeFault → Fault
+of_serve serving.NoWorkers = NoWorkers
+of_serve serving.Read = Read
+of_serve serving.Write = Write
+of_serve serving.Device = Device
+of_serve serving.OutOfMemory = OutOfMemory
+of_serve serving.Exhausted = NoTicketLeft
+
+-- how a service on a device ends, with the fault of the program
+abbrev pub as_told : Result (Unit {0}) ServeFault → Result (Unit {0}) Fault
+as_told (Ok _) = Ok tt
+as_told (Err fault) = Err (of_serve fault)
 
 -- the fault of the program where the file of a device can't be made or opened
 abbrev pub of_file : FileFault → Fault

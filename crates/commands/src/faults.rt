@@ -1,11 +1,12 @@
 //! What can go wrong once the words are read: the text that is printed of it, and the exit status.
 ghost use Rattle.std.specs.Prelude.{◌≡◌};
-ghost use Rattle.commands.specs.Faults.{status_of, of_file, of_plain};
+ghost use Rattle.commands.specs.Faults.{status_of, of_file, of_plain, of_serve};
 ghost use Rattle.commands.specs.declared.faults.Fault.TheVariants.{Format, Open, OutOfMemory};
 
 use checkpoint::{FormatFault, OpenFault};
 use disk::FileFault;
 use plain::PlainFault;
+use serving::ServeFault;
 use std::alloc::AllocError;
 use thiserror::Error;
 
@@ -24,9 +25,15 @@ pub enum Fault {
     /// There was no memory.
     #[error("out of memory")]
     OutOfMemory,
-    /// The file of a device could not be made or opened.
+    /// The file of a device could not be made or opened, or the device failed while it was served.
     #[error("device fault")]
     Device,
+    /// There are no workers to serve a device with.
+    #[error("no workers")]
+    NoWorkers,
+    /// Each ticket that a message can have was given.
+    #[error("no ticket left")]
+    NoTicketLeft,
     /// The device could not be made in its file.
     #[error(transparent)]
     Format(FormatFault),
@@ -41,11 +48,16 @@ impl Fault {
         ensures { result ≡ status_of self }
     {
         match self {
-            Fault::GeometryOutOfRange => 2,
+            Fault::GeometryOutOfRange | Fault::NoWorkers => 2,
             Fault::OutOfMemory
             | Fault::Format(FormatFault::OutOfMemory)
             | Fault::Open(OpenFault::OutOfMemory) => 3,
-            Fault::Read | Fault::Write | Fault::Device | Fault::Format(_) | Fault::Open(_) => 1,
+            Fault::Read
+            | Fault::Write
+            | Fault::Device
+            | Fault::NoTicketLeft
+            | Fault::Format(_)
+            | Fault::Open(_) => 1,
         }
     }
 }
@@ -66,6 +78,21 @@ impl From<PlainFault> for Fault {
             PlainFault::Read => Fault::Read,
             PlainFault::Write => Fault::Write,
             PlainFault::OutOfMemory => Fault::OutOfMemory,
+        }
+    }
+}
+
+impl From<ServeFault> for Fault {
+    ghost from_gives = { λ from fault. fault ≡ of_serve from };
+
+    fn from(fault: ServeFault) -> Fault {
+        match fault {
+            ServeFault::NoWorkers => Fault::NoWorkers,
+            ServeFault::Read => Fault::Read,
+            ServeFault::Write => Fault::Write,
+            ServeFault::Device => Fault::Device,
+            ServeFault::OutOfMemory => Fault::OutOfMemory,
+            ServeFault::Exhausted => Fault::NoTicketLeft,
         }
     }
 }

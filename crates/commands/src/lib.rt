@@ -3,15 +3,19 @@
 //! Nothing here knows the words of a call: a command takes what it works on as values.
 #![tactic(auto)]
 
+mod answering;
 mod faults;
 mod formatting;
 mod lines;
+mod on_device;
 mod reports;
-mod serving;
+mod service;
 mod showing;
 
+pub use answering::answer_input;
 pub use faults::Fault;
 pub use formatting::format_device;
+pub use on_device::{serve_device, serve_on};
 pub use reports::{WRONG_WORDS, report, report_unread_words};
-pub use serving::answer_input;
+pub use service::Service;
 pub use showing::show_device;

@@ -1,5 +1,5 @@
 use Rattle.std.proofs.Common.{map, string_bytes, subst, inl, inr, refl, Ok, Err}
-use Rattle.command_line.proofs.Ending.{ask_for_nothing, formatted, formatted_nothing, helped, is_told, no_mistake, refused_by, served, served_nothing, shown, shown_nothing}
+use Rattle.command_line.proofs.Ending.{ask_for_nothing, formatted, formatted_nothing, helped, is_told, no_mistake, refused_by, served, served_nothing, served_on, served_on_nothing, shown, shown_nothing}
 use Rattle.command_line.proofs.Examples.{asks_alone}
 use Rattle.affinity.specs.Geometry.{standard}
 use Rattle.command_line.specs.Words.{IsReason}
@@ -73,6 +73,34 @@ returns-in-Err-clause-shown g c = λ path asks.
 
 pub returns-in-Err-Words-clause-shown : goal.returns-in-Err-Words-clause-shown
 returns-in-Err-Words-clause-shown g c = λ path asks.
+    let words = map string_bytes c.args.words.now in
+    let P : Refusal → Type 0 = λ refusal. IsReason words refusal in
+    let reason = subst P c.in-Err-Words.field-0-is c.in-Err-Words.ensures.err in
+    absurd (no_mistake words c.in-Err-Words.error asks.0 reason)
+
+-- a device is served
+
+pub returns-in-Err-Fault-clause-served_on : goal.returns-in-Err-Fault-clause-served_on
+returns-in-Err-Fault-clause-served_on g c = λ path s asks.
+    let words = map string_bytes c.args.words.now in
+    let P : Refusal → Type 0 = λ refusal. IsReason words refusal in
+    let reason = subst P c.in-Err-Fault.field-0-is c.in-Err-Fault.ensures.err in
+    rw (c.report.ensures, c.in-Err-Fault.fault-is)
+    (served_on_nothing words path s c.in-Err-Fault.fault (g.R.Read.remaining c.args.r.now) (g.W.Write.contents c.args.w.now) asks reason)
+
+pub returns-in-Ok-run-clause-served_on : goal.returns-in-Ok-run-clause-served_on
+returns-in-Ok-run-clause-served_on g c = λ path s asks.
+    let words = map string_bytes c.args.words.now in
+    served_on words c.in-Ok.request path s (Ok c.in-Ok-run.field-0) (g.R.Read.remaining c.args.r.now) (g.R.Read.remaining c.run.new.r) (g.W.Write.contents c.args.w.now) (g.W.Write.contents c.run.new.w) c.in-Ok.ensures.ok asks c.in-Ok-run.ensures
+
+pub returns-in-Err-clause-served_on : goal.returns-in-Err-clause-served_on
+returns-in-Err-clause-served_on g c = λ path s asks.
+    let words = map string_bytes c.args.words.now in
+    rw c.report-in-Err.ensures
+    (served_on words c.in-Ok.request path s (Err c.in-Err.fault) (g.R.Read.remaining c.args.r.now) (g.R.Read.remaining c.run.new.r) (g.W.Write.contents c.args.w.now) (g.W.Write.contents c.run.new.w) c.in-Ok.ensures.ok asks c.in-Err.ensures)
+
+pub returns-in-Err-Words-clause-served_on : goal.returns-in-Err-Words-clause-served_on
+returns-in-Err-Words-clause-served_on g c = λ path s asks.
     let words = map string_bytes c.args.words.now in
     let P : Refusal → Type 0 = λ refusal. IsReason words refusal in
     let reason = subst P c.in-Err-Words.field-0-is c.in-Err-Words.ensures.err in

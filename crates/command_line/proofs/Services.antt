@@ -1,0 +1,26 @@
+-- A service is its three numbers.
+use Rattle.std.proofs.Common.{◌≡◌, ◌≤◌, ℕ, List, [], ◌∷◌, ap, subst}
+use Rattle.std.specs.Coded.{le_prop}
+use Rattle.commands.specs.Serving.{numbers_of_service}
+use Rattle.commands.specs.declared.service.Service.{Service}
+
+abbrev Numbers : Type 0
+Numbers = ℕ × ℕ × ℕ
+
+abbrev made_of : (n : Numbers) → n.0 ≤ 64 → Service
+made_of n few = record { workers = n.0; slots = n.1; every = n.2; few = few }
+
+same_bound : (n : Numbers) (a b : n.0 ≤ 64) → a ≡ b
+same_bound n = hlevel (le_prop)
+
+made_of-same : (n m : Numbers) → n ≡ m → (a : n.0 ≤ 64) (b : m.0 ≤ 64) → made_of n a ≡ made_of m b
+made_of-same n m e a = subst (λ (m : Numbers). (b : m.0 ≤ 64) → made_of n a ≡ made_of m b) e (λ b. ap (made_of n) (same_bound n a b))
+
+-- the three numbers of a list
+numbers_in : List ℕ → Numbers
+numbers_in (workers ∷ slots ∷ every ∷ []) = (workers, slots, every)
+numbers_in _ = (0, 0, 0)
+
+pub service_same : (s t : Service) → numbers_of_service s ≡ numbers_of_service t → s ≡ t
+unfolding numbers_in
+service_same s t e = made_of-same (s.workers, s.slots, s.every) (t.workers, t.slots, t.every) (ap numbers_in e) s.few t.few

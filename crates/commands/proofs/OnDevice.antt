@@ -1,0 +1,161 @@
+-- What a service on a device has done, from what its server promises.
+use Rattle.std.proofs.Common.{◌≡◌, ◌≢◌, ◌≤◌, ◌∙◌, ℕ, List, [], ◌∷◌, Option, Some, false, refl, sym, ap, subst, take, arith}
+use Rattle.std.specs.Prelude.{Result, Ok, Err, OnOk}
+use Rattle.std.proofs.lemmas.List.{take_all}
+use Rattle.affinity.specs.declared.geometry.Geometry.{Geometry}
+use Rattle.checkpoint.specs.Header.{HasHeader}
+use Rattle.checkpoint.specs.Recovery.{holds}
+use Rattle.disk.proofs.Leaves.{itself}
+use Rattle.disk.specs.Device.{AreBytes, Leaves, Medium}
+use Rattle.journal.specs.Opening.{OpeningLeaves}
+use Rattle.legal_runs.specs.Events.{Event}
+use Rattle.legal_runs.specs.Laws.{IsIdle}
+use Rattle.machine.specs.Machine.{Handed, machine_of}
+use Rattle.plain.specs.Serial.{fold}
+use Rattle.plain.specs.State.{State}
+use Rattle.message.specs.declared.Msg.{Msg}
+use Rattle.scheduler.specs.Kept.{IsJustOpened, Kept, StandsNow, world_of}
+use Rattle.serving.specs.Ends.{EndsSo, HasRun, settled}
+use Rattle.serving.specs.Serve.{HasEmptyLog, HasRunSo, RefusesNone}
+use Rattle.serving.specs.declared.fault.ServeFault.{ServeFault}
+use Rattle.serving.specs.declared.fault.ServeFault.TheVariants as faults
+use Rattle.commands.specs.Faults.{as_told}
+use Rattle.commands.specs.Serving.{EndsOnDevice, HasLived, HasNoRecords, HasServedBy, HasServedNothing, IsLife, StandsFor, StoodFor, Went, at_start}
+use Rattle.commands.specs.declared.service.Service.{Service}
+
+-- no message is in a core that was just opened
+pub is_idle : (slots : ℕ) (c : Kept) → IsJustOpened slots c → IsIdle (world_of c)
+is_idle slots c just = record { none_waits = just.none_waits; none_held = rw (just.none_logged, just.none_ran, just.none_out) refl }
+
+-- ---- the run
+
+-- whatever the end, there is a run from the start
+run_of : (keeps : Type 0) (start : Handed) (now : Kept) (input before written : Option (List ℕ)) (end : Result (Unit {0}) ServeFault)
+    → HasRunSo keeps start now input before written end → (taken : List (List ℕ)) × (events : List Event) × HasRun keeps start now input taken events
+run_of keeps start now input before written (Ok _) h = (h.served.taken, h.served.events, h.served.run)
+run_of keeps start now input before written (Err faults.Device) h = (h.1.taken, h.1.events, h.1.run)
+run_of keeps start now input before written (Err faults.Write) h = h
+run_of keeps start now input before written (Err faults.Read) h = (h.taken, h.events, h.run)
+run_of keeps start now input before written (Err faults.Exhausted) h = (h.taken, h.events, h.run)
+run_of keeps start now input before written (Err faults.NoWorkers) h = (h.taken, h.events, h.run)
+run_of keeps start now input before written (Err faults.OutOfMemory) h = (h.taken, h.events, h.run)
+
+-- what is known of the core before and after
+module _ (keeps : Type 0) (s : Service) (old : Medium) (start now : Kept) (end : Result (Unit {0}) ServeFault)
+    (input left before written : Option (List ℕ)) where
+  pub is_life : IsJustOpened s.slots start → (keeps → HasHeader start.geometry old.now) → (keeps → holds start.geometry old.now ≡ Some (settled start))
+      → HasRunSo keeps (at_start s start) now input before written end → keeps → IsLife s start old now.medium
+  is_life fresh header stood run k =
+      let r = run_of keeps (at_start s start) now input before written end run in (
+        r.1,
+        record {
+          header = header k;
+          stood = stood k;
+          idle = is_idle s.slots start fresh;
+          legal = r.2.legal;
+          crash = λ c left. (r.2.crash k).each c left;
+        },
+      )
+
+  abbrev pub has_served_by : IsJustOpened s.slots start → (keeps → HasHeader start.geometry old.now)
+      → (keeps → holds start.geometry old.now ≡ Some (settled start)) → (keeps → OpeningLeaves old start.medium)
+      → HasRunSo keeps (at_start s start) now input before written end → EndsSo start now input left before written end
+      → (keeps → StandsNow now) → HasServedBy keeps s old now.medium end input left before written
+  has_served_by fresh header stood opening run ends leaves = record {
+    start = start;
+    now = now;
+    fresh = fresh;
+    header = header;
+    stood = stood;
+    opening = opening;
+    run = run;
+    ends = ends;
+    leaves = leaves;
+    given_back = refl;
+    life = is_life fresh header stood run;
+  }
+
+-- such a service is one that has lived
+pub has_lived : (keeps : Type 0) (s : Service) (old new : Medium) (end : Result (Unit {0}) ServeFault) (input left before written : Option (List ℕ))
+    → HasServedBy keeps s old new end input left before written → HasLived keeps s old new (as_told end) input left before written
+has_lived keeps s old new (Ok _) input left before written h = (Ok tt, refl, h)
+has_lived keeps s old new (Err faults.NoWorkers) input left before written h = (Err faults.NoWorkers, refl, h)
+has_lived keeps s old new (Err faults.Read) input left before written h = (Err faults.Read, refl, h)
+has_lived keeps s old new (Err faults.Write) input left before written h = (Err faults.Write, refl, h)
+has_lived keeps s old new (Err faults.Device) input left before written h = (Err faults.Device, refl, h)
+has_lived keeps s old new (Err faults.OutOfMemory) input left before written h = (Err faults.OutOfMemory, refl, h)
+has_lived keeps s old new (Err faults.Exhausted) input left before written h = (Err faults.Exhausted, refl, h)
+
+-- ---- what the device stands for
+
+-- a core that has not failed: its device stands for what is settled
+stands_for : (keeps : Type 0) (now : Kept) → now.doubt ≡ [] → (keeps → StandsNow now) → AreBytes now.medium.now
+    → StandsFor keeps now.medium now.geometry (settled now)
+stands_for keeps now none leaves bytes = record {
+  now = λ k. one k now.medium.now (itself now.medium.now now.medium.loose bytes);
+  each = one;
+}
+  where
+    one : keeps → (c : List ℕ) → Leaves now.medium c → holds now.geometry c ≡ Some (settled now)
+    one k c left =
+        let some = leaves k c left in
+        let nothing : take some.added now.doubt ≡ [] = rw none (take_all some.added [] (omega arith)) in
+        some.is ∙ ap (λ (ms : List Msg). Some (fold now.geometry (settled now) ms)) nothing
+
+-- ---- each end, in the words of the serial server
+
+-- no record of the log is in force, of the device as it comes back
+no_records : (now : Kept) (g : Geometry) (new : Medium) → now.geometry ≡ g → new ≡ now.medium → HasEmptyLog now → HasNoRecords g new
+no_records now g new same back none = rw (back, ← same) none
+
+module _ (keeps : Type 0) (s : Service) (old new : Medium) (end : Result (Unit {0}) ServeFault) (input left before written : Option (List ℕ))
+    (h : HasServedBy keeps s old new end input left before written) (no_doubt : h.now.failed ≡ false → h.now.doubt ≡ [])
+    (bytes : AreBytes new.now) where
+  abbrev stood_for : StoodFor keeps old h.start.geometry (settled h.start)
+  stood_for = record { header = h.header; stood = h.stood }
+
+  stands_so : h.now.geometry ≡ h.start.geometry → h.now.failed ≡ false → StandsFor keeps new h.start.geometry (settled h.now)
+  stands_so same works =
+      let own = stands_for keeps h.now (no_doubt works) h.leaves (subst (λ (m : Medium). AreBytes m.now) h.given_back bytes) in
+      subst (λ (m : Medium). StandsFor keeps m h.start.geometry (settled h.now)) (sym h.given_back)
+      (subst (λ (g : Geometry). StandsFor keeps h.now.medium g (settled h.now)) same own)
+
+  abbrev went : h.now.geometry ≡ h.start.geometry → h.now.failed ≡ false → Went keeps old new
+  went same works = record {
+    geometry = h.start.geometry;
+    start = settled h.start;
+    end = settled h.now;
+    before = stood_for;
+    after = stands_so same works;
+  }
+
+  served_nothing : h.now ≡ h.start → left ≡ input → written ≡ before → HasServedNothing keeps old new input left before written
+  served_nothing same unread unwritten =
+      (went (ap (λ (c : Kept). c.geometry) same) (ap (λ (c : Kept). c.failed) same ∙ h.fresh.works), ap settled same, unread, unwritten)
+
+-- what a service says of each of its ends
+pub ends_on_device : (keeps : Type 0) (s : Service) (old new : Medium) (end : Result (Unit {0}) ServeFault) (input left before written : Option (List ℕ))
+    → (h : HasServedBy keeps s old new end input left before written) → (h.now.failed ≡ false → h.now.doubt ≡ []) → AreBytes new.now
+    → RefusesNone s.workers end → OnOk end (keeps → HasEmptyLog h.now) → EndsOnDevice keeps s old new (as_told end) input left before written
+ends_on_device keeps s old new (Ok _) input left before written h no_doubt bytes workers emptied =
+    let same = h.run.served.run.geometry in (
+      workers,
+      (
+        went keeps s old new (Ok tt) input left before written h no_doubt bytes same h.ends.1,
+        λ k. no_records h.now h.start.geometry new same h.given_back (emptied k),
+        h.ends.2,
+        h.ends.3,
+      ),
+    )
+ends_on_device keeps s old new (Err faults.Read) input left before written h no_doubt bytes workers emptied =
+    (workers, (went keeps s old new (Err faults.Read) input left before written h no_doubt bytes h.run.run.geometry h.ends.1, h.ends.2))
+ends_on_device keeps s old new (Err faults.Exhausted) input left before written h no_doubt bytes workers emptied =
+    (workers, (went keeps s old new (Err faults.Exhausted) input left before written h no_doubt bytes h.run.run.geometry h.ends.1, h.ends.3))
+ends_on_device keeps s old new (Err faults.Device) input left before written h no_doubt bytes workers emptied =
+    (workers, (h.start.geometry, settled h.start, stood_for keeps s old new (Err faults.Device) input left before written h no_doubt bytes, h.ends.1))
+ends_on_device keeps s old new (Err faults.Write) input left before written h no_doubt bytes workers emptied =
+    (workers, (h.start.geometry, settled h.start, stood_for keeps s old new (Err faults.Write) input left before written h no_doubt bytes))
+ends_on_device keeps s old new (Err faults.NoWorkers) input left before written h no_doubt bytes workers emptied =
+    (workers, served_nothing keeps s old new (Err faults.NoWorkers) input left before written h no_doubt bytes h.ends.0 h.ends.1 h.ends.2)
+ends_on_device keeps s old new (Err faults.OutOfMemory) input left before written h no_doubt bytes workers emptied =
+    (workers, served_nothing keeps s old new (Err faults.OutOfMemory) input left before written h no_doubt bytes h.ends.0 h.ends.1 h.ends.2)

@@ -1,0 +1,147 @@
+-- What it is to serve a device: what was written when the service ends, what the device stands for then, and what a crash meanwhile leaves.
+use Rattle.std.specs.Prelude.{◌≡◌, ◌≢◌, ◌⊎◌, ℕ, List, [], ◌∷◌, replicate, Option, Some, None, Result, Ok, Err}
+use Rattle.std.specs.Io.KnownBytes.{IsAtEnd}
+use Rattle.affinity.specs.declared.geometry.Geometry.{Geometry}
+use Rattle.checkpoint.specs.Header.{HasHeader}
+use Rattle.checkpoint.specs.Recovery.{holds}
+use Rattle.checkpoint.specs.Refusals.{IsRefused}
+use Rattle.disk.specs.Device.{Leaves, Medium}
+use Rattle.disk.specs.Moments.{moment}
+use Rattle.disk.specs.RealFile.{FileKeeps}
+use Rattle.disk.specs.declared.fault.FileFault.{FileFault}
+use Rattle.journal.specs.Opening.{IsRefusedUnwritten, OpeningLeaves}
+use Rattle.legal_runs.specs.Events.{Event}
+use Rattle.legal_runs.specs.Lives.{Ran}
+use Rattle.machine.specs.Lives.{IsRunLife}
+use Rattle.machine.specs.Machine.{Handed, machine_of}
+use Rattle.message.specs.Lines.{lines}
+use Rattle.oplog.specs.Layout.{layout_of}
+use Rattle.oplog.specs.Stands.{in_force, named_area}
+use Rattle.plain.specs.Output.{IsBeginning, Writes}
+use Rattle.plain.specs.State.{State}
+use Rattle.scheduler.specs.Kept.{IsJustOpened, Kept, StandsNow}
+use Rattle.serving.specs.Ends.{AreServed, EndsSo, ServesLinesBefore, ServesWholeLines, settled}
+use Rattle.serving.specs.Runs.{with_lent}
+use Rattle.serving.specs.Serve.{HasRunSo}
+use Rattle.serving.specs.declared.fault.ServeFault.{ServeFault}
+use Rattle.commands.specs.Faults.{as_told, of_file}
+use Rattle.commands.specs.declared.faults.Fault.{Fault}
+use Rattle.commands.specs.declared.faults.Fault.TheVariants.{Read, Write, OutOfMemory, Device, NoWorkers, NoTicketLeft, Open}
+use Rattle.commands.specs.declared.service.Service.{Service}
+
+-- the numbers of a service in their order: its workers, its slots, and after how many records it makes a point
+abbrev pub numbers_of_service : Service → List ℕ
+numbers_of_service s = s.workers ∷ s.slots ∷ s.every ∷ []
+
+-- ---- the device before and after, as a reader of it sees it
+
+-- The device stood for this state, with these numbers of a server in its header.
+pub record StoodFor (keeps : Type 0) (old : Medium) (g : Geometry) (start : State) : Type 0 where
+  pub header : keeps → HasHeader g old.now
+  pub stood : keeps → holds g old.now ≡ Some start
+
+-- The device stands for this state, and so does whatever a crash leaves now.
+pub record StandsFor (keeps : Type 0) (new : Medium) (g : Geometry) (x : State) : Type 0 where
+  pub now : keeps → holds g new.now ≡ Some x
+  pub each : keeps → (c : List ℕ) → Leaves new c → holds g c ≡ Some x
+
+-- The device was opened, where it stood for the one state, and was left so that it stands for the other.
+pub record Went (keeps : Type 0) (old new : Medium) : Type 0 where
+  pub geometry : Geometry
+  pub start : State
+  pub end : State
+  pub before : StoodFor keeps old geometry start
+  pub after : StandsFor keeps new geometry end
+
+-- No record of the log is in force.
+abbrev pub HasNoRecords : Geometry → Medium → Type 0
+HasNoRecords g m = in_force (layout_of g) (named_area (layout_of g) m.now) m.now ≡ []
+
+-- ---- how a service ends
+
+-- Nothing was served: nothing was read or written, and the device stands for what it stood for.
+abbrev pub HasServedNothing : Type 0 → Medium → Medium → Option (List ℕ) → Option (List ℕ) → Option (List ℕ) → Option (List ℕ) → Type 0
+HasServedNothing keeps old new input left before written = (w : Went keeps old new) × (w.end ≡ w.start) × (left ≡ input) × (written ≡ before)
+
+-- What each end says.
+-- No fault: the input has ended, and the output is that of the serial server for all of it, from the state for which the device
+-- stood. The device stands for the state where that server is then, with no record in force.
+-- A failed read: just the lines that were read whole are answered, and the device stands for the state behind them. No ticket left:
+-- just the lines before one whose message is in range.
+-- A failed device: the first lines of the serial server's output. A failed write: it is open what was written.
+-- No workers, or no memory: nothing was served. A device that can't be opened: nothing was read or written, and it is refused for
+-- what it is.
+abbrev pub EndsOnDevice : Type 0 → Service → Medium → Medium → Result (Unit {0}) Fault → Option (List ℕ) → Option (List ℕ) → Option (List ℕ) → Option (List ℕ) → Type 0
+EndsOnDevice keeps s old new (Ok _) input left before written = (s.workers ≢ 0) × ((w : Went keeps old new) × (keeps → HasNoRecords w.geometry new)
+    × IsAtEnd left × Writes input before written (λ bytes out. AreServed w.geometry w.start w.end (lines bytes) out))
+EndsOnDevice keeps s old new (Err Read) input left before written = (s.workers ≢ 0) × ((w : Went keeps old new)
+    × Writes input before written (ServesWholeLines w.geometry w.start w.end left))
+EndsOnDevice keeps s old new (Err NoTicketLeft) input left before written = (s.workers ≢ 0) × ((w : Went keeps old new)
+    × Writes input before written (ServesLinesBefore w.geometry w.start w.end))
+EndsOnDevice keeps s old new (Err Device) input left before written = (s.workers ≢ 0) × ((g : Geometry) × (start : State) × StoodFor keeps old g start
+    × Writes input before written (IsBeginning g start))
+EndsOnDevice keeps s old new (Err Write) input left before written = (s.workers ≢ 0) × ((g : Geometry) × (start : State) × StoodFor keeps old g start)
+EndsOnDevice keeps s old new (Err NoWorkers) input left before written = (s.workers ≡ 0) × HasServedNothing keeps old new input left before written
+EndsOnDevice keeps s old new (Err OutOfMemory) input left before written = (s.workers ≢ 0) × HasServedNothing keeps old new input left before written
+EndsOnDevice keeps s old new (Err (Open fault)) input left before written =
+    (keeps → IsRefused old.now fault × IsRefusedUnwritten old fault new) × (left ≡ input) × (written ≡ before)
+EndsOnDevice keeps s old new (Err _) input left before written = ⊥
+
+-- ---- the run behind it
+
+-- the machine of a core that was just opened: each of the workers has a place, and nothing is lent there
+abbrev pub at_start : Service → Kept → Handed
+at_start s start = with_lent start (replicate s.workers None)
+
+-- It is a life of the device that began when it was opened. So what is answered in it is there in each later life, by the law of lives
+-- in `machine`.
+abbrev pub IsLife : Service → Kept → Medium → Medium → Type 0
+IsLife s start old new = (events : List Event) × IsRunLife (record {
+  began = old;
+  ended = new;
+  since = moment start.medium;
+  geometry = start.geometry;
+  life = Ran (machine_of (at_start s start)) events 0;
+}) (machine_of (at_start s start)) events 0
+
+-- The device was opened as a server in which no message is, which served and came to this end. Behind what was written there is a legal
+-- run of it, and a crash meanwhile leaves what a crash of that run may leave.
+pub record HasServedBy (keeps : Type 0) (s : Service) (old new : Medium) (end : Result (Unit {0}) ServeFault)
+    (input left before written : Option (List ℕ)) : Type 0 where
+  pub start : Kept
+  pub now : Kept
+  pub fresh : IsJustOpened s.slots start
+  pub header : keeps → HasHeader start.geometry old.now
+  pub stood : keeps → holds start.geometry old.now ≡ Some (settled start)
+  pub opening : keeps → OpeningLeaves old start.medium
+  pub run : HasRunSo keeps (at_start s start) now input before written end
+  pub ends : EndsSo start now input left before written end
+  pub leaves : keeps → StandsNow now
+  pub given_back : new ≡ now.medium
+  pub life : keeps → IsLife s start old new
+
+-- So it was; or the device could not be opened. A crash while it is opened leaves what stands for the same, or is refused for the
+-- same fault.
+abbrev pub HasLived : Type 0 → Service → Medium → Medium → Result (Unit {0}) Fault → Option (List ℕ) → Option (List ℕ) → Option (List ℕ) → Option (List ℕ) → Type 0
+HasLived keeps s old new (Err (Open fault)) input left before written = keeps → OpeningLeaves old new
+HasLived keeps s old new end input left before written =
+    (ended : Result (Unit {0}) ServeFault) × (end ≡ as_told ended) × HasServedBy keeps s old new ended input left before written
+
+-- ---- a device in a file
+
+-- The file could not be opened, or there was no memory for the words: nothing was read or written.
+pub record HasNotBegun (end : Result (Unit {0}) Fault) (input left before written : Option (List ℕ)) : Type 0 where
+  pub why : FileFault
+  pub ends : end ≡ Err (of_file why)
+  pub unread : left ≡ input
+  pub unwritten : written ≡ before
+
+-- The service had a device of the file's bytes, if files keep their bytes as a device does.
+pub record HasServedFile (s : Service) (end : Result (Unit {0}) Fault) (input left before written : Option (List ℕ)) : Type 0 where
+  pub old : Medium
+  pub new : Medium
+  pub ends : EndsOnDevice FileKeeps s old new end input left before written
+  pub lived : HasLived FileKeeps s old new end input left before written
+
+abbrev pub EndsInFile : Service → Result (Unit {0}) Fault → Option (List ℕ) → Option (List ℕ) → Option (List ℕ) → Option (List ℕ) → Type 0
+EndsInFile s end input left before written = HasNotBegun end input left before written ⊎ HasServedFile s end input left before written
