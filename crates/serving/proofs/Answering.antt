@@ -19,7 +19,7 @@ use Rattle.message.specs.Grammar.{message_of}
 use Rattle.message.specs.declared.Msg.{Msg}
 use Rattle.message.specs.declared.Reply.{Reply}
 use Rattle.scheduler.specs.Calls.{answered}
-use Rattle.scheduler.specs.Kept.{Kept, world_of}
+use Rattle.scheduler.specs.Kept.{Kept}
 use Rattle.serving.specs.Lines.{Answered, AreKnown, IsKnown, Line, NoMessage, OutOfRange, Unanswered, answer_one, asked, asked_in, next_ticket, ticketed}
 use Rattle.serving.specs.Runs.{Passes}
 use Rattle.serving.specs.Going.{Goes}
@@ -127,17 +127,6 @@ one_answered w new (a ∷ as') told e =
       is ∙ ap (λ (l : List Replied). record w { logged = l }) (sym rest),
       ap (λ (l : List Replied). suc (length l)) (sym rest),
     )
-
--- None was answered: nothing has changed.
-pub none_answered : (w new : World) (logged : List Replied) → (answered None, new) ≡ answer w logged → (new ≡ w) × (logged ≡ [])
-none_answered w new [] e = (ap (λ (x : Outcome × World). x.1) e, refl)
-none_answered w new (a ∷ as') e =
-    let idle : outcomes.Idle ≡ outcomes.Answered a.0 a.2 = ap (λ (x : Outcome × World). x.0) e in cc
-
--- The same of a core that has answered all.
-pub all_answered : (old : Kept) (w : World) (new : Kept) → w ≡ record (world_of old) { logged = new.logged } → new.logged ≡ []
-    → w ≡ record (world_of old) { logged = [] }
-all_answered old w new is none = is ∙ ap (λ (l : List Replied). record (world_of old) { logged = l }) none
 
 -- ---- one after the other
 

@@ -1,20 +1,18 @@
 -- What a server promises of its whole call, where it has come so far.
-use Rattle.std.proofs.Common.{◌≡◌, ◌≢◌, ℕ, Bool, false, List, [], ◌++◌, Option, Some, None, refl, ap, sym, ◌∙◌, subst, append-nil, replicate}
-use Rattle.std.specs.Prelude.{Result, Ok, Err}
+use Rattle.std.proofs.Common.{◌≡◌, ℕ, Bool, false, List, [], ◌++◌, Option, Some, None, ap, sym, ◌∙◌, append-nil, replicate}
+use Rattle.std.specs.Prelude.{Ok, Err}
 use Rattle.std.specs.Io.KnownBytes.{IsAtEnd}
 use Rattle.std.proofs.lemmas.Option.{none-some, same_Some}
 use Rattle.legal_runs.specs.Laws.{IsIdle}
 use Rattle.machine.specs.Machine.{Handed}
 use Rattle.message.specs.Lines.{lines}
-use Rattle.message.specs.Waiting.{so_far}
 use Rattle.plain.specs.Progress.{Takes}
 use Rattle.scheduler.specs.Kept.{Kept, StandsNow, world_of}
-use Rattle.serving.specs.Ends.{EndsSo, HasServed}
+use Rattle.serving.specs.Ends.{HasServed}
 use Rattle.serving.specs.Going.{Goes}
 use Rattle.serving.specs.Lines.{Line}
 use Rattle.serving.specs.Runs.{with_lent}
-use Rattle.serving.specs.Serve.{AllSent, AreAll, HasBegun, HasRunSo, HasWorkers, RefusesNone}
-use Rattle.serving.specs.declared.fault.ServeFault.{ServeFault}
+use Rattle.serving.specs.Serve.{AreAll, HasRunSo}
 use Rattle.serving.specs.declared.fault.ServeFault.TheVariants as faults
 use Rattle.serving.proofs.Served.{has_served}
 use Rattle.serving.proofs.Starting.{starts}
@@ -71,55 +69,3 @@ module _ (keeps : Type 0) (core : Kept) (places : ℕ) (idle : IsIdle (world_of 
 
   pub no_memory_ran : HasRunSo keeps (with_lent core (replicate places None)) core input before before (Err faults.OutOfMemory)
   no_memory_ran = not_run
-
-pub begun_with_workers : (r : Result (Unit {0}) ServeFault) → HasBegun r → HasWorkers r
-begun_with_workers (Ok done) begun = tt
-begun_with_workers (Err faults.NoWorkers) begun = begun
-begun_with_workers (Err faults.Read) begun = tt
-begun_with_workers (Err faults.Write) begun = tt
-begun_with_workers (Err faults.Device) begun = tt
-begun_with_workers (Err faults.OutOfMemory) begun = tt
-begun_with_workers (Err faults.Exhausted) begun = tt
-
-pub some_workers : (workers : ℕ) (fault : ServeFault) → HasWorkers (Err fault) → workers ≢ 0 → RefusesNone workers (Err fault)
-some_workers workers faults.NoWorkers has some = absurd has
-some_workers workers faults.Read has some = some
-some_workers workers faults.Write has some = some
-some_workers workers faults.Device has some = some
-some_workers workers faults.OutOfMemory has some = some
-some_workers workers faults.Exhausted has some = some
-
--- ---- what waits in the buffer
-
-none_waits : (known : Option (List ℕ)) (waiting : List ℕ) → waiting ≡ [] → so_far known waiting ≡ known
-none_waits None waiting none = refl
-none_waits (Some bytes) waiting none = ap (λ w. Some (bytes ++ w)) none ∙ ap Some (append-nil bytes)
-
--- Where none waits at the start, and none in the end unless the output failed, all is said of what was written.
-module _ (keeps : Type 0) (start : Handed) (old new : Kept) (input left before written : Option (List ℕ)) (first last : List ℕ) (first_none : first ≡ []) where
-  abbrev Ran : Option (List ℕ) → Option (List ℕ) → Result (Unit {0}) ServeFault → Type 0
-  Ran b w r = HasRunSo keeps start new input b w r
-
-  abbrev Ended : Option (List ℕ) → Option (List ℕ) → Result (Unit {0}) ServeFault → Type 0
-  Ended b w r = EndsSo old new input left b w r
-
-  both : (P : Option (List ℕ) → Option (List ℕ) → Type 0) → last ≡ [] → P (so_far before first) (so_far written last) → P before written
-  both P last_none h = subst (P before) (none_waits written last last_none) (subst (λ b. P b (so_far written last)) (none_waits before first first_none) h)
-
-  pub ran_written : (r : Result (Unit {0}) ServeFault) → AllSent last r → Ran (so_far before first) (so_far written last) r → Ran before written r
-  ran_written (Ok done) none = both (λ b w. Ran b w (Ok done)) none
-  ran_written (Err faults.NoWorkers) none = both (λ b w. Ran b w (Err faults.NoWorkers)) none
-  ran_written (Err faults.Read) none = both (λ b w. Ran b w (Err faults.Read)) none
-  ran_written (Err faults.Write) none = λ h. h
-  ran_written (Err faults.Device) none = both (λ b w. Ran b w (Err faults.Device)) none
-  ran_written (Err faults.OutOfMemory) none = both (λ b w. Ran b w (Err faults.OutOfMemory)) none
-  ran_written (Err faults.Exhausted) none = both (λ b w. Ran b w (Err faults.Exhausted)) none
-
-  pub ends_written : (r : Result (Unit {0}) ServeFault) → AllSent last r → Ended (so_far before first) (so_far written last) r → Ended before written r
-  ends_written (Ok done) none = both (λ b w. Ended b w (Ok done)) none
-  ends_written (Err faults.NoWorkers) none = both (λ b w. Ended b w (Err faults.NoWorkers)) none
-  ends_written (Err faults.Read) none = both (λ b w. Ended b w (Err faults.Read)) none
-  ends_written (Err faults.Write) none = λ h. h
-  ends_written (Err faults.Device) none = both (λ b w. Ended b w (Err faults.Device)) none
-  ends_written (Err faults.OutOfMemory) none = both (λ b w. Ended b w (Err faults.OutOfMemory)) none
-  ends_written (Err faults.Exhausted) none = both (λ b w. Ended b w (Err faults.Exhausted)) none

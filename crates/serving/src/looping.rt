@@ -58,9 +58,8 @@ impl<D: Disk> Session<D> {
         unreachable!()
     }
 
-    /// Goes on without reading until each line that was read is answered, and sends all that waits. The device works then: nothing
-    /// is left to log, and a log of nothing tells whether it has failed.
-    fn answer_the_rest<T: Wait, W: Write, G: Gate>(
+    /// Goes on without reading until each line that was read is answered, and sends all that waits. The device works then.
+    pub(crate) fn answer_the_rest<T: Wait, W: Write, G: Gate>(
         &mut self,
         rt: &T,
         w: &mut W,
@@ -79,8 +78,7 @@ impl<D: Disk> Session<D> {
         ensures works { OnOk result (self.new.core.failed ≡ false) }
     {
         self.finish_row(rt, bench, w, gate)?;
-        self.log_what_ran()?;
-        self.send(w)
+        self.send_last(w)
     }
 
     /// Makes the last consistency point, where nothing waits or is held.
@@ -156,7 +154,7 @@ impl<D: Disk> Session<D> {
                 Ok(()) => Ok(Stop::End),
                 Err(why) => Err(why),
             },
-            Stop::Fault => match self.answer_the_rest(rt, w, bench, gate) {
+            Stop::Fault => match self.end_at_fault(rt, w, bench, gate) {
                 Ok(()) => Ok(Stop::Fault),
                 Err(why) => Err(why),
             },

@@ -167,6 +167,23 @@ impl<D: Disk> Session<D> {
         }
     }
 
+    /// Sends all that waits, behind the last answer. The device works then: nothing is left to log, and a log of nothing tells
+    /// whether it has failed.
+    pub(crate) fn send_last<W: Write>(&mut self, w: &mut W) -> Result<(), Halt>
+        requires holds { Holds (with_lent self.old.core self.old.desk.lent) }
+        ensures holds { Holds (with_lent self.new.core self.new.desk.lent) }
+        ensures desk { self.new.desk ≡ self.old.desk }
+        ensures row { self.new.row ≡ self.old.row }
+        ensures kept { Advances D.keeps
+            (place_of self.old.core self.old.desk.lent self.old.row.lines (so_far (W.contents w.old) self.old.out))
+            (place_of self.new.core self.new.desk.lent self.new.row.lines (so_far (W.contents w.new) self.new.out)) result }
+        ensures none_waits { OnOk result (self.new.out ≡ []) }
+        ensures works { OnOk result (self.new.core.failed ≡ false) }
+    {
+        self.log_what_ran()?;
+        self.send(w)
+    }
+
     /// Whether a consistency point is due by the number of records. None is while one is in progress.
     pub(crate) fn point_is_due(&self) -> bool {
         self.core.left().is_none() && self.course.is_due()

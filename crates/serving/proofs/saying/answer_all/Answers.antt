@@ -1,7 +1,6 @@
 -- The lemmas on messages that are answered.
 use Rattle.std.proofs.Common.{ap, arith, ◌∙◌}
 use Rattle.legal_runs.specs.World.{World}
-use Rattle.scheduler.specs.Kept.{world_of}
 use Rattle.serving.proofs.Answering.{serves_then}
 use Rattle.serving.proofs.saying.answer_all.Goals as goal
 
