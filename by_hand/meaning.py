@@ -1,0 +1,282 @@
+"""What messages do to a state, as docs/semantics.md says, and which states a server that was killed may leave.
+
+A state is a table of pieces: `(a, v)` is None or the volume's seal, files and label, `(a, v, s)` has the blocks of a
+stripe. No piece is changed in its place. Data is digits to the last byte that isn't zero.
+"""
+import collections
+import itertools
+
+Geometry = collections.namedtuple("Geometry", "aggregates volumes stripes width files blocks quota half")
+Volume = collections.namedtuple("Volume", "sealed files label")
+
+FIELDS = {"makevol": 2, "dropvol": 2, "create": 3, "delete": 3, "seal": 2, "unseal": 2, "write": 4, "punch": 4,
+          "read": 4, "list": 2, "usage": 2, "summary": 0, "setlabel": 2, "label": 2}
+AT_AGGREGATE = ("makevol", "dropvol")
+AT_FILES = ("create", "delete", "list")
+AT_VOLUME = ("seal", "unseal", "usage")
+AT_LABEL = ("setlabel", "label")
+NO_VOLUME_IS_FINE = ("makevol", "summary")
+MAY_BE_SEALED = ("makevol", "seal", "unseal", "read", "list", "usage", "summary", "label")
+WANT_THE_FILE = ("delete", "write", "punch", "read")
+
+LONGEST_LINE = 1100
+MOST_WAYS = 20000  # that are looked at for one kill
+
+
+def options_of(g):
+    return [word for name, number in g._asdict().items() for word in (f"--{name}", str(number))]
+
+
+def group(g, file, block):
+    return (file + block // g.width) % g.stripes
+
+
+def empty_state(g):
+    state = {}
+    for a, v in itertools.product(range(g.aggregates), range(g.volumes)):
+        state[a, v] = None
+        for s in range(g.stripes):
+            state[a, v, s] = {}
+    return state
+
+
+def cut(data):
+    """Digits to the last byte that isn't zero, and at least one byte."""
+    data = data.lower()
+    while len(data) > 2 and data.endswith("00"):
+        data = data[:-2]
+    return data
+
+
+def message_of(line):
+    """The words of a line that is a message, else None. Data that a random line has is always well formed."""
+    words = line.split(" ")
+    if len(line) > LONGEST_LINE or words[0] not in FIELDS:
+        return None
+    count = FIELDS[words[0]]
+    has_data = words[0] in ("write", "setlabel")
+    numbers = words[1:1 + count]
+    if len(words) != 1 + count + has_data or not all(n.isdigit() and n == str(int(n)) for n in numbers):
+        return None
+    return (words[0], [int(n) for n in numbers], cut(words[-1]) if has_data else None)
+
+
+def in_range(g, message):
+    limits = (g.aggregates, g.volumes, g.files, g.blocks)
+    return all(number < limit for number, limit in zip(message[1], limits))
+
+
+def place(g, message):
+    """The path of the affinity at which it works."""
+    kind, n, _ = message
+    if kind == "summary":
+        return ()
+    if kind in AT_AGGREGATE:
+        return (n[0],)
+    if kind in AT_VOLUME:
+        return (n[0], n[1])
+    if kind in AT_FILES:
+        return (n[0], n[1], 0)
+    if kind in AT_LABEL:
+        return (n[0], n[1], 1)
+    return (n[0], n[1], 0, group(g, n[2], n[3]))
+
+
+def related(one, other):
+    least = min(len(one), len(other))
+    return one[:least] == other[:least]
+
+
+def refusal(g, state, message):
+    """Why it is refused, or None."""
+    kind, n, _ = message
+    volume = state[n[0], n[1]] if n else None
+    if kind == "makevol":
+        return "exists" if volume else None
+    if volume is None and kind not in NO_VOLUME_IS_FINE:
+        return "volume"
+    if kind not in MAY_BE_SEALED and volume.sealed:
+        return "sealed"
+    if kind == "create" and n[2] in volume.files:
+        return "exists"
+    if kind in WANT_THE_FILE and n[2] not in volume.files:
+        return "file"
+    if kind == "write":
+        stripe = state[n[0], n[1], group(g, n[2], n[3])]
+        if (n[2], n[3]) not in stripe and len(stripe) == g.quota:
+            return "space"
+    return None
+
+
+def changed_pieces(g, state, message):
+    """The pieces that a message sets which isn't refused; none where it changes nothing."""
+    kind, n, data = message
+    if kind in ("read", "list", "usage", "summary", "label"):
+        return {}
+    a, v = n[0], n[1]
+    volume = state[a, v]
+    stripes = [(a, v, s) for s in range(g.stripes)]
+    if kind == "makevol":
+        return {(a, v): Volume(False, frozenset(), "00")}
+    if kind == "dropvol":
+        return {(a, v): None, **{key: {} for key in stripes}}
+    if kind == "create":
+        return {(a, v): volume._replace(files=volume.files | {n[2]})}
+    if kind == "delete":
+        kept = {key: {at: b for at, b in state[key].items() if at[0] != n[2]} for key in stripes}
+        return {(a, v): volume._replace(files=volume.files - {n[2]}), **kept}
+    if kind in ("seal", "unseal"):
+        return {(a, v): volume._replace(sealed=kind == "seal")}
+    if kind == "setlabel":
+        return {(a, v): volume._replace(label=data)}
+    key = (a, v, group(g, n[2], n[3]))
+    stripe = {at: b for at, b in state[key].items() if at != (n[2], n[3])}
+    if kind == "write":
+        stripe[n[2], n[3]] = data
+    return {key: stripe}
+
+
+def changes_of(g, state, line):
+    """Its message and the pieces that it sets; None where the line takes no ticket."""
+    message = message_of(line)
+    if message is None or not in_range(g, message):
+        return None, {}
+    return message, {} if refusal(g, state, message) else changed_pieces(g, state, message)
+
+
+# ---- a state as lines, and its lines as a state
+
+
+def lines_that_read(g):
+    """Lines whose replies tell the whole state."""
+    found = ["summary"]
+    for a, v in itertools.product(range(g.aggregates), range(g.volumes)):
+        found += [f"usage {a} {v}", f"list {a} {v}", f"label {a} {v}"]
+        found += [f"read {a} {v} {f} {b}" for f, b in itertools.product(range(g.files), range(g.blocks))]
+    return found
+
+
+def state_of_replies(g, replies):
+    """The state that the replies to these lines tell."""
+    state = empty_state(g)
+    replies = iter(replies)
+    next(replies)  # the summary says no more than the others
+    for a, v in itertools.product(range(g.aggregates), range(g.volumes)):
+        usage, files, label = next(replies), next(replies), next(replies)
+        if usage != "error volume":
+            numbers = frozenset(int(n) for n in files.split()[1:])
+            state[a, v] = Volume(usage.endswith(" sealed"), numbers, label.split()[1])
+        for f, b in itertools.product(range(g.files), range(g.blocks)):
+            reply = next(replies)
+            if reply.startswith("block "):
+                state[a, v, group(g, f, b)][f, b] = reply.split()[1]
+    return state
+
+
+def lines_that_make(g, state):
+    """Lines that lead from the empty state to this one."""
+    found = []
+    for a, v in itertools.product(range(g.aggregates), range(g.volumes)):
+        volume = state[a, v]
+        if volume is None:
+            continue
+        found += [f"makevol {a} {v}", f"setlabel {a} {v} {volume.label}"]
+        found += [f"create {a} {v} {f}" for f in sorted(volume.files)]
+        for s in range(g.stripes):
+            found += [f"write {a} {v} {f} {b} {data}" for (f, b), data in state[a, v, s].items()]
+        if volume.sealed:
+            found.append(f"seal {a} {v}")
+    return found
+
+
+# ---- which states a server that was killed may leave
+
+
+def pieces_below(g, path):
+    """The pieces that messages at this place, or below it, may set."""
+    spans = [range(g.aggregates), range(g.volumes)]
+    for at, number in enumerate(path[:2]):
+        spans[at] = (number,)
+    stripes = range(g.stripes) if len(path) < 4 else (path[3],)
+    found = []
+    for a, v in itertools.product(*spans):
+        if len(path) < 4:
+            found.append((a, v))
+        if path[2:3] != (1,):
+            found += [(a, v, s) for s in stripes]
+    return found
+
+
+class Search:
+    """Looks for a way to this state: each answered line was done, and of the others those that are in the log. A
+    message waits until the related ones before it are in the log; so where one isn't, none related to it is."""
+
+    def __init__(self, g, start, lines, answered, left):
+        self.g, self.lines, self.answered, self.left = g, lines, answered, left
+        self.state = dict(start)
+        self.logged = []  # the places of the lines in the log
+        self.undone = []  # what stood before, of each piece that was set
+        self.waiting = []  # the places in the tree where a message isn't in the log
+        self.turns = []  # where another way may be tried
+
+    def set_pieces(self, at, pieces):
+        self.undone.append([(key, self.state[key]) for key in pieces])
+        self.logged.append(at)
+        self.state.update(pieces)
+
+    def is_as_left(self, keys):
+        return all(self.state[key] == self.left[key] for key in keys)
+
+    def go_back(self):
+        """To the last line that was taken for one not in the log: now it is."""
+        at, logged, waiting = self.turns.pop()
+        while len(self.logged) > logged:
+            self.logged.pop()
+            self.state.update(self.undone.pop())
+        del self.waiting[waiting:]
+        self.set_pieces(at, changes_of(self.g, self.state, self.lines[at])[1])
+        return at + 1
+
+    def walk(self, at):
+        """Goes on from this line. Says whether it came to the state that was left."""
+        while at < len(self.lines) and () not in self.waiting:
+            message, pieces = changes_of(self.g, self.state, self.lines[at])
+            if message is None:
+                at += 1
+                continue
+            path = place(self.g, message)
+            waits = any(related(path, other) for other in self.waiting)
+            if waits and at < self.answered:
+                return False
+            if waits:
+                self.waiting.append(path)
+            elif pieces and at >= self.answered and self.may_be_missing(path):
+                self.turns.append((at, len(self.logged), len(self.waiting)))
+                self.waiting.append(path)
+            elif pieces:
+                self.set_pieces(at, pieces)
+            at += 1
+        return self.state == self.left
+
+    def may_be_missing(self, path):
+        """Whether what messages at this place and below may set is as it was left. The volume's piece has more than
+        the files, and more than the label."""
+        if len(path) != 3:
+            return self.is_as_left(pieces_below(self.g, path))
+        now, left = self.state[path[:2]], self.left[path[:2]]
+        if left is None:
+            return False
+        if path[2] == 1:
+            return now.label == left.label
+        return now.files == left.files and self.is_as_left(path[:2] + (s,) for s in range(self.g.stripes))
+
+    def find(self):
+        """The lines in the log, or None where there is no way."""
+        found = self.walk(0)
+        for _ in range(MOST_WAYS):
+            if found:
+                return [self.lines[at] for at in self.logged]
+            if not self.turns:
+                return None
+            found = self.walk(self.go_back())
+        raise RuntimeError("too many ways to look at")
