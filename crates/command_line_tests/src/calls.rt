@@ -1,9 +1,18 @@
 //! Calls of the program over memory: which words it takes, what it prints of them, and where.
 use command_line::{command, report_unread_words};
 use std::alloc::{AllocError, Global};
+use std::fs::File;
 use std::io;
 use std::io::{ErrorKind, Read, Write};
+use std::rt::Files;
+use std::sync::Wait;
 use std::test::Fail;
+use std::thread::Threads;
+
+/// What a call of the program takes, and what its tests ask for beside.
+pub(crate) trait System: AllocGlobal + Files<File = File> + Threads + Wait + Sync {}
+
+impl<T: AllocGlobal + Files<File = File> + Threads + Wait + Sync> System for T {}
 
 /// How a call ended: its status, what it printed, and what it printed of faults.
 #[derive(Drop)]
@@ -51,8 +60,8 @@ fn split(alloc: Global, text: &str) -> Result<Vec<String>, AllocError> {
 }
 
 /// A call with these words on this input, whose output goes to `w` and is not looked at.
-pub(crate) fn call_to<R: Read, W: Write>(
-    rt: &HostRuntime,
+pub(crate) fn call_to<T: System, R: Read, W: Write>(
+    rt: &T,
     words: &str,
     mut input: R,
     w: &mut W,
@@ -71,7 +80,7 @@ where
 }
 
 /// A call with these words on this input.
-pub(crate) fn call<R: Read>(rt: &HostRuntime, words: &str, input: R) -> Result<Ended, AllocError>
+pub(crate) fn call<T: System, R: Read>(rt: &T, words: &str, input: R) -> Result<Ended, AllocError>
 where
     R: Drop,
 {
@@ -114,8 +123,8 @@ fn expect_part(name: &str, whole: &str, part: &str) -> Result<(), Fail> {
 }
 
 /// That a call of these words without input ended so.
-pub(crate) fn expect_end(
-    rt: &HostRuntime,
+pub(crate) fn expect_end<T: System>(
+    rt: &T,
     words: &str,
     status: u8,
     output: &str,
@@ -131,7 +140,7 @@ pub(crate) fn expect_end(
 }
 
 /// That a call for help printed this, and no fault.
-fn expect_help(rt: &HostRuntime, words: &str, part: &str) -> Result<(), Fail> {
+fn expect_help<T: System>(rt: &T, words: &str, part: &str) -> Result<(), Fail> {
     let ended = call(rt, words, b"".as_slice())?;
     let printed = text(ended.output.as_slice());
     expect_part(words, printed, part)?;
@@ -139,7 +148,7 @@ fn expect_help(rt: &HostRuntime, words: &str, part: &str) -> Result<(), Fail> {
 }
 
 /// That help for each of these words has this part.
-fn expect_helps(rt: &HostRuntime, calls: &[&str], part: &str) -> Result<(), Fail> {
+fn expect_helps<T: System>(rt: &T, calls: &[&str], part: &str) -> Result<(), Fail> {
     for words in calls {
         expect_help(rt, words, part)?;
     }
@@ -147,14 +156,14 @@ fn expect_helps(rt: &HostRuntime, calls: &[&str], part: &str) -> Result<(), Fail
 }
 
 /// That help for these words has each of these parts.
-fn expect_parts(rt: &HostRuntime, words: &str, parts: &[&str]) -> Result<(), Fail> {
+fn expect_parts<T: System>(rt: &T, words: &str, parts: &[&str]) -> Result<(), Fail> {
     for part in parts {
         expect_help(rt, words, part)?;
     }
     Ok(())
 }
 
-const HELP: [&str; 9] = [
+const HELP: [&str; 11] = [
     "waffd --help",
     "waffd -h",
     "waffd help",
@@ -164,6 +173,8 @@ const HELP: [&str; 9] = [
     "waffd help format",
     "waffd show --help",
     "waffd help show",
+    "waffd serve -h",
+    "waffd help serve",
 ];
 
 #[test]
@@ -171,10 +182,11 @@ fn help_goes_to_the_output(rt: HostRuntime) -> Result<(), Fail> {
     expect_helps(&rt, &HELP, "Usage: waffd ")
 }
 
-const COMMANDS: [&str; 4] = [
+const COMMANDS: [&str; 5] = [
     "A server for messages about files of 512-byte blocks\n",
     "  plain   Answers the messages",
     "  format  Makes a device",
+    "  serve   Answers the messages",
     "  show    Tells what the device",
 ];
 
@@ -196,16 +208,24 @@ const OPTIONS: &str = "
       --half <N>        Records in each half of the log, 4 to 1024 [default: 256]
 ";
 
+const SERVICE: &str = "
+      --workers <N>  Threads that run messages, 0 to 64 [default: 2]
+      --slots <N>    Lines that are read and not answered yet, 1 to 1024 [default: 16]
+      --every <N>    Changes between consistency points, 0 to 1024; 0 makes them where the log is full [default: 0]
+";
+
 #[test]
 fn help_names_the_arguments(rt: HostRuntime) -> Result<(), Fail> {
     expect_help(&rt, "waffd format -h", DEVICE)?;
     expect_help(&rt, "waffd show -h", DEVICE)?;
+    expect_help(&rt, "waffd serve -h", DEVICE)?;
+    expect_help(&rt, "waffd serve -h", SERVICE)?;
     expect_help(&rt, "waffd plain -h", OPTIONS)?;
     expect_help(&rt, "waffd format -h", OPTIONS)
 }
 
 /// That each of these words is refused, without a read, and with what is said of it.
-fn expect_wrong(rt: &HostRuntime, rows: &[(&str, &str)]) -> Result<(), Fail> {
+fn expect_wrong<T: System>(rt: &T, rows: &[(&str, &str)]) -> Result<(), Fail> {
     for (words, told) in rows {
         let ended = call(rt, words, b"makevol 0 0\n".as_slice())?;
         let faults = text(ended.faults.as_slice());
@@ -215,7 +235,20 @@ fn expect_wrong(rt: &HostRuntime, rows: &[(&str, &str)]) -> Result<(), Fail> {
     Ok(())
 }
 
-const WRONG: [(&str, &str); 16] = [
+const WRONG: [(&str, &str); 23] = [
+    (
+        "waffd serve",
+        "error: the following required arguments were not provided",
+    ),
+    ("waffd serve d e", "error: unexpected argument 'e'"),
+    (
+        "waffd serve d --files 2",
+        "error: unexpected argument '--files'",
+    ),
+    ("waffd serve d --workers 65", "error: invalid value '65'"),
+    ("waffd serve d --slots 0", "error: invalid value '0'"),
+    ("waffd serve d --slots=1025", "error: invalid value '1025'"),
+    ("waffd serve --every 1025 d", "error: invalid value '1025'"),
     ("", "Usage: waffd"),
     ("waffd", "Usage: waffd"),
     ("waffd flat", "error: unrecognized subcommand 'flat'"),
@@ -255,7 +288,7 @@ fn wrong_words_are_told_on_the_standard_error(rt: HostRuntime) -> Result<(), Fai
 }
 
 /// That this number of an option is out of its range.
-fn expect_out_of_range(rt: &HostRuntime, option: &str, number: &str) -> Result<(), Fail> {
+fn expect_out_of_range<T: System>(rt: &T, option: &str, number: &str) -> Result<(), Fail> {
     let words = format!(in rt.alloc(); "waffd plain {option} {number}")?;
     let ended = call(rt, words.as_str(), b"makevol 0 0\n".as_slice())?;
     expect(
@@ -268,7 +301,7 @@ fn expect_out_of_range(rt: &HostRuntime, option: &str, number: &str) -> Result<(
 }
 
 /// That each option refuses the number below its range, the one above it, and the greatest.
-fn expect_ranges(rt: &HostRuntime, rows: &[(&str, &str, &str)]) -> Result<(), Fail> {
+fn expect_ranges<T: System>(rt: &T, rows: &[(&str, &str, &str)]) -> Result<(), Fail> {
     for (option, below, above) in rows {
         expect_out_of_range(rt, option, below)?;
         expect_out_of_range(rt, option, above)?;
@@ -295,8 +328,8 @@ fn numbers_out_of_range_are_refused(rt: HostRuntime) -> Result<(), Fail> {
 }
 
 /// That the write of what these words print is a fault.
-pub(crate) fn expect_write_fault<W: Write>(
-    rt: &HostRuntime,
+pub(crate) fn expect_write_fault<T: System, W: Write>(
+    rt: &T,
     words: &str,
     w: &mut W,
 ) -> Result<(), Fail> {
@@ -343,7 +376,7 @@ For more information, try '--help'.
 }
 
 /// That the call ends with this status where neither output nor fault can be written.
-fn expect_status(rt: &HostRuntime, words: &str, status: u8) -> Result<(), Fail> {
+fn expect_status<T: System>(rt: &T, words: &str, status: u8) -> Result<(), Fail> {
     let all = split(rt.alloc(), words)?;
     let mut input = b"".as_slice();
     let found = command(

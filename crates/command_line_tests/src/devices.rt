@@ -1,5 +1,5 @@
 //! Calls of the commands for devices, on files of the system.
-use crate::calls::{Closed, Stuck, expect_end, expect_write_fault};
+use crate::calls::{Closed, Stuck, System, expect_end, expect_write_fault};
 use std::alloc::{AllocError, Global};
 use std::fs::{self, OpenOptions, Permissions};
 use std::os::unix::fs::PermissionsExt;
@@ -8,10 +8,11 @@ use std::test::Fail;
 
 /// The options of a small geometry: one volume of two files of four blocks, in two stripes that hold two blocks each,
 /// and four records in a half.
-const SMALL: &str = "--volumes 1 --stripes 2 --width 1 --files 2 --blocks 4 --quota 2 --half 4";
+pub(crate) const SMALL: &str =
+    "--volumes 1 --stripes 2 --width 1 --files 2 --blocks 4 --quota 2 --half 4";
 
 /// The length of its device.
-const LEN: usize = 8840;
+pub(crate) const LEN: usize = 8840;
 
 /// The header of its device, but for the zeros behind.
 const HEADER: [u8; 24] = [
@@ -26,7 +27,7 @@ const DEVICE_FAULT: &str = "waffd: device fault\n";
 const TOO_SHORT: &str = "waffd: device too short\n";
 
 /// A path at which there is no file.
-fn new_path(rt: &HostRuntime, name: &str) -> Result<String, Fail> {
+pub(crate) fn new_path(rt: &HostRuntime, name: &str) -> Result<String, Fail> {
     let id = process::id(rt.process());
     let path = format!(in rt.alloc(); "/tmp/waffd_tests_{name}_{id}")?;
     if fs::exists(rt, path.as_str())? {
@@ -36,14 +37,14 @@ fn new_path(rt: &HostRuntime, name: &str) -> Result<String, Fail> {
 }
 
 /// Sets a byte, if there is one.
-fn put(bytes: &mut [u8], at: usize, byte: u8) {
+pub(crate) fn put(bytes: &mut [u8], at: usize, byte: u8) {
     if let Some(there) = bytes.get_mut(at) {
         *there = byte;
     }
 }
 
 /// The bytes of the small device, just made.
-fn made_bytes(alloc: Global, len: usize) -> Result<Vec<u8>, AllocError> {
+pub(crate) fn made_bytes(alloc: Global, len: usize) -> Result<Vec<u8>, AllocError> {
     let mut bytes = vec![in alloc; 0u8; len]?;
     for (at, byte) in HEADER.iter().enumerate() {
         put(&mut bytes, at, *byte);
@@ -53,7 +54,7 @@ fn made_bytes(alloc: Global, len: usize) -> Result<Vec<u8>, AllocError> {
 }
 
 /// That the file has these bytes.
-fn expect_file(rt: &HostRuntime, path: &str, bytes: &[u8]) -> Result<(), Fail> {
+pub(crate) fn expect_file<T: System>(rt: &T, path: &str, bytes: &[u8]) -> Result<(), Fail> {
     if fs::read(rt, path)?.as_slice() == bytes {
         return Ok(());
     }
@@ -61,8 +62,8 @@ fn expect_file(rt: &HostRuntime, path: &str, bytes: &[u8]) -> Result<(), Fail> {
 }
 
 /// That a call of this command with this path and these options ended so.
-fn expect_call(
-    rt: &HostRuntime,
+pub(crate) fn expect_call<T: System>(
+    rt: &T,
     command: &str,
     path: &str,
     options: &str,
@@ -75,14 +76,14 @@ fn expect_call(
 }
 
 /// That the device in this file is made, with these bytes.
-fn expect_made(rt: &HostRuntime, path: &str) -> Result<(), Fail> {
+fn expect_made<T: System>(rt: &T, path: &str) -> Result<(), Fail> {
     expect_call(rt, "format", path, SMALL, 0, "formatted 8840\n", "")?;
     expect_file(rt, path, made_bytes(rt.alloc(), LEN)?.as_slice())
 }
 
 /// That this is told of the device in this file, and that the file stays.
-fn expect_shown(
-    rt: &HostRuntime,
+pub(crate) fn expect_shown<T: System>(
+    rt: &T,
     path: &str,
     status: u8,
     output: &str,
@@ -114,8 +115,8 @@ fn a_device_is_made_and_shown(rt: HostRuntime) -> Result<(), Fail> {
 }
 
 /// That this is told of the device in this file where it is cut or made longer, to each of these lengths in turn.
-fn expect_lengths(
-    rt: &HostRuntime,
+fn expect_lengths<T: System>(
+    rt: &T,
     path: &str,
     rows: &[(u64, u8, &str, &str)],
 ) -> Result<(), Fail> {
@@ -147,7 +148,7 @@ fn a_device_may_be_longer_and_not_shorter(rt: HostRuntime) -> Result<(), Fail> {
 type Row<'a> = (&'a [(usize, u8)], u8, &'a str, &'a str);
 
 /// That this is told of the small device with these bytes set.
-fn expect_changed(rt: &HostRuntime, path: &str, row: &Row<'_>) -> Result<(), Fail> {
+fn expect_changed<T: System>(rt: &T, path: &str, row: &Row<'_>) -> Result<(), Fail> {
     let (changes, status, output, faults) = *row;
     let mut bytes = made_bytes(rt.alloc(), LEN)?;
     for (at, byte) in changes {
@@ -158,12 +159,11 @@ fn expect_changed(rt: &HostRuntime, path: &str, row: &Row<'_>) -> Result<(), Fai
 }
 
 /// That each of these devices is told so.
-fn expect_rows(rt: &HostRuntime, name: &str, rows: &[Row<'_>]) -> Result<(), Fail> {
-    let path = new_path(rt, name)?;
+fn expect_rows<T: System>(rt: &T, path: &str, rows: &[Row<'_>]) -> Result<(), Fail> {
     for row in rows {
-        expect_changed(rt, path.as_str(), row)?;
+        expect_changed(rt, path, row)?;
     }
-    fs::remove_file(rt, path.as_str())?;
+    fs::remove_file(rt, path)?;
     Ok(())
 }
 
@@ -180,7 +180,7 @@ const REFUSED: [Row<'static>; 8] = [
 
 #[test]
 fn each_refusal_has_its_text(rt: HostRuntime) -> Result<(), Fail> {
-    expect_rows(&rt, "refused", &REFUSED)
+    expect_rows(&rt, new_path(&rt, "refused")?.as_str(), &REFUSED)
 }
 
 /// An older image; a volume in the log, by its gate and its record; and area 1 named, whose image has a volume with file
@@ -208,7 +208,7 @@ const SHOWN: [Row<'static>; 3] = [
 
 #[test]
 fn what_a_device_holds_is_shown(rt: HostRuntime) -> Result<(), Fail> {
-    expect_rows(&rt, "shown", &SHOWN)
+    expect_rows(&rt, new_path(&rt, "shown")?.as_str(), &SHOWN)
 }
 
 #[test]
@@ -223,7 +223,7 @@ fn no_file_is_made_for_a_geometry_out_of_range(rt: HostRuntime) -> Result<(), Fa
 }
 
 /// That each of these words ends by a fault of the device.
-fn expect_device_faults(rt: &HostRuntime, calls: &[&str]) -> Result<(), Fail> {
+fn expect_device_faults<T: System>(rt: &T, calls: &[&str]) -> Result<(), Fail> {
     for words in calls {
         expect_end(rt, words, 1, "", DEVICE_FAULT)?;
     }
@@ -231,7 +231,10 @@ fn expect_device_faults(rt: &HostRuntime, calls: &[&str]) -> Result<(), Fail> {
 }
 
 /// There is no such file, nor such a folder, and a folder is no file.
-const UNOPENED: [&str; 5] = [
+const UNOPENED: [&str; 8] = [
+    "waffd serve /tmp/waffd_tests_nothing",
+    "waffd serve /tmp/waffd_tests_nothing --workers 0",
+    "waffd serve /tmp",
     "waffd show /tmp/waffd_tests_nothing",
     "waffd show /tmp/waffd_tests_nothing/device",
     "waffd show /tmp",
@@ -245,7 +248,7 @@ fn what_the_system_refuses_is_a_device_fault(rt: HostRuntime) -> Result<(), Fail
 }
 
 /// That neither command takes a file that may only be read. The administrator may write such a file.
-fn expect_kept(rt: &HostRuntime, path: &str) -> Result<(), Fail> {
+fn expect_kept<T: System>(rt: &T, path: &str) -> Result<(), Fail> {
     if OpenOptions::new().write(true).open(rt, path).is_ok() {
         return Ok(());
     }
@@ -265,7 +268,7 @@ fn a_read_only_file_is_a_device_fault(rt: HostRuntime) -> Result<(), Fail> {
 }
 
 /// That the write of what these words print is a fault, at once or at the flush.
-fn expect_write_faults(rt: &HostRuntime, words: &str) -> Result<(), Fail> {
+fn expect_write_faults<T: System>(rt: &T, words: &str) -> Result<(), Fail> {
     expect_write_fault(rt, words, &mut Closed)?;
     expect_write_fault(rt, words, &mut Stuck)
 }

@@ -2,8 +2,10 @@
 #![tactic(auto)]
 
 #[cfg(test)]
+mod answering;
+#[cfg(test)]
 mod calls;
 #[cfg(test)]
 mod devices;
 #[cfg(test)]
-mod serving;
+mod service;

@@ -1,5 +1,5 @@
 //! Calls of the command `plain` on messages.
-use crate::calls::{call, call_to, expect};
+use crate::calls::{System, call, call_to, expect};
 use std::cell::Cell;
 use std::io;
 use std::io::{Read, Write};
@@ -24,8 +24,8 @@ impl Read for ByteByByte<'_> {
 
 /// A reader that gives its bytes in one piece, and then fails.
 #[derive(Drop)]
-struct Failing<'a> {
-    left: &'a [u8],
+pub(crate) struct Failing<'a> {
+    pub(crate) left: &'a [u8],
 }
 
 impl Read for Failing<'_> {
@@ -40,7 +40,7 @@ impl Read for Failing<'_> {
 const PLAIN: &str = "waffd plain";
 
 /// That each of these words on this input ends well with this output.
-fn expect_rows(rt: &HostRuntime, rows: &[(&str, &str, &str)]) -> Result<(), Fail> {
+fn expect_rows<T: System>(rt: &T, rows: &[(&str, &str, &str)]) -> Result<(), Fail> {
     for (words, input, output) in rows {
         let ended = call(rt, words, input.as_bytes())?;
         expect(words, &ended, 0, output, "")?;
@@ -175,7 +175,7 @@ fn the_ends_of_the_ranges_are_taken(rt: HostRuntime) -> Result<(), Fail> {
 }
 
 /// That a line of so many bytes, with one behind it, is answered by one line.
-fn expect_long(rt: &HostRuntime, length: usize) -> Result<(), Fail> {
+fn expect_long<T: System>(rt: &T, length: usize) -> Result<(), Fail> {
     let mut input = vec![in rt.alloc(); b'a'; length]?;
     input.extend_from_slice(b"\nmakevol 0 0\n")?;
     let ended = call(rt, PLAIN, input.as_slice())?;
@@ -190,8 +190,8 @@ fn long_lines_are_one_line(rt: HostRuntime) -> Result<(), Fail> {
 }
 
 /// That this reader's input ends so.
-fn expect_from<R: Read>(
-    rt: &HostRuntime,
+fn expect_from<T: System, R: Read>(
+    rt: &T,
     input: R,
     status: u8,
     output: &str,
