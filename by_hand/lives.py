@@ -222,8 +222,7 @@ def stopped_by(between, tears):
         shutil.copyfile(device.path, device.copy)
         counts = between.mark + ".counts"
         run(device.words(device.copy), text_of(lines), between.env(COUNTS=counts))
-        with open(counts) as told:
-            changes = int(told.read().split()[1])
+        changes = program.counts_in(counts)[1]
         at = chance.randrange(1, changes + 1)
         return between.env(STOP_CALL=at, TEAR=chance.choice(tears), SEED=chance.randrange(1, 1 << 30)), LONGEST_LIFE
 

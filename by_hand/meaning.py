@@ -5,6 +5,7 @@ stripe. No piece is changed in its place. Data is digits to the last byte that i
 """
 import collections
 import itertools
+import re
 
 Geometry = collections.namedtuple("Geometry", "aggregates volumes stripes width files blocks quota half")
 Volume = collections.namedtuple("Volume", "sealed files label")
@@ -20,6 +21,7 @@ MAY_BE_SEALED = ("makevol", "seal", "unseal", "read", "list", "usage", "summary"
 WANT_THE_FILE = ("delete", "write", "punch", "read")
 
 LONGEST_LINE = 1100
+MOST_DIGITS = {"write": 1024, "setlabel": 64}  # of the data
 MOST_WAYS = 20000  # that are looked at for one kill
 
 
@@ -49,14 +51,16 @@ def cut(data):
 
 
 def message_of(line):
-    """The words of a line that is a message, else None. Data that a random line has is always well formed."""
+    """The words of a line that is a message, else None."""
     words = line.split(" ")
     if len(line) > LONGEST_LINE or words[0] not in FIELDS:
         return None
     count = FIELDS[words[0]]
-    has_data = words[0] in ("write", "setlabel")
+    has_data = words[0] in MOST_DIGITS
     numbers = words[1:1 + count]
-    if len(words) != 1 + count + has_data or not all(n.isdigit() and n == str(int(n)) for n in numbers):
+    if len(words) != 1 + count + has_data or not all(n.isdigit() and n == str(int(n)) and int(n) < 65536 for n in numbers):
+        return None
+    if has_data and not (re.fullmatch("([0-9A-Fa-f]{2})+", words[-1]) and len(words[-1]) <= MOST_DIGITS[words[0]]):
         return None
     return (words[0], [int(n) for n in numbers], cut(words[-1]) if has_data else None)
 

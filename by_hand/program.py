@@ -1,5 +1,6 @@
 """The program that is tried: how it is run, and how it has to end."""
 import os
+import struct
 import subprocess
 
 TOP = os.path.dirname(os.path.dirname(os.path.realpath(__file__)))
@@ -75,6 +76,11 @@ def put_bytes(path, data):
 def same_bytes(path, data):
     """The problem where the file has other bytes."""
     return None if bytes_of(path) == data else "other bytes"
+
+
+def counts_in(path):
+    """The numbers of calls that stop.c has counted."""
+    return struct.unpack("4q", bytes_of(path))
 
 
 class Between:

@@ -199,21 +199,21 @@ def try_conversations(folder):
 # ---- calls of the system
 
 COUNTED_LINES = 100000
-LINES_A_CALL = 100  # at least, of reads of the input and of writes of the output
+LINES_A_CALL = 4  # at least, of reads of the input and of writes of the output
 
 
 def try_calls(folder, between):
-    """How many calls of the system piped input takes. Those by which threads wait for one another are told, since how many
-    there are is the scheduler's."""
+    """How many calls of the system piped input takes. What is answered is written before a wait for the workers, so how
+    many writes there are is the scheduler's; so is how often threads wait for one another, which is told alone."""
     file = File(folder)
     source = os.path.join(folder, "lines")
-    for kind, line in (("read", b"read 0 0 0 0\n"), ("write", b"write 0 0 0 0 6162\n")):
-        put_bytes(source, MADE + line * COUNTED_LINES)
+    for kind, line in (("read", "read 0 0 0 {}\n"), ("write", "write 0 0 0 {} 6162\n")):
+        put_bytes(source, MADE + "".join(line.format(i % 4) for i in range(COUNTED_LINES)).encode())
         file.format()
         counts = os.path.join(folder, "counts")
         with open(source, "rb") as lines:
             end = file.serve(b"", "--slots", "256", stdin=lines, env=between.env(COUNTS=counts))
-        told = [int(number) for number in bytes_of(counts).split()]
+        told = program.counts_in(counts)
         problem = problem_of(end, 0, None, b"")
         if problem is None and (told[2] + told[3]) * LINES_A_CALL > COUNTED_LINES:
             problem = "too many"

@@ -6,8 +6,8 @@
  *   FAIL_CALL        that read, write or sync fails; a write has written one half
  *   FAIL_CALLS_FROM  that one and all behind it
  *   HAPPENED         the file that is made once it has happened
- *   COUNTS           the file to which the numbers of calls are written at the end: of all calls of the device, of its
- *                    writes and syncs, of reads of standard input and of writes of standard output
+ *   COUNTS           the file that has the numbers of calls as they come, each in eight bytes: all calls of the device,
+ *                    its writes and syncs, the reads of standard input and the writes of standard output
  *
  * The program's other threads never touch its device. */
 #define _GNU_SOURCE
@@ -15,10 +15,10 @@
 #include <fcntl.h>
 #include <signal.h>
 #include <stdint.h>
-#include <stdio.h>
 #include <stdlib.h>
 #include <string.h>
 #include <unistd.h>
+#include <sys/mman.h>
 #include <sys/syscall.h>
 
 enum tear { OLD, NEW, FIRST_PART, EITHER_BYTE, EITHER_SECTOR, EITHER_WRITE, ZEROS, ONES, SEVENTY_SEVENS, GATES, ANY };
@@ -33,7 +33,12 @@ struct span {
 
 static struct span *spans;
 static size_t span_count, span_room;
-static long calls, changes, reads_in, writes_out;
+static long uncounted[4];
+static long *counts = uncounted;
+#define calls (counts[0])
+#define changes (counts[1])
+#define reads_in (counts[2])
+#define writes_out (counts[3])
 static uint64_t seed;
 
 static long number_of(const char *name) {
@@ -186,15 +191,17 @@ ssize_t write(int file, const void *from, size_t length) {
     return syscall(SYS_write, file, from, length);
 }
 
-__attribute__((destructor)) static void tell_counts(void) {
+/* The numbers stand in the file itself, since a program may end without a word. */
+__attribute__((constructor)) static void open_counts(void) {
     const char *path = getenv("COUNTS");
-    char text[128];
     if (!path)
         return;
-    int length = snprintf(text, sizeof text, "%ld %ld %ld %ld\n", calls, changes, reads_in, writes_out);
-    long file = syscall(SYS_openat, AT_FDCWD, path, O_WRONLY | O_CREAT | O_TRUNC | O_CLOEXEC, 0600);
-    if (file >= 0) {
-        syscall(SYS_write, file, text, length);
-        syscall(SYS_close, file);
-    }
+    int file = (int)syscall(SYS_openat, AT_FDCWD, path, O_RDWR | O_CREAT | O_TRUNC | O_CLOEXEC, 0600);
+    if (file < 0 || ftruncate(file, sizeof uncounted) != 0)
+        abort();
+    void *there = mmap(NULL, sizeof uncounted, PROT_READ | PROT_WRITE, MAP_SHARED, file, 0);
+    if (there == MAP_FAILED)
+        abort();
+    counts = there;
+    syscall(SYS_close, file);
 }
