@@ -1,7 +1,21 @@
-//! Tests of serving by its public surface, over devices in memory and with threads.
+//! Tests of serving by its public surface, over devices in memory and in files, and with threads.
 #![tactic(auto)]
 
 #[cfg(test)]
 mod drawing;
 #[cfg(test)]
+mod faults;
+#[cfg(test)]
+mod noting;
+#[cfg(test)]
+mod overlap;
+#[cfg(test)]
+mod points;
+#[cfg(test)]
+mod rows;
+#[cfg(test)]
+mod running;
+#[cfg(test)]
 mod sessions;
+#[cfg(test)]
+mod streams;

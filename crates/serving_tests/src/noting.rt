@@ -1,0 +1,195 @@
+//! A device, a reader and a writer that note what is done with them.
+use disk::{Disk, DiskFault};
+use std::cell::Cell;
+use std::io;
+use std::io::{ErrorKind, Read, Write};
+
+/// What a device, a reader and a writer of one server have seen.
+#[derive(Drop)]
+pub(crate) struct Notes {
+    /// Gates of records that were written since the last sync.
+    loose: Cell<u64>,
+    /// Records whose gates were synced.
+    pub(crate) logged: Cell<u64>,
+    /// How often the root byte was written.
+    pub(crate) points: Cell<u64>,
+    pub(crate) reads: Cell<u64>,
+    /// Writes and flushes of the output.
+    pub(crate) writes: Cell<u64>,
+    /// Lines that the reader gave.
+    given: Cell<u64>,
+    /// Lines that the writer took.
+    pub(crate) taken: Cell<u64>,
+    /// Lines that it took before its last flush.
+    flushed: Cell<u64>,
+    /// Whether the writer has failed.
+    failed: Cell<bool>,
+    /// Whether a line was written before its record was synced.
+    pub(crate) is_early: Cell<bool>,
+    /// Whether the input was read while a line was not answered, or while its answer was not flushed.
+    pub(crate) is_late: Cell<bool>,
+    /// Whether something was read or written behind a fault of the writer.
+    pub(crate) is_deaf: Cell<bool>,
+}
+
+/// Adds to what is counted.
+fn add(count: &Cell<u64>, more: u64) {
+    count.set(count.get().saturating_add(more));
+}
+
+/// How many lines end in these bytes.
+fn ends_in(bytes: &[u8]) -> u64 {
+    bytes.iter().filter(|byte| **byte == b'\n').count() as u64
+}
+
+impl Notes {
+    pub(crate) fn new() -> Notes {
+        Notes {
+            loose: Cell::new(0),
+            logged: Cell::new(0),
+            points: Cell::new(0),
+            reads: Cell::new(0),
+            writes: Cell::new(0),
+            given: Cell::new(0),
+            taken: Cell::new(0),
+            flushed: Cell::new(0),
+            failed: Cell::new(false),
+            is_early: Cell::new(false),
+            is_late: Cell::new(false),
+            is_deaf: Cell::new(false),
+        }
+    }
+
+    /// Something was read or written.
+    fn note_stream(&self) {
+        if self.failed.get() {
+            self.is_deaf.set(true);
+        }
+    }
+}
+
+/// Where the root byte lies.
+const ROOT: u64 = 64;
+
+/// Where the gates of the records lie in the two halves of the small server, each with the first byte behind them.
+const GATES: [(u64, u64); 2] = [(192, 196), (2340, 2344)];
+
+/// How many gates of records are opened where these bytes are written from here on.
+fn gates_in(at: u64, bytes: &[u8]) -> u64 {
+    let mut count = 0u64;
+    for (number, byte) in bytes.iter().enumerate() {
+        let here = at.saturating_add(number as u64);
+        let is_gate = GATES
+            .iter()
+            .any(|(start, end)| *start <= here && here < *end);
+        if is_gate && *byte == 1 {
+            count = count.saturating_add(1);
+        }
+    }
+    count
+}
+
+/// A device that passes each call on to another one, and notes it. Contracts know nothing of what it keeps.
+#[derive(Drop)]
+pub(crate) struct Noting<'a, D: Disk> {
+    pub(crate) device: D,
+    pub(crate) notes: &'a Notes,
+}
+
+impl<D: Disk> Disk for Noting<'_, D> {
+    ghost medium = { λ n. D.medium n.device };
+
+    ghost keeps = { ⊥ };
+
+    fn len(&self) -> u64 {
+        self.device.len()
+    }
+
+    fn read_at(&mut self, at: u64, out: &mut [u8]) -> Result<(), DiskFault> {
+        self.device.read_at(at, out)
+    }
+
+    fn write_at(&mut self, at: u64, bytes: &[u8]) -> Result<(), DiskFault> {
+        add(&self.notes.loose, gates_in(at, bytes));
+        add(&self.notes.points, u64::from(at == ROOT));
+        self.device.write_at(at, bytes)
+    }
+
+    fn sync(&mut self) -> Result<(), DiskFault> {
+        add(&self.notes.logged, self.notes.loose.get());
+        self.notes.loose.set(0);
+        self.device.sync()
+    }
+
+    ghost fits = { λ n. D.fits n.device };
+
+    ghost bytes = { λ n. D.bytes n.device };
+}
+
+/// Gives its bytes in pieces of this size. At their end it fails, or there is nothing more.
+#[derive(Drop)]
+pub(crate) struct Pieces<'a> {
+    pub(crate) left: &'a [u8],
+    pub(crate) size: usize,
+    pub(crate) fails: bool,
+    pub(crate) notes: &'a Notes,
+}
+
+impl Read for Pieces<'_> {
+    fn read(&mut self, buf: &mut [u8]) -> io::Result<usize> {
+        self.notes.note_stream();
+        add(&self.notes.reads, 1);
+        if self.notes.flushed.get() != self.notes.given.get() {
+            self.notes.is_late.set(true);
+        }
+        if self.left.is_empty() && self.fails {
+            return Err(io::Error::from(ErrorKind::Other));
+        }
+        let len = self.size.min(buf.len()).min(self.left.len());
+        let (piece, left) = self.left.split_at(len);
+        buf[..len].copy_from_slice(piece);
+        self.left = left;
+        add(&self.notes.given, ends_in(piece));
+        Ok(len)
+    }
+}
+
+/// Takes at most so many bytes at a time. The n-th call fails, where n is not 0.
+#[derive(Drop)]
+pub(crate) struct Taking<'a> {
+    pub(crate) output: Vec<u8>,
+    pub(crate) size: usize,
+    pub(crate) fails_at: u64,
+    pub(crate) notes: &'a Notes,
+}
+
+impl Taking<'_> {
+    /// One more call, which fails or doesn't.
+    fn call(&mut self) -> io::Result<()> {
+        self.notes.note_stream();
+        add(&self.notes.writes, 1);
+        if self.notes.writes.get() == self.fails_at {
+            self.notes.failed.set(true);
+            return Err(io::Error::from(ErrorKind::Other));
+        }
+        Ok(())
+    }
+}
+
+impl Write for Taking<'_> {
+    fn write(&mut self, buf: &[u8]) -> io::Result<usize> {
+        self.call()?;
+        let piece = &buf[..self.size.min(buf.len())];
+        add(&self.notes.taken, ends_in(piece));
+        if self.notes.taken.get() > self.notes.logged.get() {
+            self.notes.is_early.set(true);
+        }
+        self.output.write(piece)
+    }
+
+    fn flush(&mut self) -> io::Result<()> {
+        self.call()?;
+        self.notes.flushed.set(self.notes.taken.get());
+        Ok(())
+    }
+}

@@ -1,0 +1,198 @@
+//! Which messages run at once.
+use crate::drawing::draw_lines;
+use crate::running::{End, Ended, SMALL, Way, holds, serve_lines, serve_on, writes};
+use affinity::{Affinity, Geometry, place_of, related};
+use harness::{Wrong, device_with};
+use message::parse_line;
+use std::alloc::Global;
+use std::process::Abort;
+use std::sync::Wait;
+use std::sync::atomic::{AtomicBool, Ordering};
+use std::test::Fail;
+use std::thread;
+use std::thread::Threads;
+use workers::Gate;
+
+/// How often a worker looks whether it may go on, before it gives up.
+const MOST_TRIES: u32 = 1_000_000;
+
+/// Holds each job until that of this ticket is answered.
+#[derive(Drop)]
+struct Holding {
+    last: u64,
+    answered: AtomicBool,
+    gave_up: AtomicBool,
+}
+
+impl Gate for Holding {
+    fn before(&self, ticket: u64) {
+        if ticket >= self.last {
+            return;
+        }
+        for _ in 0..MOST_TRIES {
+            if self.answered.load(Ordering::SeqCst) {
+                return;
+            }
+            thread::yield_now();
+        }
+        self.gave_up.store(true, Ordering::SeqCst);
+    }
+
+    fn answered(&self, ticket: u64) {
+        if ticket == self.last {
+            self.answered.store(true, Ordering::SeqCst);
+        }
+    }
+}
+
+/// One volume of one file of four blocks, each in a stripe of its own, and eight records in a half.
+const FLAT: [u16; 8] = [1, 1, 4, 1, 1, 4, 1, 8];
+
+/// Numbers of a server; lines; and how many workers and slots there are. The last message is answered while a worker has each
+/// of those before it.
+const AT_ONCE: [([u16; 8], &[u8], usize); 4] = [
+    (SMALL, b"write 0 0 0 0 61\nwrite 0 0 0 1 62\n", 2),
+    (
+        FLAT,
+        b"write 0 0 0 0 61\nwrite 0 0 0 1 62\nwrite 0 0 0 2 63\nwrite 0 0 0 3 64\n",
+        4,
+    ),
+    (SMALL, b"setlabel 0 0 61\nwrite 0 0 0 0 61\n", 2),
+    (SMALL, b"create 0 0 1\nlabel 0 0\n", 2),
+];
+
+const A_FILE: &[u8] = b"makevol 0 0\ncreate 0 0 0\n";
+
+/// Serves these lines where there is a file, and gives what they are answered. `Endless` where no more than one ran at once.
+fn runs_at_once<T: Threads + Wait + Sync>(
+    rt: &T,
+    alloc: Global,
+    numbers: [u16; 8],
+    lines: &[u8],
+    workers: usize,
+) -> Result<Vec<u8>, Wrong> {
+    let way = Way {
+        workers,
+        slots: workers,
+        every: 0,
+    };
+    let device = device_with(alloc, numbers, &[])?;
+    let (device, _) = serve_lines(rt, alloc, device, way, A_FILE)?;
+    let gate = Holding {
+        last: workers.saturating_sub(1) as u64,
+        answered: AtomicBool::new(false),
+        gave_up: AtomicBool::new(false),
+    };
+    let mut input = lines;
+    let mut output = Vec::new(alloc);
+    let Ended { end, .. } = serve_on(rt, alloc, device, way, &mut input, &mut output, &gate);
+    if end != End::Whole || gate.gave_up.load(Ordering::SeqCst) {
+        return Err(Wrong::Endless);
+    }
+    Ok(output)
+}
+
+#[test]
+fn unrelated_messages_run_at_once(rt: HostRuntime) -> Result<(), Fail> {
+    for (numbers, lines, workers) in AT_ONCE {
+        let output = runs_at_once(&rt, rt.alloc(), numbers, lines, workers)?;
+        let done = output.as_slice().strip_suffix(b"label 00\n".as_slice());
+        let done = done.unwrap_or(output.as_slice());
+        holds(&rt, b"done\ndone\ndone\ndone\n".starts_with(done));
+    }
+    Ok(())
+}
+
+/// Looks whether each job waits until all related ones with smaller tickets are answered.
+#[derive(Drop)]
+struct InTurn {
+    /// The places of the messages, by ticket.
+    places: Vec<Affinity>,
+    answered: Vec<AtomicBool>,
+    is_amiss: AtomicBool,
+}
+
+impl InTurn {
+    /// A gate for the messages in range of these lines.
+    fn new(alloc: Global, g: &Geometry, lines: &[u8]) -> Result<InTurn, Wrong> {
+        let mut gate = InTurn {
+            places: Vec::new(alloc),
+            answered: Vec::new(alloc),
+            is_amiss: AtomicBool::new(false),
+        };
+        for line in lines.split(|byte| *byte == b'\n') {
+            let message = parse_line(line);
+            let place = message.and_then(|m| place_of(g, m.kind(), m.numbers()));
+            if let Some(place) = place {
+                gate.places.push(place)?;
+                gate.answered.push(AtomicBool::new(false))?;
+            }
+        }
+        Ok(gate)
+    }
+
+    /// Whether one before this, which is related to it, isn't answered.
+    fn is_early(&self, ticket: u64) -> bool {
+        let Some(place) = self.places.get(ticket as usize) else {
+            return true;
+        };
+        let before = self.places.iter().zip(self.answered.iter());
+        let mut before = before.take(ticket as usize);
+        before.any(|(other, answered)| {
+            related(*place, *other) && !answered.load(Ordering::SeqCst)
+        })
+    }
+}
+
+impl Gate for InTurn {
+    fn before(&self, ticket: u64) {
+        if self.is_early(ticket) {
+            self.is_amiss.store(true, Ordering::SeqCst);
+        }
+    }
+
+    fn answered(&self, ticket: u64) {
+        if let Some(answered) = self.answered.get(ticket as usize) {
+            answered.store(true, Ordering::SeqCst);
+        }
+    }
+}
+
+/// Two aggregates of two volumes, each of two files of four blocks in two stripes, and eight records in a half.
+const WIDE: [u16; 8] = [2, 2, 2, 1, 2, 4, 2, 8];
+
+/// No message runs before all related ones with smaller tickets are answered.
+fn goes_in_turn<T: Threads + Wait + Sync + Abort>(
+    rt: &T,
+    alloc: Global,
+    way: Way,
+    lines: &[u8],
+) -> Result<(), Wrong> {
+    let Ok(g) = Geometry::new(WIDE) else {
+        return Err(Wrong::Unfit);
+    };
+    let gate = InTurn::new(alloc, &g, lines)?;
+    let device = device_with(alloc, WIDE, &[])?;
+    let mut input = lines;
+    let mut output = Vec::new(alloc);
+    let Ended { end, .. } = serve_on(rt, alloc, device, way, &mut input, &mut output, &gate);
+    holds(
+        rt,
+        end == End::Whole && !gate.is_amiss.load(Ordering::SeqCst),
+    );
+    Ok(())
+}
+
+#[test]
+fn related_messages_go_one_after_the_other(rt: HostRuntime) -> Result<(), Fail> {
+    let lines = draw_lines(rt.alloc(), 5, 3, 1000)?;
+    for workers in [2, 4] {
+        let way = Way {
+            workers,
+            slots: 16,
+            every: 3,
+        };
+        goes_in_turn(&rt, rt.alloc(), way, lines.as_slice())?;
+    }
+    Ok(())
+}

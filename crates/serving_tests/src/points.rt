@@ -1,0 +1,101 @@
+//! When records are logged, and when points are made.
+use crate::noting::{Notes, Noting, Pieces, Taking};
+use crate::running::{End, Ended, SMALL, Way, holds, serve_on};
+use checkpoint::inspect;
+use harness::{Wrong, device_with};
+use std::alloc::{AllocError, Global};
+use std::process::Abort;
+use std::sync::Wait;
+use std::test::Fail;
+use std::thread::Threads;
+use workers::OpenGate;
+
+/// So many lines, each a change that is done.
+fn changes(alloc: Global, count: usize) -> Result<Vec<u8>, AllocError> {
+    let mut lines = Vec::new(alloc);
+    for number in 0..count {
+        lines.extend_from_slice(match number {
+            0 => b"makevol 0 0\n",
+            1 => b"create 0 0 0\n",
+            _ if number % 2 == 0 => b"write 0 0 0 0 61\n",
+            _ => b"punch 0 0 0 1\n",
+        })?;
+    }
+    Ok(lines)
+}
+
+/// How many changes there are, and a point after so many; and how many points are made, at least and at most. A half of the
+/// log has four records.
+const POINTS: [(usize, u64, u64, u64); 10] = [
+    // There is a point where the log is full and at the end.
+    (0, 0, 1, 1),
+    (4, 0, 1, 1),
+    (5, 0, 2, 2),
+    (8, 0, 2, 2),
+    (9, 0, 3, 3),
+    (40, 0, 10, 10),
+    // One is due by count, but while one is in progress none becomes so.
+    (40, 1, 8, 41),
+    (40, 2, 8, 21),
+    (40, 3, 8, 14),
+    (40, 100, 10, 10),
+];
+
+/// Serves so many changes in pieces of this size. No line is written before its record is synced; gives how many points there
+/// were.
+fn points_of<T: Threads + Wait + Sync + Abort>(
+    rt: &T,
+    alloc: Global,
+    count: usize,
+    way: Way,
+    size: usize,
+) -> Result<u64, Wrong> {
+    let notes = Notes::new();
+    let device = Noting {
+        device: device_with(alloc, SMALL, &[])?,
+        notes: &notes,
+    };
+    let lines = changes(alloc, count)?;
+    let mut reader = Pieces {
+        left: lines.as_slice(),
+        size,
+        fails: false,
+        notes: &notes,
+    };
+    let mut writer = Taking {
+        output: Vec::new(alloc),
+        size,
+        fails_at: 0,
+        notes: &notes,
+    };
+    let ended = serve_on(rt, alloc, device, way, &mut reader, &mut writer, &OpenGate);
+    let Ended { device, end } = ended;
+    let is_whole = end == End::Whole && notes.taken.get() == count as u64;
+    let all_logged = notes.logged.get() == count as u64;
+    holds(rt, is_whole && all_logged && !notes.is_early.get());
+    let Ok((shown, _)) = inspect(alloc, device.device) else {
+        return Err(Wrong::Unfit);
+    };
+    // Opening names area 1, and each point the other one.
+    holds(
+        rt,
+        shown.records == 0 && shown.area as u64 == notes.points.get() % 2,
+    );
+    Ok(notes.points.get().saturating_sub(1))
+}
+
+#[test]
+fn points_are_made_where_they_are_due(rt: HostRuntime) -> Result<(), Fail> {
+    for (count, every, least, most) in POINTS {
+        for (workers, slots, size) in [(1, 1, 5), (1, 16, 70_000), (2, 3, 70_000)] {
+            let way = Way {
+                workers,
+                slots,
+                every,
+            };
+            let points = points_of(&rt, rt.alloc(), count, way, size)?;
+            holds(&rt, least <= points && points <= most);
+        }
+    }
+    Ok(())
+}

@@ -1,0 +1,117 @@
+//! Whole calls of a server on a device, and how they end.
+ghost use Rattle.std.specs.Prelude.{◌≤◌};
+
+use affinity::Geometry;
+use checkpoint::OpenFault;
+use disk::Disk;
+use harness::Wrong;
+use plain::serve_plain;
+use scheduler::Core;
+use serving::{ServeFault, serve};
+use std::alloc::Global;
+use std::io::{Read, Write};
+use std::process::Abort;
+use std::sync::Wait;
+use std::thread::Threads;
+use workers::{Gate, OpenGate};
+
+/// One volume of two files of four blocks, in two stripes that hold two blocks each, and four records in a half.
+/// Neighboring blocks of a file lie in different stripes.
+pub(crate) const SMALL: [u16; 8] = [1, 1, 2, 1, 2, 4, 2, 4];
+
+/// How a server is run: with so many workers and slots, and a point after so many records.
+#[derive(Clone, Copy)]
+pub(crate) struct Way {
+    pub(crate) workers: usize,
+    pub(crate) slots: usize,
+    pub(crate) every: u64,
+}
+
+/// How a server ended.
+#[derive(Clone, Copy, Debug, PartialEq, Eq)]
+pub(crate) enum End {
+    /// With its input.
+    Whole,
+    /// Its device was refused.
+    Unopened(OpenFault),
+    Fault(ServeFault),
+}
+
+/// A device that was served on, and how that ended.
+#[derive(Drop)]
+pub(crate) struct Ended<D: Disk> {
+    pub(crate) device: D,
+    pub(crate) end: End,
+}
+
+pub(crate) fn writes(rt: &impl Abort, got: &[u8], want: &[u8]) {
+    assert_eq!(rt; str::from_utf8(got), str::from_utf8(want));
+}
+
+pub(crate) fn holds(rt: &impl Abort, fact: bool) {
+    assert!(rt; fact);
+}
+
+pub(crate) fn ends(rt: &impl Abort, got: End, want: End) {
+    assert_eq!(rt; got, want);
+}
+
+/// What the serial server answers to these lines, from the empty state on.
+pub(crate) fn serial(alloc: Global, numbers: [u16; 8], lines: &[u8]) -> Result<Vec<u8>, Wrong> {
+    let Ok(g) = Geometry::new(numbers) else {
+        return Err(Wrong::Unfit);
+    };
+    let mut output = Vec::new(alloc);
+    match serve_plain(alloc, &g, lines, &mut output) {
+        Ok(()) => Ok(output),
+        Err(_) => Err(Wrong::OutOfMemory),
+    }
+}
+
+/// Opens a device and serves on it, with at most 64 workers.
+pub(crate) fn serve_on<T: Threads + Wait + Sync, R: Read, W: Write, D: Disk + Drop, G: Gate + Sync>(
+    rt: &T,
+    alloc: Global,
+    device: D,
+    way: Way,
+    r: &mut R,
+    w: &mut W,
+    gate: &G,
+) -> Ended<D> {
+    let core = match Core::open(alloc, device, way.slots) {
+        Ok(core) => core,
+        Err(e) => {
+            return Ended {
+                device: e.disk,
+                end: End::Unopened(e.fault),
+            };
+        }
+    };
+    match serve(alloc, rt, core, r, w, way.workers.min(64), way.every, gate) {
+        Ok(core) => Ended {
+            device: core.into_disk(),
+            end: End::Whole,
+        },
+        Err(e) => Ended {
+            device: e.core.into_disk(),
+            end: End::Fault(e.fault),
+        },
+    }
+}
+
+/// Serves these lines on a device to their end. Gives the device and the output.
+pub(crate) fn serve_lines<T: Threads + Wait + Sync, D: Disk + Drop>(
+    rt: &T,
+    alloc: Global,
+    device: D,
+    way: Way,
+    lines: &[u8],
+) -> Result<(D, Vec<u8>), Wrong> {
+    let mut input = lines;
+    let mut output = Vec::new(alloc);
+    let ended = serve_on(rt, alloc, device, way, &mut input, &mut output, &OpenGate);
+    match ended.end {
+        End::Whole => Ok((ended.device, output)),
+        _ => Err(Wrong::Unfit),
+    }
+}
