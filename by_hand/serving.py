@@ -8,7 +8,7 @@ import subprocess
 import time
 
 import program
-from lives import SMALL, Device, text_of
+from lives import COMMON, SMALL, Device, text_of
 from meaning import options_of
 from program import (DEVICE_FAULT, NO_MEMORY, PATIENCE, READ_FAULT, WRITE_FAULT, bytes_of, check, is_beginning, problem_of,
                      put_bytes, run, same_bytes)
@@ -205,29 +205,29 @@ LINES_A_CALL = 4  # at least, of reads of the input and of writes of the output
 def try_calls(folder, between):
     """How many calls of the system piped input takes. What is answered is written before a wait for the workers, so how
     many writes there are is the scheduler's; so is how often threads wait for one another, which is told alone."""
-    file = File(folder)
-    source = os.path.join(folder, "lines")
-    for kind, line in (("read", "read 0 0 0 {}\n"), ("write", "write 0 0 0 {} 6162\n")):
-        put_bytes(source, MADE + "".join(line.format(i % 4) for i in range(COUNTED_LINES)).encode())
-        file.format()
-        counts = os.path.join(folder, "counts")
-        with open(source, "rb") as lines:
-            end = file.serve(b"", "--slots", "256", stdin=lines, env=between.env(COUNTS=counts))
+    source, counts = os.path.join(folder, "lines"), os.path.join(folder, "counts")
+    volumes = range(COMMON.volumes)
+    made = [line for v in volumes for line in (f"makevol 0 {v}", f"create 0 {v} 0")]
+    for kind, data in (("read", ""), ("write", " 6162")):
+        lines = [f"{kind} 0 {i % len(volumes)} 0 {i // len(volumes) % COMMON.blocks}{data}" for i in range(COUNTED_LINES)]
+        put_bytes(source, text_of(made + lines))
+        device = Device(folder, (COMMON, 2, 256, 0))
+        with open(source, "rb") as given:
+            end = run(device.words(device.path), b"", stdin=given, env=between.env(COUNTS=counts))
         told = program.counts_in(counts)
         problem = problem_of(end, 0, None, b"")
         if problem is None and (told[2] + told[3]) * LINES_A_CALL > COUNTED_LINES:
             problem = "too many"
         check(f"{COUNTED_LINES} {kind} lines take {told[2]} reads, {told[3]} writes, {told[0]} calls of the device", problem)
         if shutil.which("strace"):
-            tell_all_calls(file, source, folder, kind)
+            tell_all_calls(device, source, folder, kind)
 
 
-def tell_all_calls(file, source, folder, kind):
-    file.format()
+def tell_all_calls(device, source, folder, kind):
     path = os.path.join(folder, "strace")
-    with open(source, "rb") as lines:
-        subprocess.run(["strace", "-f", "-c", "-o", path, program.PROGRAM, "serve", file.path, "--slots", "256"], stdin=lines,
-                       stdout=subprocess.DEVNULL, check=False)
+    words = ["strace", "-f", "-c", "-o", path, program.PROGRAM, *device.words(device.path)]
+    with open(source, "rb") as given:
+        subprocess.run(words, stdin=given, stdout=subprocess.DEVNULL, check=False)
     found = re.findall(r"(\d+)(?: +\d+)? +(\w+)$", bytes_of(path).decode(), re.M) if os.path.exists(path) else []
     often = sorted(((int(count), name) for count, name in found if name != "total"), reverse=True)[:5]
     print(f"       all calls of the system for {kind} lines: " + ", ".join(f"{name} {count}" for count, name in often))
