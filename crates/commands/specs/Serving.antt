@@ -93,8 +93,8 @@ EndsOnDevice keeps s old new (Err _) input left before written = ⊥
 abbrev pub at_start : Service → Kept → Handed
 at_start s start = with_lent start (replicate s.workers None)
 
--- It is a life of the device that began when it was opened. So what is answered in it is there in each later life, by the law of lives
--- in `machine`.
+-- It is a life of the device as the law of lives in `machine` has them: it was opened, it made a run, and a crash at any moment since
+-- the opening leaves what a crash of that run may leave.
 abbrev pub IsLife : Service → Kept → Medium → Medium → Type 0
 IsLife s start old new = (events : List Event) × IsRunLife (record {
   began = old;
