@@ -189,12 +189,14 @@ class Device:
 
 
 def try_lives(folder, server, count, stop, name):
-    """So many lives of one device. `stop` says how each ends: its environment and the seconds after which it is killed."""
+    """Lives of one device until so many were killed. `stop` says how each ends: its environment and the seconds after
+    which it is killed, if it hasn't come to its end by then."""
     device = Device(folder, server)
     drawing = Drawing(str(server), device.g)
-    killed, problem = 0, None
-    for number in range(count):
-        lines = drawing.lines(drawing.random.choice((5, 50, 500)))
+    killed, number, problem = 0, 0, None
+    while killed < count:
+        number += 1
+        lines = drawing.lines(drawing.random.choice((20, 400, 4000)))
         env, seconds = stop(device, drawing.random, lines, number)
         status, problem = device.life(lines, number, seconds, env)
         killed += status == -9
@@ -202,12 +204,16 @@ def try_lives(folder, server, count, stop, name):
             problem = f"life {number}: {problem}"
             shutil.copyfile(device.path, "/tmp/waffd_device_with_a_problem")
             break
-    check(f"{killed} of {count} lives {name}: {device.name()}", problem)
+        if number == LIVES_A_KILL * count:
+            problem = "they are over before they are killed"
+            break
+    check(f"{killed} of {number} lives {name}: {device.name()}", problem)
 
 
 # ---- how lives end
 
-LIVES = 200  # of each kind, over all servers
+LIVES = 200  # that are killed, of each kind, over all servers
+LIVES_A_KILL = 10  # at most
 LONGEST_LIFE = 60
 
 
