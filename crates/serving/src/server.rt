@@ -22,8 +22,9 @@ use std::sync::Wait;
 use std::thread::Threads;
 use workers::{Bench, DispatchSeat, Gate};
 
-/// How many bytes are read at a time.
-const READ_SIZE: usize = 65536;
+/// How many bytes are read at a time: some 240 lines with a full block. A line is taken in only where it is held already or nothing
+/// else can be done, so this bounds how many changes a write of the log finds.
+const READ_SIZE: usize = 262_144;
 
 /// The core of a server that ended before the end of its input, and why it did.
 #[derive(Drop)]

@@ -247,7 +247,7 @@ fn piped_input_takes_few_calls(rt: HostRuntime) -> Result<(), Fail> {
         lines.extend_from_slice(b"read 9 0 0 0\n")?;
     }
     for way in WAYS {
-        // 64 KiB are read and written at a time, and the output is flushed before a read.
+        // The input is read in one go, replies are written 64 KiB at a time, and the output is flushed before a read.
         let (reads, writes) = calls_of(&rt, rt.alloc(), way, lines.as_slice(), 70_000)?;
         holds(&rt, reads <= 3 && writes <= 8);
     }
