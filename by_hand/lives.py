@@ -185,7 +185,10 @@ class Device:
         status, faults = life.live(seconds)
         if status not in (0, -9) or faults:
             return status, f"status {status}, {faults!r:.200}"
-        return status, self.judge(lines, life.output, status == 0)
+        try:
+            return status, self.judge(lines, life.output, status == 0)
+        except RuntimeError as error:  # the next life did not end well
+            return status, str(error)
 
 
 def try_lives(folder, server, count, stop, name):
