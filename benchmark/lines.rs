@@ -1,19 +1,10 @@
 //! Writes lines of input for the benchmark: `lines MIX COUNT`. The same lines each time.
 //! MIX is `write`, `read`, `metadata`, `churn` or `mixed`.
 
+mod random;
+
+use random::Random;
 use std::io::{self, BufWriter, Write};
-
-/// A xorshift generator with a fixed seed, so that each run measures the same input.
-struct Random(u64);
-
-impl Random {
-    fn below(&mut self, n: u64) -> u64 {
-        self.0 ^= self.0 << 13;
-        self.0 ^= self.0 >> 7;
-        self.0 ^= self.0 << 17;
-        (self.0 >> 11) % n
-    }
-}
 
 /// A volume, a file and a block. Four files of a volume fill its stripes just up to their quota.
 type Place = (u64, u64, u64);
@@ -74,7 +65,7 @@ fn main() -> io::Result<()> {
     let mix = words.next().unwrap_or_default();
     let count = words.next().and_then(|n| n.parse().ok()).unwrap_or(1_000_000u64);
     let mut out = BufWriter::with_capacity(1 << 16, io::stdout().lock());
-    let mut random = Random(0x9e37_79b9_7f4a_7c15);
+    let mut random = Random::new();
     for v in 0..4 {
         writeln!(out, "makevol 0 {v}")?;
         for f in 0..4 {

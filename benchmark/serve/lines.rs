@@ -2,19 +2,11 @@
 //! MIX is `fill`, which makes all that the others use and tells nothing by COUNT; `write`: full blocks, uniformly over all
 //! stripes; `read`: full blocks; or `mixed`. GEOMETRY is `default` or `greatest`.
 
+#[path = "../random.rs"]
+mod random;
+
+use random::Random;
 use std::io::{self, BufWriter, Write};
-
-/// A xorshift generator with a fixed seed, so that each run measures the same input.
-struct Random(u64);
-
-impl Random {
-    fn below(&mut self, n: u16) -> u16 {
-        self.0 ^= self.0 << 13;
-        self.0 ^= self.0 >> 7;
-        self.0 ^= self.0 << 17;
-        ((self.0 >> 11) % u64::from(n)) as u16
-    }
-}
 
 /// What is used of a geometry: these files fill each stripe of each volume just up to its quota.
 struct Places {
@@ -32,8 +24,9 @@ type Place = [u16; 4];
 
 impl Places {
     fn any(&self, random: &mut Random) -> Place {
-        let f = self.files[usize::from(random.below(self.files.len() as u16))];
-        [random.below(self.aggregates), random.below(self.volumes), f, random.below(self.blocks)]
+        let f = self.files[random.below(self.files.len() as u64) as usize];
+        let mut below = |n: u16| random.below(u64::from(n)) as u16;
+        [below(self.aggregates), below(self.volumes), f, below(self.blocks)]
     }
 }
 
@@ -84,7 +77,7 @@ fn main() -> io::Result<()> {
     };
     let places = if geometry == "greatest" { &GREATEST } else { &DEFAULT };
     let mut out = BufWriter::with_capacity(1 << 16, io::stdout().lock());
-    let mut random = Random(0x9e37_79b9_7f4a_7c15);
+    let mut random = Random::new();
     if mix == "fill" {
         fill(places, &mut random, &mut out)?;
         return out.flush();
