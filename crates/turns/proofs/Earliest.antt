@@ -1,12 +1,13 @@
 -- The next one is the first of those that may go at each number.
-use Rattle.std.proofs.Common.{◌≡◌, ◌∙◌, ℕ, suc, ◌+◌, ◌<◌, Bool, true, false, not, ◌&&◌, ◌||◌, List, [], ◌∷◌, find, Option, Some, None, refl, ap, sym, inl, inr, arith}
-use Rattle.std.specs.Prelude.{nat_lt, ◌==◌}
+use Rattle.std.proofs.Common.{◌≡◌, ◌∙◌, ℕ, suc, ◌+◌, ◌<◌, ◌≤◌, Bool, true, false, not, ◌&&◌, ◌||◌, List, [], ◌∷◌, find, Option, Some, None, refl, ap, sym, inl, inr, arith}
+use Rattle.std.specs.Prelude.{nat_lt, ◌==◌, if◌then◌else◌}
 use Rattle.std.specs.List.{list_any, AllByRecursion}
 use Rattle.std.proofs.lemmas.Bool.{eq-eqb, ne_eqb, eqb-true, ltb-true, lt-ltb, cases_Bool, cases_eq, and_parts, and_from, or_left, or_right, or_parts, true≢false, false_from_ne_true}
 use Rattle.std.proofs.lemmas.Bool.Decides.{leb_tells}
 use Rattle.affinity.specs.Interval.{IsAffinity, contains, server_size}
 use Rattle.affinity.specs.declared.geometry.Geometry.{Geometry}
 use Rattle.turns.specs.Turns.{overlap, is_free_of, has_room, has_number, next_turn}
+use Rattle.turns.specs.Marks.{if_passes, ticket_of}
 use Rattle.turns.specs.Order.{Ascend, comes_first, is_clear, may_go_at, earlier}
 use Rattle.turns.specs.declared.entries.Turn.{Turn}
 use Rattle.turns.proofs.ByTicket.{next_is_first}
@@ -38,6 +39,16 @@ takes (Some d) t later = rw (lt-ltb t.ticket d.ticket (later d refl)) refl
 
 itself : (t : Turn) → earlier (Some t) (Some t) ≡ Some t
 itself t = rw (false_from_ne_true (nat_lt t.ticket t.ticket) (λ less. let below = ltb-true t.ticket t.ticket less in omega (arith, below))) refl
+
+-- a later one is passed over
+pub passed : (p : Turn → Bool) (o m : Option Turn) → ticket_of o < ticket_of m → ticket_of m ≤ 18446744073709551615 → earlier o (if_passes p m) ≡ o
+passed p o None later fits = refl
+passed p None (Some t) later fits = absurd (omega (arith, later, fits))
+passed p (Some d) (Some t) later fits = by (p t)
+  where
+    by : (b : Bool) → earlier (Some d) (if b then Some t else None) ≡ Some d
+    by false = refl
+    by true = rw (false_from_ne_true (nat_lt t.ticket d.ticket) (λ less. let below = ltb-true t.ticket d.ticket less in omega (arith, later, below))) refl
 
 -- of two tests: the earlier one of the first that passes each
 find-either : (p q : Turn → Bool) (ts : List Turn) → Ascend ts → find (λ t. p t || q t) ts ≡ earlier (find p ts) (find q ts)

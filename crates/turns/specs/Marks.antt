@@ -31,3 +31,8 @@ StayMarked held waiting before after =
 -- The marks at all affinities related to this one are right.
 abbrev pub AreNearMarked : Geometry → Interval → List Turn → List Turn → List (Option Turn) → Type 0
 AreNearMarked g a held waiting marks = (b : Interval) → IsAffinity g b → overlap a b ≡ true → IsMarked held waiting marks b.number
+
+-- its ticket, or the greatest one where there is none
+abbrev pub ticket_of : Option Turn → ℕ
+ticket_of None = 18446744073709551615
+ticket_of (Some t) = t.ticket

@@ -91,8 +91,13 @@ impl Turns {
         ensures { result ≡ next_turn room self.now.held self.now.waiting }
     {
         let mut best = self.marks.len(); // no one is marked there
+        let mut least = self.marks.ticket(best);
         for number in 0..affinities(&self.geometry) {
-            best = better(room, &self.marks, best, number);
+            // Most are passed by their tickets alone.
+            if self.marks.ticket(number) <= least {
+                best = better(room, &self.marks, best, number);
+                least = self.marks.ticket(best);
+            }
         }
         self.marks.at(best).copied()
     }
