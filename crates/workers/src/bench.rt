@@ -10,7 +10,8 @@ ghost use Rattle.workers.specs.declared.seats.View.TheVariants.{Dispatcher};
 use crate::seats::{DispatchSeat, Seat, View, WorkSeat, turn_to};
 use crate::steps::{self, Handoff, Words};
 use crate::tray::Tray;
-use crate::words::{FIRST_PLACE, MOST_PLACES, OFFERS, RING, is_slept_on};
+use crate::waiting::wake;
+use crate::words::{ANSWERED, FIRST_PLACE, MOST_PLACES, OFFERS, RING};
 use atomic_table::Table;
 use parcel::{Done, Job};
 use std::alloc::{AllocError, Global};
@@ -56,8 +57,8 @@ impl Bench {
         Ok((Bench { table }, desk, seats))
     }
 
-    /// Lends a job to the workers at place k and wakes one that sleeps. Hands it back where something is
-    /// lent there.
+    /// Lends a job to the workers at place k, and wakes one that sleeps where none looks on. Hands it back
+    /// where something is lent there.
     #[inline(always)]
     pub fn offer(&self, seat: &mut DispatchSeat, k: usize, job: Job) -> Result<(), Job>
         requires { (seat.old.bench ≡ self.now) × (k < self.now.slots) }
@@ -69,9 +70,7 @@ impl Bench {
         }
         let words = &self.table.shared;
         lend(words, &mut seat.seat, &mut seat.lent, k, job);
-        if is_slept_on(steps::count(words, &mut seat.seat, RING)) {
-            words.wake_one(OFFERS);
-        }
+        wake(words, steps::count(words, &mut seat.seat, RING));
         Ok(())
     }
 
@@ -83,10 +82,10 @@ impl Bench {
         ensures some { IfSome result (λ done. (job : Asked) × (lent_at seat.old.lent k ≡ Some job) × IsRun job done × (seat.new.lent ≡ slice_set seat.old.lent k None)) }
         ensures none { IfNone result (seat.new ≡ seat.old) }
     {
-        if !seat.lent[k] {
+        let words = &self.table.shared;
+        if !seat.lent[k] || words.peek(k + FIRST_PLACE) != ANSWERED {
             return None;
         }
-        let words = &self.table.shared;
         if !win(words, &mut seat.seat, &seat.lent, k) {
             return None;
         }

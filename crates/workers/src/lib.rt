@@ -7,6 +7,7 @@ mod pace;
 mod seats;
 mod steps;
 mod tray;
+mod waiting;
 mod words;
 mod work;
 

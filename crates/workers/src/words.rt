@@ -1,11 +1,11 @@
 //! The words of the table and what they may be.
-ghost use Rattle.std.specs.Prelude.{◌≡◌, ◌<◌, ◌%◌, ◌^◌, nat_le};
+ghost use Rattle.std.specs.Prelude.{◌≡◌, ◌<◌, ◌≤◌, ◌%◌, ◌^◌, ◌↔◌, IsTrue};
 
 /// The word that is 0 at first, and 1 once the bench is stopped.
 pub const STOP: usize = 0;
 
-/// The bell of the offers, on which workers sleep. Its low half counts the rings, and wraps; its high
-/// half counts the workers that sleep or are about to.
+/// The bell of the offers, on which workers sleep. Its low half counts the rings, and wraps; the quarter
+/// above it counts the workers that sleep or are about to, and the highest one those that look on.
 pub const OFFERS: usize = 1;
 
 /// The bell of the deliveries, on which the dispatcher sleeps: quiet, rung or slept on.
@@ -38,6 +38,15 @@ pub const SLEEPER: u64 = 1 << 32;
 /// What is added to it by a worker that got up: one sleeper less.
 pub const RISEN: u64 = u64::MAX - SLEEPER + 1;
 
+/// What is added to it by a worker that looks on.
+pub const LOOKER: u64 = 1 << 48;
+
+/// What is added to it by a worker that looks on no more.
+pub const LOOKED: u64 = u64::MAX - LOOKER + 1;
+
+/// What is added to it by a worker that goes to sleep behind its looks.
+pub const TIRED: u64 = LOOKED + SLEEPER;
+
 /// The bell of the deliveries: nothing was delivered since the last wait returned.
 pub const QUIET: u64 = 0;
 
@@ -54,9 +63,9 @@ pub fn rings(bell: u64) -> u32
     (bell % SLEEPER) as u32
 }
 
-/// Whether a worker sleeps on the bell of the offers, or is about to.
-pub fn is_slept_on(bell: u64) -> bool
-    ensures { result ≡ nat_le (2 ^ 32) bell }
+/// Whether a worker sleeps on the bell of the offers, or is about to, and none looks on there.
+pub fn needs_waking(bell: u64) -> bool
+    ensures { IsTrue result ↔ ((2 ^ 32 ≤ bell) × (bell < 2 ^ 48)) }
 {
-    bell >= SLEEPER
+    SLEEPER <= bell && bell < LOOKER
 }

@@ -1,4 +1,4 @@
-//! What a worker does, and how either side waits for the other.
+//! What a worker does.
 ghost use Rattle.std.specs.Prelude.{◌≡◌, ℕ, ◌<◌, [], ◌∷◌, Some, All};
 ghost use Rattle.parcel.specs.Run.{Asked};
 ghost use Rattle.workers.specs.Desk.{IsBench, idle};
@@ -9,13 +9,23 @@ use crate::bench::Bench;
 use crate::pace::Gate;
 use crate::seats::{DispatchSeat, Seat, WorkSeat};
 use crate::steps::{self, Words};
-use crate::words::{
-    DELIVERIES, FIRST_PLACE, OFFERED, OFFERS, QUIET, RISEN, RUNG, SLEEPER, SLEPT_ON, STOP, rings,
-};
+use crate::waiting::{hear, look_on, sleep, tell, wake};
+use crate::words::{FIRST_PLACE, OFFERED, OFFERS, SLEEPER, STOP, rings};
 use parcel::run;
 use std::alloc::AllocError;
 use std::sync::Wait;
 use std::thread::{Scope, Threads};
+
+/// What came of one try of each place.
+#[derive(Clone, Copy, Debug, PartialEq, Eq)]
+enum Round {
+    /// No job could be claimed.
+    Idle,
+    /// The last result was delivered while the dispatcher was awake.
+    Served,
+    /// The last result was delivered while the dispatcher slept, which was woken.
+    Woke,
+}
 
 impl Bench {
     /// Claims jobs, runs them and delivers their results until it sees that the bench is stopped.
@@ -26,13 +36,18 @@ impl Bench {
         let words = &self.table.shared;
         let places = self.table.slot_count();
         let WorkSeat { seat: mut pass } = seat;
+        let mut last = Round::Idle;
         for _ in rt.forever() {
-            let bell = words.peek(OFFERS);
+            let heard = rings(words.peek(OFFERS));
             if words.peek(STOP) != 0 {
                 break;
             }
-            if !serve_round(words, &mut pass, places, gate) {
-                sleep(words, &mut pass, rt, rings(bell));
+            match serve_round(words, &mut pass, places, gate) {
+                Round::Idle if last == Round::Woke => {
+                    sleep(words, &mut pass, rt, heard, SLEEPER);
+                }
+                Round::Idle => look_on(words, &mut pass, rt, heard),
+                round => last = round,
             }
         }
         WorkSeat { seat: pass }
@@ -75,76 +90,63 @@ impl Bench {
     }
 }
 
-// Sleeps until the bell of the deliveries is rung, and quiets it.
-fn hear<R: Wait>(words: &Words, seat: &mut Seat, rt: &R)
-    requires { (seat.old.table_id ≡ words.now.table_id) × IsBench words.now.table_id }
-    ensures { (seat.new.table_id ≡ seat.old.table_id) × (seat.new.me ≡ seat.old.me) }
+// Wakes another worker where a place behind k has a job too. An offer wakes none while one looks on, and that
+// one may be held up by the job that it has claimed.
+fn call_another(words: &Words, k: usize, places: usize)
+    requires bench { IsBench words.now.table_id }
+    requires places { (k < places) × (places ≡ words.now.table_id.slots) }
 {
-    for _ in rt.forever() {
-        if steps::lie_down(words, seat) == RUNG {
-            break;
+    for other in k + 1..places {
+        if words.peek(other + FIRST_PLACE) == OFFERED {
+            wake(words, words.peek(OFFERS));
+            return;
         }
-        words.park(rt, DELIVERIES, SLEPT_ON as u32);
-    }
-    steps::set_bell(words, seat, QUIET);
-}
-
-// Rings the bell of the deliveries, and wakes the dispatcher if it sleeps there.
-fn tell(words: &Words, seat: &mut Seat)
-    requires { (seat.old.table_id ≡ words.now.table_id) × IsBench words.now.table_id }
-    ensures { (seat.new.table_id ≡ seat.old.table_id) × (seat.new.me ≡ seat.old.me) }
-{
-    if steps::set_bell(words, seat, RUNG) == SLEPT_ON {
-        words.wake_one(DELIVERIES);
     }
 }
 
-// Sleeps on the bell of the offers for as long as it was rung just so often.
-fn sleep<R: Wait>(words: &Words, seat: &mut Seat, rt: &R, heard: u32)
-    requires { (seat.old.table_id ≡ words.now.table_id) × IsBench words.now.table_id }
-    ensures { (seat.new.table_id ≡ seat.old.table_id) × (seat.new.me ≡ seat.old.me) }
-{
-    if rings(steps::count(words, seat, SLEEPER)) == heard {
-        words.park(rt, OFFERS, heard);
-    }
-    steps::count(words, seat, RISEN);
-}
-
-// Tries each place once, and does the jobs that it could claim. Says whether there was one.
-fn serve_round<G: Gate>(words: &Words, seat: &mut Seat, places: usize, gate: &G) -> bool
+// Tries each place once, and does the jobs that it could claim.
+fn serve_round<G: Gate>(words: &Words, seat: &mut Seat, places: usize, gate: &G) -> Round
     requires bench { (seat.old.table_id ≡ words.now.table_id) × IsBench words.now.table_id }
     requires places { places ≡ words.now.table_id.slots }
     requires idle { seat.old.me ≡ idle }
     ensures { (seat.new.table_id ≡ seat.old.table_id) × (seat.new.me ≡ idle) }
 {
-    let mut served = false;
+    let mut round = Round::Idle;
     for k in 0..places {
-        if serve_place(words, seat, k, gate) {
-            served = true;
+        if let Some(slept) = serve_place(words, seat, k, places, gate) {
+            round = if slept { Round::Woke } else { Round::Served };
         }
     }
-    served
+    round
 }
 
-// Does the job of a place if it can be claimed. Says whether it was.
-fn serve_place<G: Gate>(words: &Words, seat: &mut Seat, k: usize, gate: &G) -> bool
+// Does the job of a place if it can be claimed. Says whether the dispatcher slept when its result was
+// delivered.
+fn serve_place<G: Gate>(
+    words: &Words,
+    seat: &mut Seat,
+    k: usize,
+    places: usize,
+    gate: &G,
+) -> Option<bool>
     requires bench { (seat.old.table_id ≡ words.now.table_id) × IsBench words.now.table_id }
-    requires place { k < words.now.table_id.slots }
+    requires place { (k < places) × (places ≡ words.now.table_id.slots) }
     requires idle { seat.old.me ≡ idle }
     ensures { (seat.new.table_id ≡ seat.old.table_id) × (seat.new.me ≡ idle) }
 {
     if words.peek(k + FIRST_PLACE) != OFFERED {
-        return false;
+        return None;
     }
     if !steps::claim(words, seat, k) {
-        return false;
+        return None;
     }
-    answer(words, seat, k, gate);
-    true
+    call_another(words, k, places);
+    Some(answer(words, seat, k, gate))
 }
 
-// Runs the job of the place that the seat has claimed, and delivers its result.
-fn answer<G: Gate>(words: &Words, seat: &mut Seat, k: usize, gate: &G)
+// Runs the job of the place that the seat has claimed, and delivers its result. Says whether the
+// dispatcher slept.
+fn answer<G: Gate>(words: &Words, seat: &mut Seat, k: usize, gate: &G) -> bool
     requires bench { (seat.old.table_id ≡ words.now.table_id) × IsBench words.now.table_id }
     requires place { k < words.now.table_id.slots }
     requires claimed { (job : Asked) × (seat.old.me ≡ (Claimed k job, (k, Some (Offered job)) ∷ [])) }
@@ -155,5 +157,5 @@ fn answer<G: Gate>(words: &Words, seat: &mut Seat, k: usize, gate: &G)
     let done = run(job);
     steps::lay_result(words, seat, k, done);
     steps::deliver(words, seat, k);
-    tell(words, seat);
+    tell(words, seat)
 }
