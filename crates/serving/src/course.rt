@@ -2,7 +2,7 @@
 
 /// How many messages may come back before what ran is logged: the log writes as many records with one write of their bodies and
 /// one of their gates.
-const BATCH: usize = 64;
+pub(crate) const BATCH: usize = 64;
 
 /// Why a server reads no more.
 #[derive(Clone, Copy, Debug, PartialEq, Eq)]
@@ -52,12 +52,13 @@ impl Course {
     }
 }
 
-/// What has come back in one turn, and what kept messages from going out. A wrong count makes a longer or a shorter batch, which
-/// no contract forbids.
+/// What has come back in one turn, and what kept messages from going out. A wrong count makes a longer or a shorter batch, which no contract forbids.
 #[derive(Clone, Copy, Debug, PartialEq, Eq)]
 pub(crate) struct Batch {
     /// How many more messages may come back before what ran is logged.
-    pub(crate) left: usize,
+    left: usize,
+    /// Whether one of them changed something, so that it has to be written to the log.
+    changed: bool,
     /// Whether some message lacked room in the log alone, when messages went out last.
     pub(crate) lacks_room: bool,
 }
@@ -67,8 +68,15 @@ impl Batch {
     pub(crate) fn new(lacks_room: bool) -> Batch {
         Batch {
             left: BATCH,
+            changed: false,
             lacks_room,
         }
+    }
+
+    /// A message has come back, which changed something or didn't.
+    pub(crate) fn add(&mut self, changed: bool) {
+        self.left = self.left.saturating_sub(1);
+        self.changed = self.changed || changed;
     }
 
     /// Whether something has come back.
@@ -79,5 +87,10 @@ impl Batch {
     /// Whether what ran is to be logged before more comes back.
     pub(crate) fn is_full(&self) -> bool {
         self.left == 0
+    }
+
+    /// Whether it gains nothing by more: it is full, or what has come back is logged without a write.
+    pub(crate) fn is_ripe(&self) -> bool {
+        self.is_full() || self.has_come() && !self.changed
     }
 }

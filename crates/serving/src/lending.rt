@@ -1,45 +1,46 @@
 //! Jobs between the core and the bench: results are taken back, and messages go out.
 
-ghost use Rattle.std.specs.Prelude.{◌≡◌, ◌<◌, IsFalse, Some, is_none, length, position};
+ghost use Rattle.std.specs.Prelude.{◌≡◌, ◌<◌, IfNone, IsFalse, Some, is_none, length, position};
 ghost use Rattle.scheduler.specs.Kept.{world_of};
 ghost use Rattle.serving.specs.Lending.{GoesTo, IsEndOfSending, IsHome};
 ghost use Rattle.serving.specs.Runs.{with_lent};
 ghost use Rattle.serving.specs.Steps.{Holds, IsSent, KeepsOn};
 
+use crate::course::Batch;
 use disk::Disk;
+use message::Reply;
 use scheduler::{Core, Granted};
 use std::sync::Wait;
 use workers::{Bench, DispatchSeat};
 
-/// Takes back what came of the job at place k, if it is there: whether it was.
+/// Takes back what came of the job at place k, if it is there: whether it changed something.
 pub(crate) fn take_back<D: Disk>(
     core: &mut Core<D>,
     bench: &Bench,
     desk: &mut DispatchSeat,
     k: usize,
-) -> bool
+) -> Option<bool>
     requires bench { desk.old.bench ≡ bench.now }
     requires place { (k < bench.now.slots) × (k < length desk.old.lent) }
     requires holds { Holds (with_lent core.old desk.old.lent) }
     ensures kept { KeepsOn D.keeps (with_lent core.old desk.old.lent) (with_lent core.new desk.new.lent) }
     ensures bench { desk.new.bench ≡ desk.old.bench }
     ensures places { length desk.new.lent ≡ length desk.old.lent }
-    ensures none { IsFalse result → (core.new ≡ core.old) × (desk.new ≡ desk.old) }
+    ensures none { IfNone result ((core.new ≡ core.old) × (desk.new ≡ desk.old)) }
 {
     core.stands();
-    let Some(done) = bench.collect(desk, k) else {
-        return false;
-    };
+    let done = bench.collect(desk, k)?;
+    let changed = matches!(done.reply(), Reply::Done);
     core.give_back(done);
-    true
+    Some(changed)
 }
 
-/// Looks once at each place, and takes back what came there, while so many more are `left` to come back: whether something did.
+/// Looks once at each place, and takes back what came there, until the batch is full: whether something did.
 pub(crate) fn take_all_back<D: Disk>(
     core: &mut Core<D>,
     bench: &Bench,
     desk: &mut DispatchSeat,
-    left: &mut usize,
+    batch: &mut Batch,
 ) -> bool
     requires bench { desk.old.bench ≡ bench.now }
     requires holds { Holds (with_lent core.old desk.old.lent) }
@@ -50,12 +51,12 @@ pub(crate) fn take_all_back<D: Disk>(
 {
     let mut came = false;
     for k in 0..desk.places() {
-        if *left == 0 {
+        if batch.is_full() {
             return came;
         }
-        if take_back(core, bench, desk, k) {
+        if let Some(changed) = take_back(core, bench, desk, k) {
+            batch.add(changed);
             came = true;
-            *left -= 1;
         }
     }
     came
@@ -76,8 +77,7 @@ pub(crate) fn bring_home<T: Wait, D: Disk>(
     ensures home { IsHome desk.new.lent }
 {
     for _ in rt.forever() {
-        let mut left = desk.places();
-        take_all_back(core, bench, desk, &mut left);
+        take_all_back(core, bench, desk, &mut Batch::new(false));
         if !desk.any_lent() {
             break;
         }

@@ -7,27 +7,35 @@ ghost use Rattle.serving.specs.Runs.{with_lent};
 ghost use Rattle.serving.specs.Steps.{Holds};
 ghost use Rattle.serving.specs.Stops.{Advances, place_of};
 
-use crate::course::{Batch, Halt};
+use crate::course::{BATCH, Batch, Halt};
 use crate::lending::{Sent, send_all, take_all_back};
 use crate::session::Session;
 use disk::Disk;
+use std::hint::spin_loop;
 use std::io::Write;
 use std::sync::Wait;
+use std::thread::yield_now;
 use workers::{Bench, Gate};
 
-/// How many looks at a place there are in one turn, over all places. Each further look lets one write of the log take more with
-/// it, and while more and more comes back, this bounds how long a reply waits for the log.
-const PATIENCE: usize = 4096;
+/// How often all places are looked at in a row in vain before a batch is logged as it is: some ten times as long as a thread takes to
+/// wake up. Each further message spares the log a write, and no reply waits longer than that for a job that is slow.
+const PATIENCE: usize = 16384;
 
-/// How often each of so many places is looked at in one turn.
-fn looks(places: usize) -> usize {
-    if places == 0 { 0 } else { PATIENCE / places }
+/// How often they are looked at until other threads may go first, if they wait for a processor.
+const LOOKS: usize = 32;
+
+/// Lets a moment pass behind a look at the places, of which there were so many.
+fn pause(looks: usize) {
+    if looks % LOOKS == 0 {
+        yield_now();
+    } else {
+        spin_loop();
+    }
 }
 
 impl<D: Disk> Session<D> {
-    /// Looks once at each place, and takes back what came of jobs that are out, while so many are `left` to come back: whether
-    /// something did.
-    fn take_what_came(&mut self, bench: &Bench, left: &mut usize) -> bool
+    /// Looks once at each place, and takes back what came of jobs that are out, until the batch is full: whether something did.
+    fn take_what_came(&mut self, bench: &Bench, batch: &mut Batch) -> bool
         requires bench { self.old.desk.bench ≡ bench.now }
         requires holds { Holds (with_lent self.old.core self.old.desk.lent) }
         ensures holds { Holds (with_lent self.new.core self.new.desk.lent) }
@@ -38,7 +46,7 @@ impl<D: Disk> Session<D> {
         ensures bench { self.new.desk.bench ≡ self.old.desk.bench }
         ensures places { length self.new.desk.lent ≡ length self.old.desk.lent }
     {
-        take_all_back(&mut self.core, bench, &mut self.desk, left)
+        take_all_back(&mut self.core, bench, &mut self.desk, batch)
     }
 
     /// Lets messages go out, unless a consistency point is due by the number of records: whether one lacks room in the log
@@ -66,8 +74,8 @@ impl<D: Disk> Session<D> {
         }
     }
 
-    /// Looks once at each place, and lets messages go out where something came back.
-    fn look(&mut self, bench: &Bench, batch: &mut Batch) -> Result<(), Halt>
+    /// Looks once at each place, and lets messages go out where something came back: whether it did.
+    fn look(&mut self, bench: &Bench, batch: &mut Batch) -> Result<bool, Halt>
         requires bench { self.old.desk.bench ≡ bench.now }
         requires places { length self.old.desk.lent ≡ bench.now.slots }
         requires holds { Holds (with_lent self.old.core self.old.desk.lent) }
@@ -79,16 +87,39 @@ impl<D: Disk> Session<D> {
         ensures bench { self.new.desk.bench ≡ self.old.desk.bench }
         ensures places { length self.new.desk.lent ≡ length self.old.desk.lent }
     {
-        if !self.take_what_came(bench, &mut batch.left) {
-            return Ok(());
+        if !self.take_what_came(bench, batch) {
+            return Ok(false);
         }
         let lacks_room = self.send_out(bench)?;
         batch.lacks_room = lacks_room;
-        Ok(())
+        Ok(true)
     }
 
-    /// Looks at the places again and again, until the batch is full, nothing is lent any more, or it has looked often enough. It
+    /// Looks at the places again and again, until something came back or it has looked often enough: whether something did. It
     /// waits for nobody.
+    fn look_for_some(&mut self, bench: &Bench, batch: &mut Batch) -> Result<bool, Halt>
+        requires bench { self.old.desk.bench ≡ bench.now }
+        requires places { length self.old.desk.lent ≡ bench.now.slots }
+        requires holds { Holds (with_lent self.old.core self.old.desk.lent) }
+        ensures holds { Holds (with_lent self.new.core self.new.desk.lent) }
+        ensures slots { self.new.row.slots ≡ self.old.row.slots }
+        ensures kept { (contents : Option (List ℕ)) → Advances D.keeps
+            (place_of self.old.core self.old.desk.lent self.old.row.lines (so_far contents self.old.out))
+            (place_of self.new.core self.new.desk.lent self.new.row.lines (so_far contents self.new.out)) result }
+        ensures bench { self.new.desk.bench ≡ self.old.desk.bench }
+        ensures places { length self.new.desk.lent ≡ length self.old.desk.lent }
+    {
+        for looks in 1..=PATIENCE {
+            let came = self.look(bench, batch)?;
+            if came {
+                return Ok(true);
+            }
+            pause(looks);
+        }
+        Ok(false)
+    }
+
+    /// Lets the batch grow until it is full, nothing is lent any more, or nothing came back in a while.
     fn look_on(&mut self, bench: &Bench, batch: &mut Batch) -> Result<(), Halt>
         requires bench { self.old.desk.bench ≡ bench.now }
         requires places { length self.old.desk.lent ≡ bench.now.slots }
@@ -101,11 +132,14 @@ impl<D: Disk> Session<D> {
         ensures bench { self.new.desk.bench ≡ self.old.desk.bench }
         ensures places { length self.new.desk.lent ≡ length self.old.desk.lent }
     {
-        for _ in 0..looks(self.desk.places()) {
-            if batch.is_full() || !self.desk.any_lent() {
+        for _ in 0..BATCH {
+            if batch.is_ripe() || !self.desk.any_lent() {
                 return Ok(());
             }
-            self.look(bench, batch)?;
+            let came = self.look_for_some(bench, batch)?;
+            if !came {
+                return Ok(());
+            }
         }
         Ok(())
     }

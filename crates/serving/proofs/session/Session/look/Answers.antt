@@ -1,4 +1,5 @@
 -- The lemmas on places that follow one another.
+use Rattle.std.proofs.Common.{true, false}
 use Rattle.std.proofs.lemmas.Result.{err_from_is_err_and}
 use Rattle.message.specs.Waiting.{so_far}
 use Rattle.serving.proofs.Advancing.{advances_on, goes_so, halts_so}
@@ -18,4 +19,10 @@ returns-clause-kept g c contents =
     let o : Place = place_of c.args.self.now.core c.args.self.now.desk.lent c.args.self.now.row.lines (so_far contents c.args.self.now.out) in
     let a : Place = place_of c.take_what_came.new.self.core c.take_what_came.new.self.desk.lent c.take_what_came.new.self.row.lines (so_far contents c.take_what_came.new.self.out) in
     let b : Place = place_of c.send_out.new.self.core c.send_out.new.self.desk.lent c.send_out.new.self.row.lines (so_far contents c.send_out.new.self.out) in
-    goes_so g.D.Disk.keeps _ _ o b _ tt (advances_on g.D.Disk.keeps o a b tt _ (c.take_what_came.ensures.kept contents) (c.in_ok-lacks_room.ensures.kept contents))
+    goes_so g.D.Disk.keeps _ _ o b _ true (advances_on g.D.Disk.keeps o a b tt _ (c.take_what_came.ensures.kept contents) (c.in_ok-lacks_room.ensures.kept contents))
+
+pub returns-then-not-take_what_came-clause-kept : goal.returns-then-not-take_what_came-clause-kept
+returns-then-not-take_what_came-clause-kept g c contents =
+    let o : Place = place_of c.args.self.now.core c.args.self.now.desk.lent c.args.self.now.row.lines (so_far contents c.args.self.now.out) in
+    let a : Place = place_of c.take_what_came.new.self.core c.take_what_came.new.self.desk.lent c.take_what_came.new.self.row.lines (so_far contents c.take_what_came.new.self.out) in
+    goes_so g.D.Disk.keeps _ _ o a _ false (c.take_what_came.ensures.kept contents)

@@ -2,29 +2,36 @@
 use Rattle.std.proofs.Common.{◌∙◌}
 use Rattle.std.proofs.lemmas.Result.{err_from_is_err_and}
 use Rattle.message.specs.Waiting.{so_far}
-use Rattle.serving.proofs.Advancing.{advances_on, halts_so}
+use Rattle.serving.proofs.Advancing.{advances_on, goes_so, halts_so}
 use Rattle.serving.specs.Stops.{Place, place_of}
 use Rattle.serving.proofs.session.Session.look_on.Goals as goal
 
-pub returns-in_err-look-clause-kept : goal.returns-in_err-look-clause-kept
-returns-in_err-look-clause-kept g c contents =
+pub returns-in_err-came-clause-kept : goal.returns-in_err-came-clause-kept
+returns-in_err-came-clause-kept g c contents =
     let o : Place = place_of c.args.self.now.core c.args.self.now.desk.lent c.args.self.now.row.lines (so_far contents c.args.self.now.out) in
     let a : Place = place_of c.loop.self.core c.loop.self.desk.lent c.loop.self.row.lines (so_far contents c.loop.self.out) in
-    let b : Place = place_of c.look.new.self.core c.look.new.self.desk.lent c.look.new.self.row.lines (so_far contents c.look.new.self.out) in
+    let b : Place = place_of c.look_for_some.new.self.core c.look_for_some.new.self.desk.lent c.look_for_some.new.self.row.lines (so_far contents c.look_for_some.new.self.out) in
     let p = err_from_is_err_and c.from_residual.result c.from_residual.ensures.1 in
-    rw (p.1, p.2) (halts_so g.D.Disk.keeps _ _ o b c.in_err-look.field-0.0 (advances_on g.D.Disk.keeps o a b tt _ (c.loop.invariant.kept contents) (c.in_err-look.ensures.kept contents)))
+    rw (p.1, p.2) (halts_so g.D.Disk.keeps _ _ o b c.in_err-came.field-0.0 (advances_on g.D.Disk.keeps o a b tt _ (c.loop.invariant.kept contents) (c.in_err-came.ensures.kept contents)))
 
 pub loop-preserved : goal.loop-preserved
 loop-preserved g c =
     let i = c.loop.invariant in
     record {
-      holds = c.look.ensures.holds;
-      slots = c.look.ensures.slots ∙ i.slots;
+      holds = c.look_for_some.ensures.holds;
+      slots = c.look_for_some.ensures.slots ∙ i.slots;
       kept = λ contents.
           let o : Place = place_of c.args.self.now.core c.args.self.now.desk.lent c.args.self.now.row.lines (so_far contents c.args.self.now.out) in
           let a : Place = place_of c.loop.self.core c.loop.self.desk.lent c.loop.self.row.lines (so_far contents c.loop.self.out) in
-          let b : Place = place_of c.look.new.self.core c.look.new.self.desk.lent c.look.new.self.row.lines (so_far contents c.look.new.self.out) in
-          advances_on g.D.Disk.keeps o a b tt _ (i.kept contents) (c.in_ok-look.ensures.kept contents);
-      bench = c.look.ensures.bench ∙ i.bench;
-      places = c.look.ensures.places ∙ i.places;
+          let b : Place = place_of c.look_for_some.new.self.core c.look_for_some.new.self.desk.lent c.look_for_some.new.self.row.lines (so_far contents c.look_for_some.new.self.out) in
+          goes_so g.D.Disk.keeps _ _ o b _ tt (advances_on g.D.Disk.keeps o a b tt _ (i.kept contents) (c.in_ok-came.ensures.kept contents));
+      bench = c.look_for_some.ensures.bench ∙ i.bench;
+      places = c.look_for_some.ensures.places ∙ i.places;
     }
+
+pub returns-then-not-came-clause-kept : goal.returns-then-not-came-clause-kept
+returns-then-not-came-clause-kept g c contents =
+    let o : Place = place_of c.args.self.now.core c.args.self.now.desk.lent c.args.self.now.row.lines (so_far contents c.args.self.now.out) in
+    let a : Place = place_of c.loop.self.core c.loop.self.desk.lent c.loop.self.row.lines (so_far contents c.loop.self.out) in
+    let b : Place = place_of c.look_for_some.new.self.core c.look_for_some.new.self.desk.lent c.look_for_some.new.self.row.lines (so_far contents c.look_for_some.new.self.out) in
+    goes_so g.D.Disk.keeps _ _ o b _ tt (advances_on g.D.Disk.keeps o a b tt _ (c.loop.invariant.kept contents) (c.in_ok-came.ensures.kept contents))
