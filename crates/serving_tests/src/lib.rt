@@ -12,6 +12,8 @@ mod overlap;
 #[cfg(test)]
 mod points;
 #[cfg(test)]
+mod precedence;
+#[cfg(test)]
 mod rows;
 #[cfg(test)]
 mod running;
