@@ -5,9 +5,10 @@ use affinity::{Geometry, place_of};
 use message::{Block, Msg, Reply};
 use parcel::{Job, Tree, run};
 use std::alloc::Global;
+use std::hint::spin_loop;
 use std::process::Abort;
 use std::sync::Wait;
-use std::sync::atomic::{AtomicBool, Ordering};
+use std::sync::atomic::{AtomicBool, AtomicU64, Ordering};
 use std::test::Fail;
 use std::thread;
 use std::thread::Threads;
@@ -24,6 +25,15 @@ const KINDS: u64 = 14;
 
 /// How far apart the tickets of one place are: more than there are places, and prime to the kinds.
 const STRIDE: u64 = 65;
+
+/// How often two jobs are offered while one worker may look on and the other sleeps.
+const MEETINGS: u64 = 500;
+
+/// How many looks of a spin loop a worker goes to sleep in.
+const LONG_PAUSE: u64 = 5_000;
+
+/// The looks that pass before the two jobs are offered are fewer, since a worker begins to look on just then.
+const SHORT_PAUSES: u64 = 50;
 
 fn expect(rt: &impl Abort, fine: bool) {
     assert!(rt; fine);
@@ -213,20 +223,29 @@ fn a_wait_ends_with_the_delivery(rt: HostRuntime) -> Result<(), Fail> {
     Ok(())
 }
 
-// Holds the job of ticket 0 until ticket 1 was answered.
+// Holds the job of each even ticket until the ticket behind it was answered.
 #[derive(Drop)]
 struct Holding {
-    answered: AtomicBool,
+    answered: AtomicU64,
     gave_up: AtomicBool,
+}
+
+impl Holding {
+    fn new() -> Holding {
+        Holding {
+            answered: AtomicU64::new(0),
+            gave_up: AtomicBool::new(false),
+        }
+    }
 }
 
 impl Gate for Holding {
     fn before(&self, ticket: u64) {
-        if ticket != 0 {
+        if ticket % 2 == 1 {
             return;
         }
         for _ in 0..MOST_TRIES {
-            if self.answered.load(Ordering::SeqCst) {
+            if self.answered.load(Ordering::SeqCst) > ticket {
                 return;
             }
             thread::yield_now();
@@ -235,37 +254,37 @@ impl Gate for Holding {
     }
 
     fn answered(&self, ticket: u64) {
-        if ticket == 1 {
-            self.answered.store(true, Ordering::SeqCst);
-        }
+        self.answered.store(ticket, Ordering::SeqCst);
     }
 }
 
-// The job of ticket 1 is answered while that of ticket 0 is held.
+// The job behind an even ticket is answered while that of the ticket is held.
 fn two_jobs(
     bench: &Bench,
     desk: &mut DispatchSeat,
     alloc: Global,
     gate: &Holding,
+    ticket: u64,
 ) -> Result<bool, Fail>
     requires { (desk.old.bench ≡ bench.now) × (1 < bench.now.slots) }
     ensures { desk.new.bench ≡ desk.old.bench }
 {
-    let offered = offer(bench, desk, alloc, 0, 0)? && offer(bench, desk, alloc, 1, 1)?;
-    let second = collect(bench, desk, 1).is_some();
-    gate.answered(1);
-    let first = collect(bench, desk, 0).is_some();
-    Ok(offered && second && first && !gate.gave_up.load(Ordering::SeqCst))
+    let behind = ticket.wrapping_add(1);
+    let (Some(first), Some(second)) = (job(alloc, ticket)?, job(alloc, behind)?) else {
+        return Ok(false);
+    };
+    let offered = bench.offer(desk, 0, first).is_ok() && bench.offer(desk, 1, second).is_ok();
+    let answered = collect(bench, desk, 1).is_some();
+    gate.answered(behind);
+    let freed = collect(bench, desk, 0).is_some();
+    Ok(offered && answered && freed && !gate.gave_up.load(Ordering::SeqCst))
 }
 
 #[test]
 fn two_jobs_run_at_once(rt: HostRuntime) -> Result<(), Fail> {
     let alloc = rt.alloc();
     let (bench, desk, seats) = Bench::open(alloc, 2, 2)?;
-    let gate = Holding {
-        answered: AtomicBool::new(false),
-        gave_up: AtomicBool::new(false),
-    };
+    let gate = Holding::new();
     let (runtime, bench, gate) = (&rt, &bench, &gate);
     let fine = thread::scope(
         thread::scope_env(),
@@ -276,7 +295,61 @@ fn two_jobs_run_at_once(rt: HostRuntime) -> Result<(), Fail> {
         {
             let mut desk = desk;
             let started = bench.start(runtime, scope, &mut desk, seats, gate).is_ok();
-            let fine = two_jobs(bench, &mut desk, alloc, gate);
+            let fine = two_jobs(bench, &mut desk, alloc, gate, 0);
+            bench.stop(&mut desk);
+            Ok(fine? && started)
+        },
+    )?;
+    expect(&rt, fine);
+    Ok(())
+}
+
+// Lets some time pass.
+fn pause(looks: u64) {
+    for _ in 0..looks {
+        spin_loop();
+    }
+}
+
+// Again and again one of two workers has just done a job, and looks on, while the other sleeps. Two jobs are offered then at once:
+// the one that looks on may take the first of them, which holds it, while no offer has woken the other.
+fn all_meetings(
+    bench: &Bench,
+    desk: &mut DispatchSeat,
+    alloc: Global,
+    gate: &Holding,
+) -> Result<bool, Fail>
+    requires { (desk.old.bench ≡ bench.now) × (1 < bench.now.slots) }
+    ensures { desk.new.bench ≡ desk.old.bench }
+{
+    for meeting in 0..MEETINGS {
+        pause(LONG_PAUSE);
+        let single = meeting.wrapping_mul(4).wrapping_add(1);
+        let done = offer(bench, desk, alloc, 0, single)? && collect(bench, desk, 0).is_some();
+        pause(meeting % SHORT_PAUSES);
+        if !done || !two_jobs(bench, desk, alloc, gate, single.wrapping_add(1))? {
+            return Ok(false);
+        }
+    }
+    Ok(true)
+}
+
+#[test]
+fn a_worker_that_is_held_up_calls_another(rt: HostRuntime) -> Result<(), Fail> {
+    let alloc = rt.alloc();
+    let (bench, desk, seats) = Bench::open(alloc, 2, 2)?;
+    let gate = Holding::new();
+    let (runtime, bench, gate) = (&rt, &bench, &gate);
+    let fine = thread::scope(
+        thread::scope_env(),
+        runtime,
+        move |scope| -> Result<bool, Fail>
+            requires desk { (desk.bench ≡ bench.now) × (bench.now.slots ≡ 2) }
+            requires seats { All (λ w. w ≡ bench.now) seats.items }
+        {
+            let mut desk = desk;
+            let started = bench.start(runtime, scope, &mut desk, seats, gate).is_ok();
+            let fine = all_meetings(bench, &mut desk, alloc, gate);
             bench.stop(&mut desk);
             Ok(fine? && started)
         },
