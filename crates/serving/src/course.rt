@@ -52,7 +52,8 @@ impl Course {
     }
 }
 
-/// What has come back in one turn, and what kept messages from going out. A wrong count makes a longer or a shorter batch, which no contract forbids.
+/// What has come back in one turn, and what kept messages from going out. A wrong count makes a longer or a shorter batch, which
+/// no contract forbids.
 #[derive(Clone, Copy, Debug, PartialEq, Eq)]
 pub(crate) struct Batch {
     /// How many more messages may come back before what ran is logged.

@@ -1,13 +1,14 @@
 -- The next one is the first of those that may go at each number.
-use Rattle.std.proofs.Common.{◌≡◌, ◌∙◌, ℕ, suc, ◌+◌, ◌<◌, ◌≤◌, Bool, true, false, not, ◌&&◌, ◌||◌, List, [], ◌∷◌, find, Option, Some, None, refl, ap, sym, inl, inr, arith}
+use Rattle.std.proofs.Common.{◌≡◌, ◌∙◌, ℕ, zero, suc, ◌+◌, ◌<◌, ◌≤◌, min, Bool, true, false, not, ◌&&◌, ◌||◌, List, [], ◌∷◌, find, Option, Some, None, refl, ap, sym, inl, inr, arith}
 use Rattle.std.specs.Prelude.{nat_lt, ◌==◌, if◌then◌else◌}
 use Rattle.std.specs.List.{list_any, AllByRecursion}
 use Rattle.std.proofs.lemmas.Bool.{eq-eqb, ne_eqb, eqb-true, ltb-true, lt-ltb, cases_Bool, cases_eq, and_parts, and_from, or_left, or_right, or_parts, true≢false, false_from_ne_true}
 use Rattle.std.proofs.lemmas.Bool.Decides.{leb_tells}
+use Rattle.std.proofs.Math.Nat.{min-eq_left, min-eq_right, min-le_left, min-le_right}
 use Rattle.affinity.specs.Interval.{IsAffinity, contains, server_size}
 use Rattle.affinity.specs.declared.geometry.Geometry.{Geometry}
 use Rattle.turns.specs.Turns.{overlap, is_free_of, has_room, has_number, next_turn}
-use Rattle.turns.specs.Marks.{if_passes, ticket_of}
+use Rattle.turns.specs.Marks.{earliest_from, if_passes, last_rank, mark_at, rank_of}
 use Rattle.turns.specs.Order.{Ascend, comes_first, is_clear, may_go_at, earlier}
 use Rattle.turns.specs.declared.entries.Turn.{Turn}
 use Rattle.turns.proofs.ByTicket.{next_is_first}
@@ -41,14 +42,30 @@ itself : (t : Turn) → earlier (Some t) (Some t) ≡ Some t
 itself t = rw (false_from_ne_true (nat_lt t.ticket t.ticket) (λ less. let below = ltb-true t.ticket t.ticket less in omega (arith, below))) refl
 
 -- a later one is passed over
-pub passed : (p : Turn → Bool) (o m : Option Turn) → ticket_of o < ticket_of m → ticket_of m ≤ 18446744073709551615 → earlier o (if_passes p m) ≡ o
-passed p o None later fits = refl
-passed p None (Some t) later fits = absurd (omega (arith, later, fits))
-passed p (Some d) (Some t) later fits = by (p t)
+pub passed : (p : Turn → Bool) (o m : Option Turn) → min (rank_of o) last_rank < rank_of m → earlier o (if_passes p m) ≡ o
+passed p o None later = refl
+passed p None (Some t) later = absurd (let low = min-le_right t.ticket last_rank in omega (arith, later, low))
+passed p (Some d) (Some t) later = by (p t)
   where
+    is_later : d.ticket < t.ticket
+    is_later = elim (leb_tells d.ticket last_rank) [
+      | inl e ↦ (let first = min-eq_left e.1 in let low = min-le_left t.ticket last_rank in
+          omega (arith, later, ap (λ (k : ℕ). min k last_rank) first, first, low))
+      | inr e ↦ absurd (let first = min-eq_right (let above = e.1 in let upper : last_rank ≤ d.ticket = omega (arith, above) in upper) in let low = min-le_right t.ticket last_rank in
+          omega (arith, later, ap (λ (k : ℕ). min k last_rank) first, (let itself : last_rank ≤ last_rank = omega arith in min-eq_left itself), low))
+    ]
+
     by : (b : Bool) → earlier (Some d) (if b then Some t else None) ≡ Some d
     by false = refl
-    by true = rw (false_from_ne_true (nat_lt t.ticket d.ticket) (λ less. let below = ltb-true t.ticket d.ticket less in omega (arith, later, below))) refl
+    by true = rw (false_from_ne_true (nat_lt t.ticket d.ticket) (λ less. let below = ltb-true t.ticket d.ticket less in omega (arith, is_later, below))) refl
+
+-- later ones are
+pub all-passed : (p : Turn → Bool) (marks : List (Option Turn)) (from n : ℕ) (o : Option Turn)
+    → ((i : ℕ) → i < n → min (rank_of o) last_rank < rank_of (mark_at marks (from + i))) → earliest_from p marks from n o ≡ o
+all-passed p marks from zero o later = refl
+all-passed p marks from (suc n) o later =
+    ap (λ (best : Option Turn). earlier best (if_passes p (mark_at marks (from + n)))) (all-passed p marks from n o (λ i below. later i (omega (arith, below))))
+    ∙ passed p o (mark_at marks (from + n)) (later n (omega arith))
 
 -- of two tests: the earlier one of the first that passes each
 find-either : (p q : Turn → Bool) (ts : List Turn) → Ascend ts → find (λ t. p t || q t) ts ≡ earlier (find p ts) (find q ts)
@@ -197,11 +214,11 @@ module _ (g : Geometry) (room : Bool) (held waiting : List Turn) (placed : AllBy
         | inr k ↦ find-skip (λ t. nat_lt t.affinity.number n && p t) t ts (is ∙ k) ∙ all_below n ts p low.1 ∙ sym (find-skip p t ts k)
       ]
 
-  low : (ts : List Turn) → AllByRecursion (λ d. IsAffinity g d.affinity) ts → AllByRecursion (λ t. t.affinity.number < server_size g) ts
-  low [] h = tt
-  low (t ∷ ts) h = (number-below g t.affinity h.0, low ts h.1)
+  low : (n : ℕ) → server_size g ≤ n → (ts : List Turn) → AllByRecursion (λ d. IsAffinity g d.affinity) ts → AllByRecursion (λ t. t.affinity.number < n) ts
+  low n past [] h = tt
+  low n past (t ∷ ts) h = ((let below = number-below g t.affinity h.0 in omega (arith, below, past)), low n past ts h.1)
 
-  pub below-all : first_below room held waiting (server_size g) ≡ next_turn room held waiting
-  below-all =
-      all_below (server_size g) waiting (λ t. has_room room t && is_clear held waiting t) (low waiting placed)
+  pub below-all : (n : ℕ) → server_size g ≤ n → first_below room held waiting n ≡ next_turn room held waiting
+  below-all n past =
+      all_below n waiting (λ t. has_room room t && is_clear held waiting t) (low n past waiting placed)
       ∙ sym (next_is_first room held waiting ascends)

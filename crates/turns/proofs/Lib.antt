@@ -11,4 +11,5 @@ mod Nearby
 mod Clearing
 mod Earliest
 mod Ready
+mod Blocks
 mod Turning

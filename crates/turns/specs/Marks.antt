@@ -1,10 +1,10 @@
 -- Which of those that are first in their queues are clear, each at the number of its affinity. No public clause cites this module.
-use Rattle.std.specs.Prelude.{◌≡◌, ℕ, Bool, true, List, length, if◌then◌else◌, slice_index_or, Option, Some, None}
+use Rattle.std.specs.Prelude.{◌≡◌, ◌+◌, ◌*◌, ◌<◌, ◌≤◌, ℕ, zero, suc, min, Bool, true, List, length, get_or, if◌then◌else◌, slice_index_or, Option, Some, None}
 use Rattle.std.specs.List.{find}
 use Rattle.affinity.specs.Interval.{Interval, IsAffinity}
 use Rattle.affinity.specs.declared.geometry.Geometry.{Geometry}
 use Rattle.turns.specs.Turns.{overlap, has_number}
-use Rattle.turns.specs.Order.{is_clear}
+use Rattle.turns.specs.Order.{earlier, is_clear}
 use Rattle.turns.specs.declared.entries.Turn.{Turn}
 
 -- it, if it is there and passes this test
@@ -32,7 +32,20 @@ StayMarked held waiting before after =
 abbrev pub AreNearMarked : Geometry → Interval → List Turn → List Turn → List (Option Turn) → Type 0
 AreNearMarked g a held waiting marks = (b : Interval) → IsAffinity g b → overlap a b ≡ true → IsMarked held waiting marks b.number
 
--- its ticket, or the greatest one where there is none
-abbrev pub ticket_of : Option Turn → ℕ
-ticket_of None = 18446744073709551615
-ticket_of (Some t) = t.ticket
+-- the last one that one that is there may have
+abbrev pub last_rank : ℕ
+last_rank = 18446744073709551614
+
+-- how early it came: its ticket, but that the greatest two are one rank. What isn't there comes behind all.
+abbrev pub rank_of : Option Turn → ℕ
+rank_of None = 18446744073709551615
+rank_of (Some t) = min t.ticket last_rank
+
+-- the earliest of one and of those that are marked at so many numbers from this one on and pass this test
+abbrev pub earliest_from : (Turn → Bool) → List (Option Turn) → ℕ → ℕ → Option Turn → Option Turn
+earliest_from p marks from zero best = best
+earliest_from p marks from (suc n) best = earlier (earliest_from p marks from n best) (if_passes p (mark_at marks (from + n)))
+
+-- None of the sixteen numbers of a block has a rank that is less than the one of the block.
+abbrev pub AreLeast : List (Option Turn) → List ℕ → Type 0
+AreLeast marks least = (block i : ℕ) → i < 16 → get_or least block 0 ≤ rank_of (mark_at marks (16 * block + i))

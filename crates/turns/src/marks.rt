@@ -1,43 +1,60 @@
 //! Marks at numbers: which of those that are first in their queues are clear.
-ghost use Rattle.std.specs.Prelude.{◌≡◌, ◌<◌, length, replicate, slice_set, option_copied, IfOk, None};
-ghost use Rattle.turns.specs.Marks.{mark_at, ticket_of};
+ghost use Rattle.std.specs.Prelude.{◌≡◌, ◌+◌, ◌*◌, ◌<◌, ◌≤◌, ℕ, get_or, length, min, replicate, slice_set, option_copied, IfOk, None};
+ghost use Rattle.turns.specs.Marks.{last_rank, mark_at, rank_of};
 
 use crate::Turn;
 use std::alloc::{AllocError, Global};
 use std::marker::Model;
 
+/// How many numbers there are in a block.
+pub(crate) const BLOCK: usize = 16;
+
+/// The last rank that a turn may have. The greatest `u64` is that of none.
+const LAST_RANK: u64 = u64::MAX - 1;
+
 /// A mark for each number of an affinity, which is there where one that waits is clear.
+///
+/// The one that came first among them is looked for at each step of a server. So each has a rank, which is its ticket, and the
+/// least rank of each block of numbers is known: most blocks are passed by it alone.
 ///
 /// All memory is taken by `new`.
 #[derive(Drop)]
 pub(crate) struct Marks {
     clear: Vec<Option<Turn>>, // by number
-    tickets: Vec<u64>, // by number: close together, since all of them are looked through
+    ranks: Vec<u64>, // by number
+    least: Vec<u64>, // by block
 }
 
 impl Model for Marks {
-    ghost use Rattle.std.specs.Prelude.{◌≡◌, List, Option, map};
-    ghost use Rattle.turns.specs.Marks.{ticket_of};
+    ghost use Rattle.std.specs.Prelude.{◌≡◌, ◌+◌, ◌/◌, ◌≤◌, List, Option, length, map};
+    ghost use Rattle.turns.specs.Marks.{AreLeast, rank_of};
     ghost use Rattle.turns.specs.declared.entries.Turn.{Turn};
 
     ghost Value = { List (Option Turn) };
 
     ghost view = { λ m. m.clear.items };
 
-    ghost invariant = { λ m. m.tickets.items ≡ map ticket_of m.clear.items };
+    ghost invariant = { λ m. (m.ranks.items ≡ map rank_of m.clear.items) × AreLeast m.clear.items m.least.items
+        × (length m.clear.items ≤ 65536) × (length m.least.items ≡ length m.clear.items / 16 + 1) };
 }
 
 impl Marks {
     /// No mark at so many numbers. `AllocError` where there is no memory.
     pub(crate) fn new(alloc: Global, numbers: usize) -> Result<Marks, AllocError>
+        requires { numbers ≤ 65536 }
         ensures { IfOk result (λ marks. marks ≡ replicate numbers None) }
     {
         let mut clear = Vec::with_capacity(alloc, numbers)?;
         for _ in 0..numbers {
             clear.push_reserved(None);
         }
-        let tickets = vec![in alloc; u64::MAX; numbers]?;
-        Ok(Marks { clear, tickets })
+        let ranks = vec![in alloc; u64::MAX; numbers]?;
+        let least = vec![in alloc; u64::MAX; numbers / BLOCK + 1]?;
+        Ok(Marks {
+            clear,
+            ranks,
+            least,
+        })
     }
 
     /// How many numbers there are.
@@ -47,6 +64,14 @@ impl Marks {
         self.clear.len()
     }
 
+    /// How many blocks they make.
+    pub(crate) fn blocks(&self) -> usize
+        ensures few { result ≤ 4097 }
+        ensures all { length self.now ≤ 16 * result }
+    {
+        self.least.len()
+    }
+
     /// The one that is clear at a number.
     pub(crate) fn at(&self, number: usize) -> Option<&Turn>
         ensures { option_copied result ≡ mark_at self.now number }
@@ -54,13 +79,30 @@ impl Marks {
         self.clear.get(number)?.as_ref()
     }
 
-    /// The ticket of the one that is clear at a number, or the greatest `u64` where none is.
-    pub(crate) fn ticket(&self, number: usize) -> u64
-        ensures { result ≡ ticket_of (mark_at self.now number) }
+    /// The rank of the one that is clear at a number, or the greatest `u64` where none is.
+    pub(crate) fn rank(&self, number: usize) -> u64
+        ensures { result ≡ rank_of (mark_at self.now number) }
     {
-        match self.tickets.get(number) {
-            Some(ticket) => *ticket,
+        match self.ranks.get(number) {
+            Some(rank) => *rank,
             None => u64::MAX,
+        }
+    }
+
+    /// The rank behind which no one comes before the one that is clear at a number, if one is.
+    pub(crate) fn bound(&self, number: usize) -> u64
+        ensures { result ≡ min (rank_of (mark_at self.now number)) last_rank }
+    {
+        self.rank(number).min(LAST_RANK)
+    }
+
+    /// A rank that none in a block is before.
+    pub(crate) fn least(&self, block: usize) -> u64
+        ensures { (i : ℕ) → i < 16 → result ≤ rank_of (mark_at self.now (16 * block + i)) }
+    {
+        match self.least.get(block) {
+            Some(least) => *least,
+            None => 0,
         }
     }
 
@@ -69,17 +111,35 @@ impl Marks {
         requires { number < length self.old }
         ensures { self.new ≡ slice_set self.old number clear }
     {
-        self.tickets[number] = ticket_of(&clear);
+        let rank = rank_of(&clear);
+        let was = self.rank(number);
         self.clear[number] = clear;
+        self.ranks[number] = rank;
+        if rank != was {
+            let block = number / BLOCK;
+            self.least[block] = least_from(&self.ranks, block * BLOCK);
+        }
     }
 }
 
-// The ticket of this one, or the greatest `u64` where there is none.
-fn ticket_of(clear: &Option<Turn>) -> u64
-    ensures { result ≡ ticket_of clear.now }
+// The rank of this one.
+fn rank_of(clear: &Option<Turn>) -> u64
+    ensures { result ≡ rank_of clear.now }
 {
     match clear {
-        Some(turn) => turn.ticket,
+        Some(turn) => turn.ticket.min(LAST_RANK),
         None => u64::MAX,
     }
+}
+
+// The least of the ranks in a block, which begins at this number.
+fn least_from(ranks: &[u64], from: usize) -> u64
+    requires { from ≤ 65536 }
+    ensures { (i : ℕ) → i < 16 → result ≤ get_or ranks.now (from + i) 18446744073709551615 }
+{
+    let mut least = u64::MAX;
+    for number in from..ranks.len().min(from + BLOCK) {
+        least = least.min(ranks[number]);
+    }
+    least
 }

@@ -1,28 +1,21 @@
 //! Those that wait and those that are held, and whose turn it is among them.
 ghost use Rattle.std.specs.Prelude.{◌≡◌, ◌+◌, ◌<◌, ◌++◌, ◌∷◌, true, false, [], length, IfOk, IfSome, IfNone};
 ghost use Rattle.std.specs.List.{list_any};
-ghost use Rattle.affinity.specs.Interval.{IsAffinity, server_size};
+ghost use Rattle.affinity.specs.Interval.{IsAffinity};
 ghost use Rattle.turns.specs.Turns.{next_turn, has_slot, has_number, without_slot, without_number, holds_at};
 
 use crate::Turn;
-use crate::candidates::better;
+use crate::candidates::best_in;
 use crate::holders::Holders;
 use crate::marking::{mark, mark_near};
 use crate::marks::Marks;
 use crate::queues::Queues;
-use affinity::{Affinity, Geometry, Place};
+use affinity::{Affinity, Geometry};
 use std::alloc::{AllocError, Global};
 use std::marker::Model;
 
 /// How many affinities the greatest geometry has.
 const MOST_AFFINITIES: usize = 357;
-
-// How many affinities a geometry has: their numbers are those below.
-fn affinities(geometry: &Geometry) -> usize
-    ensures { result ≡ server_size geometry.now }
-{
-    usize::from(Affinity::at(geometry, Place::Serial).end())
-}
 
 /// The messages that wait for their turn and those that are held, each with a slot of its own.
 ///
@@ -91,12 +84,10 @@ impl Turns {
         ensures { result ≡ next_turn room self.now.held self.now.waiting }
     {
         let mut best = self.marks.len(); // no one is marked there
-        let mut least = self.marks.ticket(best);
-        for number in 0..affinities(&self.geometry) {
-            // Most are passed by their tickets alone.
-            if self.marks.ticket(number) <= least {
-                best = better(room, &self.marks, best, number);
-                least = self.marks.ticket(best);
+        for block in 0..self.marks.blocks() {
+            // Most are passed by their least ranks alone.
+            if self.marks.least(block) <= self.marks.bound(best) {
+                best = best_in(room, &self.marks, best, block);
             }
         }
         self.marks.at(best).copied()

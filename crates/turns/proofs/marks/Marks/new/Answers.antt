@@ -1,12 +1,14 @@
--- There is no mark at any number, and no ticket.
-use Rattle.std.proofs.Common.{◌≡◌, ◌∙◌, ℕ, zero, suc, ◌∷◌, List, refl, ap, sym, arith, map, replicate, Option, None}
-use Rattle.turns.specs.Marks.{ticket_of}
+-- There is no mark at any number, and no rank.
+use Rattle.std.proofs.Common.{◌≡◌, ◌∙◌, ◌+◌, ◌/◌, ℕ, zero, suc, ◌∷◌, List, refl, ap, sym, subst, arith, length, map, replicate, Option, None}
+use Rattle.std.proofs.lemmas.List.{length-replicate}
+use Rattle.turns.specs.Marks.{AreLeast, rank_of}
 use Rattle.turns.specs.declared.entries.Turn.{Turn}
+use Rattle.turns.proofs.Blocks.{none-least}
 use Rattle.turns.proofs.marks.Marks.new.Goals as goal
 
-no_tickets : (n : ℕ) → replicate n 18446744073709551615 ≡ map ticket_of (replicate {A = Option Turn} n None)
-no_tickets zero = refl
-no_tickets (suc n) = ap (λ (tickets : List ℕ). 18446744073709551615 ∷ tickets) (no_tickets n)
+no_ranks : (n : ℕ) → replicate n 18446744073709551615 ≡ map rank_of (replicate {A = Option Turn} n None)
+no_ranks zero = refl
+no_ranks (suc n) = ap (λ (ranks : List ℕ). 18446744073709551615 ∷ ranks) (no_ranks n)
 
 all_none : (n m : ℕ) → n ≡ m → replicate {A = Option Turn} n None ≡ replicate m None
 all_none n m same = ap (λ k. replicate {A = Option Turn} k None) same
@@ -16,5 +18,13 @@ returns c = c.loop.invariant.0 ∙ all_none c.loop.counter c.args.numbers (omega
 
 pub invariant_of-result : goal.invariant_of-result
 invariant_of-result c =
-    c.in_ok-tickets.ensures.items_if_clones_equal (λ y same. same) ∙ no_tickets c.args.numbers
-    ∙ ap (λ (marks : List (Option Turn)). map ticket_of marks) (sym (c.loop.invariant.0 ∙ all_none c.loop.counter c.args.numbers (omega arith)))
+    let none : c.loop.clear.items ≡ replicate c.args.numbers None = c.loop.invariant.0 ∙ all_none c.loop.counter c.args.numbers (omega arith) in
+    let many : length c.loop.clear.items ≡ c.args.numbers = ap (λ (marks : List (Option Turn)). length marks) none ∙ length-replicate c.args.numbers None in
+    let least : c.in_ok-least.least.items ≡ replicate (c.args.numbers / 16 + 1) 18446744073709551615
+    = c.in_ok-least.ensures.items_if_clones_equal (λ y same. same) in (
+      c.in_ok-ranks.ensures.items_if_clones_equal (λ y same. same) ∙ no_ranks c.args.numbers ∙ ap (λ (marks : List (Option Turn)). map rank_of marks) (sym none),
+      subst (λ (marks : List (Option Turn)). AreLeast marks c.in_ok-least.least.items) (sym none)
+          (subst (λ (ls : List ℕ). AreLeast (replicate c.args.numbers None) ls) (sym least) (none-least c.args.numbers (c.args.numbers / 16 + 1))),
+      omega (arith, many, c.requires),
+      ap (λ (ls : List ℕ). length ls) least ∙ length-replicate (c.args.numbers / 16 + 1) 18446744073709551615 ∙ ap (λ n. n / 16 + 1) (sym many),
+    )
