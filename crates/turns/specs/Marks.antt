@@ -32,7 +32,7 @@ StayMarked held waiting before after =
 abbrev pub AreNearMarked : Geometry → Interval → List Turn → List Turn → List (Option Turn) → Type 0
 AreNearMarked g a held waiting marks = (b : Interval) → IsAffinity g b → overlap a b ≡ true → IsMarked held waiting marks b.number
 
--- the last one that one that is there may have
+-- the last rank of one that is there
 abbrev pub last_rank : ℕ
 last_rank = 18446744073709551614
 

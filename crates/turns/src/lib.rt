@@ -3,8 +3,8 @@
 //! Those that wait stand in a queue for each affinity, and those that are held at the number of
 //! theirs. Only the first one of a queue may go, and a mark at each number says whether that one is
 //! clear: no one at a related affinity is held, or came earlier and still waits. `next` looks at the
-//! least ticket among each sixteen marks, 23 at the greatest geometry, and into few of the sixteens: what
-//! it costs grows neither with the slots nor with how many wait. `arrive` and `go` put one mark right, and
+//! least ticket among each sixteen marks, which are 23 numbers, and into few of the sixteens: what it
+//! costs grows neither with the slots nor with how many wait. `arrive` and `go` put one mark right, and
 //! `free` those of the affinities related to the freed one: five for a stripe. `holder` costs the same
 //! however many there are.
 

@@ -9,13 +9,13 @@ use std::marker::Model;
 /// How many numbers there are in a block.
 pub(crate) const BLOCK: usize = 16;
 
-/// The last rank that a turn may have. The greatest `u64` is that of none.
+/// The last rank that one who waits may have. The greatest `u64` says that no one is marked.
 const LAST_RANK: u64 = u64::MAX - 1;
 
 /// A mark for each number of an affinity, which is there where one that waits is clear.
 ///
-/// The one that came first among them is looked for at each step of a server. So each has a rank, which is its ticket, and the
-/// least rank of each block of numbers is known: most blocks are passed by it alone.
+/// A server looks for the one that came first among them again and again. So each has a rank, which is its ticket, and the least
+/// rank of each block of numbers is kept: most blocks are passed by it alone.
 ///
 /// All memory is taken by `new`.
 #[derive(Drop)]
@@ -89,14 +89,15 @@ impl Marks {
         }
     }
 
-    /// The rank behind which no one comes before the one that is clear at a number, if one is.
+    /// The greatest rank that one which came before the one that is clear at a number may have. Where none is clear there, the
+    /// last rank.
     pub(crate) fn bound(&self, number: usize) -> u64
         ensures { result ≡ min (rank_of (mark_at self.now number)) last_rank }
     {
         self.rank(number).min(LAST_RANK)
     }
 
-    /// A rank that none in a block is before.
+    /// The least rank in a block: no one there has a lower one.
     pub(crate) fn least(&self, block: usize) -> u64
         ensures { (i : ℕ) → i < 16 → result ≤ rank_of (mark_at self.now (16 * block + i)) }
     {
