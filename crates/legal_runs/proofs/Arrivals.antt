@@ -1,26 +1,27 @@
 -- The replies in a legal run are those of the serial server to the messages in the order in which they arrived.
 use Rattle.std.proofs.Common.{◌≡◌, ℕ, ◌<◌, ◌≤◌, Bool, false, List, [], ◌∷◌, ◌++◌, refl, ap, sym, ◌∙◌, subst, append_assoc, take, drop, arith}
-use Rattle.std.specs.Prelude.{◌&&◌, ◌||◌, ◌==◌, not, nat_lt}
+use Rattle.std.specs.Prelude.{◌&&◌, ◌||◌, ◌==◌, not, nat_lt, IsPermutation}
 use Rattle.std.specs.List.{AllByRecursion, list_any}
 use Rattle.std.proofs.lemmas.List.{append-nil, take-append-drop}
-use Rattle.std.proofs.lemmas.Bool.{and_parts, or_parts, not-true, lt-ltb}
+use Rattle.std.proofs.lemmas.Bool.{and_parts, or_parts, not-true, lt-ltb, true≢false}
+use Rattle.std.proofs.lemmas.List.Sorted.{IsPermutation-append_left, IsPermutation-append_right, IsPermutation-middle, IsPermutation-refl, IsPermutation-trans}
 use Rattle.affinity.specs.declared.geometry.Geometry.{Geometry}
 use Rattle.message.specs.declared.Reply.{Reply}
 use Rattle.plain.specs.State.{State}
 use Rattle.plain.specs.Serial.{reply_to, fold}
-use Rattle.plain.specs.Order.{told, messages, by_ticket}
+use Rattle.plain.specs.Order.{told, messages, by_ticket, IsBefore}
 use Rattle.plain.proofs.ByTicket.{by_ticket-ascending, AreAscending as AreEachLess}
 use Rattle.legal_runs.specs.World.{Entry, Replied, World, entries, held, touches}
 use Rattle.legal_runs.specs.Eligible.{is_clear, has_room, is_eligible}
 use Rattle.legal_runs.specs.Events.{Hands, Event, grant, give_back, log}
 use Rattle.legal_runs.specs.Runs.{IsLegal, last, goes, arrives, went, arrived, answered}
-use Rattle.legal_runs.specs.Laws.{AreApart, AreAscending, IsSound, IsIdle, said}
-use Rattle.legal_runs.proofs.Lists.{picked, all_join, all_front, all_none, all_weaker, before_back, before_moved, before_one, before_join}
+use Rattle.legal_runs.specs.Laws.{AreApart, AreAscending, EachBefore, IsSound, IsIdle, said}
+use Rattle.legal_runs.proofs.Lists.{picked, all_join, all_front, all_none, all_permuted, all_weaker, before_back, before_front, before_moved, before_one, before_past, before_push, before_join}
 use Rattle.legal_runs.proofs.Apart.{apart_turned, entries-append}
 use Rattle.legal_runs.proofs.Moves.{Passed, Move, Stays, Arrives, Grants, Backs, Logs, Answers, moves, passed}
 use Rattle.legal_runs.proofs.Told.{told-append, IsIn, in_left, IsAsGood, good_itself, good_on, good_push, good_moved}
 use Rattle.legal_runs.proofs.Sound.{move_sound}
-use Rattle.legal_runs.proofs.Idle.{none_out, none_ran, none_logged}
+use Rattle.legal_runs.proofs.Idle.{idle_sound, none_out, none_ran, none_logged}
 use Rattle.legal_runs.proofs.Runs.{run_follows, run_answers}
 
 -- ---- a run leaves its messages in a row that is as good as that of their arrivals
@@ -40,15 +41,21 @@ any_front : (p : Entry → Bool) (us vs : List Entry) → list_any p (us ++ vs) 
 any_front p [] vs h = refl
 any_front p (u ∷ us) vs h = let k = or_parts (p u) (list_any p (us ++ vs)) h in or_false (p u) (list_any p us) k.0 (any_front p us vs k.1)
 
-module _ (g : Geometry) (x : State) where
+-- Two rows that are in step stay so where one more comes behind each, and where one of the second moves past unrelated ones.
+pub record KeepsInStep (g : Geometry) (AreInStep : List Entry → List Entry → Type 0) : Type 0 where
+  pub push : (es fs : List Entry) (e : Entry) → AreInStep es fs → AreInStep (es ++ e ∷ []) (fs ++ e ∷ [])
+  pub moved : (es ps us : List Entry) (e : Entry) (vs : List Entry) → AllByRecursion (λ d. touches g e d ≡ false) us
+      → AreInStep es (ps ++ (us ++ e ∷ vs)) → AreInStep es (ps ++ e ∷ (us ++ vs))
+
+module _ (g : Geometry) (AreInStep : List Entry → List Entry → Type 0) (keeps : KeepsInStep g AreInStep) where
   -- where nothing is logged and nothing comes
   quiet : (new : World) (past : List Replied) (all : List Entry) (gone : List Replied) (come : List Entry) → gone ≡ [] → come ≡ []
-      → IsAsGood g x all (row new past) → IsAsGood g x (all ++ come) (row new (past ++ gone))
+      → AreInStep all (row new past) → AreInStep (all ++ come) (row new (past ++ gone))
   quiet new past all gone come e f good =
-      subst (λ c. IsAsGood g x (all ++ c) (row new (past ++ gone))) (sym f)
-      (subst (λ d. IsAsGood g x (all ++ []) (row new (past ++ d))) (sym e)
-      (subst (λ l. IsAsGood g x l (row new (past ++ []))) (sym (append-nil all))
-      (subst (λ l. IsAsGood g x all (row new l)) (sym (append-nil past)) good)))
+      subst (λ c. AreInStep (all ++ c) (row new (past ++ gone))) (sym f)
+      (subst (λ d. AreInStep (all ++ []) (row new (past ++ d))) (sym e)
+      (subst (λ l. AreInStep l (row new (past ++ []))) (sym (append-nil all))
+      (subst (λ l. AreInStep all (row new l)) (sym (append-nil past)) good)))
 
   one_more : (w : World) (past : List Replied) (e : Entry)
       → row w past ++ e ∷ [] ≡ entries past ++ (entries w.ran ++ (w.out ++ (w.waiting ++ e ∷ [])))
@@ -68,18 +75,18 @@ module _ (g : Geometry) (x : State) where
         clear_of w e us (not_any (λ d. nat_lt d.0 e.0 && touches g e d) us k.1) j.1,
       )
 
-  move_good : (old new : World) (p : Passed) (past : List Replied) (all : List Entry)
-      → Move g old new p → IsSound g old → IsAsGood g x all (row old past) → IsAsGood g x (all ++ p.come) (row new (past ++ p.gone))
-  move_good old new p past all (Stays s e) h good =
+  move_in_step : (old new : World) (p : Passed) (past : List Replied) (all : List Entry)
+      → Move g old new p → IsSound g old → AreInStep all (row old past) → AreInStep (all ++ p.come) (row new (past ++ p.gone))
+  move_in_step old new p past all (Stays s e) h good =
       quiet new past all p.gone p.come (ap (λ p. p.gone) e) (ap (λ p. p.come) e)
-      (subst (IsAsGood g x all) (λ i. entries past ++ (entries (sym s.ran i) ++ (sym s.out i ++ sym s.waiting i))) good)
-  move_good old new p past all (Arrives m fits is e) h good =
+      (subst (AreInStep all) (λ i. entries past ++ (entries (sym s.ran i) ++ (sym s.out i ++ sym s.waiting i))) good)
+  move_in_step old new p past all (Arrives m fits is e) h good =
       let one : Entry = (old.next, m) in
-      subst (λ p. IsAsGood g x (all ++ p.come) (row new (past ++ p.gone))) (sym e)
-      (subst (λ l. IsAsGood g x (all ++ one ∷ []) (row new l)) (sym (append-nil past))
-      (subst (λ w. IsAsGood g x (all ++ one ∷ []) (row w past)) (sym is)
-      (subst (IsAsGood g x (all ++ one ∷ [])) (one_more old past one) (good_push g x all (row old past) one good))))
-  move_good old new p past all (Grants found first is e) h good =
+      subst (λ p. AreInStep (all ++ p.come) (row new (past ++ p.gone))) (sym e)
+      (subst (λ l. AreInStep (all ++ one ∷ []) (row new l)) (sym (append-nil past))
+      (subst (λ w. AreInStep (all ++ one ∷ []) (row w past)) (sym is)
+      (subst (AreInStep (all ++ one ∷ [])) (one_more old past one) (keeps.push all (row old past) one good))))
+  move_in_step old new p past all (Grants found first is e) h good =
       let k = picked (is_eligible g old) old.waiting found first in
       let one = found.0 in
       let P = entries past in
@@ -98,10 +105,10 @@ module _ (g : Geometry) (x : State) where
       let to : F ++ one ∷ (k.before ++ k.behind) ≡ row (grant old found) past =
       sym (joined _) ∙ ap (λ l. P ++ (R ++ l)) (sym (append_assoc old.out (one ∷ []) _) ∙ ap
       (λ l. (old.out ++ one ∷ []) ++ l) (sym k.rest)) in
-      quiet new past all p.gone p.come (ap (λ p. p.gone) e) (ap (λ p. p.come) e) (subst (λ w. IsAsGood g x all (row w past)) (sym is)
-      (subst (IsAsGood g x all) to (good_on g x all _ _
-      (subst (IsAsGood g x all) from good) (good_moved g x F k.before one k.behind free))))
-  move_good old new p past all (Backs ticket found one_out is e) h good =
+      quiet new past all p.gone p.come (ap (λ p. p.gone) e) (ap (λ p. p.come) e) (subst (λ w. AreInStep all (row w past)) (sym is)
+      (subst (AreInStep all) to (keeps.moved all F k.before one k.behind free
+      (subst (AreInStep all) from good))))
+  move_in_step old new p past all (Backs ticket found one_out is e) h good =
       let k = picked (λ d. d.0 == ticket) old.out found one_out in
       let one = found.0 in
       let P = entries past in
@@ -120,10 +127,10 @@ module _ (g : Geometry) (x : State) where
       append_assoc P R _ ∙ ap (λ l. P ++ l) (sym (append_assoc R (one ∷ []) _) ∙
       (λ i. back i ++ (sym (append_assoc k.before k.behind old.waiting) i)) ∙ ap
       (λ o. entries (old.ran ++ (one.0, one.1, reply_to g old.settled one.1) ∷ []) ++ (o ++ old.waiting)) (sym k.rest)) in
-      quiet new past all p.gone p.come (ap (λ p. p.gone) e) (ap (λ p. p.come) e) (subst (λ w. IsAsGood g x all (row w past)) (sym is)
-      (subst (IsAsGood g x all) to (good_on g x all _ _
-      (subst (IsAsGood g x all) from good) (good_moved g x (P ++ R) k.before one (k.behind ++ old.waiting) free))))
-  move_good old new p past all (Logs n is e) h good =
+      quiet new past all p.gone p.come (ap (λ p. p.gone) e) (ap (λ p. p.come) e) (subst (λ w. AreInStep all (row w past)) (sym is)
+      (subst (AreInStep all) to (keeps.moved all (P ++ R) k.before one (k.behind ++ old.waiting) free
+      (subst (AreInStep all) from good))))
+  move_in_step old new p past all (Logs n is e) h good =
       let rest = old.out ++ old.waiting in
       let same : row old past ≡ row (log g old n) (past ++ take n old.ran) =
       ap (λ l. entries past ++ (entries l ++ rest)) (sym (take-append-drop n old.ran))
@@ -131,27 +138,70 @@ module _ (g : Geometry) (x : State) where
       ∙ append_assoc (entries (take n old.ran)) (entries (drop n old.ran)) rest)
       ∙ sym (append_assoc (entries past) (entries (take n old.ran)) _)
       ∙ ap (λ l. l ++ (entries (drop n old.ran) ++ rest)) (sym (entries-append past (take n old.ran))) in
-      subst (λ p. IsAsGood g x (all ++ p.come) (row new (past ++ p.gone))) (sym e)
-      (subst (λ l. IsAsGood g x l (row new (past ++ take n old.ran))) (sym (append-nil all))
-      (subst (λ w. IsAsGood g x all (row w (past ++ take n old.ran))) (sym is) (subst (IsAsGood g x all) same good)))
-  move_good old new p past all (Answers a rest front is e) h good =
-      quiet new past all p.gone p.come (ap (λ p. p.gone) e) (ap (λ p. p.come) e) (subst (λ w. IsAsGood g x all (row w past)) (sym is) good)
+      subst (λ p. AreInStep (all ++ p.come) (row new (past ++ p.gone))) (sym e)
+      (subst (λ l. AreInStep l (row new (past ++ take n old.ran))) (sym (append-nil all))
+      (subst (λ w. AreInStep all (row w (past ++ take n old.ran))) (sym is) (subst (AreInStep all) same good)))
+  move_in_step old new p past all (Answers a rest front is e) h good =
+      quiet new past all p.gone p.come (ap (λ p. p.gone) e) (ap (λ p. p.come) e) (subst (λ w. AreInStep all (row w past)) (sym is) good)
 
-  run_good : (old : Hands) (events : List Event) (past : List Replied) (all : List Entry) → IsLegal g old events
-      → IsSound g old.core → IsAsGood g x all (row old.core past)
-      → IsAsGood g x (all ++ arrived events) (row (last old events).core (past ++ went old events))
-  run_good old [] past all legal h good = quiet old.core past all [] [] refl refl good
-  run_good old (event ∷ events) past all legal h good =
+  run_in_step : (old : Hands) (events : List Event) (past : List Replied) (all : List Entry) → IsLegal g old events
+      → IsSound g old.core → AreInStep all (row old.core past)
+      → AreInStep (all ++ arrived events) (row (last old events).core (past ++ went old events))
+  run_in_step old [] past all legal h good = quiet old.core past all [] [] refl refl good
+  run_in_step old (event ∷ events) past all legal h good =
       let m = moves g old event legal.0 in
       let p = passed old.core event.step event.outcome event.rose in
       let gone = goes old.core event.step event.rose in
       let come = arrives event.step event.outcome in
-      let k = run_good event.world events (past ++ gone) (all
-      ++ come) legal.1 (move_sound g old.core event.world.core p m h) (move_good old.core event.world.core p past all m h good) in
-      subst (λ l. IsAsGood g x l (row (last event.world events).core (past
+      let k = run_in_step event.world events (past ++ gone) (all
+      ++ come) legal.1 (move_sound g old.core event.world.core p m h) (move_in_step old.core event.world.core p past all m h good) in
+      subst (λ l. AreInStep l (row (last event.world events).core (past
       ++ (gone ++ went event.world events)))) (append_assoc all come (arrived events))
-      (subst (λ l. IsAsGood g x ((all ++ come)
+      (subst (λ l. AreInStep ((all ++ come)
       ++ arrived events) (row (last event.world events).core l)) (append_assoc past gone (went event.world events)) k)
+
+  -- From none on, all that arrived and the row are in step.
+  pub arrivals_in_step : (old : Hands) (events : List Event) → IsLegal g old events → IsIdle old.core → AreInStep [] []
+      → AreInStep (arrived events) (row (last old events).core (went old events))
+  arrivals_in_step old events legal idle start =
+      let none : row old.core [] ≡ [] = λ i. entries (none_ran old.core idle i) ++ (none_out old.core idle i ++ idle.none_waits i) in
+      run_in_step old events [] [] legal (idle_sound old.core idle g) (subst (AreInStep []) (sym none) start)
+
+-- ---- each tells as much
+
+good_in_step : (g : Geometry) (x : State) → KeepsInStep g (IsAsGood g x)
+good_in_step g x = record {
+  push = good_push g x;
+  moved = λ es ps us e vs free good. good_on g x es _ _ good (good_moved g x ps us e vs free);
+}
+
+-- ---- none is lost, none is there twice, and related ones stay in order
+
+-- The second row has the messages of the first, each as often. Those at related places are by ticket there, if they are so in the first.
+pub record IsReordered (g : Geometry) (es fs : List Entry) : Type 0 where
+  pub same : IsPermutation es fs
+  pub ordered : EachBefore (IsBefore g) es → EachBefore (IsBefore g) fs
+
+reordered_in_step : (g : Geometry) → KeepsInStep g (IsReordered g)
+reordered_in_step g = record {
+  push = λ es fs e h. record {
+    same = IsPermutation-append_left (e ∷ []) es fs h.same;
+    ordered = λ ordered. before_push (IsBefore g) fs e (h.ordered (before_front (IsBefore g) es (e ∷ []) ordered))
+        (all_permuted (λ d. IsBefore g d e) es fs h.same (before_one (IsBefore g) es e [] ordered));
+  };
+  moved = λ es ps us e vs free h. record {
+    same = IsPermutation-trans es _ _ h.same (IsPermutation-append_right ps _ _ (IsPermutation-middle us e vs));
+    ordered = λ ordered. before_past (IsBefore g) ps us e vs
+        (all_weaker (λ d. touches g e d ≡ false) (IsBefore g e) (λ d free related. absurd (true≢false (sym related ∙ free))) us free)
+        (h.ordered ordered);
+  };
+}
+
+pub arrivals_reordered : (g : Geometry) (old : Hands) (events : List Event) → IsLegal g old events → IsIdle old.core
+    → IsReordered g (arrived events) (row (last old events).core (went old events))
+arrivals_reordered g old events legal idle =
+    arrivals_in_step g (IsReordered g) (reordered_in_step g) old events legal idle
+    (record { same = IsPermutation-refl []; ordered = λ ordered. ordered })
 
 -- ---- tickets are given in order
 
@@ -219,10 +269,9 @@ module _ (g : Geometry) (old : Hands) (events : List Event) (legal : IsLegal g o
     (idle : IsIdle old.core) where
   good : IsAsGood g old.core.settled (by_ticket (arrived events)) (row (last old events).core (went old events))
   good =
-      let none : row old.core [] ≡ [] = λ i. entries (none_ran old.core idle i) ++ (none_out old.core idle i ++ idle.none_waits i) in
-      subst (λ l. IsAsGood g old.core.settled l (row (last old events).core (went old events))) (sym (arrived_by_ticket g old events legal))
-      (run_good g old.core.settled old events [] [] legal h
-      (subst (IsAsGood g old.core.settled []) (sym none) (good_itself g old.core.settled [])))
+      let x = old.core.settled in
+      subst (λ l. IsAsGood g x l (row (last old events).core (went old events))) (sym (arrived_by_ticket g old events legal))
+      (arrivals_in_step g (IsAsGood g x) (good_in_step g x) old events legal idle (good_itself g x []))
 
   -- Each reply to a message that the run logs is that of the serial server to the messages by ticket.
   pub logged_by_ticket : (p : ℕ × Reply) → IsIn p (said (went old events)) → IsIn p (told g old.core.settled (by_ticket (arrived events)))

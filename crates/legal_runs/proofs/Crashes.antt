@@ -4,8 +4,9 @@ use Rattle.affinity.specs.declared.geometry.Geometry.{Geometry}
 use Rattle.message.specs.declared.Msg.{Msg}
 use Rattle.plain.specs.State.{State}
 use Rattle.plain.specs.Serial.{fold}
+use Rattle.legal_runs.specs.World.{Replied}
 use Rattle.legal_runs.specs.Events.{Hands, Event}
-use Rattle.legal_runs.specs.Runs.{IsLegal, last, appended, journal}
+use Rattle.legal_runs.specs.Runs.{IsLegal, last, appended, goes, journal, went}
 use Rattle.legal_runs.specs.Crash.{in_doubt, IsLogAfter, IsLeftSince}
 use Rattle.legal_runs.specs.Laws.{IsSound}
 use Rattle.legal_runs.proofs.Told.{fold-joined}
@@ -26,6 +27,17 @@ journal_first old (event ∷ events) (suc k) (suc after) le =
     let j = journal_first event.world events k after (omega (arith, le)) in
     let now = appended old.core event.step event.rose in
     (j.0, ap (λ l. now ++ l) j.1 ∙ sym (append_assoc now (journal event.world (take k events)) j.0))
+
+-- and log a beginning of what more of them log
+pub went_first : (old : Hands) (events : List Event) (k after : ℕ) → k ≤ after
+    → (rest : List Replied) × (went old (take after events) ≡ went old (take k events) ++ rest)
+went_first old events zero after le = (went old (take after events), refl)
+went_first old events (suc k) zero le = absurd (omega (arith, le))
+went_first old [] (suc k) (suc after) le = ([], refl)
+went_first old (event ∷ events) (suc k) (suc after) le =
+    let j = went_first event.world events k after (omega (arith, le)) in
+    let now = goes old.core event.step event.rose in
+    (j.0, ap (λ l. now ++ l) j.1 ∙ sym (append_assoc now (went event.world (take k events)) j.0))
 
 -- Whatever is left, the log begins with all that was appended before.
 pub left_begins : (g : Geometry) (old : Hands) (events : List Event) (k : ℕ) (x : State) → IsLeftSince g old events k x

@@ -1,14 +1,17 @@
 -- Worked examples, by computing: what a small machine answers to lists of steps, what is logged in them, and what a crash may leave.
-use Rattle.std.proofs.Common.{◌≡◌, ℕ, zero, suc, true, false, List, [], ◌∷◌, ◌++◌, take, refl, ap, sym, ◌∙◌, lit≤}
-use Rattle.std.specs.Prelude.{◌-◌, ◌^◌, None}
+use Rattle.std.proofs.Common.{◌≡◌, ℕ, zero, suc, true, false, List, [], ◌∷◌, ◌++◌, take, refl, ap, sym, ◌∙◌, get_or, inl, ⊎_elim, arith, lit≤}
+use Rattle.std.specs.Prelude.{◌-◌, ◌^◌, None, IsPermutation}
 use Rattle.std.proofs.lemmas.Bool.{true≢false}
+use Rattle.std.proofs.lemmas.List.Sorted.{Contains-permutation, IsPermutation-middle, length_permutation}
 use Rattle.affinity.specs.Geometry.{small}
 use Rattle.message.specs.declared.Block.{Block}
 use Rattle.message.specs.declared.Msg.{Msg}
 use Rattle.message.specs.declared.Msg.TheVariants.{MakeVol, Create, Write, Read, Summary as AskSummary, SetLabel, Label as AskLabel}
 use Rattle.message.specs.declared.Refusal.TheVariants.{Exists}
+use Rattle.message.specs.declared.Reply.{Reply}
 use Rattle.message.specs.declared.Reply.TheVariants.{Done, Summary, Refused}
 use Rattle.plain.specs.State.{State, empty}
+use Rattle.plain.specs.Order.{IsBefore}
 use Rattle.plain.specs.Serial.{fold, next_state}
 use Rattle.legal_runs.specs.declared.outcomes.Step.{Step}
 use Rattle.legal_runs.specs.declared.outcomes.Step.TheVariants as steps
@@ -17,11 +20,13 @@ use Rattle.legal_runs.specs.declared.outcomes.Outcome.TheVariants as outcomes
 use Rattle.legal_runs.specs.declared.outcomes.ArriveRefusal.TheVariants as arrivals
 use Rattle.legal_runs.specs.declared.outcomes.CoreFault.TheVariants as faults
 use Rattle.legal_runs.specs.declared.outcomes.PointRefusal.TheVariants as points
-use Rattle.legal_runs.specs.World.{World}
-use Rattle.legal_runs.specs.Events.{Hands, Empty, Event, IsAllowed, happens, fault, touches_device}
+use Rattle.legal_runs.specs.World.{Entry, World}
+use Rattle.legal_runs.specs.Events.{Hands, Empty, Event, IsAllowed, happens, fault, loggable, touches_device}
 use Rattle.legal_runs.specs.Runs.{IsLegal, IsRun, outcomes_of, journal, last, answered_changes}
 use Rattle.legal_runs.specs.Crash.{IsLeftSince, IsLogAfter, in_doubt}
+use Rattle.legal_runs.specs.Laws.{full, DoubtsWhatRan, IsSerialLog}
 use Rattle.legal_runs.specs.Lives.{Unopened, Ran, IsLeftByLives}
+use Rattle.legal_runs.proofs.Elements.{contains_in, holds_of, in_contained}
 
 -- a core just opened
 abbrev opened : ℕ → State → World
@@ -116,6 +121,16 @@ two_stripes_side_by_side : (x y : Block) → answers_of (two_hands 3 with_file)
     ∷ outcomes.Ran ∷ outcomes.Back 1 ∷ outcomes.Logged 1 ∷ outcomes.Answered 1 Done ∷ outcomes.Ran ∷ outcomes.Back 0
     ∷ outcomes.Logged 1 ∷ outcomes.Answered 0 Done ∷ outcomes.Pointed ∷ []
 two_stripes_side_by_side x y = refl
+
+-- Hands with a job or with its result are full, until the message is back.
+abbrev two_hands_of_three : (x y : Block) → List Step
+two_hands_of_three x y = steps.Arrive (Write 0 0 0 0 x) ∷ steps.Arrive (Write 0 0 0 1 y) ∷ steps.Grant ∷ steps.Grant ∷ steps.Run 1 ∷ []
+
+two_are_full : (x y : Block) → full (after (three_hands 3 with_file) (two_hands_of_three x y)).hands ≡ 2
+two_are_full x y = refl
+
+one_is_full_still : (x y : Block) → full (after (three_hands 3 with_file) (two_hands_of_three x y ++ (steps.Back 1 ∷ []))).hands ≡ 1
+one_is_full_still x y = refl
 
 -- A message is held, and its place taken, until it is answered.
 a_label_beside_a_write : (x : Block) (bytes : List ℕ) → answers_of (two_hands 4 with_file)
@@ -282,6 +297,73 @@ none_more (suc n) = refl
 
 both_are_left : (ms : List Msg) → IsLogAfter (one_hand 1 empty) cut_run 13 ms → fold small empty ms ≡ with_file
 both_are_left ms log = ap (fold small empty) (log.is ∙ ap (λ l. (MakeVol 0 0 ∷ Create 0 0 0 ∷ []) ++ l) (none_more log.some))
+
+what_was_to_be_logged_ran : DoubtsWhatRan failed_one.core
+what_was_to_be_logged_ran = record { some = 1; at_most = lit≤ tt; is = refl }
+
+what_never_ran_is_not_in_doubt : DoubtsWhatRan (record (opened 1 empty) { doubt = MakeVol 0 0 ∷ [] }) → ⊥
+what_never_ran_is_not_in_doubt h = by h.some h.is
+  where
+    by : (n : ℕ) → MakeVol 0 0 ∷ [] ≡ loggable (take n []) → ⊥
+    by zero e = cc
+    by (suc n) e = cc
+
+-- ---- serial logs
+
+-- Two writes arrived, to two stripes. The second was done first, and the other one may have been done too, or not.
+module _ (x y : Block) where
+  abbrev to_two_stripes : List Entry
+  to_two_stripes = (0, Write 0 0 0 0 x) ∷ (1, Write 0 0 0 1 y) ∷ []
+
+  turned : IsPermutation to_two_stripes ((1, Write 0 0 0 1 y) ∷ (0, Write 0 0 0 0 x) ∷ [])
+  turned = IsPermutation-middle ((0, Write 0 0 0 0 x) ∷ []) (1, Write 0 0 0 1 y) []
+
+  one_is_done : IsSerialLog small with_file to_two_stripes ((1, Write 0 0 0 1 y, Done) ∷ [])
+  one_is_done = record {
+    rest = (0, Write 0 0 0 0 x) ∷ [];
+    each_once = turned;
+    by_ticket = (((λ related. absurd (true≢false (sym related))), tt), (tt, tt));
+    in_order = refl;
+  }
+
+  both_are_done : IsSerialLog small with_file to_two_stripes ((1, Write 0 0 0 1 y, Done) ∷ (0, Write 0 0 0 0 x, Done) ∷ [])
+  both_are_done = record {
+    rest = [];
+    each_once = turned;
+    by_ticket = (((λ related. absurd (true≢false (sym related))), tt), (tt, tt));
+    in_order = refl;
+  }
+
+  -- To one block they are done by ticket,
+  abbrev to_one_block : List Entry
+  to_one_block = (0, Write 0 0 0 0 x) ∷ (1, Write 0 0 0 0 y) ∷ []
+
+  not_turned : IsSerialLog small with_file to_one_block ((1, Write 0 0 0 0 y, Done) ∷ (0, Write 0 0 0 0 x, Done) ∷ []) → ⊥
+  not_turned h = let less = h.by_ticket.0.0 refl in omega (arith, less)
+
+  -- and the first isn't left out.
+  none_left_out : IsSerialLog small with_file to_one_block ((1, Write 0 0 0 0 y, Done) ∷ []) → ⊥
+  none_left_out h =
+      let first : Entry = (0, Write 0 0 0 0 x) in
+      let all = (1, Write 0 0 0 0 y) ∷ h.rest in
+      let there = in_contained all first
+      (Contains-permutation to_one_block all first h.each_once (contains_in to_one_block first (inl refl))) in
+      ⊎_elim (λ (same : first ≡ (1, Write 0 0 0 0 y)). let zero_is_one = ap (λ (e : Entry). e.0) same in omega (arith, zero_is_one))
+      (λ behind. let less = holds_of (IsBefore small (1, Write 0 0 0 0 y)) h.rest h.by_ticket.0 first behind refl in omega (arith, less))
+      there
+
+no_message_is_done_twice : IsSerialLog small empty ((0, AskSummary) ∷ [])
+    ((0, AskSummary, Summary 0 0 0) ∷ (0, AskSummary, Summary 0 0 0) ∷ []) → ⊥
+no_message_is_done_twice h = let long = length_permutation _ _ h.each_once in omega (arith, long)
+
+what_never_arrived_is_not_done : IsSerialLog small empty [] ((0, AskSummary, Summary 0 0 0) ∷ []) → ⊥
+what_never_arrived_is_not_done h = let long = length_permutation _ _ h.each_once in omega (arith, long)
+
+refused_or_done : Refused Exists ≡ Done → ⊥
+refused_or_done e = cc
+
+another_reply_is_none : IsSerialLog small empty ((0, MakeVol 0 0) ∷ []) ((0, MakeVol 0 0, Refused Exists) ∷ []) → ⊥
+another_reply_is_none h = refused_or_done (ap (λ (replies : List (ℕ × Reply)). (get_or replies 0 (0, Done)).1) h.in_order)
 
 -- ---- runs and lives
 

@@ -3,9 +3,11 @@ use Rattle.std.proofs.Common.{◌≡◌, ℕ, zero, suc, ◌^◌, ◌-◌, ◌+�
 use Rattle.std.specs.Prelude.{◌&&◌, ◌==◌, not, nat_le, nat_lt, if◌then◌else◌, is_some, is_none, MatchBool, position, slice_get}
 use Rattle.std.specs.List.{list_any}
 use Rattle.std.proofs.lemmas.Bool.{true≢false}
+use Rattle.std.proofs.lemmas.List.{append-nil}
 use Rattle.affinity.specs.declared.geometry.Geometry.{Geometry}
 use Rattle.message.specs.declared.Msg.{Msg}
 use Rattle.message.specs.Messages.{is_in_range}
+use Rattle.plain.specs.Serial.{reply_to}
 use Rattle.legal_runs.specs.declared.outcomes.Step.{Step}
 use Rattle.legal_runs.specs.declared.outcomes.Step.TheVariants as steps
 use Rattle.legal_runs.specs.declared.outcomes.Outcome.{Outcome}
@@ -142,7 +144,17 @@ module _ (g : Geometry) (n : ℕ) (world : World) (row : List Hand) where
   machine = record { core = stopped; hands = row }
 
   still : IsStopped stopped stopped
-  still = record { failed = refl; waiting = refl; settled = refl; doubt = refl; room = refl; next = refl; left = refl }
+  still = record {
+    failed = refl;
+    waiting = refl;
+    back = [];
+    ran = sym (append-nil world.ran);
+    settled = refl;
+    doubt = refl;
+    room = refl;
+    next = refl;
+    left = refl;
+  }
 
   abbrev Still : Outcome × Hands → Type 0
   Still o = IsStopped stopped o.1.core
@@ -160,11 +172,31 @@ module _ (g : Geometry) (n : ℕ) (world : World) (row : List Hand) where
 
   back_still : (i : ℕ) (found : Option (Entry × List Entry)) → Still (back_from g machine i found)
   back_still i None = still
-  back_still i (Some found) = record { failed = refl; waiting = refl; settled = refl; doubt = refl; room = refl; next = refl; left = refl }
+  back_still i (Some found) = record {
+    failed = refl;
+    waiting = refl;
+    back = (found.0.0, found.0.1, reply_to g world.settled found.0.1) ∷ [];
+    ran = refl;
+    settled = refl;
+    doubt = refl;
+    room = refl;
+    next = refl;
+    left = refl;
+  }
 
   answer_still : (as' : List Replied) → IsStopped stopped (answer stopped as').1
   answer_still [] = still
-  answer_still (a ∷ as') = record { failed = refl; waiting = refl; settled = refl; doubt = refl; room = refl; next = refl; left = refl }
+  answer_still (a ∷ as') = record {
+    failed = refl;
+    waiting = refl;
+    back = [];
+    ran = sym (append-nil world.ran);
+    settled = refl;
+    doubt = refl;
+    room = refl;
+    next = refl;
+    left = refl;
+  }
 
   happens_still : (s : Step) → Still (happens g n machine s)
   happens_still (steps.Arrive m) = still

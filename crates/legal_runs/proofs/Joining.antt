@@ -1,9 +1,18 @@
--- A legal run goes on by every legal run from where it ended.
-use Rattle.std.proofs.Common.{List, [], ◌∷◌, ◌++◌, refl, ap, sym, ◌∙◌, append_assoc}
+-- A legal run goes on by every legal run from where it ended; and what a crash of either leaves, a crash of the two leaves.
+use Rattle.std.proofs.Common.{◌≡◌, ℕ, zero, suc, ◌+◌, ◌≤◌, true, false, List, [], ◌∷◌, ◌++◌, refl, ap, sym, ◌∙◌, subst, append_assoc, length, take, drop, arith}
+use Rattle.std.specs.Prelude.{if◌then◌else◌}
+use Rattle.std.proofs.lemmas.List.{drop-append-le, length-append, take-append-le}
 use Rattle.affinity.specs.declared.geometry.Geometry.{Geometry}
+use Rattle.message.specs.declared.Msg.{Msg}
+use Rattle.plain.specs.State.{State}
+use Rattle.plain.specs.Serial.{fold}
+use Rattle.legal_runs.specs.World.{World}
 use Rattle.legal_runs.specs.Events.{Hands, Event}
-use Rattle.legal_runs.specs.Runs.{IsLegal, last, goes, appended, arrives, answers}
-use Rattle.legal_runs.specs.Laws.{IsJoined}
+use Rattle.legal_runs.specs.Runs.{IsLegal, last, goes, appended, arrives, answers, journal}
+use Rattle.legal_runs.specs.Crash.{in_doubt, next_batch, IsLogAfter, IsLeftSince}
+use Rattle.legal_runs.specs.Laws.{IsJoined, IsSound}
+use Rattle.legal_runs.proofs.Runs.{run_journal}
+use Rattle.legal_runs.proofs.Told.{fold-joined}
 
 pub runs_join : (g : Geometry) (old : Hands) (events more : List Event) → IsLegal g old events → IsLegal g (last old events) more
     → IsJoined g old events more
@@ -25,4 +34,73 @@ runs_join g old (event ∷ events) more legal on =
           ∙ sym (append_assoc (appended old.core event.step event.rose) _ _);
       arrived_is = ap (λ l. arrives event.step event.outcome ++ l) k.arrived_is ∙ sym (append_assoc (arrives event.step event.outcome) _ _);
       answered_is = ap (λ l. answers event.outcome ++ l) k.answered_is ∙ sym (append_assoc (answers event.outcome) _ _);
+    }
+
+-- ---- what a crash leaves
+
+-- The first so many of those in doubt stay the first where more events come behind the rest. If there is no rest, nothing is in doubt
+-- unless the device has failed, and then what is in doubt isn't that of an event.
+still_in_doubt : (w : World) (rest more : List Event) (n : ℕ) → n ≤ length (in_doubt w rest)
+    → (n ≤ length (in_doubt w (rest ++ more))) × (take n (in_doubt w rest) ≡ take n (in_doubt w (rest ++ more)))
+still_in_doubt w rest more zero le = (omega arith, refl)
+still_in_doubt w [] more (suc n) le =
+    elim w.failed as (λ b. suc n ≤ length (if b then w.doubt else [])
+    → (suc n ≤ length (if b then w.doubt else next_batch w more))
+    × (take (suc n) (if b then w.doubt else []) ≡ take (suc n) (if b then w.doubt else next_batch w more))) [
+      | true ↦ λ le. (le, refl)
+      | false ↦ λ le. absurd (omega (arith, le))
+    ] le
+still_in_doubt w (event ∷ rest) more (suc n) le = (le, refl)
+
+pub log_of_first : (old : Hands) (events more : List Event) (k : ℕ) (ms : List Msg) → k ≤ length events → IsLogAfter old events k ms
+    → IsLogAfter old (events ++ more) k ms
+log_of_first old events more k ms le log =
+    let first = sym (take-append-le k events more le) in
+    let rest = sym (drop-append-le k events more le) in
+    let still = still_in_doubt (last old (take k events)).core (drop k events) more log.some log.at_most in
+    record {
+      some = log.some;
+      at_most = subst (λ l. log.some ≤ length l) (λ i. in_doubt (last old (first i)).core (rest i)) still.0;
+      is = log.is ∙ ap (λ l. journal old (take k events) ++ l) still.1
+          ∙ (λ i. journal old (first i) ++ take log.some (in_doubt (last old (first i)).core (rest i)));
+    }
+
+pub log_of_second : (old : Hands) (events more : List Event) (k : ℕ) (ms : List Msg) → IsLogAfter (last old events) more k ms
+    → IsLogAfter old (events ++ more) (length events + k) (journal old events ++ ms)
+log_of_second old [] more k ms log = let none : k ≡ 0 + k = omega arith in subst (λ n. IsLogAfter old more n ms) none log
+log_of_second old (event ∷ events) more k ms log =
+    let now = appended old.core event.step event.rose in
+    let later = log_of_second event.world events more k ms log in
+    let one_more : suc (length events + k) ≡ suc (length events) + k = omega arith in
+    subst (λ n. IsLogAfter old (event ∷ (events ++ more)) n ((now ++ journal event.world events) ++ ms)) one_more (record {
+      some = later.some;
+      at_most = later.at_most;
+      is = append_assoc now _ _ ∙ ap (λ l. now ++ l) later.is ∙ sym (append_assoc now _ _);
+    })
+
+pub left_of_first : (g : Geometry) (old : Hands) (events more : List Event) (k : ℕ) (x : State) → IsLeftSince g old events k x
+    → IsLeftSince g old (events ++ more) k x
+left_of_first g old events more k x left =
+    let long = length-append events more in
+    record {
+      after = left.after;
+      since = left.since;
+      within = omega (arith, left.within, long);
+      log = left.log;
+      is_log = log_of_first old events more left.after left.log left.within left.is_log;
+      state = left.state;
+    }
+
+pub left_of_second : (g : Geometry) (old : Hands) (events more : List Event) (k : ℕ) (x : State) → IsLegal g old events
+    → IsSound g old.core → IsLeftSince g (last old events) more k x → IsLeftSince g old (events ++ more) (length events + k) x
+left_of_second g old events more k x legal sound left =
+    let long = length-append events more in
+    record {
+      after = length events + left.after;
+      since = omega (arith, left.since);
+      within = omega (arith, left.within, long);
+      log = journal old events ++ left.log;
+      is_log = log_of_second old events more left.after left.log left.is_log;
+      state = left.state ∙ ap (λ y. fold g y left.log) (run_journal g old events legal sound)
+          ∙ sym (fold-joined g old.core.settled (journal old events) left.log);
     }

@@ -15,6 +15,9 @@ pub mod Clearing
 pub mod Failures
 pub mod Answering
 pub mod Outs
+pub mod Full
 pub mod Living
+pub mod Doubts
+pub mod SerialLogs
 -- ---- this crate's own
 mod Examples

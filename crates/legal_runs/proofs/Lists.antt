@@ -1,8 +1,10 @@
 -- Lists: what holds of all, what each stands to those behind it, and what `pick` finds.
-use Rattle.std.proofs.Common.{◌≡◌, Bool, true, false, List, [], ◌∷◌, ◌++◌, Option, Some, None, refl, ap, sym, subst}
-use Rattle.std.specs.Prelude.{if◌then◌else◌, option_map, is_some}
+use Rattle.std.proofs.Common.{◌≡◌, ℕ, zero, suc, ◌≤◌, Bool, true, false, List, [], ◌∷◌, ◌++◌, Option, Some, None, refl, ap, sym, subst, length, take, arith}
+use Rattle.std.specs.Prelude.{if◌then◌else◌, option_map, is_some, IsPermutation}
 use Rattle.std.specs.List.{AllByRecursion, list_any}
 use Rattle.std.proofs.lemmas.Bool.{or_parts, true≢false}
+use Rattle.std.proofs.lemmas.List.Elements.{All-from_recursion, recursion_from_All}
+use Rattle.std.proofs.lemmas.List.Sorted.{All-permutation}
 use Rattle.legal_runs.specs.Eligible.{pick}
 use Rattle.legal_runs.specs.Laws.{EachBefore}
 
@@ -36,6 +38,18 @@ pub all_weaker : {A : Type 0} (P Q : A → Type 0) → ((x : A) → P x → Q x)
 all_weaker P Q f [] h = tt
 all_weaker P Q f (x ∷ xs) h = (f x h.0, all_weaker P Q f xs h.1)
 
+-- All of another list with the same elements have it too.
+pub all_permuted : {A : Type 0} (P : A → Type 0) (xs ys : List A) → IsPermutation xs ys → AllByRecursion P xs → AllByRecursion P ys
+all_permuted P xs ys same h = recursion_from_All P ys (All-permutation P xs ys same (All-from_recursion P xs h))
+
+-- ---- the first of a list
+
+-- the first n are as many as there are, at most
+pub first_few : {A : Type 0} (n : ℕ) (xs : List A) → (k : ℕ) × (k ≤ length xs) × (take k xs ≡ take n xs)
+first_few zero xs = (0, omega arith, refl)
+first_few (suc n) [] = (0, omega arith, refl)
+first_few (suc n) (x ∷ xs) = let k = first_few n xs in (suc k.0, omega (arith, k.1), ap (λ l. x ∷ l) k.2)
+
 -- ---- what each one stands to those behind it
 
 module _ {A : Type 0} (R : A → A → Type 0) where
@@ -65,23 +79,34 @@ module _ {A : Type 0} (R : A → A → Type 0) where
   before_join [] ys h j k = j
   before_join (x ∷ xs) ys h j k = (all_join (R x) xs ys h.0 k.0, before_join xs ys h.1 j k.1)
 
-  -- where it doesn't matter which of two comes first, one may move to the front
-  pub before_first : ((x y : A) → R x y → R y x) → (us : List A) (e : A) (vs : List A) → EachBefore R (us ++ e ∷ vs)
-      → EachBefore R (e ∷ (us ++ vs))
-  before_first turned [] e vs h = h
-  before_first turned (u ∷ us) e vs h =
-      let k = before_first turned us e vs h.1 in
-      let j = all_moved (R u) us e vs h.0 in
-      ((turned u e j.0, k.0), (j.1, k.1))
+  -- each of the first stands so to each of the others
+  pub before_across : (xs ys : List A) → EachBefore R (xs ++ ys) → AllByRecursion (λ x. AllByRecursion (R x) ys) xs
+  before_across [] ys h = tt
+  before_across (x ∷ xs) ys h = (all_back (R x) xs ys h.0, before_across xs ys h.1)
 
-  pub before_moved : ((x y : A) → R x y → R y x) → (xs us : List A) (e : A) (vs : List A) → EachBefore R (xs ++ (us ++ e ∷ vs))
+  -- one moves before others that may stand behind it
+  pub before_past : (xs us : List A) (e : A) (vs : List A) → AllByRecursion (R e) us → EachBefore R (xs ++ (us ++ e ∷ vs))
       → EachBefore R (xs ++ e ∷ (us ++ vs))
-  before_moved turned [] us e vs h = before_first turned us e vs h
-  before_moved turned (x ∷ xs) us e vs h = (
+  before_past [] [] e vs free h = h
+  before_past [] (u ∷ us) e vs free h =
+      let k = before_past [] us e vs free.1 h.1 in
+      let j = all_moved (R u) us e vs h.0 in
+      ((free.0, k.0), (j.1, k.1))
+  before_past (x ∷ xs) us e vs free h = (
     all_join (R x) xs (e ∷ (us ++ vs)) (all_front (R x) xs (us ++ e
         ∷ vs) h.0) (all_moved (R x) us e vs (all_back (R x) xs (us ++ e ∷ vs) h.0)),
-    before_moved turned xs us e vs h.1,
+    before_past xs us e vs free h.1,
   )
+
+  -- where it doesn't matter which of two comes first, one may move to the front
+  pub before_moved : ((x y : A) → R x y → R y x) → (xs us : List A) (e : A) (vs : List A) → EachBefore R (xs ++ (us ++ e ∷ vs))
+      → EachBefore R (xs ++ e ∷ (us ++ vs))
+  before_moved turned xs us e vs h =
+      before_past xs us e vs (all_weaker (λ u. R u e) (R e) (λ u. turned u e) us (before_one us e vs (before_back xs (us ++ e ∷ vs) h))) h
+
+  pub before_first : ((x y : A) → R x y → R y x) → (us : List A) (e : A) (vs : List A) → EachBefore R (us ++ e ∷ vs)
+      → EachBefore R (e ∷ (us ++ vs))
+  before_first turned us e vs h = before_moved turned [] us e vs h
 
 -- ---- what `pick` finds
 

@@ -1,5 +1,5 @@
 -- Each event is one of six moves of the core.
-use Rattle.std.proofs.Common.{◌≡◌, ℕ, ◌+◌, ◌-◌, ◌^◌, ◌<◌, ◌≤◌, Bool, true, false, List, [], ◌∷◌, ◌++◌, Option, Some, None, refl, ap, subst, take, length, arith}
+use Rattle.std.proofs.Common.{◌≡◌, ℕ, ◌+◌, ◌-◌, ◌^◌, ◌<◌, ◌≤◌, Bool, true, false, List, [], ◌∷◌, ◌++◌, Option, Some, None, refl, ap, sym, subst, take, length, arith}
 use Rattle.std.specs.Prelude.{◌&&◌, not, if◌then◌else◌, is_some, nat_lt, nat_le, ◌==◌, MatchBool, slice_get, position}
 use Rattle.std.proofs.lemmas.Bool.{true≢false, ltb-false, leb-false}
 use Rattle.std.proofs.lemmas.List.Sums.{count_by-le-length}
@@ -16,10 +16,11 @@ use Rattle.legal_runs.specs.declared.outcomes.PointRefusal.{PointRefusal}
 use Rattle.legal_runs.specs.declared.outcomes.PointRefusal.TheVariants as points
 use Rattle.legal_runs.specs.World.{Entry, Replied, World, held}
 use Rattle.legal_runs.specs.Eligible.{changes, in_flight, next_eligible}
-use Rattle.legal_runs.specs.Events.{Hand, Hands, Empty, Job, Result, Event, IsAllowed, IsFault, IsCarriedOut, arrive, grant, give_back, out_with, batch, log, log_some, answer, point_refusal, piece_refusal, flip_refusal, unless_refused, fewer, grant_to, run_hand, result_in, back_from, is_empty, happens, fault}
+use Rattle.legal_runs.specs.Events.{Hand, Hands, Empty, Job, Result, Event, IsAllowed, IsFault, IsCarriedOut, arrive, grant, give_back, out_with, batch, fails, loggable, log, log_some, answer, point_refusal, piece_refusal, flip_refusal, unless_refused, fewer, grant_to, run_hand, result_in, back_from, is_empty, happens, fault}
 use Rattle.legal_runs.specs.Runs.{goes, arrives, answers}
-use Rattle.legal_runs.specs.Laws.{DoubtsOnlyFailed}
+use Rattle.legal_runs.specs.Laws.{DoubtsOnlyFailed, DoubtsWhatRan}
 use Rattle.legal_runs.proofs.Apart.{length_held}
+use Rattle.legal_runs.proofs.Lists.{first_few}
 
 -- nothing of this has changed
 pub record Same (old new : World) : Type 0 where
@@ -34,6 +35,8 @@ pub record Same (old new : World) : Type 0 where
   pub room : in_flight old ≤ old.room → in_flight old ≤ new.room
   -- and nothing is in doubt that wasn't, unless the device has failed
   pub doubt : DoubtsOnlyFailed old → DoubtsOnlyFailed new
+  -- and what is in doubt ran
+  pub doubts : DoubtsWhatRan old → DoubtsWhatRan new
 
 -- what passes at an event: the messages that it logs, those that arrive, and the replies that it gives
 pub record Passed : Type 0 where
@@ -78,6 +81,7 @@ module _ (g : Geometry) (w : World) where
         slots = refl;
         room = fits;
         doubt = λ h. h;
+        doubts = λ h. record { some = h.some; at_most = h.at_most; is = h.is };
       }
 
   -- nothing at all
@@ -154,8 +158,9 @@ module _ (g : Geometry) (w : World) where
 
   -- ---- with a device that fails
 
-  failing : (doubt : List Msg) → Move g w (record w { failed = true; doubt = doubt }) nothing
-  failing doubt = Stays kept refl
+  failing : (doubt : List Msg) → (DoubtsWhatRan w → DoubtsWhatRan (record w { failed = true; doubt = doubt }))
+      → Move g w (record w { failed = true; doubt = doubt }) nothing
+  failing doubt doubts = Stays kept refl
     where
       kept : Same w (record w { failed = true; doubt = doubt })
       kept = record {
@@ -168,19 +173,29 @@ module _ (g : Geometry) (w : World) where
         slots = refl;
         room = λ h. h;
         doubt = λ h e. absurd (true≢false e);
+        doubts = doubts;
       }
 
+  fails_moves : Move g w (fails w) nothing
+  fails_moves = failing w.doubt (λ h. record { some = h.some; at_most = h.at_most; is = h.is })
+
+  -- what was to be logged is the first of what ran
+  log_fails : (k : ℕ) → Move g w (record w { failed = true; doubt = batch w k }) nothing
+  log_fails k =
+      let f = first_few k w.ran in
+      failing (batch w k) (λ h. record { some = f.0; at_most = f.1; is = ap loggable (sym f.2) })
+
   fault_moves : (s : Step) → Move g w (fault w s).1 (passed w s (fault w s).0 true)
-  fault_moves (steps.Arrive m) = failing w.doubt
-  fault_moves steps.Grant = failing w.doubt
-  fault_moves (steps.Run i) = failing w.doubt
-  fault_moves (steps.Back i) = failing w.doubt
-  fault_moves (steps.Log k) = failing (batch w k)
-  fault_moves steps.Answer = failing w.doubt
-  fault_moves steps.Point = failing w.doubt
-  fault_moves steps.Cut = failing w.doubt
-  fault_moves steps.Piece = failing w.doubt
-  fault_moves steps.Flip = failing w.doubt
+  fault_moves (steps.Arrive m) = fails_moves
+  fault_moves steps.Grant = fails_moves
+  fault_moves (steps.Run i) = fails_moves
+  fault_moves (steps.Back i) = fails_moves
+  fault_moves (steps.Log k) = log_fails k
+  fault_moves steps.Answer = fails_moves
+  fault_moves steps.Point = fails_moves
+  fault_moves steps.Cut = fails_moves
+  fault_moves steps.Piece = fails_moves
+  fault_moves steps.Flip = fails_moves
 
 -- ---- with the hands
 

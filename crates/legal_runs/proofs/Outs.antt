@@ -128,7 +128,7 @@ module _ (g : Geometry) (n : ℕ) (w : Hands) where
   run_keeps_out i (Some (Job ticket)) = refl
   run_keeps_out i (Some (Result ticket)) = refl
 
-  happens_keeps_out : (s : Step) → moves_what_is_out s ≡ false → KeepsIn (happens g n w s)
+  pub happens_keeps_out : (s : Step) → moves_what_is_out s ≡ false → KeepsIn (happens g n w s)
   happens_keeps_out (steps.Arrive m) e = arrive_keeps_out w.core g m
   happens_keeps_out steps.Grant e = absurd (true≢false e)
   happens_keeps_out (steps.Run i) e = run_keeps_out i (slice_get w.hands i)
@@ -140,7 +140,7 @@ module _ (g : Geometry) (n : ℕ) (w : Hands) where
   happens_keeps_out steps.Piece e = refused_keeps_out w.core (piece_refusal w.core) _ refl
   happens_keeps_out steps.Flip e = refused_keeps_out w.core (flip_refusal w.core) _ refl
 
-fault_keeps_out : (w : World) (s : Step) → (fault w s).1.out ≡ w.out
+pub fault_keeps_out : (w : World) (s : Step) → (fault w s).1.out ≡ w.out
 fault_keeps_out w (steps.Log k) = refl
 fault_keeps_out w _ = refl
 

@@ -8,7 +8,7 @@ use Rattle.plain.specs.Serial.{reply_to}
 use Rattle.legal_runs.specs.World.{Entry, Replied, World, entries, held}
 use Rattle.legal_runs.specs.Eligible.{is_eligible}
 use Rattle.legal_runs.specs.Events.{Hands, Event, IsAllowed, grant, give_back, log}
-use Rattle.legal_runs.specs.Runs.{IsLegal}
+use Rattle.legal_runs.specs.Runs.{IsLegal, last}
 use Rattle.legal_runs.specs.Laws.{AreApart, AreReplied, AreAscending, AreOnce, DoubtsOnlyFailed, HasRoom, IsSound}
 use Rattle.legal_runs.proofs.Lists.{all_join, all_front, all_back, all_weaker, all_moved, all_without, before_push, before_back, before_front, before_without, before_moved, picked}
 use Rattle.legal_runs.proofs.Apart.{grant_apart, back_apart, log_held, held_grant, length_held}
@@ -157,6 +157,10 @@ module _ (g : Geometry) where
   run_sound old (event ∷ events) legal h =
       let k = event_sound old event legal.0 h in
       (k, run_sound event.world events legal.1 k)
+
+  pub last_sound : (old : Hands) (events : List Event) → IsLegal g old events → IsSound g old.core → IsSound g (last old events).core
+  last_sound old [] legal h = h
+  last_sound old (event ∷ events) legal h = last_sound event.world events legal.1 (event_sound old event legal.0 h)
 
 -- ---- the number of slots
 

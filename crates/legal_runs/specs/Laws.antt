@@ -1,19 +1,20 @@
 -- The words of the laws of legal runs.
-use Rattle.std.specs.Prelude.{◌≡◌, ℕ, ◌+◌, ◌<◌, ◌≤◌, Bool, true, false, List, [], ◌∷◌, ◌++◌, map, length}
+use Rattle.std.specs.Prelude.{◌≡◌, ℕ, ◌+◌, ◌<◌, ◌≤◌, Bool, true, false, not, List, [], ◌∷◌, ◌++◌, map, length, count_by, take, IsPermutation}
 use Rattle.std.specs.List.{AllByRecursion}
 use Rattle.affinity.specs.declared.geometry.Geometry.{Geometry}
 use Rattle.message.specs.declared.Reply.{Reply}
 use Rattle.plain.specs.State.{State}
 use Rattle.plain.specs.Serial.{reply_to}
+use Rattle.plain.specs.Order.{told, KeepsOrder}
 use Rattle.legal_runs.specs.declared.outcomes.Step.{Step}
 use Rattle.legal_runs.specs.declared.outcomes.Step.TheVariants as steps
 use Rattle.legal_runs.specs.declared.outcomes.Outcome.{Outcome}
 use Rattle.legal_runs.specs.declared.outcomes.Outcome.TheVariants as outcomes
 use Rattle.legal_runs.specs.declared.outcomes.CoreFault.TheVariants as faults
 use Rattle.legal_runs.specs.declared.outcomes.PointRefusal.TheVariants as points
-use Rattle.legal_runs.specs.World.{Entry, Replied, World, held, touches}
+use Rattle.legal_runs.specs.World.{Entry, Replied, World, entries, held, touches}
 use Rattle.legal_runs.specs.Eligible.{in_flight}
-use Rattle.legal_runs.specs.Events.{Hands, Event}
+use Rattle.legal_runs.specs.Events.{Hand, Hands, Event, is_empty, loggable}
 use Rattle.legal_runs.specs.Runs.{IsLegal, last, went, journal, arrived, answered}
 
 -- each one stands so to all behind it
@@ -37,6 +38,20 @@ AreOnce es = EachBefore (λ e d. e.0 ≡ d.0 → ⊥) es
 abbrev pub AreReplied : Geometry → State → List Replied → Type 0
 AreReplied g x as' = AllByRecursion (λ a. a.2 ≡ reply_to g x a.1) as'
 
+-- each ticket with its reply
+abbrev pub said : List Replied → List (ℕ × Reply)
+said as' = map (λ a. (a.0, a.2)) as'
+
+-- Messages with their replies, in an order in which they may have been done from this state on. The log begins an order of all that arrived
+-- in which each is once, and those at related places are by ticket; and each has the reply that it gets where the log runs from its first
+-- message to its last.
+pub record IsSerialLog (g : Geometry) (x : State) (arrivals : List Entry) (log : List Replied) : Type 0 where
+  -- those that are not in it
+  pub rest : List Entry
+  pub each_once : IsPermutation arrivals (entries log ++ rest)
+  pub by_ticket : KeepsOrder g (entries log ++ rest)
+  pub in_order : said log ≡ told g x (entries log)
+
 -- What every world keeps.
 pub record IsSound (g : Geometry) (w : World) : Type 0 where
   -- no two messages held at once are at related places
@@ -59,9 +74,19 @@ moves_what_is_out steps.Grant = true
 moves_what_is_out (steps.Back i) = true
 moves_what_is_out _ = false
 
+-- how many of the hands aren't empty
+abbrev pub full : List Hand → ℕ
+full hands = count_by (λ hand. not (is_empty hand)) hands
+
 -- Nothing is in doubt, unless the device has failed.
 abbrev pub DoubtsOnlyFailed : World → Type 0
 DoubtsOnlyFailed w = w.failed ≡ false → w.doubt ≡ []
+
+-- What is in doubt are the changes among the first so many of those that ran.
+pub record DoubtsWhatRan (w : World) : Type 0 where
+  pub some : ℕ
+  pub at_most : some ≤ length w.ran
+  pub is : w.doubt ≡ loggable (take some w.ran)
 
 -- the outcomes that tell that the device failed during the step
 abbrev pub tells_of_failure : Outcome → Bool
@@ -73,6 +98,9 @@ tells_of_failure _ = false
 pub record IsStopped (old new : World) : Type 0 where
   pub failed : new.failed ≡ true
   pub waiting : new.waiting ≡ old.waiting
+  -- what comes back is behind all that ran before
+  pub back : List Replied
+  pub ran : new.ran ≡ old.ran ++ back
   pub settled : new.settled ≡ old.settled
   pub doubt : new.doubt ≡ old.doubt
   pub room : new.room ≡ old.room
@@ -87,10 +115,6 @@ HasRoom slots w = (in_flight w ≤ w.room) × (length w.waiting + length (held w
 pub record IsIdle (w : World) : Type 0 where
   pub none_waits : w.waiting ≡ []
   pub none_held : held w ≡ []
-
--- each ticket with its reply
-abbrev pub said : List Replied → List (ℕ × Reply)
-said as' = map (λ a. (a.0, a.2)) as'
 
 -- The message was logged first, and has gone.
 abbrev pub IsAnswered : World → World → Replied → Type 0

@@ -1,7 +1,7 @@
 //! What holds of every legal run: laws of the definitions alone. No function here does anything; its
 //! contract is the law.
 
-ghost use Rattle.std.specs.Prelude.{◌≡◌, ◌++◌, ◌≤◌, ℕ, true, false, List, [], ◌∷◌, drop, length, take};
+ghost use Rattle.std.specs.Prelude.{◌≡◌, ◌+◌, ◌++◌, ◌≤◌, ℕ, true, false, List, [], ◌∷◌, drop, length, take, IsPermutation};
 ghost use Rattle.std.specs.List.{AllByRecursion, Contains};
 ghost use Rattle.affinity.specs.declared.geometry.Geometry.{Geometry};
 ghost use Rattle.affinity.specs.Path.{are_related};
@@ -18,8 +18,8 @@ ghost use Rattle.legal_runs.specs.Events.{Event, Hands, IsAllowed, batch, loggab
 ghost use Rattle.legal_runs.specs.Runs.{IsLegal, answered, answered_changes, answered_messages, arrived, journal, last, went};
 ghost use Rattle.legal_runs.specs.Crash.{IsLeftSince, IsLogAfter, in_doubt};
 ghost use Rattle.legal_runs.specs.Lives.{AreLogsOf, HoldAnswered, IsLeftByLives, IsLogOf, Life, Ran};
-ghost use Rattle.legal_runs.specs.Laws.{AreApart, AreAscending, DoubtsOnlyFailed, HasRoom, IsAnswered, IsIdle, IsJoined, IsSound, IsStopped};
-ghost use Rattle.legal_runs.specs.Laws.{moves_what_is_out, said, tells_of_failure};
+ghost use Rattle.legal_runs.specs.Laws.{AreApart, AreAscending, AreOnce, DoubtsOnlyFailed, DoubtsWhatRan, HasRoom, IsAnswered, IsIdle};
+ghost use Rattle.legal_runs.specs.Laws.{IsJoined, IsSerialLog, IsSound, IsStopped, full, moves_what_is_out, said, tells_of_failure};
 
 /// A world in which nothing waits and nothing is held is sound, and each event leads from a sound
 /// world to a sound one.
@@ -87,6 +87,33 @@ pub fn replies_are_by_ticket()
         → (last old events).core.settled ≡ fold g old.core.settled (messages (by_ticket (arrived events))) }
 {}
 
+/// Where nothing waited and nothing was held in the beginning, no message is lost, and none is there twice: those
+/// that arrived are those that were logged, those that ran and are not logged yet, those that are out and those
+/// that wait. So whatever is answered arrived. A ticket has one message.
+pub fn messages_are_neither_lost_nor_doubled()
+    ensures all { (g : Geometry) (old : Hands) (events : List Event) → IsLegal g old events → IsIdle old.core
+        → IsPermutation (arrived events) (entries (went old events) ++ (entries (last old events).core.ran
+        ++ ((last old events).core.out ++ (last old events).core.waiting))) }
+    ensures answered { (g : Geometry) (old : Hands) (events : List Event) → IsLegal g old events → IsIdle old.core
+        → AllByRecursion (λ a. Contains (arrived events) (entry a)) (answered_messages old events) }
+    ensures ticket { (g : Geometry) (old : Hands) (events : List Event) (e d : Entry) → IsLegal g old events
+        → Contains (arrived events) e → Contains (arrived events) d → e.0 ≡ d.0 → e ≡ d }
+{}
+
+/// Where nothing waited and nothing was held in the beginning, what a run logs, with the first so many of those
+/// that ran behind it, is a serial log of what arrived. Each message of a serial log arrived; where tickets ascend
+/// as messages arrive, no two of them have one, and it stays a serial log where more arrive.
+pub fn what_ran_is_a_serial_log()
+    ensures run { (g : Geometry) (old : Hands) (events : List Event) (j : ℕ) → IsLegal g old events → IsIdle old.core
+        → IsSerialLog g old.core.settled (arrived events) (went old events ++ take j (last old events).core.ran) }
+    ensures came { (g : Geometry) (x : State) (arrivals : List Entry) (log : List Replied) → IsSerialLog g x arrivals log
+        → AllByRecursion (λ a. Contains arrivals (entry a)) log }
+    ensures once { (g : Geometry) (x : State) (arrivals : List Entry) (log : List Replied) → IsSerialLog g x arrivals log
+        → AreAscending arrivals → AreOnce (entries log) }
+    ensures later { (g : Geometry) (x : State) (arrivals more : List Entry) (log : List Replied) → AreAscending (arrivals ++ more)
+        → IsSerialLog g x arrivals log → IsSerialLog g x (arrivals ++ more) log }
+{}
+
 /// Only an answer makes a waiting message clear, and only one to a message at a place related to its own:
 /// whatever else comes, a message that waits on stays clear, or stays not clear.
 pub fn only_answers_clear()
@@ -112,6 +139,16 @@ pub fn only_a_failure_leaves_doubt()
         → DoubtsOnlyFailed event.world.core }
 {}
 
+/// What is in doubt are the changes among the first so many of those that ran, and so are the first of them.
+pub fn what_is_in_doubt_ran()
+    ensures event { (g : Geometry) (old : Hands) (event : Event) → IsAllowed g old event → DoubtsOnlyFailed old.core
+        → DoubtsWhatRan old.core → DoubtsWhatRan event.world.core }
+    ensures run { (g : Geometry) (old : Hands) (events : List Event) → IsLegal g old events → old.core.doubt ≡ []
+        → DoubtsWhatRan (last old events).core }
+    ensures first { (w : World) (k : ℕ) → DoubtsWhatRan w
+        → (j : ℕ) × (j ≤ length w.ran) × (loggable (take j w.ran) ≡ take k w.doubt) }
+{}
+
 /// What a crash may leave, if it comes when k events or more have ended, is where all that these appended
 /// leads, with more behind it. If it comes before the next one has ended, it is the state that was settled
 /// then, with the first so many of the messages in doubt.
@@ -121,6 +158,21 @@ pub fn a_crash_leaves_what_was_appended()
     ensures settled { (g : Geometry) (old : Hands) (events : List Event) (k : ℕ) (ms : List Msg) → IsLegal g old events
         → IsSound g old.core → (log : IsLogAfter old events k ms) → fold g old.core.settled ms
         ≡ fold g (last old (take k events)).core.settled (take log.some (in_doubt (last old (take k events)).core (drop k events))) }
+{}
+
+/// A crash of two runs, one after the other, may come in either. What it may leave in the log of the first, it may leave of both; and
+/// what it may leave in the log of the second, it may leave of both, behind all that the first appended. So it is with the state that
+/// it may leave: with that of the second if the first is legal and began in a sound world.
+pub fn a_crash_may_come_in_either_run()
+    ensures log_first { (old : Hands) (events more : List Event) (k : ℕ) (ms : List Msg) → k ≤ length events
+        → IsLogAfter old events k ms → IsLogAfter old (events ++ more) k ms }
+    ensures log_second { (old : Hands) (events more : List Event) (k : ℕ) (ms : List Msg) → IsLogAfter (last old events) more k ms
+        → IsLogAfter old (events ++ more) (length events + k) (journal old events ++ ms) }
+    ensures left_first { (g : Geometry) (old : Hands) (events more : List Event) (k : ℕ) (x : State) → IsLeftSince g old events k x
+        → IsLeftSince g old (events ++ more) k x }
+    ensures left_second { (g : Geometry) (old : Hands) (events more : List Event) (k : ℕ) (x : State) → IsLegal g old events
+        → IsSound g old.core → IsLeftSince g (last old events) more k x
+        → IsLeftSince g old (events ++ more) (length events + k) x }
 {}
 
 /// What a run answers is a beginning of what was logged before and in it, in log order. So whatever a crash leaves, if it comes
@@ -135,6 +187,24 @@ pub fn answered_changes_are_in_the_log()
         → (rest : List Msg) × (loggable old.core.logged ++ ms ≡ answered_changes old (take k events) ++ rest) }
 {}
 
+/// Where nothing waited, was held or was in doubt in the beginning, whatever a crash leaves in the log when k events
+/// have ended are the changes of a serial log of what had arrived: of all that was logged by then, with the first so
+/// many of those that ran behind it. What was logged begins with all that was answered by then, or before. And the
+/// first so many of those that are in doubt in the end are the changes among the first of those that ran.
+pub fn a_crash_leaves_a_serial_log()
+    ensures left { (g : Geometry) (old : Hands) (events : List Event) (k : ℕ) (ms : List Msg) → IsLegal g old events → IsIdle old.core
+        → old.core.doubt ≡ [] → IsLogAfter old events k ms
+        → (j : ℕ) × IsSerialLog g old.core.settled (arrived (take k events))
+        (went old (take k events) ++ take j (last old (take k events)).core.ran)
+        × (ms ≡ loggable (went old (take k events) ++ take j (last old (take k events)).core.ran)) }
+    ensures begins { (g : Geometry) (old : Hands) (events : List Event) (k after : ℕ) → IsLegal g old events → IsIdle old.core
+        → k ≤ after → (rest : List Replied) × (went old (take after events) ≡ answered_messages old (take k events) ++ rest) }
+    ensures doubt { (g : Geometry) (old : Hands) (events : List Event) (k : ℕ) → IsLegal g old events → IsIdle old.core
+        → old.core.doubt ≡ []
+        → (j : ℕ) × IsSerialLog g old.core.settled (arrived events) (went old events ++ take j (last old events).core.ran)
+        × (loggable (take j (last old events).core.ran) ≡ take k (last old events).core.doubt) }
+{}
+
 /// Whatever comes, what a message that is out can read of the settled state stays as it is: what is at its place, below it and
 /// above it.
 pub fn what_is_out_sees_no_change()
@@ -146,6 +216,15 @@ pub fn what_is_out_sees_no_change()
 pub fn only_grants_and_returns_change_what_is_out()
     ensures { (g : Geometry) (old : Hands) (event : Event) → IsAllowed g old event → moves_what_is_out event.step ≡ false
         → event.world.core.out ≡ old.core.out }
+{}
+
+/// How many messages are out grows and falls with how many hands are full. So nothing is out in the end where nothing was in the
+/// beginning and every hand is empty in the end.
+pub fn what_is_out_is_in_hands()
+    ensures number { (g : Geometry) (old : Hands) (events : List Event) → IsLegal g old events
+        → length (last old events).core.out + full old.hands ≡ length old.core.out + full (last old events).hands }
+    ensures none { (g : Geometry) (old : Hands) (events : List Event) → IsLegal g old events → old.core.out ≡ []
+        → full (last old events).hands ≡ 0 → (last old events).core.out ≡ [] }
 {}
 
 /// A further life goes on from each state that the lives before it may have left. In whatever they leave, the log of each life

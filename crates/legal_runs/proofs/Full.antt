@@ -1,0 +1,112 @@
+-- How many messages are out grows and falls with how many hands are full.
+use Rattle.std.proofs.Common.{◌≡◌, ℕ, ◌+◌, Bool, true, false, List, [], ◌∷◌, Option, Some, None, refl, ap, sym, ◌∙◌, subst, length, arith}
+use Rattle.std.specs.Prelude.{◌&&◌, not, cond, get_or, if◌then◌else◌, is_some, MatchBool, position, set, slice_get}
+use Rattle.std.proofs.lemmas.List.{length-append, nil_from_length}
+use Rattle.std.proofs.lemmas.List.Quantifiers.{position-Some}
+use Rattle.std.proofs.lemmas.List.Sums.{sum_by-set}
+use Rattle.std.proofs.lemmas.Option.{get_or_from_slice_get, slice_get_within}
+use Rattle.affinity.specs.declared.geometry.Geometry.{Geometry}
+use Rattle.legal_runs.specs.declared.outcomes.Outcome.{Outcome}
+use Rattle.legal_runs.specs.declared.outcomes.Step.{Step}
+use Rattle.legal_runs.specs.declared.outcomes.Step.TheVariants as steps
+use Rattle.legal_runs.specs.World.{Entry, World}
+use Rattle.legal_runs.specs.Eligible.{next_eligible, pick}
+use Rattle.legal_runs.specs.Events.{Hand, Hands, Empty, Job, Result, Event, IsAllowed, IsCarriedOut, IsFault, back_from, grant_to, happens, is_empty, out_with, result_in, run_hand}
+use Rattle.legal_runs.specs.Laws.{full}
+use Rattle.legal_runs.specs.Runs.{IsLegal, last}
+use Rattle.legal_runs.proofs.Lists.{picked}
+use Rattle.legal_runs.proofs.Outs.{fault_keeps_out, happens_keeps_out}
+
+-- 1 for a full hand, 0 for an empty one
+abbrev weight : Hand → ℕ
+weight hand = cond (not (is_empty hand)) 1 0
+
+-- What a hand is set to counts in the place of what it was.
+pub full-set : (hands : List Hand) (i : ℕ) (was now : Hand) → slice_get hands i ≡ Some was
+    → full (set hands i now) + weight was ≡ full hands + weight now
+full-set hands i was now e =
+    let counted = sum_by-set weight hands i now was (slice_get_within hands i was e) in
+    let same = ap weight (get_or_from_slice_get hands i was was e) in
+    omega (arith, counted, same)
+
+-- What `pick` leaves is one shorter.
+pub length-picked : {A : Type 0} (p : A → Bool) (xs : List A) (found : A × List A) → pick p xs ≡ Some found
+    → length xs ≡ length found.1 + 1
+length-picked p xs found e =
+    let k = picked p xs found e in
+    let whole = ap length k.whole ∙ length-append k.before (found.0 ∷ k.behind) in
+    let rest = ap length k.rest ∙ length-append k.before k.behind in
+    omega (arith, whole, rest)
+
+-- As many more or fewer are out as hands are full.
+abbrev pub Tallies : Hands → Hands → Type 0
+Tallies old new = length new.core.out + full old.hands ≡ length old.core.out + full new.hands
+
+module _ (g : Geometry) (w : Hands) where
+  kept : (new : Hands) → new.core.out ≡ w.core.out → new.hands ≡ w.hands → Tallies w new
+  kept new out hands = let o = ap length out in let h = ap full hands in omega (arith, o, h)
+
+  either : (b : Bool) (x y : Outcome × Hands) → Tallies w x.1 → Tallies w y.1 → Tallies w (if b then x else y).1
+  either true x y h j = h
+  either false x y h j = j
+
+  grant_tallies : (hand : Option ℕ) (found : Option (Entry × List Entry)) → position is_empty w.hands ≡ hand
+      → Tallies w (grant_to g w hand found).1
+  grant_tallies None found e = refl
+  grant_tallies (Some i) None e = refl
+  grant_tallies (Some i) (Some found) e =
+      let first = position-Some is_empty w.hands i Empty e in
+      let counted = sum_by-set weight w.hands i (Job found.0.0) Empty first.0 in
+      let was : weight (get_or w.hands i Empty) ≡ 0 = ap (λ b. cond (not b) 1 0) first.1 in
+      let more = length-append w.core.out (found.0 ∷ []) in
+      omega (arith, counted, was, more)
+
+  run_tallies : (i : ℕ) (hand : Option Hand) → slice_get w.hands i ≡ hand → Tallies w (run_hand w i hand).1
+  run_tallies i None e = refl
+  run_tallies i (Some Empty) e = refl
+  run_tallies i (Some (Job ticket)) e = let k = full-set w.hands i (Job ticket) (Result ticket) e in omega (arith, k)
+  run_tallies i (Some (Result ticket)) e = refl
+
+  found_tallies : (i ticket : ℕ) (found : Option (Entry × List Entry)) → slice_get w.hands i ≡ Some (Result ticket)
+      → out_with w.core ticket ≡ found → Tallies w (back_from g w i found).1
+  found_tallies i ticket None e is = refl
+  found_tallies i ticket (Some found) e is =
+      let k = full-set w.hands i (Result ticket) Empty e in
+      let fewer = length-picked _ w.core.out found is in
+      omega (arith, k, fewer)
+
+  back_tallies : (i : ℕ) (hand : Option Hand) → slice_get w.hands i ≡ hand → Tallies w (back_from g w i (result_in w.core hand)).1
+  back_tallies i None e = refl
+  back_tallies i (Some Empty) e = refl
+  back_tallies i (Some (Job ticket)) e = refl
+  back_tallies i (Some (Result ticket)) e = found_tallies i ticket (out_with w.core ticket) e refl
+
+  happens_tallies : (n : ℕ) (s : Step) → Tallies w (happens g n w s).1
+  happens_tallies n steps.Grant =
+      either (w.core.failed && is_some (position is_empty w.hands)) _ _ refl
+      (grant_tallies (position is_empty w.hands) (next_eligible g w.core) refl)
+  happens_tallies n (steps.Run i) = run_tallies i (slice_get w.hands i) refl
+  happens_tallies n (steps.Back i) = back_tallies i (slice_get w.hands i) refl
+  happens_tallies n s = kept (happens g n w s).1 (happens_keeps_out g n w s refl) refl
+
+pub event_tallies : (g : Geometry) (old : Hands) (event : Event) → IsAllowed g old event → Tallies old event.world
+event_tallies g old event allowed = by event.rose allowed
+  where
+    by : (b : Bool) → MatchBool b (IsFault old event) (IsCarriedOut g old event) → Tallies old event.world
+    by true f = kept g old event.world (ap (λ (x : Outcome × World). x.1.out) (sym f.core) ∙ fault_keeps_out old.core event.step) f.hands
+    by false d = subst (λ (x : Outcome × Hands). Tallies old x.1) d.does (happens_tallies g old d.to_write event.step)
+
+pub last_tallies : (g : Geometry) (old : Hands) (events : List Event) → IsLegal g old events → Tallies old (last old events)
+last_tallies g old [] legal = refl
+last_tallies g old (event ∷ events) legal =
+    let first = event_tallies g old event legal.0 in
+    let rest = last_tallies g event.world events legal.1 in
+    omega (arith, first, rest)
+
+-- Where no hand is full, nothing is out, if nothing was.
+pub last_none_out : (g : Geometry) (old : Hands) (events : List Event) → IsLegal g old events → old.core.out ≡ []
+    → full (last old events).hands ≡ 0 → (last old events).core.out ≡ []
+last_none_out g old events legal before after =
+    let tallies = last_tallies g old events legal in
+    let none = ap length before in
+    nil_from_length _ (omega (arith, tallies, none, after))
