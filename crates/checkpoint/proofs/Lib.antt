@@ -1,9 +1,10 @@
 -- ---- for the layer above: why a device is refused and what it stands for otherwise (Refusing, Behind), what a read leaves
--- ---- (Replays), and whose header a device has (OneGeometry)
+-- ---- (Replays), whose header a device has (OneGeometry), and that one which stands for a state isn't refused (Fine)
 pub mod Refusing
 pub mod Behind
 pub mod Replays
 pub mod OneGeometry
+pub mod Fine
 -- ---- for this crate alone
 mod Changed
 mod Shut

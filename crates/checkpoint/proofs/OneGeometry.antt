@@ -30,7 +30,7 @@ first_true : (a b c : Bool) → (a && b && c) ≡ true → a ≡ true
 first_true true b c is = refl
 first_true false b c is = is
 
-laid_where : (t : Bool) (y : Option State) (x : State) → cond t y None ≡ Some x → t ≡ true
+pub laid_where : (t : Bool) (y : Option State) (x : State) → cond t y None ≡ Some x → t ≡ true
 laid_where true y x is = refl
 laid_where false y x is = cc
 

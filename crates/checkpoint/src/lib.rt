@@ -13,6 +13,7 @@ mod header;
 mod heading;
 mod imaging;
 mod inspecting;
+pub mod laws;
 pub mod loading;
 mod reading;
 mod replaying;

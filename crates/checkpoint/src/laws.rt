@@ -1,0 +1,13 @@
+//! What holds of devices by the definitions: a law. No function here does anything; its contract is the law.
+ghost use Rattle.std.specs.Prelude.{◌≡◌, ◌⊎◌, ℕ, List, Some, None};
+ghost use Rattle.affinity.specs.declared.geometry.Geometry.{Geometry};
+ghost use Rattle.checkpoint.specs.Header.{HasHeader};
+ghost use Rattle.checkpoint.specs.Recovery.{holds};
+ghost use Rattle.checkpoint.specs.Refusals.{refused};
+ghost use Rattle.disk.specs.Device.{AreBytes};
+ghost use Rattle.plain.specs.State.{State};
+
+/// A device that stands for a state isn't refused.
+pub fn a_device_that_stands_is_not_refused()
+    ensures { (g : Geometry) (c : List ℕ) (x : State) → AreBytes c → holds g c ≡ Some x → (HasHeader g c) × (refused g c ≡ None) }
+{}
