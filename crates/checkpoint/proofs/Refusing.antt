@@ -1,5 +1,5 @@
 -- One test after another, and what a device stands for that passes all of them.
-use Rattle.std.proofs.Common.{◌≡◌, ℕ, zero, suc, ◌+◌, ◌<◌, ◌≤◌, Bool, true, false, not, ◌&&◌, ◌==◌, List, [], ◌∷◌, ◌++◌, length, Option, Some, None, is_some, inr, refl, sym, ◌∙◌, ap, subst, arith, length-append}
+use Rattle.std.proofs.Common.{◌≡◌, ◌≢◌, ℕ, zero, suc, ◌+◌, ◌<◌, ◌≤◌, Bool, true, false, not, ◌&&◌, ◌==◌, List, [], ◌∷◌, ◌++◌, length, Option, Some, None, is_some, Result, Ok, Err, IfErr, inr, refl, sym, ◌∙◌, ap, subst, arith, length-append}
 use Rattle.std.specs.Prelude.{if◌then◌else◌, nat_le, nat_lt}
 use Rattle.std.proofs.lemmas.Bool.{and_left, and_right, cond-false, cond-true, le-leb, le-ltb}
 use Rattle.std.proofs.lemmas.Slice.Eq.{bytes_eq-Decides}
@@ -9,9 +9,9 @@ use Rattle.checkpoint.specs.declared.fault.OpenFault.TheVariants.{Device, TooSho
 use Rattle.checkpoint.specs.declared.inspecting.Shown.{Shown}
 use Rattle.checkpoint.specs.declared.loading.Loaded.{Loaded}
 use Rattle.checkpoint.specs.Header.{HasHeader, header_of, is_header}
-use Rattle.checkpoint.specs.Loading.{IsFault, are_chained, image_fault, in_force_fault, records_fault}
+use Rattle.checkpoint.specs.Loading.{IsFault, IsOfHalf, IsOfHeader, are_chained, image_fault, in_force_fault, records_fault}
 use Rattle.checkpoint.specs.Recovery.{apply, holds, means}
-use Rattle.checkpoint.specs.Refusals.{IsRefused, fault_if, fault_of, first_bad_piece, first_bad_record, refused}
+use Rattle.checkpoint.specs.Refusals.{IsDevice, IsRefused, fault_if, fault_of, first_bad_piece, first_bad_record, refused}
 use Rattle.checkpoint.specs.Shown.{IsLoaded, IsShown, ShowsLoaded}
 use Rattle.checkpoint.proofs.Replays.{fault_from}
 use Rattle.image.specs.Image.{has_head, read, version_in}
@@ -225,3 +225,80 @@ loaded g c l same head sound area version records state = record {
   records = records ∙ ap (λ (h : Geometry). length (in_force (layout_of h) l.area c)) (sym same);
   state = ap (λ (h : Geometry). holds h c) same ∙ state;
 }
+
+-- ---- of which half a bad record is
+
+-- the head and the pieces of an image tell of no record
+pub image_half : (n : ℕ) (t : Bool) (o : Option ℕ) (e : OpenFault) → IsFault (fault_if t BadVersion (fault_of BadPiece o None)) e → IsOfHalf n e
+image_half n true o (BadRecord h i) is = cc
+image_half n false None (BadRecord h i) is = cc
+image_half n false (Some k) (BadRecord h i) is = cc
+image_half n t o Device is = tt
+image_half n t o OutOfMemory is = tt
+image_half n t o NotFormatted is = tt
+image_half n t o BadGeometry is = tt
+image_half n t o TooShort is = tt
+image_half n t o BadVersion is = tt
+image_half n t o (BadPiece k) is = tt
+image_half n t o BadChain is = tt
+
+-- nor do the chain bytes
+pub chain_half : (n : ℕ) (t : Bool) (e : OpenFault) → IsFault (fault_if t BadChain None) e → IsOfHalf n e
+chain_half n true (BadRecord h i) is = cc
+chain_half n false (BadRecord h i) is = cc
+chain_half n t Device is = tt
+chain_half n t OutOfMemory is = tt
+chain_half n t NotFormatted is = tt
+chain_half n t BadGeometry is = tt
+chain_half n t TooShort is = tt
+chain_half n t BadVersion is = tt
+chain_half n t (BadPiece k) is = tt
+chain_half n t BadChain is = tt
+
+-- the records of a half tell of one of that half
+pub records_half : (n : ℕ) (o : Option ℕ) (e : OpenFault) → IsFault (fault_of (BadRecord n) o None) e → IsOfHalf n e
+records_half n None (BadRecord h i) is = cc
+records_half n (Some k) (BadRecord h i) is = sym (ap half_in is)
+  where
+    half_in : Option OpenFault → ℕ
+    half_in (Some (BadRecord k j)) = k
+    half_in _ = n
+records_half n o Device is = tt
+records_half n o OutOfMemory is = tt
+records_half n o NotFormatted is = tt
+records_half n o BadGeometry is = tt
+records_half n o TooShort is = tt
+records_half n o BadVersion is = tt
+records_half n o (BadPiece k) is = tt
+records_half n o BadChain is = tt
+
+-- nor does the header
+pub header_half : (n : ℕ) (e : OpenFault) → IsOfHeader e → IsOfHalf n e
+header_half n Device is = tt
+header_half n OutOfMemory is = tt
+header_half n NotFormatted is = tt
+header_half n BadGeometry is = tt
+header_half n TooShort is = tt
+header_half n BadVersion is = tt
+header_half n (BadPiece k) is = tt
+header_half n BadChain is = tt
+header_half n (BadRecord h i) is = absurd is
+
+-- ---- want of memory
+
+-- The header alone takes none.
+pub took_none : (e : OpenFault) → IsOfHeader e → e ≢ OutOfMemory
+took_none Device is same = cc
+took_none OutOfMemory is same = is
+took_none NotFormatted is same = cc
+took_none BadGeometry is same = cc
+took_none TooShort is same = cc
+took_none BadVersion is same = is
+took_none (BadPiece k) is same = is
+took_none BadChain is same = is
+took_none (BadRecord h i) is same = is
+
+-- Behind the header, any refusal is one of a device with all its parts.
+pub behind_header : {T : Type 0} (r : Result T OpenFault) (keeps : Type 0) (c : List ℕ) → (keeps → IsDevice c) → IfErr r (λ e. e ≡ OutOfMemory → keeps → IsDevice c)
+behind_header (Ok v) keeps c held = tt
+behind_header (Err e) keeps c held = λ is. held

@@ -2,7 +2,7 @@
 use Rattle.std.specs.Prelude.{◌≡◌, ◌≤◌, ℕ, ◌+◌, Bool, false, not, ◌&&◌, ◌==◌, if◌then◌else◌, List, [], length, Option, Some, None, is_none, Result, Ok, Err}
 use Rattle.affinity.specs.declared.geometry.Geometry.{Geometry}
 use Rattle.checkpoint.specs.declared.fault.OpenFault.{OpenFault}
-use Rattle.checkpoint.specs.declared.fault.OpenFault.TheVariants.{Device, NotFormatted, BadGeometry, OutOfMemory, BadVersion, BadPiece, BadRecord}
+use Rattle.checkpoint.specs.declared.fault.OpenFault.TheVariants.{Device, TooShort, NotFormatted, BadGeometry, OutOfMemory, BadVersion, BadPiece, BadRecord}
 use Rattle.checkpoint.specs.Header.{HasHeader}
 use Rattle.checkpoint.specs.Recovery.{apply, means}
 use Rattle.checkpoint.specs.Refusals.{fault_if, fault_of, first_bad_piece, first_bad_record}
@@ -28,6 +28,19 @@ IsFault given OutOfMemory = Unit {0}
 IsFault given NotFormatted = ⊥
 IsFault given BadGeometry = ⊥
 IsFault given fault = given ≡ Some fault
+
+-- The device failed, or the fault is one of its header: nothing behind it was looked at, and no memory taken.
+abbrev pub IsOfHeader : OpenFault → Type 0
+IsOfHeader Device = Unit {0}
+IsOfHeader TooShort = Unit {0}
+IsOfHeader NotFormatted = Unit {0}
+IsOfHeader BadGeometry = Unit {0}
+IsOfHeader fault = ⊥
+
+-- A bad record is one of this half.
+abbrev pub IsOfHalf : ℕ → OpenFault → Type 0
+IsOfHalf half (BadRecord h i) = h ≡ half
+IsOfHalf half fault = Unit {0}
 
 -- what a fault of the log is to the one who opens the device
 abbrev pub fault_of_log : LogFault → OpenFault

@@ -58,6 +58,12 @@ IsUnformatted c = (128 ≤ length c) × (take 8 c ≢ marks_of_format)
 abbrev pub HasNoGeometry : List ℕ → Type 0
 HasNoGeometry c = (128 ≤ length c) × (take 8 c ≡ marks_of_format) × ((g : Geometry) → HasHeader g c → ⊥)
 
+-- It has the header of a geometry, and is long enough for all its parts.
+pub record IsDevice (c : List ℕ) : Type 0 where
+  pub geometry : Geometry
+  pub header : HasHeader geometry c
+  pub parts : device_size (layout_of geometry) ≤ length c
+
 -- It has the header of a geometry, and is refused with this fault.
 pub record IsRefusedWith (c : List ℕ) (fault : OpenFault) : Type 0 where
   pub geometry : Geometry

@@ -131,6 +131,7 @@ fn format_on<D: Disk>(disk: &mut D, zeros: &[u8], g: &Geometry) -> Result<(), Di
     ensures synced { OnOk result (D.keeps → IsSynced (D.medium disk.new)) }
     ensures inside { IsErrOf result DiskFault.OutOfRange → ⊥ }
     ensures counts { CountsFault result (D.medium disk.old).faults (D.medium disk.new).faults }
+    ensures len { length (D.medium disk.new).now ≡ length (D.medium disk.old).now }
 {
     shut_gate(disk)?;
     lay_out(disk, zeros, g)?;
@@ -156,6 +157,9 @@ pub fn format<D: Disk>(alloc: Global, d: D, g: Geometry) -> Result<D, FormatErro
     ensures device { IfErr result (λ e. e.fault ≡ FormatFault.Device
         ↔ (D.medium e.disk).faults ≡ (D.medium d).faults + 1) }
     ensures fine { IfOk result (λ r. (D.medium r).faults ≡ (D.medium d).faults) }
+    ensures len { MatchResult result
+        (λ r. length (D.medium r).now ≡ length (D.medium d).now)
+        (λ e. length (D.medium e.disk).now ≡ length (D.medium d).now) }
 {
     let mut disk = d;
     if disk.len() < device_len(&g) {

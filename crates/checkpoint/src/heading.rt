@@ -2,7 +2,7 @@
 ghost use Rattle.std.specs.Prelude.{◌≡◌, ◌<◌, ◌≤◌, length, IfErr, IfOk};
 ghost use Rattle.checkpoint.specs.declared.fault.OpenFault.TheVariants.{Device};
 ghost use Rattle.checkpoint.specs.Header.{HasHeader};
-ghost use Rattle.checkpoint.specs.Loading.{CountsOpenFault};
+ghost use Rattle.checkpoint.specs.Loading.{CountsOpenFault, IsOfHeader};
 ghost use Rattle.checkpoint.specs.Refusals.{IsRefused};
 ghost use Rattle.disk.specs.Device.{moments};
 ghost use Rattle.oplog.specs.Layout.{device_size, layout_of};
@@ -23,6 +23,7 @@ pub fn read_header<D: Disk>(disk: &mut D) -> Result<Geometry, OpenFault>
     ensures header { IfOk result (λ g. D.keeps → HasHeader g (D.medium disk.old).now) }
     ensures whole { IfOk result (λ g. device_size (layout_of g) ≤ length (D.medium disk.old).now) }
     ensures refused { IfErr result (λ e. D.keeps → IsRefused (D.medium disk.old).now e) }
+    ensures by_header { IfErr result (λ e. IsOfHeader e) }
     ensures untouched { D.keeps → moments (D.medium disk.new) ≡ moments (D.medium disk.old) }
     ensures counts { CountsOpenFault result (D.medium disk.old).faults (D.medium disk.new).faults }
     ensures len { length (D.medium disk.new).now ≡ length (D.medium disk.old).now }

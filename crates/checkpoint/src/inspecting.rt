@@ -1,6 +1,6 @@
 //! What a device holds, or why it is refused.
 ghost use Rattle.std.specs.Prelude.{◌≡◌, ◌↔◌, ◌+◌, IfErr, IfOk, MatchResult, length};
-ghost use Rattle.checkpoint.specs.Refusals.{IsRefused};
+ghost use Rattle.checkpoint.specs.Refusals.{IsDevice, IsRefused};
 ghost use Rattle.checkpoint.specs.Shown.{IsShown, ShowsLoaded};
 ghost use Rattle.disk.specs.Device.{moments};
 ghost use Rattle.parcel.specs.Tree.{IsWholeTree};
@@ -60,6 +60,8 @@ fn show(loaded: Loaded) -> Shown
 pub fn inspect<D: Disk>(alloc: Global, d: D) -> Result<(Shown, D), OpenError<D>>
     ensures shown { IfOk result (λ r. D.keeps → IsShown (D.medium d).now r.0) }
     ensures refused { IfErr result (λ e. D.keeps → IsRefused (D.medium d).now e.fault) }
+    ensures memory { IfErr result (λ e. e.fault ≡ OpenFault.OutOfMemory →
+        D.keeps → IsDevice (D.medium d).now) }
     ensures untouched { D.keeps → MatchResult result
         (λ r. moments (D.medium r.1) ≡ moments (D.medium d))
         (λ e. moments (D.medium e.disk) ≡ moments (D.medium d)) }

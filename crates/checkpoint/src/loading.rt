@@ -2,9 +2,9 @@
 ghost use Rattle.std.specs.Prelude.{◌≡◌, ◌+◌, ◌*◌, ◌<◌, ◌≤◌, ◌==◌, false, None, Some, length, IfErr, IfOk, OnOk};
 ghost use Rattle.checkpoint.specs.declared.fault.OpenFault.TheVariants.{BadChain, OutOfMemory};
 ghost use Rattle.checkpoint.specs.Header.{HasHeader};
-ghost use Rattle.checkpoint.specs.Loading.{CountsOpenFault, IsFault, NamedHolds, are_chained, image_fault, in_force_fault};
+ghost use Rattle.checkpoint.specs.Loading.{CountsOpenFault, IsFault, IsOfHalf, NamedHolds, are_chained, image_fault, in_force_fault};
 ghost use Rattle.checkpoint.specs.Recovery.{means};
-ghost use Rattle.checkpoint.specs.Refusals.{IsRefused, fault_if};
+ghost use Rattle.checkpoint.specs.Refusals.{IsDevice, IsRefused, fault_if};
 ghost use Rattle.checkpoint.specs.Shown.{IsLoaded};
 ghost use Rattle.disk.specs.Device.{moments};
 ghost use Rattle.image.specs.Image.{read, version_in};
@@ -12,7 +12,7 @@ ghost use Rattle.oplog.specs.Calls.{HasParts};
 ghost use Rattle.oplog.specs.Front.{chain, front};
 ghost use Rattle.oplog.specs.Layout.{device_size, image, layout_of, part};
 ghost use Rattle.oplog.specs.Log.{layout, new_log, renamed};
-ghost use Rattle.oplog.specs.Stands.{in_force, run};
+ghost use Rattle.oplog.specs.Stands.{in_force, named_area, run};
 ghost use Rattle.parcel.specs.Tree.{IsWholeTree, state_in};
 ghost use Rattle.plain.specs.State.{empty};
 
@@ -154,6 +154,8 @@ pub fn load_named<D: Disk>(
         n.records ≡ length (front (layout_of tree.old.geometry) n.area (D.medium disk.old).now)) }
     ensures log { IfOk result (λ n. log.new ≡ renamed n.area (new_log tree.old.geometry)) }
     ensures refused { IfErr result (λ e. D.keeps → IsRefused (D.medium disk.old).now e) }
+    ensures half { IfErr result (λ e. D.keeps →
+        IsOfHalf (named_area (layout_of tree.old.geometry) (D.medium disk.old).now) e) }
     ensures whole { OnOk result (IsWholeTree tree.new) }
     ensures geometry { OnOk result (tree.new.geometry ≡ tree.old.geometry) }
     ensures untouched { D.keeps → moments (D.medium disk.new) ≡ moments (D.medium disk.old) }
@@ -221,6 +223,7 @@ pub(crate) fn load<D: Disk>(alloc: Global, disk: &mut D) -> Result<Loaded, OpenF
     ensures parts { IfOk result (λ l.
         device_size (layout_of l.tree.geometry) ≤ length (D.medium disk.old).now) }
     ensures refused { IfErr result (λ e. D.keeps → IsRefused (D.medium disk.old).now e) }
+    ensures memory { IfErr result (λ e. e ≡ OutOfMemory → D.keeps → IsDevice (D.medium disk.old).now) }
     ensures untouched { D.keeps → moments (D.medium disk.new) ≡ moments (D.medium disk.old) }
     ensures counts { CountsOpenFault result (D.medium disk.old).faults (D.medium disk.new).faults }
     ensures len { length (D.medium disk.new).now ≡ length (D.medium disk.old).now }

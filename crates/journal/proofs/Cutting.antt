@@ -1,5 +1,6 @@
 -- What a crash leaves at each moment of the beginning of a cut and of its end, and what stands afterwards.
-use Rattle.std.proofs.Common.{◌≡◌, ◌≢◌, ◌<◌, ◌≤◌, ℕ, true, false, eqb, List, [], length, Option, is_some, Result, refl, sym, ◌∙◌, ap, subst, arith}
+use Rattle.std.proofs.Common.{◌≡◌, ◌≢◌, ◌<◌, ◌≤◌, ℕ, true, false, eqb, List, [], ◌++◌, length, Option, is_some, Result, refl, sym, ◌∙◌, ap, subst, arith}
+use Rattle.std.proofs.lemmas.List.{append-nil}
 use Rattle.affinity.specs.declared.geometry.Geometry.{Geometry}
 use Rattle.checkpoint.specs.Recovery.{holds, means}
 use Rattle.disk.specs.declared.fault.DiskFault.{DiskFault}
@@ -11,15 +12,17 @@ use Rattle.disk.proofs.Moments.{started, then, weaker}
 use Rattle.image.specs.Image.{read}
 use Rattle.journal.specs.Steps.{IsStanding, run_on}
 use Rattle.journal.specs.Stretches.{image_in}
+use Rattle.journal.specs.Journal.{records_in}
+use Rattle.journal.proofs.Forced.{forced_alone, forced_both}
 use Rattle.journal.proofs.Pointing.{clear_moments, clear_stands}
 use Rattle.journal.proofs.Standing.{as_other, both_of, chain_other, half_same, holds_by, laid_by, ready_none, shut_current, shut_force}
 use Rattle.oplog.specs.Changes.{ChangesOnly, Chained, Cleared, Flipped, IsReady, IsSameButChain, IsSameButGates, IsSameButRoot}
 use Rattle.oplog.specs.Crash.{StandsBy, StandsEitherWay}
 use Rattle.oplog.specs.Front.{chain, front}
 use Rattle.oplog.specs.Layout.{layout_of, device_size, part, half, image, root, other}
-use Rattle.oplog.specs.Stands.{stands_as}
+use Rattle.oplog.specs.Stands.{in_force, stands_as}
 use Rattle.oplog.proofs.AfterCrash.{chain_by_area, chained_by_area, flip_by_area, torn_root_stands}
-use Rattle.oplog.proofs.Kept.{named_area-below}
+use Rattle.oplog.proofs.Kept.{front_beside, named_area-below}
 use Rattle.oplog.proofs.Ready.{ready_kept}
 use Rattle.oplog.proofs.Slices.{same_but_none}
 use Rattle.plain.specs.State.{State}
@@ -63,6 +66,17 @@ module _ (g : Geometry) (n : ℕ) (x : Option State) (is_area : n < 2) (w0 w1 w2
     begun_none =
         (half_same (layout_of g) (other n) w1.now w2.now (chained.same.same.others (half (other n)) (λ is. omega (arith, is, is_area)))).0
         ∙ ready_none (layout_of g) (other n) w1 cleared.ready
+
+    first_same : front (layout_of g) n w2.now ≡ front (layout_of g) n w0.now
+    first_same =
+        front_beside g.half (part (layout_of g) (half n) w1.now) (part (layout_of g) (half n) w2.now) chained.same.beside
+        ∙ (half_same (layout_of g) n w0.now w1.now (cleared.same.same.others (half n) (λ is. omega (arith, is, is_area)))).0
+
+    pub begun_forced : AreBytes w0.now → AreBytes w2.now → records_in g w2.now ≡ records_in g w0.now
+    begun_forced are_0 are_2 =
+        forced_both g n x w2.now is_area (begun_stands w2.now (itself w2.now w2.loose are_2))
+        ∙ (λ i. first_same i ++ begun_none i) ∙ append-nil (front (layout_of g) n w0.now)
+        ∙ sym (forced_alone g n x w0.now is_area (stands w0.now (itself w0.now w0.loose are_0)))
 
     pub begun_images : (i : ℕ) → i < 2 → image_in g i w2 ≡ image_in g i w0
     begun_images i is_image = chained.same.same.others (image i) (λ is. omega (arith, is, is_area)) ∙ cleared.same.same.others (image i) (λ is. omega (arith, is))
@@ -116,6 +130,17 @@ module _ (g : Geometry) (n used : ℕ) (x : Option State) (bytes : List ℕ) (w0
             ready_kept (layout_of g) (other n) used root (synced w0) w2 (omega arith) (λ is. omega (arith, is)) (omega (arith, fits, long))
             (ready_kept (layout_of g) (other n) used root w0 (synced w0) (omega arith) (λ is. omega (arith, is)) fits ready (same_but_none (layout_of g) root w0.now) refl)
             flipped.same.same flipped.calm
+
+        half_named : (front (layout_of g) (other n) w2.now ≡ front (layout_of g) (other n) w0.now) × (chain (layout_of g) (other n) w2.now ≡ chain (layout_of g) (other n) w0.now)
+        half_named = half_same (layout_of g) (other n) w0.now w2.now (flipped.same.same.others (half (other n)) (λ is. omega (arith, is)))
+
+        pub named_alone : records_in g w2.now ≡ front (layout_of g) (other n) w2.now
+        named_alone =
+            ap (λ (k : ℕ). in_force (layout_of g) k w2.now) flipped.named
+            ∙ shut_force (layout_of g) (other n) w2.now (ap (λ (b : ℕ). eqb b 1) half_named.1 ∙ (own_stands w0.now refl now_own).1)
+
+        pub named_before : records_in g w0.now ≡ front (layout_of g) n w0.now ++ records_in g w2.now
+        named_before = forced_both g n x w0.now is_area now_own ∙ ap (λ rs. front (layout_of g) n w0.now ++ rs) (sym half_named.0 ∙ sym named_alone)
 
         pub named_images : (i : ℕ) → i < 2 → image_in g i w2 ≡ image_in g i w0
         named_images i is_image = flipped.same.same.others (image i) (λ is. omega (arith, is))

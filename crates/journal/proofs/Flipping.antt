@@ -7,6 +7,7 @@ use Rattle.journal.specs.Keeping.{IsFresh, IsPlaced, IsSound}
 use Rattle.journal.specs.Steps.{IsFlipped, IsStanding, IsWritten, named_now}
 use Rattle.journal.specs.Stretches.{image_in}
 use Rattle.journal.proofs.Cutting.{named_below}
+use Rattle.journal.proofs.Forced.{forced_calm, front_count}
 use Rattle.journal.proofs.Patches.{image_long}
 use Rattle.journal.proofs.Rows.{all_agree, none_marked}
 use Rattle.journal.proofs.Standing.{holds_now}
@@ -43,6 +44,8 @@ module _ (log : Log) (frozen : List ℕ) (named others due : List Bool) (left : 
             subst (λ (h : ℕ). IsStanding log.geometry (other log.named) h (holds log.geometry w1.now) w1) (sym placed.0)
             (subst (λ (o : Option State). IsStanding log.geometry (other log.named) (other log.named) o w1) (sym same) flipped.stands);
         ready = subst (λ (h : ℕ). IsReady (layout_of log.geometry) h log.used w1) (sym placed.0) flipped.ready;
+        forced = forced_calm log.geometry w1 flipped.calm;
+        count = λ none. ap length flipped.alone ∙ front_count (layout_of log.geometry) (other log.named) log.used w1 flipped.ready;
         state = λ x is. sound.state x (sym same ∙ is);
         named_fresh =
             subst (λ (o : Option State). IsFresh log.geometry o others (image_in log.geometry (other log.named) w1)) (sym same)

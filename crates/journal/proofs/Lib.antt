@@ -2,6 +2,7 @@ mod Places
 mod Runs
 mod Patches
 mod Standing
+mod Forced
 mod Pointing
 mod Cutting
 mod Rows

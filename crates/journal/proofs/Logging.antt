@@ -1,11 +1,11 @@
 -- What a crash leaves while messages are logged, and what the journal keeps once they are.
-use Rattle.std.proofs.Common.{◌≡◌, ℕ, zero, suc, ◌+◌, ◌<◌, Bool, true, false, ◌&&◌, cond, eqb, List, [], ◌∷◌, ◌++◌, length, take, Option, Some, None, is_some, option_map, unwrap_or, refl, sym, ◌∙◌, ap, subst, arith, true≢false}
+use Rattle.std.proofs.Common.{◌≡◌, ℕ, zero, suc, ◌+◌, ◌<◌, Bool, true, false, ◌&&◌, cond, eqb, List, [], ◌∷◌, ◌++◌, length, take, Option, Some, None, is_some, option_map, unwrap_or, refl, sym, ◌∙◌, ap, subst, arith, true≢false, length-append}
 use Rattle.std.proofs.lemmas.List.{length-map, take-map}
 use Rattle.std.proofs.lemmas.Slice.Eq.{bytes_eq-Decides}
 use Rattle.std.specs.Str.{bytes_eq}
 use Rattle.affinity.specs.declared.geometry.Geometry.{Geometry}
 use Rattle.checkpoint.specs.Recovery.{apply, apply_said, holds, means}
-use Rattle.disk.specs.Device.{AreBytes, Medium}
+use Rattle.disk.specs.Device.{AreBytes, Leaves, Medium}
 use Rattle.disk.specs.Moments.{LeavesOnly}
 use Rattle.disk.proofs.Leaves.{itself}
 use Rattle.disk.proofs.Moments.{weaker}
@@ -14,11 +14,12 @@ use Rattle.image.specs.Touched.{touches}
 use Rattle.image.proofs.Untouched.{piece_stays}
 use Rattle.plain.proofs.Kept.{step_kept}
 use Rattle.std.specs.List.{AllByRecursion}
-use Rattle.journal.specs.Journal.{AreCarriedOut, HoldsSome, IsSettled}
+use Rattle.journal.specs.Journal.{AreCarriedOut, HoldsSome, IsSettled, records_in}
 use Rattle.journal.specs.Keeping.{IsCutOr, IsFresh, IsPlaced, IsSound, MarksTouched, coming, held_of}
 use Rattle.journal.specs.Steps.{IsStanding, run_on}
 use Rattle.journal.specs.Stretches.{AgreeUnmarked, image_in, stretch_of}
 use Rattle.journal.proofs.Cutting.{named_below}
+use Rattle.journal.proofs.Forced.{forced_more, used_most}
 use Rattle.journal.proofs.Standing.{holds_by, holds_now}
 use Rattle.message.specs.declared.Msg.{Msg}
 use Rattle.message.specs.Messages.{is_in_range}
@@ -85,7 +86,7 @@ carried_state g x (m ∷ ms) is out = carried_state g (next_state g x m) ms (ste
 
 pub fresh_more : (g : Geometry) (x : State) (ms : List Msg) (old new : List Bool) (bytes : List ℕ) → IsState g x → AreCarriedOut g x ms → MarksTouched g ms old new → IsFresh g (Some x) old bytes → IsFresh g (Some (fold g x ms)) new bytes
 fresh_more g x ms old new bytes is_state out touched fresh y is n few unmarked =
-    let kept = touched n few unmarked in
+    let kept = (touched n few).0 unmarked in
     fresh x refl n few kept.0 ∙ sym (all_stay g x ms n is_state out kept.1) ∙ ap (λ (o : Option State). stretch_of g (unwrap_or o x) n) is
 
 -- the journal's facts, in the words of contracts
@@ -93,6 +94,11 @@ pub settled_of : (log : Log) (frozen : List ℕ) (named others due : List Bool) 
 settled_of log frozen named others due left failed m sound = record {
   some = sound.some;
   each = λ c gone. holds_by log.geometry log.named log.current (holds log.geometry m.now) c (sound.stands c gone);
+  forced = sound.forced;
+  room = λ none.
+      let count = sound.count none in
+      let most = used_most (layout_of log.geometry) log.current log.used m sound.ready in
+      omega (arith, count, most);
 }
 
 -- how many records there are is no fact of a cut
@@ -123,6 +129,22 @@ module _ (log : Log) (frozen : List ℕ) (named others due : List Bool) (left : 
             ∙ (λ i. run_on log.geometry (is i) (take-map record_of some.added ms i))
             ∙ run_records log.geometry x (take some.added ms) (first_carried log.geometry some.added x ms out);
       })
+
+  pub log_records : HasAdded log ms w0 w1 → records_in log.geometry w1.now ≡ records_in log.geometry w0.now ++ records_of ms
+  log_records has =
+      forced_more log.geometry log.named log.current (holds log.geometry w0.now) (records_of ms) w0.now w1.now is_area is_half (sound.stands w0.now (itself w0.now w0.loose are)) has.has
+
+  log_forced : HasAdded log ms w0 w1 → (c : List ℕ) → Leaves w1 c → records_in log.geometry c ≡ records_in log.geometry w1.now
+  log_forced has c left =
+      let after = has.left c left in
+      forced_more log.geometry log.named log.current (holds log.geometry w0.now) (records_of ms) after.old c is_area is_half (sound.stands after.old after.left) after.change
+      ∙ ap (λ rs. rs ++ records_of ms) (sound.forced after.old after.left) ∙ sym (log_records has)
+
+  log_count : HasAdded log ms w0 w1 → left ≡ None → length (records_in log.geometry w1.now) ≡ log.used + length ms
+  log_count has none =
+      let before = sound.count none in
+      let more = ap length (log_records has) ∙ length-append (records_in log.geometry w0.now) (records_of ms) in
+      omega (arith, before, more, length-map ms record_of)
 
   module _ (x : State) (is : holds log.geometry w0.now ≡ Some x) (out : AreCarriedOut log.geometry x ms) (has : HasAdded log ms w0 w1) (are' : AreBytes w1.now) where
     leads : run_on log.geometry (holds log.geometry w0.now) (records_of ms) ≡ Some (fold log.geometry x ms)
@@ -163,6 +185,8 @@ module _ (log : Log) (frozen : List ℕ) (named others due : List Bool) (left : 
           some = ap is_some log_settled;
           stands = subst (λ (o : Option State). IsStanding log.geometry log.named log.current o w1) (sym log_settled) stands;
           ready = subst (λ (n : ℕ). IsReady (layout_of log.geometry) log.current n w1) used has.ready;
+          forced = log_forced has;
+          count = log_count has;
           state = λ z is'. subst (λ (s : State). IsState log.geometry s) (ap (λ (o : Option State). unwrap_or o x) (sym log_settled ∙ is')) (carried_state log.geometry x ms (sound.state x is) out);
           named_fresh =
               subst (λ (o : Option State). IsFresh log.geometry o named' (image_in log.geometry log.named w1)) (sym log_settled)

@@ -4,14 +4,17 @@ use Rattle.std.proofs.lemmas.Bool.{cases_eq}
 use Rattle.std.proofs.lemmas.List.{get_or-set_other}
 use Rattle.affinity.specs.declared.geometry.Geometry.{Geometry}
 use Rattle.checkpoint.specs.Recovery.{holds, means}
-use Rattle.disk.specs.Device.{AreBytes, Medium}
+use Rattle.disk.specs.Device.{AreBytes, Leaves, Medium}
 use Rattle.disk.specs.Moments.{LeavesOnly}
+use Rattle.disk.proofs.Leaves.{itself}
 use Rattle.disk.proofs.Moments.{leaves_now}
 use Rattle.image.specs.Image.{read}
 use Rattle.journal.specs.Keeping.{IsFresh, IsPlaced, IsSound, count_marked}
 use Rattle.journal.specs.Steps.{IsStanding, run_on}
 use Rattle.journal.specs.Stretches.{IsPatchedAt, image_in, stretch_in}
+use Rattle.journal.specs.Journal.{records_in}
 use Rattle.journal.proofs.Cutting.{named_below}
+use Rattle.journal.proofs.Forced.{forced_kept}
 use Rattle.journal.proofs.Logging.{half_below}
 use Rattle.journal.proofs.Rows.{count_cleared}
 use Rattle.journal.proofs.Standing.{half_same, holds_moments, holds_now}
@@ -70,6 +73,14 @@ module _ (log : Log) (frozen : List ℕ) (named others due : List Bool) (left : 
     pub piece_same : ChangesOnly w0 w1 (IsSameBut (layout_of log.geometry) (image (other log.named))) → holds log.geometry w1.now ≡ holds log.geometry w0.now
     piece_same moments = holds_now log.geometry log.named log.current (holds log.geometry w0.now) w1 are' (stands moments)
 
+    each_forced : ChangesOnly w0 w1 (IsSameBut (layout_of log.geometry) (image (other log.named))) → (c : List ℕ) → Leaves w1 c → records_in log.geometry c ≡ records_in log.geometry w0.now
+    each_forced moments c left =
+        let after = leaves_now w0 w1 _ moments c left in
+        forced_kept log.geometry (image (other log.named)) after.old c (λ is. omega (arith, is)) (λ h is_half is. omega (arith, is, is_half)) after.change ∙ sound.forced after.old after.left
+
+    pub piece_records : ChangesOnly w0 w1 (IsSameBut (layout_of log.geometry) (image (other log.named))) → records_in log.geometry w1.now ≡ records_in log.geometry w0.now
+    piece_records moments = each_forced moments w1.now (itself w1.now w1.loose are')
+
     pub piece_sound : (n l count : ℕ) → left ≡ Some l → n < length due → IsPieced log.geometry (other log.named) n frozen w0 w1 → IsSound log frozen named others (set due n false) (Some count) w1
     piece_sound n l count is_left few pieced =
         let same = piece_same pieced.moments in
@@ -79,6 +90,8 @@ module _ (log : Log) (frozen : List ℕ) (named others due : List Bool) (left : 
           some = ap is_some same ∙ sound.some;
           stands = subst (λ (o : Option State). IsStanding log.geometry log.named log.current o w1) (sym same) (stands pieced.moments);
           ready = pieced.ready log.current log.used (half_below log.geometry log.named log.current (holds log.geometry w0.now) w0 are sound.stands) sound.ready;
+          forced = λ c left. each_forced pieced.moments c left ∙ sym (piece_records pieced.moments);
+          count = λ none. absurd (true≢false (ap is_some none));
           state = λ x is. sound.state x (sym same ∙ is);
           named_fresh =
               subst (λ (o : Option State). IsFresh log.geometry o named (image_in log.geometry log.named w1)) (sym same)

@@ -1,5 +1,5 @@
 -- Rows of marks, and what is known of an image by them.
-use Rattle.std.proofs.Common.{◌≡◌, ◌≢◌, ⊎_elim, ℕ, zero, suc, ◌+◌, ◌<◌, ◌≤◌, Bool, true, false, List, [], ◌∷◌, ◌++◌, length, take, drop, get_or, replicate, set, refl, sym, ◌∙◌, ap, subst, arith, true≢false}
+use Rattle.std.proofs.Common.{◌≡◌, ◌≢◌, ◌↔◌, ⊎_elim, ℕ, zero, suc, ◌+◌, ◌<◌, ◌≤◌, Bool, true, false, List, [], ◌∷◌, ◌++◌, length, take, drop, get_or, replicate, set, refl, sym, ◌∙◌, ap, subst, arith, true≢false}
 use Rattle.std.specs.List.{AllByRecursion}
 use Rattle.std.proofs.lemmas.Bool.{cases_eq, cases_lt}
 use Rattle.image.specs.Touched.{touches}
@@ -78,51 +78,71 @@ whole_put len new old size size' =
 -- one piece more is looked at: marked where the message touches it, and else as it was
 pub record AreMarked (g : Geometry) (m : Msg) (k : ℕ) (old new : List Bool) : Type 0 where
   pub size : length new ≡ length old
-  pub marked : (i : ℕ) → i < k → get_or new i true ≡ false → (get_or old i true ≡ false) × (touches g m i ≡ false)
+  pub marked : (i : ℕ) → i < k → (get_or new i true ≡ false) ↔ ((get_or old i true ≡ false) × (touches g m i ≡ false))
   pub rest : (i : ℕ) → k ≤ i → get_or new i true ≡ get_or old i true
 
 pub none_looked : (g : Geometry) (m : Msg) (old : List Bool) → AreMarked g m 0 old old
-none_looked g m old = record { size = refl; marked = λ i few unmarked. absurd (omega (arith, few)); rest = λ i far. refl }
+none_looked g m old = record { size = refl; marked = λ i few. absurd (omega (arith, few)); rest = λ i far. refl }
 
-pub one_touched : (g : Geometry) (m : Msg) (k : ℕ) (old new : List Bool) → k < length new → AreMarked g m k old new → AreMarked g m (k + 1) old (set new k true)
-one_touched g m k old new few so_far = record {
+apart : (i k : ℕ) → i ≢ k → i < k + 1 → i < k
+apart i k elsewhere below = ⊎_elim (λ (less : i < k). less) (λ (more : k ≤ i). absurd (elsewhere (omega (arith, below, more)))) (cases_lt i k)
+
+pub one_touched : (g : Geometry) (m : Msg) (k : ℕ) (old new : List Bool) → k < length new → touches g m k ≡ true → AreMarked g m k old new → AreMarked g m (k + 1) old (set new k true)
+one_touched g m k old new few on so_far = record {
   size = length-set new k true ∙ so_far.size;
-  marked = λ i below unmarked.
+  marked = λ i below.
       ⊎_elim
-      (λ (here : i ≡ k). absurd (true≢false (sym (get_or-set_same new k true true few) ∙ sym (ap (λ (j : ℕ). get_or (set new k true) j true) here) ∙ unmarked)))
-      (λ (elsewhere : i ≢ k). so_far.marked i (apart i elsewhere below) (sym (get_or-set_other new k i true true elsewhere) ∙ unmarked))
+      (λ (here : i ≡ k). (
+        (λ unmarked. absurd (true≢false (sym (get_or-set_same new k true true few) ∙ sym (ap (λ (j : ℕ). get_or (set new k true) j true) here) ∙ unmarked))),
+        (λ both. absurd (true≢false (sym on ∙ sym (ap (λ (j : ℕ). touches g m j) here) ∙ both.1))),
+      ))
+      (λ (elsewhere : i ≢ k).
+      let kept = get_or-set_other new k i true true elsewhere in
+      let before = so_far.marked i (apart i k elsewhere below) in
+      ((λ unmarked. before.0 (sym kept ∙ unmarked)), (λ both. kept ∙ before.1 both)))
       (cases_eq i k);
   rest = λ i far. get_or-set_other new k i true true (λ here. omega (arith, here, far)) ∙ so_far.rest i (omega (arith, far));
 }
-  where
-    apart : (i : ℕ) → i ≢ k → i < k + 1 → i < k
-    apart i elsewhere below = ⊎_elim (λ (less : i < k). less) (λ (more : k ≤ i). absurd (elsewhere (omega (arith, below, more)))) (cases_lt i k)
 
 pub one_passed : (g : Geometry) (m : Msg) (k : ℕ) (old new : List Bool) → touches g m k ≡ false → AreMarked g m k old new → AreMarked g m (k + 1) old new
 one_passed g m k old new off so_far = record {
   size = so_far.size;
-  marked = λ i below unmarked.
+  marked = λ i below.
       ⊎_elim
-      (λ (here : i ≡ k). subst (λ (j : ℕ). (get_or old j true ≡ false) × (touches g m j ≡ false)) (sym here) (sym (so_far.rest k (omega arith)) ∙ sym (ap (λ (j : ℕ). get_or new j true) here) ∙ unmarked, off))
-      (λ (elsewhere : i ≢ k). so_far.marked i (apart i elsewhere below) unmarked)
+      (λ (here : i ≡ k).
+      let kept : get_or new i true ≡ get_or old i true = so_far.rest i (omega (arith, here)) in (
+        (λ unmarked. (sym kept ∙ unmarked, ap (λ (j : ℕ). touches g m j) here ∙ off)),
+        (λ both. kept ∙ both.0),
+      ))
+      (λ (elsewhere : i ≢ k). so_far.marked i (apart i k elsewhere below))
       (cases_eq i k);
   rest = λ i far. so_far.rest i (omega (arith, far));
 }
-  where
-    apart : (i : ℕ) → i ≢ k → i < k + 1 → i < k
-    apart i elsewhere below = ⊎_elim (λ (less : i < k). less) (λ (more : k ≤ i). absurd (elsewhere (omega (arith, below, more)))) (cases_lt i k)
 
 pub all_looked : (g : Geometry) (m : Msg) (k : ℕ) (old new : List Bool) → k ≡ piece_count g → AreMarked g m k old new → MarksTouched g (m ∷ []) old new
-all_looked g m k old new all so_far n few unmarked = let both = so_far.marked n (omega (arith, few, all)) unmarked in (both.0, (both.1, tt))
+all_looked g m k old new all so_far n few =
+    let looked = so_far.marked n (omega (arith, few, all)) in ((λ unmarked. let both = looked.0 unmarked in (both.0, (both.1, tt))), (λ both. looked.1 (both.0, both.1.0)))
 
 pub no_message : (g : Geometry) (old : List Bool) → MarksTouched g [] old old
-no_message g old n few unmarked = (unmarked, tt)
+no_message g old n few = ((λ unmarked. (unmarked, tt)), (λ both. both.0))
 
 pub message_more : (g : Geometry) (ms : List Msg) (i : ℕ) (d : Msg) (old mid new : List Bool) → i < length ms → MarksTouched g (take i ms) old mid → MarksTouched g (get_or ms i d ∷ []) mid new → MarksTouched g (take (i + 1) ms) old new
-message_more g ms i d old mid new few so_far more n below unmarked =
-    let last = more n below unmarked in
-    let before = so_far n below last.0 in
-    (before.0, subst (λ (l : List Msg). AllByRecursion (λ m. touches g m n ≡ false) l) (sym (take_more ms i d few)) (all-append (λ m. touches g m n ≡ false) (take i ms) (get_or ms i d ∷ []) before.1 last.1))
+message_more g ms i d old mid new few so_far more n below =
+    let first = so_far n below in
+    let last = more n below in
+    let spelled = take_more ms i d few in (
+      (λ unmarked.
+          let after = last.0 unmarked in
+          let before = first.0 after.0 in
+          (before.0, subst (λ (l : List Msg). AllByRecursion (λ m. touches g m n ≡ false) l) (sym spelled) (all-append (λ m. touches g m n ≡ false) (take i ms) (get_or ms i d ∷ []) before.1 after.1))),
+      (λ both.
+          let parts = all-parts (λ m. touches g m n ≡ false) (take i ms) (get_or ms i d ∷ []) (subst (λ (l : List Msg). AllByRecursion (λ m. touches g m n ≡ false) l) spelled both.1) in
+          last.1 (first.1 (both.0, parts.0), parts.1)),
+    )
+  where
+    all-parts : {X : Type 0} (P : X → Type 0) (xs ys : List X) → AllByRecursion P (xs ++ ys) → AllByRecursion P xs × AllByRecursion P ys
+    all-parts P [] ys all = (tt, all)
+    all-parts P (x ∷ xs) ys all = let rest = all-parts P xs ys all.1 in ((all.0, rest.0), rest.1)
 
 -- ---- all of them
 

@@ -1,5 +1,5 @@
 -- What a point and the beginning of a cut ask of a journal, and what the journal keeps after them.
-use Rattle.std.proofs.Common.{◌≡◌, ◌<◌, ℕ, zero, suc, Bool, true, List, ◌++◌, Option, Some, None, is_some, get_or, unwrap_or, refl, sym, ◌∙◌, ap, subst, arith, true≢false}
+use Rattle.std.proofs.Common.{◌≡◌, ◌<◌, ℕ, zero, suc, Bool, true, List, ◌++◌, length, Option, Some, None, is_some, get_or, unwrap_or, refl, sym, ◌∙◌, ap, subst, arith, true≢false}
 use Rattle.std.proofs.lemmas.List.{take_at}
 use Rattle.std.proofs.Math.Seq.{take-add}
 use Rattle.affinity.specs.declared.geometry.Geometry.{Geometry}
@@ -14,6 +14,7 @@ use Rattle.journal.specs.Keeping.{IsFresh, IsPlaced, IsSound}
 use Rattle.journal.specs.Steps.{IsAlone, IsBegun, IsPointed, IsStanding, cut_now, pointed, run_on}
 use Rattle.journal.specs.Stretches.{AgreeUnmarked, image_in, stretch_in, stretch_of}
 use Rattle.journal.proofs.Cutting.{named_below}
+use Rattle.journal.proofs.Forced.{forced_calm}
 use Rattle.journal.proofs.Standing.{holds_now, run_none}
 use Rattle.oplog.specs.Layout.{other}
 use Rattle.oplog.specs.Log.{Log}
@@ -76,6 +77,8 @@ module _ (log : Log) (frozen frozen' : List ℕ) (named others due : List Bool) 
           some = ap is_some same ∙ sound.some;
           stands = subst (λ (o : Option State). IsStanding log.geometry (other log.named) (other log.named) o w1) (sym same) made.stands;
           ready = made.ready;
+          forced = forced_calm log.geometry w1 made.calm;
+          count = λ none. ap length made.emptied;
           state = λ x is'. sound.state x (sym same ∙ is');
           named_fresh =
               subst (λ (o : Option State). IsFresh log.geometry o named' (image_in log.geometry (other log.named) w1)) (sym same)
@@ -98,6 +101,8 @@ module _ (log : Log) (frozen frozen' : List ℕ) (named others due : List Bool) 
           some = ap is_some same ∙ sound.some;
           stands = subst (λ (o : Option State). IsStanding log.geometry log.named (other log.named) o w1) (sym same) begun.stands;
           ready = begun.ready;
+          forced = forced_calm log.geometry w1 begun.calm;
+          count = λ none. absurd (true≢false (ap is_some none));
           state = λ x is'. sound.state x (sym same ∙ is');
           named_fresh =
               subst (λ (o : Option State). IsFresh log.geometry o named (image_in log.geometry log.named w1)) (sym same)
@@ -122,6 +127,8 @@ opened_sound log frozen named others due w0 w1 y alone is is_state spelled all a
       some = ap is_some same ∙ alone.some;
       stands = subst (λ (o : Option State). IsStanding log.geometry (other log.named) (other log.named) o w1) (sym same) made.stands;
       ready = made.ready;
+      forced = forced_calm log.geometry w1 made.calm;
+      count = λ none. ap length made.emptied;
       state = λ x is'. subst (λ (s : State). IsState log.geometry s) (ap (λ (o : Option State). unwrap_or o y) (sym is ∙ sym same ∙ is')) is_state;
       named_fresh =
           subst (λ (o : Option State). IsFresh log.geometry o named (image_in log.geometry (other log.named) w1)) (sym same)

@@ -1,22 +1,23 @@
 -- What a crash leaves while a device is opened, from step to step, and what a refusal leaves.
-use Rattle.std.proofs.Common.{◌≡◌, ◌≢◌, ◌<◌, ℕ, Bool, false, replicate, List, [], ◌∷◌, length, Option, Some, None, is_some, Result, Ok, Err, IfOk, IfErr, inl, inr, ⊎_elim, refl, sym, ◌∙◌, ap, subst, arith}
+use Rattle.std.proofs.Common.{◌≡◌, ◌≢◌, ◌<◌, ◌≤◌, ℕ, Bool, false, replicate, List, [], ◌∷◌, length, Option, Some, None, is_some, Result, Ok, Err, IfOk, IfErr, inl, inr, ⊎_elim, refl, sym, ◌∙◌, ap, subst, arith}
 use Rattle.affinity.specs.declared.geometry.Geometry.{Geometry}
 use Rattle.checkpoint.specs.declared.fault.OpenFault.{OpenFault}
 use Rattle.checkpoint.specs.declared.fault.OpenFault.TheVariants.{Device, TooShort, NotFormatted, BadGeometry, OutOfMemory, BadVersion, BadPiece, BadChain, BadRecord}
 use Rattle.checkpoint.specs.Header.{HasHeader}
 use Rattle.checkpoint.specs.Recovery.{holds}
-use Rattle.checkpoint.specs.Loading.{IsFault}
-use Rattle.checkpoint.specs.Refusals.{fault_of, refused}
+use Rattle.checkpoint.specs.Loading.{IsFault, IsOfHalf}
+use Rattle.checkpoint.specs.Refusals.{IsRefused, fault_of, refused}
 use Rattle.checkpoint.proofs.OneGeometry.{one_geometry, same_geometry}
+use Rattle.checkpoint.proofs.Refusing.{records_half}
 use Rattle.checkpoint.proofs.Replays.{same_bytes}
 use Rattle.disk.specs.Device.{AreBytes, IsSynced, Leaves, MayLeave, Medium, Moment, moments}
 use Rattle.disk.specs.Moments.{LeavesOnly, left_since}
 use Rattle.disk.proofs.Leaves.{calm_left, itself}
 use Rattle.disk.proofs.Moments.{leaves_now, same, started, then, weaker}
-use Rattle.journal.specs.Opening.{IsRefusedUnwritten, IsUnwritten, OpeningLeaves, StandsAs}
+use Rattle.journal.specs.Opening.{IsRefusedBehind, IsRefusedUnwritten, IsUnwritten, OpeningLeaves, StandsAs}
 use Rattle.journal.specs.Parts.{IsBad, IsRefusedAlike}
 use Rattle.journal.specs.Steps.{IsAlone, IsFinished, IsStanding, StandsStill, finished_now}
-use Rattle.oplog.specs.Layout.{layout_of, other}
+use Rattle.oplog.specs.Layout.{device_size, layout_of, other}
 use Rattle.oplog.specs.Log.{Log}
 use Rattle.oplog.specs.Stands.{named_area}
 use Rattle.plain.specs.State.{State}
@@ -38,14 +39,15 @@ pub still_now : (g : Geometry) (w0 w1 : Medium) → AreBytes w1.now → StandsSt
 still_now g w0 w1 are moments = leaves_now w0 w1 _ moments w1.now (itself w1.now w1.loose are)
 
 -- what stands for the same by the geometry of the header, and is refused alike
-stands_as : (g : Geometry) (before c : List ℕ) → HasHeader g before → holds g c ≡ holds g before → ((fault : OpenFault) → refused g before ≡ Some fault → HasHeader g c × (refused g c ≡ Some fault)) → StandsAs before c
-stands_as g before c head is alike = record {
+stands_as : (g : Geometry) (before c : List ℕ) → HasHeader g before → device_size (layout_of g) ≤ length before → holds g c ≡ holds g before → ((fault : OpenFault) → refused g before ≡ Some fault → HasHeader g c × (refused g c ≡ Some fault)) → StandsAs before c
+stands_as g before c head fits is alike = record {
   same = λ h x held.
       let one = one_geometry g h before head x held in
       ap (λ (k : Geometry). holds k c) (sym one) ∙ is ∙ ap (λ (k : Geometry). holds k before) one ∙ held;
   alike = λ h fault head' was.
       let one = same_geometry g h (sym head ∙ head') in
       subst (λ (k : Geometry). HasHeader k c × (refused k c ≡ Some fault)) one (alike fault (ap (λ (k : Geometry). refused k before) one ∙ was));
+  kept = λ none. absurd (none (record { geometry = g; header = head; parts = fits }));
 }
 
 both_leave : (w0 w1 : Medium) (P Q : List ℕ → Type 0) → LeavesOnly w0 w1 P → LeavesOnly w0 w1 Q → LeavesOnly w0 w1 (λ c. P c × Q c)
@@ -66,6 +68,7 @@ as_before w0 w1 calm only =
     record {
       same = λ h x held. ap (holds h) is ∙ held;
       alike = λ h fault head was. (subst (λ (l : List ℕ). HasHeader h l) (sym is) head, ap (λ (l : List ℕ). refused h l) is ∙ was);
+      kept = λ none. is;
     }))
     only
 
@@ -84,13 +87,13 @@ alike_after g w0 w1 w2 head calm only later =
     (weaker w1 w2 _ _ later (λ c is. record { header = is.header; refused = is.refused ∙ ap (λ (l : List ℕ). refused g l) (same_bytes w0 w1 only) }))
 
 -- one that is refused or not
-pub as_alike : (g : Geometry) (w0 w1 : Medium) → HasHeader g w0.now → StandsStill g w0 w1 → LeavesOnly w0 w1 (IsRefusedAlike g w0.now) → LeavesOnly w0 w1 (StandsAs w0.now)
-as_alike g w0 w1 head still alike =
-    weaker w0 w1 _ _ (both_leave w0 w1 _ _ still alike) (λ c is. stands_as g w0.now c head is.0 (λ fault was. (is.1.header, is.1.refused ∙ was)))
+pub as_alike : (g : Geometry) (w0 w1 : Medium) → HasHeader g w0.now → device_size (layout_of g) ≤ length w0.now → StandsStill g w0 w1 → LeavesOnly w0 w1 (IsRefusedAlike g w0.now) → LeavesOnly w0 w1 (StandsAs w0.now)
+as_alike g w0 w1 head fits still alike =
+    weaker w0 w1 _ _ (both_leave w0 w1 _ _ still alike) (λ c is. stands_as g w0.now c head fits is.0 (λ fault was. (is.1.header, is.1.refused ∙ was)))
 
 -- one that isn't
-pub as_still : (g : Geometry) (w0 w1 : Medium) → HasHeader g w0.now → refused g w0.now ≡ None → StandsStill g w0 w1 → LeavesOnly w0 w1 (StandsAs w0.now)
-as_still g w0 w1 head fine still = weaker w0 w1 _ _ still (λ c is. stands_as g w0.now c head is (λ fault was. none_some (sym fine ∙ was)))
+pub as_still : (g : Geometry) (w0 w1 : Medium) → HasHeader g w0.now → device_size (layout_of g) ≤ length w0.now → refused g w0.now ≡ None → StandsStill g w0 w1 → LeavesOnly w0 w1 (StandsAs w0.now)
+as_still g w0 w1 head fits fine still = weaker w0 w1 _ _ still (λ c is. stands_as g w0.now c head fits is (λ fault was. none_some (sym fine ∙ was)))
   where
     none_some : {T : Type 0} {fault : OpenFault} → None ≡ Some fault → T
     none_some is = cc
@@ -108,28 +111,29 @@ unread w0 w1 only = record {
   later = same w0 w0 w1 _ (started w0 _ (λ c left. left)) only;
 }
 
-pub all_unwritten : (e : OpenFault) (w0 w1 : Medium) → IsUnwritten w0 w1 → IsRefusedUnwritten w0 e w1
-all_unwritten Device w0 w1 is = tt
-all_unwritten TooShort w0 w1 is = is
-all_unwritten NotFormatted w0 w1 is = is
-all_unwritten BadGeometry w0 w1 is = is
-all_unwritten OutOfMemory w0 w1 is = is
-all_unwritten BadVersion w0 w1 is = is
-all_unwritten (BadPiece n) w0 w1 is = is
-all_unwritten BadChain w0 w1 is = is
-all_unwritten (BadRecord h i) w0 w1 is = λ g head named. is
+pub all_unwritten : (e : OpenFault) (w0 w1 : Medium) → IsUnwritten w0 w1 → ((g : Geometry) → IsOfHalf (named_area (layout_of g) w0.now) e) → IsRefusedUnwritten w0 e w1
+all_unwritten Device w0 w1 is own = tt
+all_unwritten TooShort w0 w1 is own = is
+all_unwritten NotFormatted w0 w1 is own = is
+all_unwritten BadGeometry w0 w1 is own = is
+all_unwritten OutOfMemory w0 w1 is own = is
+all_unwritten BadVersion w0 w1 is own = is
+all_unwritten (BadPiece n) w0 w1 is own = is
+all_unwritten BadChain w0 w1 is own = is
+all_unwritten (BadRecord h i) w0 w1 is own = λ g head. ((λ named. is), (λ behind. absurd (behind (own g))))
 
 -- a bad record of the other half
-pub bad_behind : (e : OpenFault) (n : ℕ) (w0 w1 : Medium) (g : Geometry) → n < 2 → n ≡ named_area (layout_of g) w0.now → IsBad (other n) e → IsRefusedUnwritten w0 e w1
-bad_behind Device n w0 w1 g is_area named bad = tt
-bad_behind (BadRecord h i) n w0 w1 g is_area named bad = λ k head here. absurd (omega (arith, is_area, bad, here, named))
-bad_behind TooShort n w0 w1 g is_area named bad = absurd bad
-bad_behind NotFormatted n w0 w1 g is_area named bad = absurd bad
-bad_behind BadGeometry n w0 w1 g is_area named bad = absurd bad
-bad_behind OutOfMemory n w0 w1 g is_area named bad = absurd bad
-bad_behind BadVersion n w0 w1 g is_area named bad = absurd bad
-bad_behind (BadPiece k) n w0 w1 g is_area named bad = absurd bad
-bad_behind BadChain n w0 w1 g is_area named bad = absurd bad
+pub bad_behind : (e : OpenFault) (n : ℕ) (w0 w1 : Medium) (g : Geometry) → n < 2 → n ≡ named_area (layout_of g) w0.now → HasHeader g w0.now → IsBad g (other n) w1 e → IsRefusedUnwritten w0 e w1
+bad_behind Device n w0 w1 g is_area named head bad = tt
+bad_behind (BadRecord h i) n w0 w1 g is_area named head bad =
+    λ k head'. ((λ here. absurd (omega (arith, is_area, bad.0, here, named))), (λ behind. subst (λ (x : Geometry). IsRefusedBehind x h i w1) (same_geometry g k (sym head ∙ head')) bad.1))
+bad_behind TooShort n w0 w1 g is_area named head bad = absurd bad
+bad_behind NotFormatted n w0 w1 g is_area named head bad = absurd bad
+bad_behind BadGeometry n w0 w1 g is_area named head bad = absurd bad
+bad_behind OutOfMemory n w0 w1 g is_area named head bad = absurd bad
+bad_behind BadVersion n w0 w1 g is_area named head bad = absurd bad
+bad_behind (BadPiece k) n w0 w1 g is_area named head bad = absurd bad
+bad_behind BadChain n w0 w1 g is_area named head bad = absurd bad
 
 -- seen from before the device was only read, or synced
 pub unwritten_from : (e : OpenFault) (w0 w1 w2 : Medium) → w1.now ≡ w0.now → (IsUnwritten w1 w2 → IsUnwritten w0 w2) → IsRefusedUnwritten w1 e w2 → IsRefusedUnwritten w0 e w2
@@ -142,7 +146,9 @@ unwritten_from BadVersion w0 w1 w2 now from is = from is
 unwritten_from (BadPiece n) w0 w1 w2 now from is = from is
 unwritten_from BadChain w0 w1 w2 now from is = from is
 unwritten_from (BadRecord h i) w0 w1 w2 now from is =
-    λ g head here. from (is g (subst (λ (c : List ℕ). HasHeader g c) (sym now) head) (here ∙ sym (ap (λ (c : List ℕ). named_area (layout_of g) c) now)))
+    λ g head.
+    let at_first = is g (subst (λ (c : List ℕ). HasHeader g c) (sym now) head) in
+    let names = ap (λ (c : List ℕ). named_area (layout_of g) c) now in ((λ here. from (at_first.0 (here ∙ sym names))), (λ behind. at_first.1 (λ here. behind (here ∙ names))))
 
 pub unwritten_then : (w0 w1 w2 : Medium) → AreBytes w0.now → IsSynced w1 → w1.now ≡ w0.now → LeavesOnly w0 w1 (Leaves w0) → IsUnwritten w1 w2 → IsUnwritten w0 w2
 unwritten_then w0 w1 w2 are calm now first is = record {
@@ -198,23 +204,29 @@ pub if_err : {T E : Type 0} (r : Result T E) (P Q : E → Type 0) → ((e : E) �
 if_err (Ok v) P Q gives held = tt
 if_err (Err e) P Q gives held = gives e held
 
--- a record that can't be run is one of the half whose records are run
-pub bad_half : (h : ℕ) (o : Option ℕ) (e : OpenFault) → e ≢ OutOfMemory → IsFault (fault_of (BadRecord h) o None) e → IsBad h e
-bad_half h o Device some is = tt
-bad_half h o OutOfMemory some is = absurd (some refl)
-bad_half h o NotFormatted some is = absurd is
-bad_half h o BadGeometry some is = absurd is
-bad_half h None TooShort some is = cc
-bad_half h (Some i) TooShort some is = cc
-bad_half h None BadVersion some is = cc
-bad_half h (Some i) BadVersion some is = cc
-bad_half h None (BadPiece n) some is = cc
-bad_half h (Some i) (BadPiece n) some is = cc
-bad_half h None BadChain some is = cc
-bad_half h (Some i) BadChain some is = cc
-bad_half h None (BadRecord k j) some is = cc
-bad_half h (Some i) (BadRecord k j) some is = sym (ap (half_in h) is)
-  where
-    half_in : ℕ → Option OpenFault → ℕ
-    half_in d (Some (BadRecord k j)) = k
-    half_in d _ = d
+-- A record that can't be run is one of the half whose records are run, once the cut before it is finished: its area is named,
+-- and the device is refused for it as it was.
+pub bad_half : (g : Geometry) (h : ℕ) (o : Option ℕ) (w0 w2 : Medium) (e : OpenFault) → e ≢ OutOfMemory → IsFault (fault_of (BadRecord h) o None) e → HasHeader g w0.now → IsRefused w0.now e → IsRefusedAlike g w0.now w2.now
+    → named_area (layout_of g) w2.now ≡ h → IsSynced w2 → IsBad g h w2 e
+bad_half g h o w0 w2 Device some is head why alike named calm = tt
+bad_half g h o w0 w2 OutOfMemory some is head why alike named calm = absurd (some refl)
+bad_half g h o w0 w2 NotFormatted some is head why alike named calm = absurd is
+bad_half g h o w0 w2 BadGeometry some is head why alike named calm = absurd is
+bad_half g h None w0 w2 TooShort some is head why alike named calm = cc
+bad_half g h (Some i) w0 w2 TooShort some is head why alike named calm = cc
+bad_half g h None w0 w2 BadVersion some is head why alike named calm = cc
+bad_half g h (Some i) w0 w2 BadVersion some is head why alike named calm = cc
+bad_half g h None w0 w2 (BadPiece n) some is head why alike named calm = cc
+bad_half g h (Some i) w0 w2 (BadPiece n) some is head why alike named calm = cc
+bad_half g h None w0 w2 BadChain some is head why alike named calm = cc
+bad_half g h (Some i) w0 w2 BadChain some is head why alike named calm = cc
+bad_half g h o w0 w2 (BadRecord k j) some is head why alike named calm =
+    let own : k ≡ h = records_half h o (BadRecord k j) is in (
+      own,
+      record {
+        named = named ∙ sym own;
+        calm = calm;
+        header = alike.header;
+        refused = alike.refused ∙ ap (λ (x : Geometry). refused x w0.now) (same_geometry g why.geometry (sym head ∙ why.header)) ∙ why.is;
+      },
+    )

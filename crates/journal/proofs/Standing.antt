@@ -47,9 +47,13 @@ shut_force l q c shut = ap (λ (t : Bool). cond t (front l q c ++ front l (other
 pub shut_current : (l : Layout) (q : ℕ) (c : List ℕ) → eqb (chain l q c) 1 ≡ false → current_of l q c ≡ q
 shut_current l q c shut = ap (λ (t : Bool). cond t (other q) q) shut
 
-open_by : (n : ℕ) (t : Bool) → n < 2 → cond t (other n) n ≡ other n → t ≡ true
+pub open_by : (n : ℕ) (t : Bool) → n < 2 → cond t (other n) n ≡ other n → t ≡ true
 open_by n true is_area is = refl
 open_by n false is_area is = absurd (omega (arith, is, is_area))
+
+pub shut_by : (n : ℕ) (t : Bool) → n < 2 → cond t (other n) n ≡ n → t ≡ false
+shut_by n true is_area is = absurd (omega (arith, is, is_area))
+shut_by n false is_area is = refl
 
 not_both : (a b : Bool) → not (a && b) ≡ true → a ≡ true → b ≡ false
 not_both true true none is = absurd (true≢false (sym none))

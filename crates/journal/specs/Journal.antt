@@ -1,5 +1,5 @@
 -- A journal as contracts see it, and what its calls leave.
-use Rattle.std.specs.Prelude.{◌≡◌, ◌≤◌, ℕ, Bool, true, List, [], ◌∷◌, length, take, Option, Some, is_some, Result, Ok, Err}
+use Rattle.std.specs.Prelude.{◌≡◌, ◌≤◌, ℕ, ◌+◌, Bool, true, List, [], ◌∷◌, length, take, Option, Some, None, is_some, Result, Ok, Err}
 use Rattle.affinity.specs.declared.geometry.Geometry.{Geometry}
 use Rattle.checkpoint.specs.Recovery.{holds}
 use Rattle.disk.specs.Device.{Medium, Leaves}
@@ -25,14 +25,20 @@ pub record Held : Type 0 where
 abbrev pub settled : Held → Option State
 settled j = holds j.geometry j.medium.now
 
--- the records in force
-abbrev pub records : Held → List (List ℕ)
-records j = let g = layout_of j.geometry in in_force g (named_area g j.medium.now) j.medium.now
+-- the records in force on a device with these bytes
+abbrev pub records_in : Geometry → List ℕ → List (List ℕ)
+records_in g c = in_force (layout_of g) (named_area (layout_of g) c) c
 
--- It stands for a state, and so does whatever a crash leaves now.
+abbrev pub records : Held → List (List ℕ)
+records j = records_in j.geometry j.medium.now
+
+-- It stands for a state, and so does whatever a crash leaves now, with the same records in force. While no cut is in
+-- progress, a half has room for these and for as many more as can still be logged.
 pub record IsSettled (j : Held) : Type 0 where
   pub some : is_some (settled j) ≡ true
   pub each : (c : List ℕ) → Leaves j.medium c → holds j.geometry c ≡ settled j
+  pub forced : (c : List ℕ) → Leaves j.medium c → records_in j.geometry c ≡ records j
+  pub room : j.left ≡ None → length (records j) + j.room ≡ j.geometry.half
 
 -- Each of the messages is logged where they run from x on, one after the other: it is changing, in range, and done.
 abbrev pub AreCarriedOut : Geometry → State → List Msg → Type 0

@@ -1,13 +1,13 @@
 -- What a journal keeps true of its device between calls. No clause of a public function cites this module.
-use Rattle.std.specs.Prelude.{◌≡◌, ◌<◌, ◌-◌, ℕ, suc, Bool, true, false, List, [], ◌∷◌, get_or, Option, Some, None, is_some}
+use Rattle.std.specs.Prelude.{◌≡◌, ◌↔◌, ◌<◌, ◌-◌, ℕ, suc, Bool, true, false, List, [], ◌∷◌, length, get_or, Option, Some, None, is_some}
 use Rattle.std.specs.List.{AllByRecursion}
 use Rattle.affinity.specs.declared.geometry.Geometry.{Geometry}
 use Rattle.checkpoint.specs.Recovery.{holds}
-use Rattle.disk.specs.Device.{Medium}
+use Rattle.disk.specs.Device.{Leaves, Medium}
 use Rattle.image.specs.Image.{read}
 use Rattle.image.specs.Pieces.{piece_count}
 use Rattle.image.specs.Touched.{touches}
-use Rattle.journal.specs.Journal.{Held}
+use Rattle.journal.specs.Journal.{Held, records_in}
 use Rattle.journal.specs.Steps.{IsStanding, run_on}
 use Rattle.journal.specs.Stretches.{AgreeUnmarked, image_in, stretch_in, stretch_of}
 use Rattle.message.specs.declared.Msg.{Msg}
@@ -30,10 +30,10 @@ abbrev pub IsFresh : Geometry → Option State → List Bool → List ℕ → Ty
 IsFresh g x marks bytes = (y : State) → x ≡ Some y → (n : ℕ) → n < piece_count g → get_or marks n true ≡ false
     → stretch_in g bytes n ≡ stretch_of g y n
 
--- Marks after these messages: what isn't marked wasn't before, and none of the messages touches it.
+-- Marks after these messages: a piece isn't marked exactly where it wasn't before and none of the messages touches it.
 abbrev pub MarksTouched : Geometry → List Msg → List Bool → List Bool → Type 0
-MarksTouched g ms old new = (n : ℕ) → n < piece_count g → get_or new n true ≡ false
-    → (get_or old n true ≡ false) × AllByRecursion (λ m. touches g m n ≡ false) ms
+MarksTouched g ms old new = (n : ℕ) → n < piece_count g
+    → (get_or new n true ≡ false) ↔ ((get_or old n true ≡ false) × AllByRecursion (λ m. touches g m n ≡ false) ms)
 
 -- ---- a cut
 
@@ -66,6 +66,8 @@ pub record IsSound (log : Log) (frozen : List ℕ) (named others due : List Bool
   pub some : is_some (holds log.geometry m.now) ≡ true
   pub stands : IsStanding log.geometry log.named log.current (holds log.geometry m.now) m
   pub ready : IsReadyFor log m
+  pub forced : (c : List ℕ) → Leaves m c → records_in log.geometry c ≡ records_in log.geometry m.now
+  pub count : left ≡ None → length (records_in log.geometry m.now) ≡ log.used
   pub state : (x : State) → holds log.geometry m.now ≡ Some x → IsState log.geometry x
   pub named_fresh : IsFresh log.geometry (holds log.geometry m.now) named (image_in log.geometry log.named m)
   pub others_fresh : IsFresh log.geometry (holds log.geometry m.now) others (coming log frozen left m)

@@ -1,11 +1,11 @@
 -- What it is to open a device: which state is opened, what a crash leaves meanwhile, and what a refusal leaves.
-use Rattle.std.specs.Prelude.{◌≡◌, ◌⊎◌, ℕ, List, [], Some, None}
+use Rattle.std.specs.Prelude.{◌≡◌, ◌≢◌, ◌⊎◌, ℕ, List, [], Some, None}
 use Rattle.affinity.specs.declared.geometry.Geometry.{Geometry}
 use Rattle.checkpoint.specs.declared.fault.OpenFault.{OpenFault}
 use Rattle.checkpoint.specs.declared.fault.OpenFault.TheVariants.{Device, BadRecord}
 use Rattle.checkpoint.specs.Header.{HasHeader}
 use Rattle.checkpoint.specs.Recovery.{holds}
-use Rattle.checkpoint.specs.Refusals.{refused}
+use Rattle.checkpoint.specs.Refusals.{IsDevice, refused}
 use Rattle.disk.specs.Device.{Medium, Leaves, IsSynced}
 use Rattle.disk.specs.Moments.{LeavesOnly}
 use Rattle.journal.specs.Journal.{Held, IsSettled, records, settled}
@@ -13,7 +13,8 @@ use Rattle.oplog.specs.Layout.{layout_of}
 use Rattle.oplog.specs.Stands.{named_area}
 use Rattle.plain.specs.State.{State, IsState}
 
--- A device was opened: it isn't refused, and the journal holds the state for which it stood, with no record in force.
+-- A device was opened: it isn't refused, and the journal holds the state for which it stood, with no record in force, now
+-- and in whatever a crash leaves now.
 pub record IsOpened (old : Medium) (j : Held) (x : State) : Type 0 where
   pub header : HasHeader j.geometry old.now
   pub fine : refused j.geometry old.now ≡ None
@@ -25,11 +26,13 @@ pub record IsOpened (old : Medium) (j : Held) (x : State) : Type 0 where
 
 -- ---- what a crash leaves
 
--- These bytes stand for what those before stood for, or are refused for the same fault as they were.
+-- These bytes stand for what those before stood for, or are refused for the same fault as they were. Bytes that were no
+-- device with a header and all its parts are as they were.
 pub record StandsAs (before c : List ℕ) : Type 0 where
   pub same : (g : Geometry) (x : State) → holds g before ≡ Some x → holds g c ≡ Some x
   pub alike : (g : Geometry) (fault : OpenFault) → HasHeader g before → refused g before ≡ Some fault
       → HasHeader g c × (refused g c ≡ Some fault)
+  pub kept : (IsDevice before → ⊥) → c ≡ before
 
 -- The first sync is over: nothing was loose then, and from then on a crash leaves what stands for the same, or is refused
 -- for the same fault.
@@ -52,10 +55,19 @@ pub record IsUnwritten (old new : Medium) : Type 0 where
   pub now : new.now ≡ old.now
   pub later : LeavesOnly old new (Leaves old)
 
--- A refusal with this fault leaves the device unwritten, unless the device failed, or a cut in progress was finished
--- before: the bad record is one of the half behind the named one.
+-- A cut in progress was finished, and record i of the half that was behind the named one is bad: the area of that half is
+-- named now, nothing is loose, and the device is refused for this record still.
+pub record IsRefusedBehind (g : Geometry) (h i : ℕ) (new : Medium) : Type 0 where
+  pub named : named_area (layout_of g) new.now ≡ h
+  pub calm : IsSynced new
+  pub header : HasHeader g new.now
+  pub refused : refused g new.now ≡ Some (BadRecord h i)
+
+-- A refusal with this fault leaves the device unwritten, unless the device failed, or the bad record is one of the half
+-- behind the named one, of which is told once the cut was finished.
 abbrev pub IsRefusedUnwritten : Medium → OpenFault → Medium → Type 0
 IsRefusedUnwritten old Device new = Unit {0}
 IsRefusedUnwritten old (BadRecord h i) new =
-    (g : Geometry) → HasHeader g old.now → h ≡ named_area (layout_of g) old.now → IsUnwritten old new
+    (g : Geometry) → HasHeader g old.now
+    → (h ≡ named_area (layout_of g) old.now → IsUnwritten old new) × (h ≢ named_area (layout_of g) old.now → IsRefusedBehind g h i new)
 IsRefusedUnwritten old fault new = IsUnwritten old new

@@ -10,16 +10,17 @@ use Rattle.disk.specs.Device.{Medium}
 use Rattle.image.specs.Pieces.{piece_count}
 use Rattle.journal.specs.declared.opening.Parts.{Parts}
 use Rattle.journal.specs.Keeping.{IsSound}
+use Rattle.journal.specs.Opening.{IsRefusedBehind}
 use Rattle.oplog.specs.Calls.{HasParts}
 use Rattle.oplog.specs.Layout.{image_size, layout_of}
 use Rattle.oplog.specs.Stands.{in_force, named_area}
 use Rattle.parcel.specs.Tree.{state_in}
 
--- The device failed, or a record of this half is bad.
-abbrev pub IsBad : ℕ → OpenFault → Type 0
-IsBad half Device = Unit {0}
-IsBad half (BadRecord h i) = h ≡ half
-IsBad half fault = ⊥
+-- The device failed; or a record of this half is bad, which was behind the named one, and the cut was finished.
+abbrev pub IsBad : Geometry → ℕ → Medium → OpenFault → Type 0
+IsBad g half m Device = Unit {0}
+IsBad g half m (BadRecord h i) = (h ≡ half) × IsRefusedBehind g h i m
+IsBad g half m fault = ⊥
 
 -- These bytes have the header of this geometry, and are refused for the same fault as those before, if they were.
 pub record IsRefusedAlike (g : Geometry) (before c : List ℕ) : Type 0 where

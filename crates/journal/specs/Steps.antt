@@ -1,18 +1,19 @@
 -- The steps of a point on a device: what each asks of it, and what stands on it afterwards. No clause of a public function
 -- cites this module.
-use Rattle.std.specs.Prelude.{◌≡◌, ◌<◌, ◌==◌, if◌then◌else◌, ℕ, true, false, List, [], Option, is_some}
+use Rattle.std.specs.Prelude.{◌≡◌, ◌<◌, ◌==◌, if◌then◌else◌, ℕ, true, false, List, [], ◌++◌, Option, is_some}
 use Rattle.affinity.specs.declared.geometry.Geometry.{Geometry}
 use Rattle.checkpoint.specs.Recovery.{holds, means}
 use Rattle.disk.specs.Device.{Medium, IsSynced}
 use Rattle.disk.specs.Moments.{LeavesOnly}
 use Rattle.image.specs.Image.{read}
+use Rattle.journal.specs.Journal.{records_in}
 use Rattle.journal.specs.Stretches.{image_in}
 use Rattle.oplog.specs.Changes.{IsReady}
 use Rattle.oplog.specs.Crash.{StandsByNow}
 use Rattle.oplog.specs.Front.{chain, front}
 use Rattle.oplog.specs.Layout.{layout_of, other}
 use Rattle.oplog.specs.Log.{Log}
-use Rattle.oplog.specs.Stands.{in_force, is_laid_out, named_area, run}
+use Rattle.oplog.specs.Stands.{is_laid_out, named_area, run}
 use Rattle.plain.specs.State.{State}
 
 -- A crash at any moment from `old` to `new` leaves a device that stands for what it stood for.
@@ -36,15 +37,19 @@ pub record IsAlone (log : Log) (m : Medium) : Type 0 where
 pub record IsPointed (log : Log) (bytes : List ℕ) (old new : Medium) : Type 0 where
   pub stands : IsStanding log.geometry (other log.named) (other log.named) (holds log.geometry old.now) new
   pub ready : IsReady (layout_of log.geometry) (other log.named) 0 new
-  pub emptied : in_force (layout_of log.geometry) (named_area (layout_of log.geometry) new.now) new.now ≡ []
+  pub emptied : records_in log.geometry new.now ≡ []
+  pub calm : IsSynced new
   pub is : image_in log.geometry (other log.named) new ≡ bytes
   pub kept : image_in log.geometry log.named new ≡ image_in log.geometry log.named old
 
--- The other half is in force behind the named one, with no record and all its room. Both images are as they were.
+-- The other half is in force behind the named one, with no record and all its room. The records in force and both images
+-- are as they were.
 pub record IsBegun (log : Log) (old new : Medium) : Type 0 where
   pub stands : IsStanding log.geometry log.named (other log.named) (holds log.geometry old.now) new
   pub ready : IsReady (layout_of log.geometry) (other log.named) 0 new
   pub none : front (layout_of log.geometry) (other log.named) new.now ≡ []
+  pub forced : records_in log.geometry new.now ≡ records_in log.geometry old.now
+  pub calm : IsSynced new
   pub images : (i : ℕ) → i < 2 → image_in log.geometry i new ≡ image_in log.geometry i old
 
 -- It stands for a state by both halves, and would by the other area alone: these bytes are its image, and the records of
@@ -57,10 +62,13 @@ pub record IsWritten (log : Log) (bytes : List ℕ) (m : Medium) : Type 0 where
   pub behind : run_on log.geometry (read log.geometry bytes) (front (layout_of log.geometry) (other log.named) m.now)
       ≡ holds log.geometry m.now
 
--- The other area is named, with the records that it had. Both images are as they were.
+-- The other area is named, with the records that it had: they alone are in force. Both images are as they were.
 pub record IsFlipped (log : Log) (old new : Medium) : Type 0 where
   pub stands : IsStanding log.geometry (other log.named) (other log.named) (holds log.geometry old.now) new
   pub ready : IsReady (layout_of log.geometry) (other log.named) log.used new
+  pub before : records_in log.geometry old.now ≡ front (layout_of log.geometry) log.named old.now ++ records_in log.geometry new.now
+  pub alone : records_in log.geometry new.now ≡ front (layout_of log.geometry) (other log.named) new.now
+  pub calm : IsSynced new
   pub images : (i : ℕ) → i < 2 → image_in log.geometry i new ≡ image_in log.geometry i old
 
 -- Both halves are in force, nothing is loose, and these bytes are the image of what the named area holds by itself.
@@ -72,10 +80,12 @@ pub record IsUnfinished (log : Log) (bytes : List ℕ) (m : Medium) : Type 0 whe
   pub reads : read log.geometry bytes
       ≡ run_on log.geometry (read log.geometry (image_in log.geometry log.named m)) (front (layout_of log.geometry) log.named m.now)
 
--- The other area is named and stands for the same by itself. Its half has the records that it had.
+-- The other area is named and stands for the same by itself, and nothing is loose. Its half has the records that it had.
 pub record IsFinished (log : Log) (old new : Medium) : Type 0 where
   pub stands : IsStanding log.geometry (other log.named) (other log.named) (holds log.geometry old.now) new
   pub front : front (layout_of log.geometry) (other log.named) new.now ≡ front (layout_of log.geometry) (other log.named) old.now
+  pub named : named_area (layout_of log.geometry) new.now ≡ other log.named
+  pub calm : IsSynced new
 
 -- ---- the log after each
 

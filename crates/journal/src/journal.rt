@@ -1,11 +1,11 @@
 //! The journal of a server: what was carried out, on a device that a crash may tear at any moment.
-ghost use Rattle.std.specs.Prelude.{◌≡◌, ◌-◌, ◌≤◌, ℕ, true, false, Some, None, [], length, is_some, option_map, OnOk, OnErr, IfOk};
+ghost use Rattle.std.specs.Prelude.{◌≡◌, ◌-◌, ◌≤◌, ◌++◌, ℕ, List, true, false, Some, None, [], length, is_some, option_map, OnOk, OnErr, IfOk};
 ghost use Rattle.checkpoint.specs.Recovery.{holds};
 ghost use Rattle.disk.specs.Moments.{LeavesOnly};
 ghost use Rattle.image.specs.Pieces.{piece_count};
 ghost use Rattle.journal.specs.Journal.{Held, AreCarriedOut, HoldsSome, IsSettled, after_call, records, settled};
 ghost use Rattle.oplog.specs.Log.{CountsLogFault, IsNotBad};
-ghost use Rattle.oplog.specs.Logged.{AreLogged};
+ghost use Rattle.oplog.specs.Logged.{AreLogged, records_of};
 ghost use Rattle.parcel.specs.Tree.{IsWholeTree, state_in};
 ghost use Rattle.plain.specs.Serial.{fold};
 ghost use Rattle.plain.specs.State.{State};
@@ -121,6 +121,7 @@ impl<D: Disk> Journal<D> {
             LeavesOnly self.old.medium self.new.medium (HoldsSome self.old.geometry x messages.now) }
         ensures settled { OnOk result (D.keeps →
             settled self.new ≡ option_map (λ x. fold self.old.geometry x messages.now) (settled self.old)) }
+        ensures records { OnOk result (D.keeps → records self.new ≡ records self.old ++ records_of messages.now) }
         ensures sound { OnOk result (D.keeps → IsSettled self.new) }
         ensures none { length messages.now ≡ 0 → self.new ≡ self.old }
         ensures after { self.new ≡ after_call result
@@ -172,7 +173,7 @@ impl<D: Disk> Journal<D> {
     }
 
     /// Begins a point: what is settled, which a whole tree holds, is kept as the state of the cut, and records go to the
-    /// other half from now on.
+    /// other half from now on, behind those in force.
     pub fn cut(&mut self, tree: &Tree) -> Result<(), LogFault>
         requires sound { self.old.failed ≡ false }
         requires alone { self.old.left ≡ None }
@@ -183,6 +184,7 @@ impl<D: Disk> Journal<D> {
             (λ c. holds self.old.geometry c ≡ settled self.old) }
         ensures settled { OnOk result (D.keeps → settled self.new ≡ settled self.old) }
         ensures sound { OnOk result (D.keeps → IsSettled self.new) }
+        ensures records { OnOk result (D.keeps → records self.new ≡ records self.old) }
         ensures begun { OnOk result ((n : ℕ) × (n ≤ piece_count self.old.geometry)
             × (self.new ≡ record self.old { room = self.old.geometry.half; left = Some n; medium = self.new.medium })) }
         ensures broken { OnErr result (self.new ≡ record self.old { failed = true; medium = self.new.medium }) }
@@ -208,6 +210,7 @@ impl<D: Disk> Journal<D> {
             (λ c. holds self.old.geometry c ≡ settled self.old) }
         ensures settled { OnOk result (D.keeps → settled self.new ≡ settled self.old) }
         ensures sound { OnOk result (D.keeps → IsSettled self.new) }
+        ensures records { OnOk result (D.keeps → records self.new ≡ records self.old) }
         ensures left { IfOk result (λ n. option_map (λ l. l - 1) self.old.left ≡ Some n) }
         ensures none { self.old.left ≡ Some 0 → self.new ≡ self.old }
         ensures after { self.new ≡ after_call result
@@ -230,7 +233,8 @@ impl<D: Disk> Journal<D> {
         Ok(left)
     }
 
-    /// Ends the point of a cut of which every piece is written: the image becomes the named one.
+    /// Ends the point of a cut of which every piece is written: the image becomes the named one. The records that were in
+    /// force before the cut aren't any more; those logged since then are.
     pub fn flip(&mut self) -> Result<(), LogFault>
         requires sound { self.old.failed ≡ false }
         requires written { self.old.left ≡ Some 0 }
@@ -238,6 +242,8 @@ impl<D: Disk> Journal<D> {
             (λ c. holds self.old.geometry c ≡ settled self.old) }
         ensures settled { OnOk result (D.keeps → settled self.new ≡ settled self.old) }
         ensures sound { OnOk result (D.keeps → IsSettled self.new) }
+        ensures records { OnOk result (D.keeps →
+            (first : List (List ℕ)) × (records self.old ≡ first ++ records self.new)) }
         ensures after { self.new ≡ after_call result (record self.old { left = None; medium = self.new.medium }) self.old }
         ensures not_bad { IsNotBad result }
         ensures counts { CountsLogFault result self.old.medium.faults self.new.medium.faults }

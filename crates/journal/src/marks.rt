@@ -52,7 +52,7 @@ pub(crate) fn exchange_marks(named: &mut Vec<bool>, other: &mut Vec<bool>)
     clear_marks(named);
 }
 
-/// Marks what a message touches.
+/// Marks what a message touches, and no more.
 fn mark_one(g: &Geometry, m: &Msg, marks: &mut [bool])
     requires size { length marks.old ≡ piece_count g.now }
     ensures size { length marks.new ≡ length marks.old }
@@ -65,7 +65,7 @@ fn mark_one(g: &Geometry, m: &Msg, marks: &mut [bool])
     }
 }
 
-/// Marks what these messages touch.
+/// Marks what these messages touch, and no more.
 pub(crate) fn mark_touched(g: &Geometry, messages: &[Msg], marks: &mut [bool])
     requires size { length marks.old ≡ piece_count g.now }
     ensures size { length marks.new ≡ length marks.old }

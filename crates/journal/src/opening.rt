@@ -4,7 +4,7 @@ ghost use Rattle.checkpoint.specs.declared.fault.OpenFault.TheVariants.{Device, 
 ghost use Rattle.checkpoint.specs.Header.{HasHeader};
 ghost use Rattle.checkpoint.specs.Loading.{CountsOpenFault, NamedHolds};
 ghost use Rattle.checkpoint.specs.Recovery.{holds};
-ghost use Rattle.checkpoint.specs.Refusals.{IsRefused, refused};
+ghost use Rattle.checkpoint.specs.Refusals.{IsDevice, IsRefused, refused};
 ghost use Rattle.disk.specs.Device.{IsSynced, Leaves};
 ghost use Rattle.disk.specs.Moments.{LeavesOnly};
 ghost use Rattle.image.specs.Image.{image_of};
@@ -164,7 +164,8 @@ fn replay_behind<D: Disk>(
     ensures sound { OnOk result (D.keeps →
         refused halves.old.geometry (D.medium disk.old).now ≡ None) }
     ensures refused { IfErr result (λ e. D.keeps → IsRefused (D.medium disk.old).now e) }
-    ensures behind { IfErr result (λ e. D.keeps → IsBad (other halves.old.named) e) }
+    ensures behind { IfErr result (λ e. D.keeps →
+        IsBad halves.old.geometry (other halves.old.named) (D.medium disk.new) e) }
     ensures whole { OnOk result (IsWholeTree tree.new) }
     ensures geometry { OnOk result (tree.new.geometry ≡ tree.old.geometry) }
     ensures log { OnOk result (halves.new ≡ finished_now halves.old) }
@@ -274,6 +275,7 @@ fn open_settled<D: Disk>(alloc: Global, disk: &mut D) -> Result<Parts, OpenFault
     ensures refused { IfErr result (λ e. D.keeps → IsRefused (D.medium disk.old).now e) }
     ensures unwritten { IfErr result (λ e. D.keeps →
         IsRefusedUnwritten (D.medium disk.old) e (D.medium disk.new)) }
+    ensures memory { IfErr result (λ e. e ≡ OutOfMemory → D.keeps → IsDevice (D.medium disk.old).now) }
     ensures counts { CountsOpenFault result (D.medium disk.old).faults (D.medium disk.new).faults }
     ensures len { length (D.medium disk.new).now ≡ length (D.medium disk.old).now }
 {
@@ -316,6 +318,7 @@ fn open_on<D: Disk>(alloc: Global, disk: &mut D) -> Result<Parts, OpenFault>
     ensures refused { IfErr result (λ e. D.keeps → IsRefused (D.medium disk.old).now e) }
     ensures unwritten { IfErr result (λ e. D.keeps →
         IsRefusedUnwritten (D.medium disk.old) e (D.medium disk.new)) }
+    ensures memory { IfErr result (λ e. e ≡ OutOfMemory → D.keeps → IsDevice (D.medium disk.old).now) }
     ensures counts { CountsOpenFault result (D.medium disk.old).faults (D.medium disk.new).faults }
     ensures len { length (D.medium disk.new).now ≡ length (D.medium disk.old).now }
 {
@@ -328,8 +331,9 @@ fn open_on<D: Disk>(alloc: Global, disk: &mut D) -> Result<Parts, OpenFault>
 /// It is refused exactly where its bytes are, with the first fault in the order of the tests: length, marks, geometry,
 /// length for that geometry, memory, the head of the named image, its pieces, the chain bytes, the records of the named
 /// half, those of the other one. A refusal comes before anything is written; but where a record of the half behind the
-/// named one is bad, the cut was finished before, and the next call gives the same fault. `Device` exactly where the
-/// device failed.
+/// named one is bad, the cut was finished before: the area of that half is named then, with nothing loose, and the next
+/// call gives the same fault. A device without a header, or too short for its parts, is left as it is also where it fails
+/// meanwhile. `Device` exactly where the device failed.
 pub fn open<D: Disk>(alloc: Global, d: D) -> Result<(Journal<D>, Tree), OpenError<D>>
     ensures opened { IfOk result (λ r. D.keeps → IsOpened (D.medium d) r.0 (state_in r.1)) }
     ensures tree { IfOk result (λ r. (r.1.geometry ≡ r.0.geometry) × IsWholeTree r.1) }
@@ -344,6 +348,8 @@ pub fn open<D: Disk>(alloc: Global, d: D) -> Result<(Journal<D>, Tree), OpenErro
     ensures refused { IfErr result (λ e. D.keeps → IsRefused (D.medium d).now e.fault) }
     ensures unwritten { IfErr result (λ e. D.keeps →
         IsRefusedUnwritten (D.medium d) e.fault (D.medium e.disk)) }
+    ensures memory { IfErr result (λ e. e.fault ≡ OpenFault.OutOfMemory →
+        D.keeps → IsDevice (D.medium d).now) }
     ensures device { IfErr result (λ e. e.fault ≡ OpenFault.Device
         ↔ (D.medium e.disk).faults ≡ (D.medium d).faults + 1) }
     ensures fine { IfOk result (λ r. r.0.medium.faults ≡ (D.medium d).faults) }

@@ -26,7 +26,7 @@ one_chain g (suc zero) d is_half shut = ap (λ (b : Bool). not (eqb (chain g 0 d
 one_chain g (suc (suc m)) d is_half shut = absurd (omega (arith, is_half))
 
 -- The front doesn't depend on the chain byte.
-front_beside : (slots : ℕ) (old new : List ℕ) → drop 1 new ≡ drop 1 old → front_in slots new ≡ front_in slots old
+pub front_beside : (slots : ℕ) (old new : List ℕ) → drop 1 new ≡ drop 1 old → front_in slots new ≡ front_in slots old
 front_beside slots old new beside =
     let from : (k : ℕ) → drop (1 + k) new ≡ drop (1 + k) old = λ k. sym (drop-drop k 1 new) ∙ ap (λ (l : List ℕ). drop k l) beside ∙ drop-drop k 1 old in
     let count : 1 + (63 + slots) ≡ 64 + slots = omega arith in
@@ -46,7 +46,7 @@ module _ {S : Type 0} (means : Meaning S) where
   same_laid : (g : Layout) (a c : List ℕ) → part g header c ≡ part g header a → length c ≡ length a → chain g 0 c ≡ chain g 0 a → chain g 1 c ≡ chain g 1 a → is_laid_out means g c ≡ is_laid_out means g a
   same_laid g a c head size first second = λ i. means.is_header (head i) && nat_le (device_size g) (size i) && not (eqb (first i) 1 && eqb (second i) 1)
 
-  same_forced : (g : Layout) (n : ℕ) (a c : List ℕ) → part g (half n) c ≡ part g (half n) a → part g (half (other n)) c ≡ part g (half (other n)) a → in_force g n c ≡ in_force g n a
+  pub same_forced : (g : Layout) (n : ℕ) (a c : List ℕ) → part g (half n) c ≡ part g (half n) a → part g (half (other n)) c ≡ part g (half (other n)) a → in_force g n c ≡ in_force g n a
   same_forced g n a c named others =
       λ i. cond (eqb (get_or (named i) 0 0) 1) (front_in g.slots (named i) ++ front_in g.slots (others i)) (front_in g.slots (named i))
 
@@ -115,7 +115,7 @@ module _ {S : Type 0} (means : Meaning S) where
         (λ i. named i ++ others i) ∙ sym (append_assoc (front g n a) (front g (other n) a) more)
     grown_by n false is_area is = subst (λ (m : ℕ). front g m c ≡ front g m a ++ more) (sym is) has.front
 
-    grown_force : (n : ℕ) → n < 2 → current_of g n a ≡ h → in_force g n c ≡ in_force g n a ++ more
+    pub grown_force : (n : ℕ) → n < 2 → current_of g n a ≡ h → in_force g n c ≡ in_force g n a ++ more
     grown_force n is_area is =
         (λ i. cond (eqb (same_chain n is_area i) 1) (front g n c ++ front g (other n) c) (front g n c)) ∙ grown_by n (eqb (chain g n a) 1) is_area is
 

@@ -11,7 +11,7 @@ use Rattle.oplog.specs.Layout.{image, layout_of, part}
 use Rattle.oplog.specs.Log.{Log}
 use Rattle.oplog.specs.Stands.{in_force, named_area, run}
 use Rattle.parcel.specs.Tree.{state_in}
-use Rattle.checkpoint.proofs.Refusing.{chain_refused, image_refused, loaded, not_refused, records_refused, stands_for}
+use Rattle.checkpoint.proofs.Refusing.{behind_header, chain_refused, image_refused, loaded, not_refused, records_refused, stands_for, took_none}
 use Rattle.checkpoint.proofs.Replays.{same_bytes}
 use Rattle.checkpoint.proofs.loading.load.Goals as goal
 
@@ -102,3 +102,24 @@ returns-clause-loaded g c = λ k.
     (c.in_ok-records.ensures.count k ∙ (λ i. length (in_force (layout_of (geometry i)) c.in_ok-area.area (fourth i))))
     (stands_for c.in_ok-g.g now (c.in_ok-g.ensures.header k) c.in_ok-g.ensures.whole c.in_ok-area.area names good state said one (state_in c.replay_in_force.new.tree)
     (sym (λ i. run (means (geometry i)) (Some state) (in_force (layout_of (geometry i)) c.in_ok-area.area (fourth i))) ∙ c.in_ok-records.ensures.done k))
+
+pub returns-in_err-tree-clause-memory : goal.returns-in_err-tree-clause-memory
+returns-in_err-tree-clause-memory g c =
+    behind_header _ g.D.Disk.keeps (g.D.Disk.medium c.args.disk.now).now (λ k. record { geometry = c.in_ok-g.g; header = c.in_ok-g.ensures.header k; parts = c.in_ok-g.ensures.whole })
+
+pub returns-in_err-version-clause-memory : goal.returns-in_err-version-clause-memory
+returns-in_err-version-clause-memory g c =
+    behind_header _ g.D.Disk.keeps (g.D.Disk.medium c.args.disk.now).now (λ k. record { geometry = c.in_ok-g.g; header = c.in_ok-g.ensures.header k; parts = c.in_ok-g.ensures.whole })
+
+pub returns-in_err-chained-clause-memory : goal.returns-in_err-chained-clause-memory
+returns-in_err-chained-clause-memory g c =
+    behind_header _ g.D.Disk.keeps (g.D.Disk.medium c.args.disk.now).now (λ k. record { geometry = c.in_ok-g.g; header = c.in_ok-g.ensures.header k; parts = c.in_ok-g.ensures.whole })
+
+pub returns-in_err-records-clause-memory : goal.returns-in_err-records-clause-memory
+returns-in_err-records-clause-memory g c =
+    behind_header _ g.D.Disk.keeps (g.D.Disk.medium c.args.disk.now).now (λ k. record { geometry = c.in_ok-g.g; header = c.in_ok-g.ensures.header k; parts = c.in_ok-g.ensures.whole })
+
+pub returns-in_err-g-clause-memory : goal.returns-in_err-g-clause-memory
+returns-in_err-g-clause-memory g c =
+    let p = err_from_is_err_and c.from_residual.result c.from_residual.ensures.1 in
+    rw (p.1, p.2) (λ is. absurd (took_none c.in_err-g.field-0.0 c.in_err-g.ensures.by_header is))

@@ -3,7 +3,7 @@ use Rattle.std.proofs.lemmas.Result.{err_from_is_err_and}
 use Rattle.affinity.specs.declared.geometry.Geometry.{Geometry}
 use Rattle.checkpoint.specs.declared.fault.OpenFault.{OpenFault}
 use Rattle.checkpoint.specs.declared.fault.OpenFault.TheVariants.{BadChain}
-use Rattle.checkpoint.specs.Loading.{IsFault, are_chained, image_fault, records_fault}
+use Rattle.checkpoint.specs.Loading.{IsFault, IsOfHalf, are_chained, image_fault, records_fault}
 use Rattle.checkpoint.specs.Recovery.{means}
 use Rattle.checkpoint.specs.Refusals.{fault_if}
 use Rattle.image.specs.Image.{read}
@@ -12,7 +12,7 @@ use Rattle.oplog.specs.Layout.{image, layout_of, part}
 use Rattle.oplog.specs.Log.{Log}
 use Rattle.oplog.specs.Stands.{named_area, run}
 use Rattle.parcel.specs.Tree.{state_in}
-use Rattle.checkpoint.proofs.Refusing.{chain_refused, image_refused, named_refused, records_refused}
+use Rattle.checkpoint.proofs.Refusing.{chain_half, chain_refused, image_half, image_refused, named_refused, records_half, records_refused}
 use Rattle.checkpoint.proofs.Replays.{same_bytes}
 use Rattle.checkpoint.proofs.loading.load_named.Goals as goal
 
@@ -91,3 +91,21 @@ returns-clause-records g c = λ k.
     let third = same_bytes (g.D.Disk.medium c.args.disk.now) (g.D.Disk.medium c.chain_of.new.disk) (c.chain_of.ensures.untouched k ∙ c.read_image.ensures.untouched k ∙ c.named_area.ensures.untouched k) in
     let log = ap (λ (l : Log). l.geometry) c.name.ensures ∙ ap (λ (l : Log). l.geometry) c.requires.log in
     c.in_ok-records.ensures.count k ∙ (λ i. length (front (layout_of (log i)) c.in_ok-area.area (third i)))
+
+pub returns-in_err-version-clause-half : goal.returns-in_err-version-clause-half
+returns-in_err-version-clause-half g c =
+    let p = err_from_is_err_and c.from_residual-in_err-version.result c.from_residual-in_err-version.ensures.1 in
+    rw (p.1, p.2) (λ k. image_half _ _ _ _ (c.in_err-version.ensures.refused k))
+
+pub returns-in_err-chained-clause-half : goal.returns-in_err-chained-clause-half
+returns-in_err-chained-clause-half g c =
+    let p = err_from_is_err_and c.from_residual-in_err-chained.result c.from_residual-in_err-chained.ensures.1 in
+    rw (p.1, p.2) (λ k. chain_half _ _ _ (c.in_err-chained.ensures.refused k))
+
+pub returns-in_err-records-clause-half : goal.returns-in_err-records-clause-half
+returns-in_err-records-clause-half g c =
+    let p = err_from_is_err_and c.from_residual-in_err-records.result c.from_residual-in_err-records.ensures.1 in
+    rw (p.1, p.2)
+    (λ k.
+    let names = c.in_ok-area.ensures.area k ∙ ap (λ (h : Geometry). named_area (layout_of h) (g.D.Disk.medium c.args.disk.now).now) c.geometry-g.ensures in
+    subst (λ (n : ℕ). IsOfHalf n c.in_err-records.field-0.0) names (records_half c.in_ok-area.area _ _ (c.in_err-records.ensures.refused k)))

@@ -13,7 +13,7 @@ loop-n-preserved c =
     elim c.if-touched.branch [
       | then-touched w ↦
           subst (λ (l : List Bool). AreMarked c.args.g.now c.args.m.now (c.loop-n.n + 1) c.args.marks.now l) (sym w.marks-is)
-          (one_touched c.args.g.now c.args.m.now c.loop-n.n c.args.marks.now c.loop-n.marks few c.loop-n.invariant)
+          (one_touched c.args.g.now c.args.m.now c.loop-n.n c.args.marks.now c.loop-n.marks few (sym c.touched.ensures ∙ w.if-touched.true) c.loop-n.invariant)
       | else-touched w ↦
           let off : touches c.args.g.now c.args.m.now c.loop-n.n ≡ false = sym c.touched.ensures ∙ w.if-touched.false in
           subst (λ (l : List Bool). AreMarked c.args.g.now c.args.m.now (c.loop-n.n + 1) c.args.marks.now l) (sym w.marks-is)

@@ -6,10 +6,11 @@ use Rattle.checkpoint.specs.Recovery.{holds}
 use Rattle.checkpoint.specs.Refusals.{refused}
 use Rattle.checkpoint.proofs.Replays.{same_bytes}
 use Rattle.disk.specs.Moments.{LeavesOnly}
-use Rattle.journal.specs.Parts.{IsRefusedAlike}
+use Rattle.journal.specs.Parts.{IsBad, IsRefusedAlike}
 use Rattle.journal.specs.Steps.{StandsStill}
 use Rattle.journal.proofs.Loaded.{alone_fine, alone_holds, alone_stands, held_after, not_off, not_on}
-use Rattle.journal.proofs.Settling.{alike_after, alike_read, all_unwritten, still_after, still_read, still_synced, unread}
+use Rattle.journal.proofs.Settling.{alike_after, alike_read, all_unwritten, bad_behind, still_after, still_read, still_synced, unread}
+use Rattle.oplog.specs.Layout.{other}
 use Rattle.oplog.specs.Log.{Log}
 use Rattle.parcel.specs.Tree.{state_in}
 use Rattle.journal.proofs.opening.load_in_turn.Goals as goal
@@ -23,7 +24,7 @@ returns-in_err-named-clause-alike g c = λ k. alike_read c.args.tree.now.geometr
 pub returns-in_err-named-clause-unwritten : goal.returns-in_err-named-clause-unwritten
 returns-in_err-named-clause-unwritten g c =
     let p = err_from_is_err_and c.from_residual.result c.from_residual.ensures.1 in
-    rw (p.1, p.2) (λ k. all_unwritten _ _ _ (unread _ _ (c.load_named.ensures.untouched k)))
+    rw (p.1, p.2) (λ k. all_unwritten _ _ _ (unread _ _ (c.load_named.ensures.untouched k)) (λ h. c.in_err-named.ensures.half k))
 
 pub returns-then-not-named-clause-any_moment : goal.returns-then-not-named-clause-any_moment
 returns-then-not-named-clause-any_moment g c = λ k. still_read c.args.tree.now.geometry _ _ (c.requires.calm k) (c.load_named.ensures.untouched k)
@@ -73,6 +74,15 @@ returns-in_err-replay_behind-clause-alike g c = λ k.
     let log = ap (λ (l : Log). l.geometry) c.in_ok-named.ensures.log in
     alike_after c.args.tree.now.geometry (g.D.Disk.medium c.args.disk.now) w1 w2 (c.requires.header k) (c.requires.calm k) (c.load_named.ensures.untouched k)
     (subst (λ (h : Geometry). LeavesOnly w1 w2 (IsRefusedAlike h w1.now)) log (c.replay_behind.ensures.alike k))
+
+pub returns-in_err-replay_behind-clause-unwritten : goal.returns-in_err-replay_behind-clause-unwritten
+returns-in_err-replay_behind-clause-unwritten g c =
+    let p = err_from_is_err_and c.from_residual-in_err-replay_behind.result c.from_residual-in_err-replay_behind.ensures.1 in
+    rw (p.1, p.2)
+    (λ k.
+    let w2 = g.D.Disk.medium c.replay_behind.new.disk in
+    let bad = subst (λ (l : Log). IsBad l.geometry (other l.named) w2 c.in_err-replay_behind.field-0.0) c.in_ok-named.ensures.log (c.in_err-replay_behind.ensures.behind k) in
+    bad_behind _ c.in_ok-named.named.area (g.D.Disk.medium c.args.disk.now) w2 c.args.tree.now.geometry c.in_ok-named.ensures.area (c.in_ok-named.ensures.loaded k).named (c.requires.header k) bad)
 
 pub returns-clause-any_moment : goal.returns-clause-any_moment
 returns-clause-any_moment g c = λ k.

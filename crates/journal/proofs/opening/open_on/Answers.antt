@@ -1,4 +1,5 @@
 use Rattle.std.proofs.Common.{ℕ, List, subst}
+use Rattle.checkpoint.specs.Refusals.{IsDevice}
 use Rattle.journal.specs.Parts.{IsMadeOf}
 use Rattle.journal.proofs.Settling.{if_err, if_ok, never_synced, synced_then, unwritten_from, unwritten_then}
 use Rattle.journal.proofs.opening.open_on.Goals as goal
@@ -23,3 +24,7 @@ returns-clause-unwritten g c =
     (λ e is k.
     unwritten_from e w0 w1 w2 (c.settle.ensures.now k) (unwritten_then w0 w1 w2 (g.met.D.Disk.bytes c.args.disk.now) (c.in_ok-settle.ensures.calm k) (c.settle.ensures.now k) (c.settle.ensures.any_moment k)) (is k))
     c.open_settled.ensures.unwritten
+
+pub returns-clause-memory : goal.returns-clause-memory
+returns-clause-memory g c =
+    if_err c.open_settled.result _ _ (λ e told is k. subst (λ (l : List ℕ). IsDevice l) (c.settle.ensures.now k) (told is k)) c.open_settled.ensures.memory

@@ -1,15 +1,20 @@
-use Rattle.std.proofs.Common.{◌≡◌, List, ℕ, length, sym, ◌∙◌, ap, subst}
+use Rattle.std.proofs.Common.{◌≡◌, ◌≤◌, List, ℕ, length, sym, ◌∙◌, ap, subst}
 use Rattle.std.proofs.lemmas.Result.{err_from_is_err_and}
 use Rattle.affinity.specs.declared.geometry.Geometry.{Geometry}
+use Rattle.checkpoint.specs.declared.fault.OpenFault.{OpenFault}
 use Rattle.checkpoint.specs.Header.{HasHeader}
+use Rattle.checkpoint.specs.Loading.{IsOfHalf}
 use Rattle.checkpoint.specs.Recovery.{holds}
 use Rattle.checkpoint.specs.Refusals.{refused}
+use Rattle.checkpoint.proofs.Refusing.{behind_header, header_half, took_none}
 use Rattle.checkpoint.proofs.Replays.{same_bytes}
 use Rattle.journal.specs.Steps.{StandsStill}
 use Rattle.journal.specs.Stretches.{AreAllMarked}
 use Rattle.journal.proofs.Loaded.{made_of}
 use Rattle.journal.proofs.Rows.{whole_items, whole_put}
 use Rattle.journal.proofs.Settling.{all_unwritten, alike_after, as_alike, as_before, as_still, still_after, still_now, still_synced, still_then, unread, unwritten_from, unwritten_then}
+use Rattle.oplog.specs.Layout.{device_size, layout_of}
+use Rattle.oplog.specs.Stands.{named_area}
 use Rattle.journal.proofs.opening.open_settled.Goals as goal
 
 pub returns-in_err-g-clause-any_moment : goal.returns-in_err-g-clause-any_moment
@@ -18,7 +23,7 @@ returns-in_err-g-clause-any_moment g c = λ k. as_before _ _ (c.requires.calm k)
 pub returns-in_err-g-clause-unwritten : goal.returns-in_err-g-clause-unwritten
 returns-in_err-g-clause-unwritten g c =
     let p = err_from_is_err_and c.from_residual.result c.from_residual.ensures.1 in
-    rw (p.1, p.2) (λ k. all_unwritten _ _ _ (unread _ _ (c.read_header.ensures.untouched k)))
+    rw (p.1, p.2) (λ k. all_unwritten _ _ _ (unread _ _ (c.read_header.ensures.untouched k)) (λ h. header_half _ _ c.in_err-g.ensures.by_header))
 
 pub returns-in_err-parts-clause-any_moment : goal.returns-in_err-parts-clause-any_moment
 returns-in_err-parts-clause-any_moment g c = λ k. as_before _ _ (c.requires.calm k) (c.read_header.ensures.untouched k)
@@ -26,7 +31,10 @@ returns-in_err-parts-clause-any_moment g c = λ k. as_before _ _ (c.requires.cal
 pub returns-in_err-parts-clause-unwritten : goal.returns-in_err-parts-clause-unwritten
 returns-in_err-parts-clause-unwritten g c =
     let p = err_from_is_err_and c.from_residual-in_err-parts.result c.from_residual-in_err-parts.ensures.1 in
-    rw (p.1, p.2) (λ k. all_unwritten _ _ _ (unread _ _ (c.read_header.ensures.untouched k)))
+    rw (p.1, p.2)
+    (λ k.
+    all_unwritten _ _ _ (unread _ _ (c.read_header.ensures.untouched k))
+    (λ h. subst (λ (e : OpenFault). IsOfHalf (named_area (layout_of h) (g.D.Disk.medium c.args.disk.now).now) e) (sym c.in_err-parts.ensures.fault) tt))
 
 pub returns-in_err-load_in_turn-clause-any_moment : goal.returns-in_err-load_in_turn-clause-any_moment
 returns-in_err-load_in_turn-clause-any_moment g c = λ k.
@@ -36,7 +44,8 @@ returns-in_err-load_in_turn-clause-any_moment g c = λ k.
     let t = c.in_ok-parts.parts.tree.geometry in
     let only = c.read_header.ensures.untouched k in
     let head = subst (λ (h : Geometry). HasHeader h w0.now) (sym c.in_ok-parts.ensures.geometry) (c.in_ok-g.ensures.header k) in
-    as_alike t w0 w2 head (still_after t w0 w1 w2 (c.requires.calm k) only (c.load_in_turn.ensures.any_moment k)) (alike_after t w0 w1 w2 head (c.requires.calm k) only (c.load_in_turn.ensures.alike k))
+    let fits = subst (λ (h : Geometry). device_size (layout_of h) ≤ length w0.now) (sym c.in_ok-parts.ensures.geometry) c.in_ok-g.ensures.whole in
+    as_alike t w0 w2 head fits (still_after t w0 w1 w2 (c.requires.calm k) only (c.load_in_turn.ensures.any_moment k)) (alike_after t w0 w1 w2 head (c.requires.calm k) only (c.load_in_turn.ensures.alike k))
 
 pub returns-in_err-load_in_turn-clause-unwritten : goal.returns-in_err-load_in_turn-clause-unwritten
 returns-in_err-load_in_turn-clause-unwritten g c =
@@ -69,10 +78,11 @@ returns-in_err-last_point-clause-any_moment g c = λ k.
     let t = c.in_ok-parts.parts.tree.geometry in
     let only = c.read_header.ensures.untouched k in
     let head = subst (λ (h : Geometry). HasHeader h w0.now) (sym c.in_ok-parts.ensures.geometry) (c.in_ok-g.ensures.header k) in
+    let fits = subst (λ (h : Geometry). device_size (layout_of h) ≤ length w0.now) (sym c.in_ok-parts.ensures.geometry) c.in_ok-g.ensures.whole in
     let w3 = g.D.Disk.medium c.last_point.new.disk in
     let fine = sym (ap (λ (l : List ℕ). refused t l) (same_bytes w0 w1 only)) ∙ c.in_ok-load_in_turn.ensures.sound k in
     let later = subst (λ (h : Geometry). StandsStill h w2 w3) c.in_ok-load_in_turn.ensures.log (c.last_point.ensures.any_moment k) in
-    as_still t w0 w3 head fine (still_after t w0 w1 w3 (c.requires.calm k) only (still_then t w1 w2 w3 (g.met.D.Disk.bytes c.load_in_turn.new.disk) (c.load_in_turn.ensures.any_moment k) later))
+    as_still t w0 w3 head fits fine (still_after t w0 w1 w3 (c.requires.calm k) only (still_then t w1 w2 w3 (g.met.D.Disk.bytes c.load_in_turn.new.disk) (c.load_in_turn.ensures.any_moment k) later))
 
 pub returns-clause-any_moment : goal.returns-clause-any_moment
 returns-clause-any_moment g c = λ k.
@@ -82,10 +92,11 @@ returns-clause-any_moment g c = λ k.
     let t = c.in_ok-parts.parts.tree.geometry in
     let only = c.read_header.ensures.untouched k in
     let head = subst (λ (h : Geometry). HasHeader h w0.now) (sym c.in_ok-parts.ensures.geometry) (c.in_ok-g.ensures.header k) in
+    let fits = subst (λ (h : Geometry). device_size (layout_of h) ≤ length w0.now) (sym c.in_ok-parts.ensures.geometry) c.in_ok-g.ensures.whole in
     let w3 = g.D.Disk.medium c.last_point.new.disk in
     let fine = sym (ap (λ (l : List ℕ). refused t l) (same_bytes w0 w1 only)) ∙ c.in_ok-load_in_turn.ensures.sound k in
     let later = subst (λ (h : Geometry). StandsStill h w2 w3) c.in_ok-load_in_turn.ensures.log (c.last_point.ensures.any_moment k) in
-    as_still t w0 w3 head fine (still_after t w0 w1 w3 (c.requires.calm k) only (still_then t w1 w2 w3 (g.met.D.Disk.bytes c.load_in_turn.new.disk) (c.load_in_turn.ensures.any_moment k) later))
+    as_still t w0 w3 head fits fine (still_after t w0 w1 w3 (c.requires.calm k) only (still_then t w1 w2 w3 (g.met.D.Disk.bytes c.load_in_turn.new.disk) (c.load_in_turn.ensures.any_moment k) later))
 
 pub returns-clause-made_of : goal.returns-clause-made_of
 returns-clause-made_of g c = λ k.
@@ -107,3 +118,20 @@ returns-clause-made_of g c = λ k.
     let all = subst (λ (h : Geometry). AreAllMarked h c.in_ok-parts.parts.other_marks.items) (sym (log ∙ c.in_ok-parts.ensures.geometry)) c.in_ok-parts.ensures.all in
     made_of _ c.load_in_turn.new.halves w0 w2 w3 c.last_point.new.frozen (g.met.D.Disk.bytes c.last_point.new.disk) head fine was c.in_ok-last_point.ensures.log (geometry ∙ sym log) items c.last_point.ensures.frozen
     c.in_ok-load_in_turn.ensures.whole all (c.in_ok-load_in_turn.ensures.alone k) held (c.in_ok-last_point.ensures.pointed k)
+
+pub returns-in_err-g-clause-memory : goal.returns-in_err-g-clause-memory
+returns-in_err-g-clause-memory g c =
+    let p = err_from_is_err_and c.from_residual.result c.from_residual.ensures.1 in
+    rw (p.1, p.2) (λ is. absurd (took_none c.in_err-g.field-0.0 c.in_err-g.ensures.by_header is))
+
+pub returns-in_err-parts-clause-memory : goal.returns-in_err-parts-clause-memory
+returns-in_err-parts-clause-memory g c =
+    behind_header _ g.D.Disk.keeps (g.D.Disk.medium c.args.disk.now).now (λ k. record { geometry = c.in_ok-g.g; header = c.in_ok-g.ensures.header k; parts = c.in_ok-g.ensures.whole })
+
+pub returns-in_err-load_in_turn-clause-memory : goal.returns-in_err-load_in_turn-clause-memory
+returns-in_err-load_in_turn-clause-memory g c =
+    behind_header _ g.D.Disk.keeps (g.D.Disk.medium c.args.disk.now).now (λ k. record { geometry = c.in_ok-g.g; header = c.in_ok-g.ensures.header k; parts = c.in_ok-g.ensures.whole })
+
+pub returns-in_err-last_point-clause-memory : goal.returns-in_err-last_point-clause-memory
+returns-in_err-last_point-clause-memory g c =
+    behind_header _ g.D.Disk.keeps (g.D.Disk.medium c.args.disk.now).now (λ k. record { geometry = c.in_ok-g.g; header = c.in_ok-g.ensures.header k; parts = c.in_ok-g.ensures.whole })

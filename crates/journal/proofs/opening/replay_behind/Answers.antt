@@ -4,13 +4,15 @@ use Rattle.checkpoint.specs.declared.fault.OpenFault.{OpenFault}
 use Rattle.checkpoint.specs.Loading.{IsFault, records_fault}
 use Rattle.checkpoint.specs.Recovery.{means}
 use Rattle.checkpoint.specs.Refusals.{first_bad_record}
-use Rattle.disk.proofs.Moments.{same}
+use Rattle.checkpoint.proofs.Replays.{same_bytes}
+use Rattle.disk.proofs.Leaves.{itself}
+use Rattle.disk.proofs.Moments.{leaves_now, same}
 use Rattle.journal.proofs.Loaded.{behind_fine, behind_holds, behind_refused}
-use Rattle.journal.proofs.Settling.{alone_finished, bad_half}
+use Rattle.journal.proofs.Settling.{alone_finished, bad_half, still_synced}
 use Rattle.oplog.specs.Front.{front}
 use Rattle.oplog.specs.Layout.{layout_of, other}
 use Rattle.oplog.specs.Log.{Log}
-use Rattle.oplog.specs.Stands.{run}
+use Rattle.oplog.specs.Stands.{named_area, run}
 use Rattle.parcel.specs.Tree.{state_in}
 use Rattle.journal.proofs.opening.replay_behind.Goals as goal
 
@@ -40,10 +42,23 @@ returns-in_err-replay-clause-behind g c =
     (λ k.
     let x = state_in c.args.tree.now in
     let w1 = (g.D.Disk.medium c.finish_cut.new.disk).now in
+    let w0 = g.D.Disk.medium c.args.disk.now in
+    let w2 = g.D.Disk.medium c.replay.new.disk in
+    let log : c.finish_cut.new.halves.geometry ≡ c.args.halves.now.geometry = ap (λ (l : Log). l.geometry) c.in_ok-finish_cut.ensures.log in
     let half = ap other c.named-behind.ensures.named in
     let rs = front (layout_of c.finish_cut.new.halves.geometry) (other c.named-behind.result) w1 in
-    bad_half (other c.args.halves.now.named) (first_bad_record c.args.tree.now.geometry 0 (Some x) rs) _ c.in_err-replay.ensures.took_none
-    (subst (λ (h : ℕ). IsFault (records_fault c.args.tree.now.geometry x h rs) c.in_err-replay.field-0.0) half (c.in_err-replay.ensures.refused k)))
+    let finished = c.in_ok-finish_cut.ensures.finished k in
+    let only = c.replay.ensures.untouched k in
+    let fault = c.in_err-replay.ensures.refused k in
+    let why = behind_refused c.args.halves.now.geometry w0.now c.args.halves.now.named x (c.requires.holds k) c.in_err-replay.field-0.0
+    (subst (λ (rs : List (List ℕ)). IsFault (records_fault c.args.halves.now.geometry x (other c.args.halves.now.named) rs) c.in_err-replay.field-0.0) finished.front
+    (subst (λ (o : Option OpenFault). IsFault o c.in_err-replay.field-0.0) (λ i. records_fault (c.requires.geometry i) x (half i) (front (layout_of (log i)) (half i) w1)) fault)) in
+    let alike = leaves_now w0 w2 _ (same _ _ _ _ (c.finish_cut.ensures.alike k) only) w2.now (itself w2.now w2.loose (g.met.D.Disk.bytes c.replay.new.disk)) in
+    bad_half c.args.halves.now.geometry (other c.args.halves.now.named) (first_bad_record c.args.tree.now.geometry 0 (Some x) rs) w0 w2 _ c.in_err-replay.ensures.took_none
+    (subst (λ (h : ℕ). IsFault (records_fault c.args.tree.now.geometry x h rs) c.in_err-replay.field-0.0) half fault)
+    (c.requires.holds k).header why alike
+    (ap (λ (l : List ℕ). named_area (layout_of c.args.halves.now.geometry) l) (same_bytes (g.D.Disk.medium c.finish_cut.new.disk) w2 only) ∙ finished.named)
+    (still_synced (g.D.Disk.medium c.finish_cut.new.disk) w2 only finished.calm))
 
 pub returns-clause-any_moment : goal.returns-clause-any_moment
 returns-clause-any_moment g c = λ k. same _ _ _ _ (c.finish_cut.ensures.any_moment k) (c.replay.ensures.untouched k)

@@ -1,5 +1,5 @@
 use Rattle.std.proofs.Common.{subst}
-use Rattle.journal.proofs.Cutting.{begun_images, begun_none, begun_ready, begun_stands, chain_moments, named_below}
+use Rattle.journal.proofs.Cutting.{begun_forced, begun_images, begun_none, begun_ready, begun_stands, chain_moments, named_below}
 use Rattle.journal.proofs.Pointing.{clear_moments}
 use Rattle.oplog.specs.Calls.{Chains, HasChained}
 use Rattle.oplog.specs.Log.{Log}
@@ -43,5 +43,7 @@ returns-clause-begun g c = λ k.
       stands = begun_stands geometry named _ is_area w0 w1 w2 stands clears cleared chains are c.requires.whole chained;
       ready = begun_ready geometry named _ is_area w0 w1 w2 stands clears cleared chains are c.requires.whole chained;
       none = begun_none geometry named _ is_area w0 w1 w2 stands clears cleared chains are c.requires.whole chained;
+      forced = begun_forced geometry named _ is_area w0 w1 w2 stands clears cleared chains are c.requires.whole chained (g.met.D.Disk.bytes c.args.disk.now) (g.met.D.Disk.bytes c.open_chain.new.disk);
+      calm = chained.calm;
       images = begun_images geometry named _ is_area w0 w1 w2 stands clears cleared chains are c.requires.whole chained;
     }

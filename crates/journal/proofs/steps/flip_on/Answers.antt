@@ -2,7 +2,7 @@ use Rattle.std.proofs.Common.{◌≡◌, sym, ◌∙◌, subst}
 use Rattle.checkpoint.specs.Recovery.{holds}
 use Rattle.disk.specs.Device.{Medium}
 use Rattle.disk.specs.Moments.{LeavesOnly}
-use Rattle.journal.proofs.Cutting.{name_moments, named_below, named_images, named_ready, named_stands, sync_moments}
+use Rattle.journal.proofs.Cutting.{name_moments, named_alone, named_before, named_below, named_images, named_ready, named_stands, sync_moments}
 use Rattle.oplog.proofs.Answered.{on_ok}
 use Rattle.oplog.specs.Calls.{Flips, HasFlipped}
 use Rattle.journal.proofs.steps.flip_on.Goals as goal
@@ -51,5 +51,8 @@ returns-clause-flipped g c = λ k.
     record {
       stands = named_stands geometry named c.args.halves.now.used _ c.args.bytes.now w0 written.stands is_area written.some written.is written.behind w2 are flipped;
       ready = named_ready geometry named c.args.halves.now.used _ c.args.bytes.now w0 written.stands is_area written.some written.is written.behind w2 are flipped c.requires.whole written.ready;
+      before = named_before geometry named c.args.halves.now.used _ c.args.bytes.now w0 written.stands is_area written.some written.is written.behind w2 are flipped;
+      alone = named_alone geometry named c.args.halves.now.used _ c.args.bytes.now w0 written.stands is_area written.some written.is written.behind w2 are flipped;
+      calm = flipped.calm;
       images = named_images geometry named c.args.halves.now.used _ c.args.bytes.now w0 written.stands is_area written.some written.is written.behind w2 are flipped;
     }

@@ -66,6 +66,7 @@ returns-clause-pointed g c = λ k.
       stands = now_stands geometry named _ is_area w0 w1 stands clears w2 writes some c.args.bytes.now (c.requires.image k) cleared imaged w3 are c.requires.whole flipped;
       ready = now_ready geometry named _ is_area w0 w1 stands clears w2 writes some c.args.bytes.now (c.requires.image k) cleared imaged w3 are c.requires.whole flipped;
       emptied = now_emptied geometry named _ is_area w0 w1 stands clears w2 writes some c.args.bytes.now (c.requires.image k) cleared imaged w3 are c.requires.whole flipped;
+      calm = flipped.calm;
       is = now_is geometry named _ is_area w0 w1 stands clears w2 writes some c.args.bytes.now (c.requires.image k) cleared imaged w3 are c.requires.whole flipped;
       kept = now_kept geometry named _ is_area w0 w1 stands clears w2 writes some c.args.bytes.now (c.requires.image k) cleared imaged w3 are c.requires.whole flipped;
     }

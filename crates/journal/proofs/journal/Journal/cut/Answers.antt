@@ -5,7 +5,7 @@ use Rattle.checkpoint.specs.Recovery.{holds}
 use Rattle.disk.specs.Moments.{LeavesOnly}
 use Rattle.image.specs.Image.{image_of}
 use Rattle.image.specs.Pieces.{piece_count}
-use Rattle.journal.specs.Journal.{Held, settled}
+use Rattle.journal.specs.Journal.{Held, records, records_in, settled}
 use Rattle.journal.specs.Keeping.{IsPlaced, IsSound, count_marked, held_of}
 use Rattle.journal.proofs.Logging.{settled_of}
 use Rattle.journal.proofs.Rows.{count_most, whole_items, whole_put}
@@ -68,6 +68,10 @@ returns-clause-begun g c =
           ∙ ap (λ (n : ℕ). record (held_of c.self.inside.halves (Some c.count_marked.result) c.self.inside.failed w1) { room = n }) all
           ∙ ap (λ (h : Held). record h { room = h.geometry.half; left = Some c.count_marked.result; medium = w1 }) c.self.view_is,
     )
+
+pub returns-clause-records : goal.returns-clause-records
+returns-clause-records g c = λ k.
+    ap (λ (x : Geometry). records_in x (g.D.Disk.medium c.cut_on.new.disk).now) c.cut_on.ensures.geometry ∙ (c.in_default.ensures.begun k).forced ∙ ap records c.self.view_is
 
 pub invariant_of-self-2 : goal.invariant_of-self-2
 invariant_of-self-2 g c =

@@ -1,14 +1,16 @@
-use Rattle.std.proofs.Common.{◌≡◌, false, Option, Some, None, ℕ, List, length, sym, ◌∙◌, ap, subst, arith}
+use Rattle.std.proofs.Common.{◌≡◌, false, Option, Some, None, ℕ, List, ◌++◌, length, sym, ◌∙◌, ap, subst, arith}
+use Rattle.affinity.specs.declared.geometry.Geometry.{Geometry}
 use Rattle.checkpoint.specs.Recovery.{holds}
 use Rattle.disk.specs.Moments.{LeavesOnly}
-use Rattle.journal.specs.Journal.{Held, settled}
+use Rattle.journal.specs.Journal.{Held, records, records_in, settled}
 use Rattle.journal.specs.Keeping.{IsPlaced}
 use Rattle.journal.specs.Steps.{IsWritten}
 use Rattle.journal.proofs.Flipping.{flip_asks, flip_kept}
 use Rattle.journal.proofs.Logging.{settled_of}
 use Rattle.journal.proofs.Standing.{holds_now}
 use Rattle.image.specs.Pieces.{piece_count}
-use Rattle.oplog.specs.Layout.{device_size, image_size}
+use Rattle.oplog.specs.Front.{front}
+use Rattle.oplog.specs.Layout.{device_size, image_size, layout_of}
 use Rattle.oplog.specs.Log.{Log, layout}
 use Rattle.journal.proofs.journal.Journal.flip.Goals as goal
 
@@ -46,6 +48,15 @@ returns-clause-sound g c = λ k.
     (flip_kept c.self.inside.halves c.flip_on.new.halves c.self.inside.frozen.items c.self.inside.named_marks.items c.self.inside.other_marks.items c.self.inside.due.items c.swap.new.x.items c.swap.new.y.items c.self.inside.left (g.D.Disk.medium c.self.inside.disk) (g.D.Disk.medium c.flip_on.new.disk) none
     c.in_default.ensures.log (ap (λ v. v.items) c.swap.ensures.x_after) (ap (λ v. v.items) c.swap.ensures.y_after)
     (g.met.D.Disk.bytes c.self.inside.disk) (g.met.D.Disk.bytes c.flip_on.new.disk) placed written sound (c.in_default.ensures.flipped k))
+
+pub returns-clause-records : goal.returns-clause-records
+returns-clause-records g c = λ k.
+    let w0 = g.D.Disk.medium c.self.inside.disk in
+    let w1 = g.D.Disk.medium c.flip_on.new.disk in
+    let flipped = c.in_default.ensures.flipped k in
+    let first = front (layout_of c.self.inside.halves.geometry) c.self.inside.halves.named w0.now in
+    subst (λ (h : Held). (rs : List (List ℕ)) × (records h ≡ rs ++ records_in c.flip_on.new.halves.geometry w1.now)) c.self.view_is
+    (first, flipped.before ∙ ap (λ (x : Geometry). first ++ records_in x w1.now) (sym c.flip_on.ensures.geometry))
 
 pub invariant_of-self-2 : goal.invariant_of-self-2
 invariant_of-self-2 g c =

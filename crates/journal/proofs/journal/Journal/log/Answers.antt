@@ -1,14 +1,15 @@
-use Rattle.std.proofs.Common.{◌≡◌, ◌+◌, false, Some, length, option_map, refl, sym, ◌∙◌, ap, subst, arith}
+use Rattle.std.proofs.Common.{◌≡◌, ◌+◌, ◌++◌, false, Some, length, option_map, refl, sym, ◌∙◌, ap, subst, arith}
 use Rattle.affinity.specs.declared.geometry.Geometry.{Geometry}
 use Rattle.checkpoint.specs.Recovery.{holds}
 use Rattle.disk.specs.Moments.{LeavesOnly}
 use Rattle.image.specs.Pieces.{piece_count}
-use Rattle.journal.specs.Journal.{AreCarriedOut, Held, HoldsSome, settled}
+use Rattle.journal.specs.Journal.{AreCarriedOut, Held, HoldsSome, records, records_in, settled}
 use Rattle.journal.specs.Keeping.{IsPlaced}
-use Rattle.journal.proofs.Logging.{log_kept, log_moments, log_told, placed_used, settled_of, touched_along}
+use Rattle.journal.proofs.Logging.{log_kept, log_moments, log_records, log_told, placed_used, settled_of, touched_along}
 use Rattle.journal.proofs.Rows.{whole_put}
 use Rattle.oplog.specs.Layout.{device_size, image_size}
 use Rattle.oplog.specs.Log.{Log, layout}
+use Rattle.oplog.specs.Logged.{records_of}
 use Rattle.plain.specs.Serial.{fold}
 use Rattle.plain.specs.State.{State}
 use Rattle.journal.proofs.journal.Journal.log.Goals as goal
@@ -50,6 +51,14 @@ returns-clause-sound g c = λ k.
     (g.D.Disk.medium c.self.inside.disk) (g.D.Disk.medium c.append.new.disk) c.in_default.ensures.log (g.met.D.Disk.bytes c.self.inside.disk) (g.met.D.Disk.bytes c.append.new.disk) (c.self.invariant.7 fine k) out (c.in_default.ensures.added k) (c.self.invariant.6 fine).1
     (touched_along _ _ c.args.messages.now _ _ _ _ same c.deref_mut.ensures.value refl c.mark_touched.ensures.touched)
     (touched_along _ _ c.args.messages.now _ _ _ _ same c.deref_mut-2.ensures.value refl c.mark_touched-2.ensures.touched))
+
+pub returns-clause-records : goal.returns-clause-records
+returns-clause-records g c = λ k.
+    let fine : c.self.inside.failed ≡ false = ap (λ (h : Held). h.failed) c.self.view_is ∙ c.requires.sound in
+    subst (λ (h : Held). records_in c.append.new.self.geometry (g.D.Disk.medium c.append.new.disk).now ≡ records h ++ records_of c.args.messages.now) c.self.view_is
+    (ap (λ (l : Log). records_in l.geometry (g.D.Disk.medium c.append.new.disk).now) c.in_default.ensures.log
+    ∙ log_records c.self.inside.halves c.self.inside.frozen.items c.self.inside.named_marks.items c.self.inside.other_marks.items c.self.inside.due.items c.self.inside.left c.args.messages.now
+    (g.D.Disk.medium c.self.inside.disk) (g.D.Disk.medium c.append.new.disk) (g.met.D.Disk.bytes c.self.inside.disk) (c.self.invariant.7 fine k) (c.in_default.ensures.added k))
 
 pub invariant_of-self-2 : goal.invariant_of-self-2
 invariant_of-self-2 g c =

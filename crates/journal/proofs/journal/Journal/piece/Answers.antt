@@ -4,10 +4,10 @@ use Rattle.affinity.specs.declared.geometry.Geometry.{Geometry}
 use Rattle.checkpoint.specs.Recovery.{holds}
 use Rattle.disk.proofs.Moments.{started}
 use Rattle.disk.specs.Moments.{LeavesOnly}
-use Rattle.journal.specs.Journal.{Held, IsSettled, settled}
+use Rattle.journal.specs.Journal.{Held, IsSettled, records, settled}
 use Rattle.journal.specs.Keeping.{IsPlaced, count_marked}
 use Rattle.journal.proofs.Logging.{settled_of}
-use Rattle.journal.proofs.Piecing.{piece_left, piece_moments, piece_same, piece_some, piece_sound, pieced_along, some_left}
+use Rattle.journal.proofs.Piecing.{piece_left, piece_moments, piece_records, piece_same, piece_some, piece_sound, pieced_along, some_left}
 use Rattle.oplog.specs.Changes.{ChangesOnly, IsSameBut}
 use Rattle.oplog.specs.Layout.{layout_of, image, other}
 use Rattle.oplog.proofs.Answered.{on_ok}
@@ -102,6 +102,16 @@ returns-clause-after g c =
     (c.count_marked-left.ensures ∙ ap count_marked c.deref-3.ensures.value) in
     ap (λ (h : Held). record h { left = Some c.count_marked-left.result; medium = g.D.Disk.medium c.write_stretch.new.disk }) c.self.view_is
     ∙ ap (λ (l : Option ℕ). record c.args.self.now { left = l; medium = g.D.Disk.medium c.write_stretch.new.disk }) (sym left ∙ ap (λ (h : Held). option_map (λ (l : ℕ). l - 1) h.left) c.self.view_is)
+
+pub returns-clause-records : goal.returns-clause-records
+returns-clause-records g c = λ k.
+    let fine : c.self.inside.failed ≡ false = ap (λ (h : Held). h.failed) c.self.view_is ∙ c.requires.sound in
+    let w0 = g.D.Disk.medium c.self.inside.disk in
+    let w1 = g.D.Disk.medium c.write_stretch.new.disk in
+    let moments = subst (λ (n : ℕ). ChangesOnly w0 w1 (IsSameBut (layout_of c.self.inside.halves.geometry) (image (other n)))) c.named-area.ensures.named
+    (subst (λ (x : Geometry). ChangesOnly w0 w1 (IsSameBut (layout_of x) (image (other c.named-area.result)))) c.geometry-g.ensures (c.write_stretch.ensures.any_moment k)) in
+    piece_records c.self.inside.halves c.self.inside.frozen.items c.self.inside.named_marks.items c.self.inside.other_marks.items c.self.inside.due.items c.self.inside.left w0 w1 (g.met.D.Disk.bytes c.self.inside.disk) (c.self.invariant.7 fine k) (g.met.D.Disk.bytes c.write_stretch.new.disk) moments
+    ∙ ap records c.self.view_is
 
 pub invariant_of-self-2 : goal.invariant_of-self-2
 invariant_of-self-2 g c =
