@@ -20,8 +20,10 @@ const HEADER: [u8; 24] = [
     1, 0x57, 0x41, 0x46, 0x46, 0x53, 0x52, 0x56, 1, 0, 1, 0, 2, 0, 1, 0, 2, 0, 4, 0, 2, 0, 4, 0,
 ];
 
-/// More calls of the device than the making of one takes.
-const CALLS: u64 = 15;
+/// The old devices, and how many calls the making of a new one takes there: a sync, a read of the gate and, where it is
+/// open, a write and a sync; three writes of zeros; the version, the header behind its gate, and the gate, each a write
+/// and a sync.
+const CALLS: [(usize, u64); 3] = [(0, 11), (1, 13), (2, 11)];
 
 pub(crate) fn holds(rt: &impl Abort, fact: bool) {
     assert!(rt; fact);
@@ -118,14 +120,14 @@ fn a_short_device_stays(rt: HostRuntime) -> Result<(), Fail> {
 }
 
 /// What is left on the device where the n-th call fails, and all later ones too if it stops there, and behind a crash
-/// of this kind; and whether it was made.
+/// of this kind; and why it wasn't made.
 fn left(
     alloc: Global,
     which: usize,
     stops: bool,
     n: u64,
     kind: usize,
-) -> Result<(MemDisk, bool), Fail>
+) -> Result<(MemDisk, Option<FormatFault>), Fail>
     requires { 0 < n }
 {
     let g = Geometry::new(SMALL)?;
@@ -137,8 +139,8 @@ fn left(
     }
     let torn = torn(alloc, kind)?;
     Ok(match format(alloc, disk, g) {
-        Ok(disk) => (disk.crash(torn), true),
-        Err(e) => (e.disk.crash(torn), false),
+        Ok(disk) => (disk.crash(torn), None),
+        Err(e) => (e.disk.crash(torn), Some(e.fault)),
     })
 }
 
@@ -151,18 +153,38 @@ fn is_one_of(rt: &impl Abort, bytes: &[u8], old: &[u8], new: &[u8], made: bool) 
     holds(rt, bytes == new || !made && (bytes == old || shut));
 }
 
+/// Where the n-th call fails, that is told exactly if there are so many, and the device is one of those.
+fn may_fail(
+    rt: &impl Abort,
+    alloc: Global,
+    which: usize,
+    stops: bool,
+    n: u64,
+    calls: u64,
+) -> Result<(), Fail>
+    requires { 0 < n }
+{
+    let old = old_bytes(alloc, LEN, which)?;
+    let new = new_bytes(alloc, LEN, which)?;
+    let want = if n <= calls {
+        Some(FormatFault::Device)
+    } else {
+        None
+    };
+    for kind in 0..7 {
+        let (disk, fault) = left(alloc, which, stops, n, kind)?;
+        holds(rt, fault == want);
+        is_one_of(rt, disk.bytes(), &old, &new, fault.is_none());
+    }
+    Ok(())
+}
+
 #[test]
 fn each_call_may_fail(rt: HostRuntime) -> Result<(), Fail> {
-    for which in 0..3 {
-        let old = old_bytes(rt.alloc(), LEN, which)?;
-        let new = new_bytes(rt.alloc(), LEN, which)?;
-        for n in 1..CALLS {
-            for kind in 0..7 {
-                let (disk, made) = left(rt.alloc(), which, true, n, kind)?;
-                is_one_of(&rt, disk.bytes(), &old, &new, made);
-                let (disk, made) = left(rt.alloc(), which, false, n, kind)?;
-                is_one_of(&rt, disk.bytes(), &old, &new, made);
-            }
+    for (which, calls) in CALLS {
+        for n in 1..15 {
+            may_fail(&rt, rt.alloc(), which, true, n, calls)?;
+            may_fail(&rt, rt.alloc(), which, false, n, calls)?;
         }
     }
     Ok(())

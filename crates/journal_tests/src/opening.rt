@@ -83,6 +83,28 @@ fn a_short_device_is_refused(rt: HostRuntime) -> Result<(), Fail> {
     Ok(())
 }
 
+/// The length of a device of zeros, the call of it that fails, and what is told. The sync comes before anything is looked
+/// at, and then one read shows that there are no marks.
+const SYNCED_FIRST: [(u64, u64, OpenFault); 4] = [
+    (127, 1, OpenFault::Device),
+    (127, 2, OpenFault::TooShort),
+    (8840, 2, OpenFault::Device),
+    (8840, 3, OpenFault::NotFormatted),
+];
+
+#[test]
+fn the_sync_comes_first(rt: HostRuntime) -> Result<(), Fail> {
+    for (len, n, fault) in SYNCED_FIRST {
+        let mut device = MemDisk::new(rt.alloc(), len)?;
+        device.fail_at(n.max(1));
+        match Server::open(rt.alloc(), device) {
+            Ok(_) => holds(&rt, false),
+            Err((_, told)) => holds(&rt, told == fault),
+        }
+    }
+    Ok(())
+}
+
 /// Where a device isn't as it was formatted, what leads to the state that it stands for, and the area that is named once
 /// it is opened: the one that wasn't before, but behind a cut the same.
 const OPENED: [(&[(usize, u8)], &[&str], usize); 11] = [

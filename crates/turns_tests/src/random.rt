@@ -23,11 +23,12 @@ const KINDS: [Kind; 14] = [
     Kind::Label,
 ];
 
-// Those that wait in the order in which they came, and those that are held.
+// Those that wait in the order in which they came, those that are held, and how many were granted.
 #[derive(Drop)]
 struct Plain {
     waiting: Vec<Turn>,
     held: Vec<Turn>,
+    granted: u32,
 }
 
 fn is_free_of(others: &[Turn], turn: &Turn) -> bool {
@@ -63,6 +64,7 @@ impl Plain {
         }
         let turn = &self.waiting.remove(i);
         self.held.push(*turn)?;
+        self.granted = self.granted.saturating_add(1);
         Ok(Some(*turn))
     }
 }
@@ -159,11 +161,14 @@ fn checks_steps(
     let mut plain = Plain {
         waiting: Vec::new(alloc),
         held: Vec::new(alloc),
+        granted: 0,
     };
     let mut state = seed;
     for _ in 0..steps {
         step(rt, &mut desk, &mut plain, &g, &mut state)?;
     }
+    // Three steps of eight ask for a grant, so a desk that takes no one in, or lets no one go, is told.
+    assert!(rt; plain.granted > steps / 8);
     Ok(())
 }
 
