@@ -24,3 +24,4 @@ mod Shifting
 mod Gathering
 mod LogCall
 mod Opened
+mod Refusals

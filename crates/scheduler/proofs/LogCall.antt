@@ -1,8 +1,8 @@
 -- The call that logs, by what its callees give.
-use Rattle.std.proofs.Common.{◌≡◌, ℕ, ◌+◌, ◌-◌, ◌≤◌, true, false, List, [], ◌∷◌, ◌++◌, map, length, take, drop, get_or, Option, Some, None, Result, Ok, Err, refl, ap, sym, subst, ◌∙◌, arith}
-use Rattle.std.specs.Prelude.{cond, is_err, min, option_map, slice_index_or, unwrap_or}
+use Rattle.std.proofs.Common.{◌≡◌, ℕ, ◌+◌, ◌-◌, ◌≤◌, Bool, true, false, List, [], ◌∷◌, ◌++◌, map, length, take, drop, get_or, Option, Some, None, Result, Ok, Err, refl, ap, sym, subst, ◌∙◌, arith}
+use Rattle.std.specs.Prelude.{◌&&◌, cond, is_err, min, nat_lt, not, option_map, slice_index_or, unwrap_or}
 use Rattle.std.proofs.Math.Nat.{min-le_right}
-use Rattle.std.proofs.lemmas.Bool.{true≢false}
+use Rattle.std.proofs.lemmas.Bool.{ltb-false, true≢false}
 use Rattle.std.proofs.lemmas.List.{drop-map, drop_min, length-drop, length-map, length-take, map-append, take-append-drop, take-map, take_min}
 use Rattle.std.proofs.lemmas.List.Sums.{sum_by-cons}
 use Rattle.std.proofs.lemmas.Option.{same_Some}
@@ -13,8 +13,9 @@ use Rattle.disk.specs.Moments.{LeavesOnly}
 use Rattle.journal.specs.Journal.{after_call, AreCarriedOut, Held, HoldsSome, IsSettled, settled}
 use Rattle.legal_runs.proofs.Told.{fold-joined}
 use Rattle.legal_runs.specs.Eligible.{changes}
-use Rattle.legal_runs.specs.Events.{batch as batch_of, log, loggable}
+use Rattle.legal_runs.specs.Events.{batch as batch_of, log, loggable, touches_device}
 use Rattle.legal_runs.specs.Laws.{IsSound}
+use Rattle.legal_runs.specs.declared.outcomes.Step.TheVariants as steps
 use Rattle.message.specs.declared.Msg.{Msg}
 use Rattle.message.specs.declared.Reply.{Reply}
 use Rattle.message.specs.declared.Reply.TheVariants.{Done}
@@ -42,6 +43,10 @@ broken_from (Err why) done old new e after = after
 pub made_from : (r : Result (Unit {0}) LogFault) (done old new : Held) → is_err r ≡ false → new ≡ after_call r done old → new ≡ done
 made_from (Ok u) done old new e after = after
 made_from (Err why) done old new e after = absurd (true≢false e)
+
+none_to_log : (failed : Bool) (many : ℕ) → failed ≡ false → (not failed && nat_lt 0 many) ≡ false → many ≡ 0
+none_to_log true many works quiet = absurd (true≢false works)
+none_to_log false many works quiet = let few = ltb-false 0 many quiet in omega (arith, few)
 
 -- as many are of a changing kind in these slots as at these places
 counted : (row : Row Slot) (replies : List Reply) (ys : List ℕ) → changing_in row ys ≡ changing (map (place_at row replies) ys)
@@ -134,8 +139,8 @@ module _ (keeps : Type 0) (row : Row Slot) (replies : List Reply) (tree : TreeVi
         pub log_call_throughout : (now : Kept) → now.medium ≡ new.medium → keeps → StandsThroughout (batch_of (world_in p) n) (kept_of p) now
         log_call_throughout now same keep = log_throughout keeps p k works n flight new.medium any_at now same keep
 
-        pub log_untouched : (length passed ≡ 0 → new ≡ journal) → length (batch_of (world_in p) n) ≡ 0 → new.medium ≡ journal.medium
-        log_untouched same none = ap (λ (j : Held). j.medium) (same (none_passed none))
+        pub log_untouched : (length passed ≡ 0 → new ≡ journal) → touches_device (world_in p) (steps.Log n) ≡ false → new.medium ≡ journal.medium
+        log_untouched same quiet = ap (λ (j : Held). j.medium) (same (none_passed (none_to_log journal.failed (length (batch_of (world_in p) n)) works quiet)))
 
         -- ---- the device failed
 

@@ -1,21 +1,26 @@
 //! The core: the messages that it has taken in, what they run on, and the journal of what was carried out.
-ghost use Rattle.std.specs.Prelude.{cond, nat_lt, ◌≡◌, ◌+◌, ◌≤◌, ◌↔◌, ℕ, true, false, List, Some, None, [], length, OnOk, IfOk, IfErr, IsSome, MatchResult};
+ghost use Rattle.std.specs.Prelude.{cond, nat_lt, ◌≡◌, ◌+◌, ◌≤◌, ◌↔◌, ℕ, true, false, List, Some, None, [], length, OnOk, IfOk, IfErr, MatchResult};
+ghost use Rattle.affinity.specs.declared.geometry.Geometry.{Geometry};
 ghost use Rattle.checkpoint.specs.Header.{HasHeader};
 ghost use Rattle.checkpoint.specs.Recovery.{holds};
 ghost use Rattle.checkpoint.specs.Refusals.{IsRefused};
+ghost use Rattle.checkpoint.specs.declared.fault.OpenFault.{OpenFault};
 ghost use Rattle.checkpoint.specs.declared.fault.OpenFault.TheVariants as faults;
 ghost use Rattle.image.specs.Pieces.{piece_count};
 ghost use Rattle.journal.specs.Opening.{IsRefusedUnwritten, OpeningLeaves};
-ghost use Rattle.legal_runs.specs.Events.{answer, arrive, batch, flip_refusal, give_back, out_with, point_refusal};
+ghost use Rattle.legal_runs.specs.Events.{answer, arrive, batch, flip_refusal, give_back, out_with, point_refusal, touches_device};
 ghost use Rattle.legal_runs.specs.Laws.{IsSound};
 ghost use Rattle.legal_runs.specs.World.{Entry};
+ghost use Rattle.legal_runs.specs.declared.outcomes.Step.TheVariants as steps;
 ghost use Rattle.oplog.specs.Layout.{layout_of};
 ghost use Rattle.oplog.specs.Stands.{in_force, named_area};
+ghost use Rattle.plain.specs.State.{State};
 ghost use Rattle.scheduler.specs.Calls.{Counts, IsGranted, IsLogStep, IsPieceStep, IsPointStep, answered, arrived, log_rose, point_rose};
 ghost use Rattle.arena.specs.Row.{chain_at};
 ghost use Rattle.scheduler.specs.Slots.{HasChains};
 ghost use Rattle.scheduler.specs.Jobs.{IsResultOf};
 ghost use Rattle.scheduler.specs.Kept.{IsJustOpened, Kept, StandsNow, StandsThroughout, world_of};
+ghost use Rattle.scheduler.specs.Opening.{IsOfBytes};
 
 use crate::Granted;
 use crate::history::History;
@@ -102,11 +107,13 @@ impl<D: Disk> Core<D> {
     ///
     /// Takes its own memory first: where there is none, the device comes back as it was given. Then the device is opened
     /// as `journal::open` does it, which reads it, finishes a cut that was in progress and makes a point, and with the same
-    /// faults. No message waits or is held then, the next ticket is 0, and the log has all its room.
+    /// faults. No message waits or is held then, the next ticket is 0, and the log has all its room, with no record in force.
     pub fn open(alloc: Global, d: D, slots: usize) -> Result<Core<D>, OpenError<D>>
         ensures opened { IfOk result (IsJustOpened slots) }
         ensures header { IfOk result (λ core. D.keeps → HasHeader core.geometry (D.medium d).now) }
         ensures stood { IfOk result (λ core. D.keeps → holds core.geometry (D.medium d).now ≡ Some (world_of core).settled) }
+        ensures emptied { IfOk result (λ core. D.keeps → in_force (layout_of core.geometry)
+            (named_area (layout_of core.geometry) core.medium.now) core.medium.now ≡ []) }
 
         // A crash at any moment of the call leaves what a crash before might have left, until the first sync is over, and
         // then what stands for the same, or is refused for the same fault.
@@ -115,6 +122,13 @@ impl<D: Disk> Core<D> {
             (λ e. OpeningLeaves (D.medium d) (D.medium e.disk)) }
         ensures refused { IfErr result (λ e. D.keeps → IsRefused (D.medium d).now e.fault) }
         ensures unwritten { IfErr result (λ e. D.keeps → IsRefusedUnwritten (D.medium d) e.fault (D.medium e.disk)) }
+
+        // What stands for a state is opened, and what is to be refused is refused for its one fault, unless the device fails
+        // or want of memory is answered.
+        ensures opens { (g : Geometry) (x : State) → D.keeps → holds g (D.medium d).now ≡ Some x
+            → IfErr result (λ e. IsOfBytes e.fault → ⊥) }
+        ensures exact { (fault : OpenFault) → D.keeps → IsRefused (D.medium d).now fault → IsOfBytes fault
+            → MatchResult result (λ core. ⊥) (λ e. IsOfBytes e.fault → e.fault ≡ fault) }
         ensures device { IfErr result (λ e. e.fault ≡ faults.Device ↔ ((D.medium e.disk).faults ≡ (D.medium d).faults + 1)) }
         ensures fine { IfOk result (λ core. core.medium.faults ≡ (D.medium d).faults) }
         ensures len { MatchResult result
@@ -254,8 +268,7 @@ impl<D: Disk> Core<D> {
 
         // A crash at any moment of the call leaves what was settled, with the first so many of what is appended.
         ensures any_moment { D.keeps → StandsThroughout (batch (world_of self.old) n) self.old self.new }
-        ensures failed { self.old.failed ≡ true → self.new.medium ≡ self.old.medium }
-        ensures untouched { length (batch (world_of self.old) n) ≡ 0 → self.new.medium ≡ self.old.medium }
+        ensures untouched { touches_device (world_of self.old) (steps.Log n) ≡ false → self.new.medium ≡ self.old.medium }
     {
         if self.journal.failed() {
             return Err(CoreFault::Failed);
@@ -316,7 +329,7 @@ impl<D: Disk> Core<D> {
         ensures any_moment { D.keeps → StandsThroughout [] self.old self.new }
         ensures emptied { OnOk result (D.keeps → in_force (layout_of self.new.geometry)
             (named_area (layout_of self.new.geometry) self.new.medium.now) self.new.medium.now ≡ []) }
-        ensures refused { IsSome (point_refusal (world_of self.old)) → self.new.medium ≡ self.old.medium }
+        ensures untouched { touches_device (world_of self.old) steps.Point ≡ false → self.new.medium ≡ self.old.medium }
     {
         if let Some(why) = self.point_refusal() {
             return Err(why);
@@ -335,7 +348,7 @@ impl<D: Disk> Core<D> {
         ensures geometry { self.new.geometry ≡ self.old.geometry }
         ensures counts { Counts (point_rose result) self.old.medium.faults self.new.medium.faults }
         ensures any_moment { D.keeps → StandsThroughout [] self.old self.new }
-        ensures refused { IsSome (point_refusal (world_of self.old)) → self.new.medium ≡ self.old.medium }
+        ensures untouched { touches_device (world_of self.old) steps.Cut ≡ false → self.new.medium ≡ self.old.medium }
     {
         if let Some(why) = self.point_refusal() {
             return Err(why);
@@ -353,8 +366,7 @@ impl<D: Disk> Core<D> {
         ensures geometry { self.new.geometry ≡ self.old.geometry }
         ensures counts { Counts (point_rose result) self.old.medium.faults self.new.medium.faults }
         ensures any_moment { D.keeps → StandsThroughout [] self.old self.new }
-        ensures failed { self.old.failed ≡ true → self.new.medium ≡ self.old.medium }
-        ensures none_left { self.old.left ≡ Some 0 → self.new.medium ≡ self.old.medium }
+        ensures untouched { touches_device (world_of self.old) steps.Piece ≡ false → self.new.medium ≡ self.old.medium }
     {
         if self.journal.failed() {
             return Err(PointRefusal::Failed);
@@ -375,7 +387,7 @@ impl<D: Disk> Core<D> {
         ensures geometry { self.new.geometry ≡ self.old.geometry }
         ensures counts { Counts (point_rose result) self.old.medium.faults self.new.medium.faults }
         ensures any_moment { D.keeps → StandsThroughout [] self.old self.new }
-        ensures refused { IsSome (flip_refusal (world_of self.old)) → self.new.medium ≡ self.old.medium }
+        ensures untouched { touches_device (world_of self.old) steps.Flip ≡ false → self.new.medium ≡ self.old.medium }
     {
         if self.journal.failed() {
             return Err(PointRefusal::Failed);

@@ -3,7 +3,8 @@ use Rattle.std.specs.Prelude.{if◌then◌else◌, vec_capacity}
 use Rattle.arena.specs.Row.{capacity_of, chain_at}
 use Rattle.disk.specs.Moments.{LeavesOnly}
 use Rattle.journal.specs.Journal.{HoldsSome}
-use Rattle.legal_runs.specs.Events.{batch, log}
+use Rattle.legal_runs.specs.Events.{batch, log, touches_device}
+use Rattle.legal_runs.specs.declared.outcomes.Step.TheVariants as steps
 use Rattle.message.specs.declared.Msg.{Msg}
 use Rattle.message.specs.declared.Reply.{Reply}
 use Rattle.oplog.proofs.Answered.{on_ok}
@@ -50,7 +51,7 @@ returns-then-is_err-clause-any_moment g c = λ keep.
     (log_call_throughout g.D.Disk.keeps c.self.inside.slots c.self.inside.replies.items c.self.inside.tree c.self.inside.journal c.self.inside.turns c.self.inside.batch.items c.self.inside.next c.self.inside.flight c.self.inside.history.opened c.self.inside.history.since c.self.invariant.0 c.self.invariant.1 (sym c.failed.ensures ∙ c.if-failed.false) c.args.n c.min-count.result c.self.inside.ran c.self.invariant.4 c.min-count.ensures c.gather-changing.new.batch.items (c.gather-changing.ensures.batch ∙ ap (λ (rs : List Reply). gathered c.self.inside.slots rs (take c.min-count.result (chain_at c.self.inside.slots 2))) c.deref.ensures.value) c.deref-2.result.now c.deref-2.ensures.value c.log.new.self c.log.ensures.any_moment (kept_of (parts c.self.inside.slots c.self.inside.replies.items c.self.inside.tree c.log.new.self c.self.inside.turns c.gather-changing.new.batch.items c.self.inside.next c.self.inside.flight c.self.inside.history.opened c.self.inside.history.since)) refl keep)
 
 pub returns-then-is_err-clause-untouched : goal.returns-then-is_err-clause-untouched
-returns-then-is_err-clause-untouched g c = subst (λ (o : Kept). length (batch (world_of o) c.args.n) ≡ 0 → c.log.new.self.medium ≡ o.medium) c.self.view_is (log_untouched g.D.Disk.keeps c.self.inside.slots c.self.inside.replies.items c.self.inside.tree c.self.inside.journal c.self.inside.turns c.self.inside.batch.items c.self.inside.next c.self.inside.flight c.self.inside.history.opened c.self.inside.history.since c.self.invariant.0 c.self.invariant.1 (sym c.failed.ensures ∙ c.if-failed.false) c.args.n c.min-count.result c.self.inside.ran c.self.invariant.4 c.min-count.ensures c.gather-changing.new.batch.items (c.gather-changing.ensures.batch ∙ ap (λ (rs : List Reply). gathered c.self.inside.slots rs (take c.min-count.result (chain_at c.self.inside.slots 2))) c.deref.ensures.value) c.deref-2.result.now c.deref-2.ensures.value c.log.new.self c.log.ensures.any_moment c.log.ensures.none)
+returns-then-is_err-clause-untouched g c = subst (λ (o : Kept). touches_device (world_of o) (steps.Log c.args.n) ≡ false → c.log.new.self.medium ≡ o.medium) c.self.view_is (log_untouched g.D.Disk.keeps c.self.inside.slots c.self.inside.replies.items c.self.inside.tree c.self.inside.journal c.self.inside.turns c.self.inside.batch.items c.self.inside.next c.self.inside.flight c.self.inside.history.opened c.self.inside.history.since c.self.invariant.0 c.self.invariant.1 (sym c.failed.ensures ∙ c.if-failed.false) c.args.n c.min-count.result c.self.inside.ran c.self.invariant.4 c.min-count.ensures c.gather-changing.new.batch.items (c.gather-changing.ensures.batch ∙ ap (λ (rs : List Reply). gathered c.self.inside.slots rs (take c.min-count.result (chain_at c.self.inside.slots 2))) c.deref.ensures.value) c.deref-2.result.now c.deref-2.ensures.value c.log.new.self c.log.ensures.any_moment c.log.ensures.none)
 
 pub move_ran-requires : goal.move_ran-requires
 move_ran-requires g c = record { chains = c.self.invariant.0; count = log_low g.D.Disk.keeps c.self.inside.slots c.self.inside.replies.items c.self.inside.tree c.self.inside.journal c.self.inside.turns c.self.inside.batch.items c.self.inside.next c.self.inside.flight c.self.inside.history.opened c.self.inside.history.since c.self.invariant.0 c.self.invariant.1 (sym c.failed.ensures ∙ c.if-failed.false) c.args.n c.min-count.result c.self.inside.ran c.self.invariant.4 c.min-count.ensures }
@@ -82,4 +83,4 @@ returns-clause-any_moment g c = λ keep.
     (log_call_throughout g.D.Disk.keeps c.self.inside.slots c.self.inside.replies.items c.self.inside.tree c.self.inside.journal c.self.inside.turns c.self.inside.batch.items c.self.inside.next c.self.inside.flight c.self.inside.history.opened c.self.inside.history.since c.self.invariant.0 c.self.invariant.1 (sym c.failed.ensures ∙ c.if-failed.false) c.args.n c.min-count.result c.self.inside.ran c.self.invariant.4 c.min-count.ensures c.gather-changing.new.batch.items (c.gather-changing.ensures.batch ∙ ap (λ (rs : List Reply). gathered c.self.inside.slots rs (take c.min-count.result (chain_at c.self.inside.slots 2))) c.deref.ensures.value) c.deref-2.result.now c.deref-2.ensures.value c.log.new.self c.log.ensures.any_moment (kept_of (parts c.move_ran.new.slots c.self.inside.replies.items c.self.inside.tree c.log.new.self c.self.inside.turns c.clear.new.self.items c.self.inside.next (c.self.inside.flight - c.gather-changing.result) c.note.new.self.opened c.note.new.self.since)) refl keep)
 
 pub returns-clause-untouched : goal.returns-clause-untouched
-returns-clause-untouched g c = subst (λ (o : Kept). length (batch (world_of o) c.args.n) ≡ 0 → c.log.new.self.medium ≡ o.medium) c.self.view_is (log_untouched g.D.Disk.keeps c.self.inside.slots c.self.inside.replies.items c.self.inside.tree c.self.inside.journal c.self.inside.turns c.self.inside.batch.items c.self.inside.next c.self.inside.flight c.self.inside.history.opened c.self.inside.history.since c.self.invariant.0 c.self.invariant.1 (sym c.failed.ensures ∙ c.if-failed.false) c.args.n c.min-count.result c.self.inside.ran c.self.invariant.4 c.min-count.ensures c.gather-changing.new.batch.items (c.gather-changing.ensures.batch ∙ ap (λ (rs : List Reply). gathered c.self.inside.slots rs (take c.min-count.result (chain_at c.self.inside.slots 2))) c.deref.ensures.value) c.deref-2.result.now c.deref-2.ensures.value c.log.new.self c.log.ensures.any_moment c.log.ensures.none)
+returns-clause-untouched g c = subst (λ (o : Kept). touches_device (world_of o) (steps.Log c.args.n) ≡ false → c.log.new.self.medium ≡ o.medium) c.self.view_is (log_untouched g.D.Disk.keeps c.self.inside.slots c.self.inside.replies.items c.self.inside.tree c.self.inside.journal c.self.inside.turns c.self.inside.batch.items c.self.inside.next c.self.inside.flight c.self.inside.history.opened c.self.inside.history.since c.self.invariant.0 c.self.invariant.1 (sym c.failed.ensures ∙ c.if-failed.false) c.args.n c.min-count.result c.self.inside.ran c.self.invariant.4 c.min-count.ensures c.gather-changing.new.batch.items (c.gather-changing.ensures.batch ∙ ap (λ (rs : List Reply). gathered c.self.inside.slots rs (take c.min-count.result (chain_at c.self.inside.slots 2))) c.deref.ensures.value) c.deref-2.result.now c.deref-2.ensures.value c.log.new.self c.log.ensures.any_moment c.log.ensures.none)

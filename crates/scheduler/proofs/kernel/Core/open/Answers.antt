@@ -1,12 +1,14 @@
 -- Where there is no memory nothing was called; and what was opened keeps what a core keeps.
 use Rattle.std.proofs.Common.{◌≡◌, ◌∙◌, ◌≤◌, ℕ, Some, refl, inl, sym, ap, subst}
 use Rattle.std.specs.Prelude.{vec_capacity}
+use Rattle.std.proofs.lemmas.Result.{err_from_is_err_and}
 use Rattle.affinity.specs.declared.geometry.Geometry.{Geometry}
 use Rattle.disk.proofs.Moments.{started}
 use Rattle.disk.specs.Device.{Leaves}
 use Rattle.journal.specs.Journal.{IsSettled, settled}
 use Rattle.parcel.specs.Tree.{state_in}
 use Rattle.scheduler.proofs.Opened.{opened_chains, opened_parts, opened_ran, opened_size}
+use Rattle.scheduler.proofs.Refusals.{one_fault, opened_or_refused, stands_or_refused}
 use Rattle.turns.specs.Turns.{Queuing, at_start}
 use Rattle.scheduler.proofs.kernel.Core.open.Goals as goal
 
@@ -38,3 +40,20 @@ invariant_of-result g c =
       c.in-Ok.ensures.replies ∙ sym size,
       opened_ran keeps c.args.slots replies tree journal same whole holds memory.slots row,
     )
+
+pub returns-in_err-journal-clause-opens : goal.returns-in_err-journal-clause-opens
+returns-in_err-journal-clause-opens g c =
+    let p = err_from_is_err_and c.from_residual.result c.from_residual.ensures.1 in
+    let m = g.D.Disk.medium c.args.d in
+    rw (p.1, p.2) (λ h x k stood told. stands_or_refused m.now h x c.in_err-journal.field-0.0.fault (g.met.D.Disk.bytes c.args.d) stood told (c.in_err-journal.ensures.refused k))
+
+pub returns-in_err-journal-clause-exact : goal.returns-in_err-journal-clause-exact
+returns-in_err-journal-clause-exact g c =
+    let p = err_from_is_err_and c.from_residual.result c.from_residual.ensures.1 in
+    let m = g.D.Disk.medium c.args.d in
+    rw (p.1, p.2) (λ fault k also also_told told. one_fault m.now c.in_err-journal.field-0.0.fault fault told (c.in_err-journal.ensures.refused k) also_told also)
+
+pub returns-clause-exact : goal.returns-clause-exact
+returns-clause-exact g c = λ fault k also told.
+    let o = c.in_ok-journal.ensures.opened k in
+    opened_or_refused (g.D.Disk.medium c.args.d).now c.in_ok-journal.journal.geometry fault o.header o.fine told also
