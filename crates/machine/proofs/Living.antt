@@ -1,11 +1,14 @@
 -- What the lives of a device leave.
-use Rattle.std.proofs.Common.{◌≡◌, ◌⊎◌, ℕ, ◌≤◌, List, [], ◌∷◌, ◌++◌, Option, Some, refl, ap, sym, ◌∙◌, subst, append_assoc, inl, inr, ⊎_elim}
+use Rattle.std.proofs.Common.{◌≡◌, ◌⊎◌, ℕ, ◌≤◌, List, [], ◌∷◌, ◌++◌, Option, Some, None, refl, ap, sym, ◌∙◌, subst, append_assoc, inl, inr, ⊎_elim}
 use Rattle.std.proofs.lemmas.List.{append-nil}
 use Rattle.affinity.specs.declared.geometry.Geometry.{Geometry}
+use Rattle.checkpoint.proofs.Fine.{fine, head}
 use Rattle.checkpoint.proofs.OneGeometry.{one_geometry}
+use Rattle.checkpoint.specs.Header.{HasHeader}
 use Rattle.checkpoint.specs.Recovery.{holds}
+use Rattle.checkpoint.specs.Refusals.{refused}
 use Rattle.disk.proofs.Leaves.{calm_left, itself}
-use Rattle.disk.proofs.Moments.{counts_now, only_now}
+use Rattle.disk.proofs.Moments.{bytes_since, counts_now, only_now}
 use Rattle.disk.specs.Device.{AreBytes, IsSynced, Leaves, Medium}
 use Rattle.disk.specs.Moments.{left_since, moment}
 use Rattle.journal.specs.Opening.{IsPastSync, OpeningLeaves, StandsAs}
@@ -123,3 +126,15 @@ module _ (g : Geometry) where
         answered = all_answered g empty (lives_of ls) k.left.logs k.left.are_logs;
         is = k.is ∙ ap (λ (x : State). Some x) k.left.state;
       }
+
+  left_bytes : (m : Medium) (t : ℕ) (ls : List DeviceLife) (c : List ℕ) → LeftByLast m t ls c → AreBytes c
+  left_bytes m t [] c left = bytes_since m t c left
+  left_bytes m t (l ∷ ls) c left = left_bytes l.ended l.since ls c left
+
+  -- What stands for a state isn't refused.
+  pub lives_open : (formatted : Medium) (ls : List DeviceLife) (c : List ℕ) → holds g formatted.now ≡ Some empty → IsSynced formatted
+      → HasLives formatted (moment formatted) ls → LeftByLast formatted (moment formatted) ls c → HasHeader g c × (refused g c ≡ None)
+  lives_open formatted ls c stood calm h left =
+      let k = all_lives [] formatted (moment formatted) (begun formatted stood calm) ls h c left in
+      let are = left_bytes formatted (moment formatted) ls c left in
+      (head g c k.state are k.is, fine g c k.state are k.is)

@@ -1,8 +1,8 @@
 -- A run of steps, extended by one step, and what a crash of it leaves.
-use Rattle.std.proofs.Common.{◌≡◌, ◌⊎◌, ℕ, zero, suc, ◌+◌, ◌<◌, ◌≤◌, Bool, true, false, List, [], ◌∷◌, ◌++◌, refl, ap, sym, ◌∙◌, subst, length, take, drop, get_or, set, inl, inr, ⊎_elim, add_assoc, add-zero, arith}
-use Rattle.std.specs.Prelude.{count_by, if◌then◌else◌}
+use Rattle.std.proofs.Common.{◌≡◌, ◌⊎◌, ℕ, zero, suc, ◌+◌, ◌<◌, ◌≤◌, false, List, [], ◌∷◌, ◌++◌, refl, ap, sym, ◌∙◌, subst, length, take, drop, get_or, set, inl, inr, ⊎_elim, arith}
+use Rattle.std.specs.Prelude.{map}
+use Rattle.std.specs.List.{AllByRecursion}
 use Rattle.std.proofs.lemmas.List.{map-append, take_more, take_more_set}
-use Rattle.std.proofs.lemmas.List.Sums.{sum_by-append}
 use Rattle.affinity.specs.declared.geometry.Geometry.{Geometry}
 use Rattle.disk.proofs.Moments.{only_now}
 use Rattle.disk.specs.Device.{Leaves, Medium}
@@ -12,11 +12,10 @@ use Rattle.legal_runs.proofs.Arrivals.{answered_by_ticket}
 use Rattle.legal_runs.proofs.Crashes.{left_is_settled}
 use Rattle.legal_runs.proofs.Elements.{contains_in, in_contained}
 use Rattle.legal_runs.proofs.Joining.{runs_join}
-use Rattle.legal_runs.proofs.Lists.{all_weaker}
 use Rattle.legal_runs.proofs.Runs.{run_follows}
 use Rattle.legal_runs.proofs.Sound.{run_sound}
 use Rattle.legal_runs.specs.Crash.{IsLogAfter, in_doubt}
-use Rattle.legal_runs.specs.Events.{Event, Hands, IsAllowed}
+use Rattle.legal_runs.specs.Events.{Event, Hands, IsAllowed, touches_device}
 use Rattle.legal_runs.specs.Laws.{AreApart, IsSound}
 use Rattle.legal_runs.specs.Runs.{IsLegal, IsRun, journal, last}
 use Rattle.legal_runs.specs.World.{held}
@@ -24,7 +23,7 @@ use Rattle.legal_runs.specs.declared.outcomes.Outcome.{Outcome}
 use Rattle.legal_runs.specs.declared.outcomes.Step.{Step}
 use Rattle.machine.proofs.Events.{some_of}
 use Rattle.machine.specs.Machine.{Handed, HasRun, HasStages, machine_of}
-use Rattle.machine.specs.Stages.{AreSafe, Stage, StandsForRun, device_after, events_of}
+use Rattle.machine.specs.Stages.{AreSafe, Stage, StandsForRun, TouchAsTold, device_after, events_of}
 use Rattle.machine.specs.Steps.{IsStep}
 use Rattle.message.specs.declared.Msg.{Msg}
 use Rattle.plain.specs.Serial.{fold}
@@ -35,11 +34,11 @@ use Rattle.scheduler.specs.Kept.{Kept, StandsNow, world_of}
 -- ---- what a crash of a run leaves
 
 -- These bytes stand for what was settled after so many events, with the first so many of what was in doubt then.
-abbrev StandsAt : Geometry → Hands → List Event → List ℕ → ℕ → Type 0
+abbrev pub StandsAt : Geometry → Hands → List Event → List ℕ → ℕ → Type 0
 StandsAt g w events c j = HoldsSome g (last w (take j events)).core.settled (in_doubt (last w (take j events)).core (drop j events)) c
 
 -- At some such place from event k on.
-record StandsSince (g : Geometry) (w : Hands) (events : List Event) (k : ℕ) (c : List ℕ) : Type 0 where
+pub record StandsSince (g : Geometry) (w : Hands) (events : List Event) (k : ℕ) (c : List ℕ) : Type 0 where
   pub at : ℕ
   pub since : k ≤ at
   pub within : at ≤ length events
@@ -90,7 +89,7 @@ module _ (g : Geometry) where
       (from_event stage.event.world stage.medium stages safe.1 ends k c (omega (arith, le)) since)
 
   -- So it stands for a state that the run may leave.
-  stands_for_run : (w : Hands) (events : List Event) (k : ℕ) (c : List ℕ) → IsLegal g w events → IsSound g w.core
+  pub stands_for_run : (w : Hands) (events : List Event) (k : ℕ) (c : List ℕ) → IsLegal g w events → IsSound g w.core
       → StandsSince g w events k c → StandsForRun g w events k c
   stands_for_run w events k c legal sound h =
       let first = take h.at events in
@@ -129,31 +128,28 @@ after-push : (m : Medium) (stages : List Stage) (stage : Stage) → device_after
 after-push m [] stage = refl
 after-push m (s ∷ stages) stage = after-push s.medium stages stage
 
--- how many of the events tell that the device failed
-abbrev rises : List Event → ℕ
-rises events = count_by (λ e. e.rose) events
-
-rises-push : (events : List Event) (event : Event) → rises (events ++ event ∷ []) ≡ rises events + rises (event ∷ [])
-rises-push events event = sum_by-append (λ (e : Event). if e.rose then 1 else 0) events (event ∷ [])
-
-counted : (b : Bool) (event : Event) → event.rose ≡ b → (old new : ℕ) → Counts b old new → new ≡ old + rises (event ∷ [])
-counted true event e old new h = h ∙ ap (λ (b : Bool). old + (0 + (if b then 1 else 0))) (sym e)
-counted false event e old new h = h ∙ sym (add-zero old) ∙ ap (λ (b : Bool). old + (0 + (if b then 1 else 0))) (sym e)
+told-push : (w : Hands) (m : Medium) (stages : List Stage) (stage : Stage) → TouchAsTold w m stages
+    → Counts stage.event.rose (device_after m stages).faults stage.medium.faults
+    → (touches_device (last w (events_of stages)).core stage.event.step ≡ false → stage.medium ≡ device_after m stages)
+    → TouchAsTold w m (stages ++ stage ∷ [])
+told-push w m [] stage told counts quiet = (counts, quiet, tt)
+told-push w m (s ∷ stages) stage told counts quiet = (told.0, told.1, told-push s.event.world s.medium stages stage told.2 counts quiet)
 
 pub no_stages : (keeps : Type 0) (m : Handed) → HasStages keeps m m [] []
 no_stages keeps m = record {
   stages = [];
   run = record { legal = tt; of_steps = refl; with_outcomes = refl; ends = refl };
   device = refl;
-  failures = sym (add-zero m.core.medium.faults);
+  told = tt;
   geometry = refl;
   any_moment = λ kept. tt;
 }
 
 pub more_stages : (keeps : Type 0) (old now new : Handed) (asked : List Step) (came : List Outcome) (step : Step) (outcome : Outcome)
     → HasStages keeps old now asked came → IsStep keeps now new step outcome
+    → (touches_device (world_of now.core) step ≡ false → new.core.medium ≡ now.core.medium)
     → HasStages keeps old new (asked ++ step ∷ []) (came ++ outcome ∷ [])
-more_stages keeps old now new asked came step outcome h k =
+more_stages keeps old now new asked came step outcome h k quiet =
     let g = old.core.geometry in
     let event : Event = record { step = step; outcome = outcome; rose = k.rose; world = machine_of new } in
     let stage : Stage = record { event = event; medium = new.core.medium } in
@@ -175,10 +171,9 @@ more_stages keeps old now new asked came step outcome h k =
       stages = h.stages ++ stage ∷ [];
       run = subst (IsRun g (machine_of old) (machine_of new) (asked ++ step ∷ []) (came ++ outcome ∷ [])) (sym pushed) run;
       device = after-push old.core.medium h.stages stage;
-      failures = counted k.rose event refl now.core.medium.faults new.core.medium.faults k.failures
-          ∙ ap (λ (n : ℕ). n + rises (event ∷ [])) h.failures
-          ∙ add_assoc old.core.medium.faults (rises events) (rises (event ∷ []))
-          ∙ ap (λ (n : ℕ). old.core.medium.faults + n) (sym (rises-push events event) ∙ ap rises (sym pushed));
+      told = told-push (machine_of old) old.core.medium h.stages stage h.told
+          (subst (λ (m : Medium). Counts k.rose m.faults new.core.medium.faults) (sym h.device) k.failures)
+          (λ none. quiet (ap (λ (x : Hands). touches_device x.core step) (sym here) ∙ none) ∙ sym h.device);
       geometry = k.geometry ∙ h.geometry;
       any_moment = λ kept. safe-push g (machine_of old) old.core.medium h.stages stage (h.any_moment kept)
           (subst (λ (x : Hands). LeavesOnly device new.core.medium (HoldsSome g x.core.settled (in_doubt x.core (event ∷ [])))) (sym here)
@@ -189,6 +184,11 @@ more_stages keeps old now new asked came step outcome h k =
     }
 
 -- ---- the whole run
+
+worlds_apart : (g : Geometry) (events : List Event) → AllByRecursion (λ (event : Event). IsSound g event.world.core) events
+    → AllByRecursion (λ (w : Hands). AreApart g (held w.core)) (map (λ e. e.world) events)
+worlds_apart g [] sound = tt
+worlds_apart g (event ∷ events) sound = (sound.0.apart, worlds_apart g events sound.1)
 
 pub has_run : (keeps : Type 0) (old new : Handed) (asked : List Step) (came : List Outcome)
     → IsSound old.core.geometry (world_of old.core) → HasStages keeps old new asked came
@@ -206,8 +206,7 @@ has_run keeps old new asked came sound h none stands =
       ran = h;
       crash = λ kept k c le since. left_by_run g w old.core.medium h.stages h.run.legal sound (h.any_moment kept) (ends kept) k c le
           (subst (λ (m : Medium). left_since m (moment (device_after old.core.medium (take k h.stages))) c) (sym h.device) since);
-      apart = all_weaker (λ (event : Event). IsSound g event.world.core) (λ (event : Event). AreApart g (held event.world.core))
-          (λ event k. k.apart) events (run_sound g w events h.run.legal sound);
+      apart = (sound.apart, worlds_apart g events (run_sound g w events h.run.legal sound));
       in_log_order = sym (run_follows g w events h.run.legal sound).told;
       in_ticket_order = λ idle reply is. contains_in _ reply
           (answered_by_ticket g w events h.run.legal sound idle reply (in_contained _ reply is));
@@ -218,9 +217,10 @@ pub next_stages : (keeps : Type 0) (old : Handed) (core : Kept) (hands lent : Li
     (came : List Outcome) (outcome : Outcome) → lent ≡ hands → i < length asked → i < length came
     → HasStages keeps old (record { core = core; hands = hands }) (take i asked) (take i came)
     → IsStep keeps (record { core = core; hands = lent }) new (get_or asked i d) outcome
+    → (touches_device (world_of core) (get_or asked i d) ≡ false → new.core.medium ≡ core.medium)
     → HasStages keeps old new (take (i + 1) asked) (take (i + 1) (set came i outcome))
-next_stages keeps old core hands lent new asked i d came outcome same in_asked in_came h k =
+next_stages keeps old core hands lent new asked i d came outcome same in_asked in_came h k quiet =
     let step = subst (λ (l : List Holding). IsStep keeps (record { core = core; hands = l }) new (get_or asked i d) outcome) same k in
-    let more = more_stages keeps old (record { core = core; hands = hands }) new (take i asked) (take i came) (get_or asked i d) outcome h step in
+    let more = more_stages keeps old (record { core = core; hands = hands }) new (take i asked) (take i came) (get_or asked i d) outcome h step quiet in
     subst (λ (ss : List Step). HasStages keeps old new ss (take (i + 1) (set came i outcome))) (sym (take_more asked i d in_asked))
     (subst (λ (os : List Outcome). HasStages keeps old new (take i asked ++ get_or asked i d ∷ []) os) (sym (take_more_set came i outcome in_came)) more)

@@ -1,21 +1,21 @@
 -- A machine as contracts see it: a core, and what its hands have.
-use Rattle.std.specs.Prelude.{◌≡◌, ℕ, ◌+◌, ◌≤◌, List, map, count_by, take, length, slice_index_or, Option, Some, None}
+use Rattle.std.specs.Prelude.{◌≡◌, ℕ, ◌≤◌, false, List, [], ◌∷◌, map, take, length, slice_index_or, Option, Some, None}
 use Rattle.std.specs.List.{AllByRecursion, Contains}
 use Rattle.affinity.specs.declared.geometry.Geometry.{Geometry}
 use Rattle.disk.specs.Moments.{moment, left_since}
 use Rattle.legal_runs.specs.Events.{Event, Hand, Hands, Empty, Job, Result}
 use Rattle.legal_runs.specs.Laws.{AreApart, IsIdle, IsSound, said}
-use Rattle.legal_runs.specs.Runs.{IsRun, answered, arrived, went}
+use Rattle.legal_runs.specs.Runs.{IsLegal, IsRun, answered, arrived, last, went}
 use Rattle.legal_runs.specs.World.{World, entries, held}
 use Rattle.legal_runs.specs.declared.outcomes.Outcome.{Outcome}
 use Rattle.legal_runs.specs.declared.outcomes.Step.{Step}
-use Rattle.machine.specs.Stages.{Stage, AreSafe, StandsForRun, device_after, events_of}
+use Rattle.machine.specs.Stages.{Stage, AreSafe, StandsForRun, TouchAsTold, device_after, events_of}
 use Rattle.machine.specs.declared.hands.Hand.{Hand as Holding}
 use Rattle.machine.specs.declared.hands.Hand.TheVariants as has
 use Rattle.message.specs.declared.Reply.{Reply}
 use Rattle.plain.specs.Order.{by_ticket, told}
 use Rattle.scheduler.specs.Jobs.{IsJobOf, IsResultOf}
-use Rattle.scheduler.specs.Kept.{Kept, world_of}
+use Rattle.scheduler.specs.Kept.{Kept, StandsNow, world_of}
 
 pub record Handed : Type 0 where
   pub core : Kept
@@ -60,8 +60,8 @@ pub record HasStages (keeps : Type 0) (old new : Handed) (asked : List Step) (ca
   pub stages : List Stage
   pub run : IsRun old.core.geometry (machine_of old) (machine_of new) asked came (events_of stages)
   pub device : device_after old.core.medium stages ≡ new.core.medium
-  -- the device failed as often as the events tell
-  pub failures : new.core.medium.faults ≡ old.core.medium.faults + count_by (λ e. e.rose) (events_of stages)
+  -- which events touched the device, and in which it failed
+  pub told : TouchAsTold (machine_of old) old.core.medium stages
   pub geometry : new.core.geometry ≡ old.core.geometry
   -- what a crash leaves at each moment of each event
   pub any_moment : keeps → AreSafe old.core.geometry (machine_of old) old.core.medium stages
@@ -73,11 +73,22 @@ pub record HasRun (keeps : Type 0) (old new : Handed) (asked : List Step) (came 
   pub crash : keeps → (k : ℕ) (c : List ℕ) → k ≤ length ran.stages
       → left_since new.core.medium (moment (device_after old.core.medium (take k ran.stages))) c
       → StandsForRun old.core.geometry (machine_of old) (events_of ran.stages) k c
-  -- In each world no two of the messages that are held are at related places.
-  pub apart : AllByRecursion (λ (event : Event). AreApart old.core.geometry (held event.world.core)) (events_of ran.stages)
+  -- In each world, the first one too, no two of the messages that are held are at related places.
+  pub apart : AllByRecursion (λ (w : Hands). AreApart old.core.geometry (held w.core))
+      (machine_of old ∷ map (λ e. e.world) (events_of ran.stages))
   -- What was logged is replied what the serial server replies, in log order.
   pub in_log_order : said (went (machine_of old) (events_of ran.stages))
       ≡ told old.core.geometry (world_of old.core).settled (entries (went (machine_of old) (events_of ran.stages)))
   -- Where nothing waited or was held, each answer is also the one where all that arrived come by ticket.
   pub in_ticket_order : IsIdle (world_of old.core) → (reply : ℕ × Reply) → Contains (answered (events_of ran.stages)) reply
       → Contains (told old.core.geometry (world_of old.core).settled (by_ticket (arrived (events_of ran.stages)))) reply
+
+-- A run has ended: these events led from one machine to another, which has this core.
+pub record IsEndOfRun (start : Handed) (events : List Event) (new : Kept) : Type 0 where
+  pub legal : IsLegal start.core.geometry (machine_of start) events
+  pub hands : List Holding
+  pub ends : last (machine_of start) events ≡ machine_of (record { core = new; hands = hands })
+  pub geometry : new.geometry ≡ start.core.geometry
+  -- what `Core::stands` tells of it
+  pub no_doubt : new.failed ≡ false → new.doubt ≡ []
+  pub stands : StandsNow new

@@ -1,13 +1,14 @@
 -- A run on a device, stage by stage: each event with the device as it left it, and what a crash leaves meanwhile.
-use Rattle.std.specs.Prelude.{◌≡◌, ℕ, List, [], ◌∷◌, map, Some}
+use Rattle.std.specs.Prelude.{◌≡◌, ℕ, false, List, [], ◌∷◌, map, Some}
 use Rattle.affinity.specs.declared.geometry.Geometry.{Geometry}
 use Rattle.checkpoint.specs.Recovery.{holds}
 use Rattle.disk.specs.Device.{Medium}
 use Rattle.disk.specs.Moments.{LeavesOnly}
 use Rattle.journal.specs.Journal.{HoldsSome}
 use Rattle.legal_runs.specs.Crash.{IsLeftSince, in_doubt}
-use Rattle.legal_runs.specs.Events.{Event, Hands}
+use Rattle.legal_runs.specs.Events.{Event, Hands, touches_device}
 use Rattle.plain.specs.State.{State}
+use Rattle.scheduler.specs.Calls.{Counts}
 
 pub record Stage : Type 0 where
   pub event : Event
@@ -28,6 +29,14 @@ AreSafe g w m [] = Unit {0}
 AreSafe g w m (stage ∷ stages) =
     LeavesOnly m stage.medium (HoldsSome g w.core.settled (in_doubt w.core (stage.event ∷ [])))
     × AreSafe g stage.event.world stage.medium stages
+
+-- Each event tells whether the device failed in it, and left the device alone where its step touches none.
+abbrev pub TouchAsTold : Hands → Medium → List Stage → Type 0
+TouchAsTold w m [] = Unit {0}
+TouchAsTold w m (stage ∷ stages) =
+    Counts stage.event.rose m.faults stage.medium.faults
+    × (touches_device w.core stage.event.step ≡ false → stage.medium ≡ m)
+    × TouchAsTold stage.event.world stage.medium stages
 
 -- These bytes stand for a state that a crash of a run may leave, if it comes when k events or more have ended.
 pub record StandsForRun (g : Geometry) (start : Hands) (events : List Event) (k : ℕ) (c : List ℕ) : Type 0 where

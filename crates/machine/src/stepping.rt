@@ -1,5 +1,6 @@
 //! One step of a machine.
-ghost use Rattle.std.specs.Prelude.{◌≡◌};
+ghost use Rattle.std.specs.Prelude.{◌≡◌, false};
+ghost use Rattle.legal_runs.specs.Events.{touches_device};
 ghost use Rattle.legal_runs.specs.declared.outcomes.Step.TheVariants as steps;
 ghost use Rattle.machine.specs.Machine.{HoldsJobs};
 ghost use Rattle.machine.specs.Steps.{IsCoreStep, IsStep};
@@ -17,6 +18,7 @@ pub(crate) fn make_step<D: Disk>(core: &mut Core<D>, hands: &mut [Hand], step: &
     ensures step { IsStep D.keeps (record { core = core.old; hands = hands.old })
         (record { core = core.new; hands = hands.new }) step.now result }
     ensures holds { HoldsJobs core.new.geometry (world_of core.new) hands.new }
+    ensures untouched { touches_device (world_of core.old) step.now ≡ false → core.new.medium ≡ core.old.medium }
 {
     match *step {
         Step::Arrive(message) => take_in(core, &message),
@@ -40,6 +42,7 @@ fn grant<D: Disk>(core: &mut Core<D>, hands: &mut [Hand]) -> Outcome
     ensures step { IsStep D.keeps (record { core = core.old; hands = hands.old })
         (record { core = core.new; hands = hands.new }) steps.Grant result }
     ensures holds { HoldsJobs core.new.geometry (world_of core.new) hands.new }
+    ensures untouched { core.new.medium ≡ core.old.medium }
 {
     core.stands();
     let Some(hand) = first_empty(hands) else {
@@ -81,6 +84,7 @@ fn give_back<D: Disk>(core: &mut Core<D>, hands: &mut [Hand], hand: usize) -> Ou
     ensures step { IsStep D.keeps (record { core = core.old; hands = hands.old })
         (record { core = core.new; hands = hands.new }) (steps.Back hand) result }
     ensures holds { HoldsJobs core.new.geometry (world_of core.new) hands.new }
+    ensures untouched { core.new.medium ≡ core.old.medium }
 {
     core.stands();
     if hand >= hands.len() {
@@ -97,7 +101,8 @@ fn give_back<D: Disk>(core: &mut Core<D>, hands: &mut [Hand], hand: usize) -> Ou
 // ---- of the core alone
 
 fn take_in<D: Disk>(core: &mut Core<D>, message: &Msg) -> Outcome
-    ensures { IsCoreStep D.keeps core.old core.new (steps.Arrive message.now) result }
+    ensures step { IsCoreStep D.keeps core.old core.new (steps.Arrive message.now) result }
+    ensures untouched { core.new.medium ≡ core.old.medium }
 {
     core.stands();
     match core.arrive(message) {
@@ -107,7 +112,8 @@ fn take_in<D: Disk>(core: &mut Core<D>, message: &Msg) -> Outcome
 }
 
 fn log<D: Disk>(core: &mut Core<D>, count: usize) -> Outcome
-    ensures { IsCoreStep D.keeps core.old core.new (steps.Log count) result }
+    ensures step { IsCoreStep D.keeps core.old core.new (steps.Log count) result }
+    ensures untouched { touches_device (world_of core.old) (steps.Log count) ≡ false → core.new.medium ≡ core.old.medium }
 {
     match core.log(count) {
         Ok(logged) => Outcome::Logged(logged),
@@ -116,7 +122,8 @@ fn log<D: Disk>(core: &mut Core<D>, count: usize) -> Outcome
 }
 
 fn answer<D: Disk>(core: &mut Core<D>) -> Outcome
-    ensures { IsCoreStep D.keeps core.old core.new steps.Answer result }
+    ensures step { IsCoreStep D.keeps core.old core.new steps.Answer result }
+    ensures untouched { core.new.medium ≡ core.old.medium }
 {
     core.stands();
     match core.answer() {
@@ -126,7 +133,8 @@ fn answer<D: Disk>(core: &mut Core<D>) -> Outcome
 }
 
 fn point<D: Disk>(core: &mut Core<D>) -> Outcome
-    ensures { IsCoreStep D.keeps core.old core.new steps.Point result }
+    ensures step { IsCoreStep D.keeps core.old core.new steps.Point result }
+    ensures untouched { touches_device (world_of core.old) steps.Point ≡ false → core.new.medium ≡ core.old.medium }
 {
     match core.point() {
         Ok(()) => Outcome::Pointed,
@@ -135,7 +143,8 @@ fn point<D: Disk>(core: &mut Core<D>) -> Outcome
 }
 
 fn cut<D: Disk>(core: &mut Core<D>) -> Outcome
-    ensures { IsCoreStep D.keeps core.old core.new steps.Cut result }
+    ensures step { IsCoreStep D.keeps core.old core.new steps.Cut result }
+    ensures untouched { touches_device (world_of core.old) steps.Cut ≡ false → core.new.medium ≡ core.old.medium }
 {
     match core.cut() {
         Ok(()) => Outcome::Cut,
@@ -144,7 +153,8 @@ fn cut<D: Disk>(core: &mut Core<D>) -> Outcome
 }
 
 fn piece<D: Disk>(core: &mut Core<D>) -> Outcome
-    ensures { IsCoreStep D.keeps core.old core.new steps.Piece result }
+    ensures step { IsCoreStep D.keeps core.old core.new steps.Piece result }
+    ensures untouched { touches_device (world_of core.old) steps.Piece ≡ false → core.new.medium ≡ core.old.medium }
 {
     match core.piece() {
         Ok(left) => Outcome::Left(left),
@@ -153,7 +163,8 @@ fn piece<D: Disk>(core: &mut Core<D>) -> Outcome
 }
 
 fn flip<D: Disk>(core: &mut Core<D>) -> Outcome
-    ensures { IsCoreStep D.keeps core.old core.new steps.Flip result }
+    ensures step { IsCoreStep D.keeps core.old core.new steps.Flip result }
+    ensures untouched { touches_device (world_of core.old) steps.Flip ≡ false → core.new.medium ≡ core.old.medium }
 {
     match core.flip() {
         Ok(()) => Outcome::Flipped,

@@ -10,6 +10,8 @@ mod making;
 #[cfg(test)]
 mod random;
 #[cfg(test)]
+mod refusing;
+#[cfg(test)]
 mod rows;
 #[cfg(test)]
 mod serial;

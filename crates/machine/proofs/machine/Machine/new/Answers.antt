@@ -1,4 +1,4 @@
-use Rattle.std.proofs.Common.{◌≡◌, List, map, ap, sym, subst, ◌∙◌}
+use Rattle.std.proofs.Common.{List, map, ap, sym, subst, ◌∙◌}
 use Rattle.machine.proofs.Starting.{all_empty, empty_hold}
 use Rattle.machine.specs.Machine.{HoldsJobs, hand_of}
 use Rattle.machine.specs.declared.hands.Hand.{Hand as Holding}

@@ -32,7 +32,7 @@ loop-i-preserved g c =
     (take (c.loop-i.i + 1) (slice_set c.loop-i.outcomes c.loop-i.i c.make_step.result)) =
     next_stages g.D.Disk.keeps c.args.self.now c.loop-i.self-inside.core c.loop-i.self-inside.hands.items c.deref_mut.result.now new
     c.args.steps.now c.loop-i.i _ c.loop-i.outcomes c.make_step.result c.deref_mut.ensures.value c.loop-i-test.true within
-    c.loop-i.invariant.ran c.make_step.ensures.step in
+    c.loop-i.invariant.ran c.make_step.ensures.step c.make_step.ensures.untouched in
     let kept : (with_items c.loop-i.self-inside.hands c.make_step.new.hands).items ≡ c.make_step.new.hands =
     with_items_is c.loop-i.self-inside.hands c.make_step.new.hands (c.make_step.auto.hands ∙ c.deref_mut.ensures.len) in
     record {
