@@ -1,6 +1,7 @@
 -- A session that goes on from one place to another, and on from there.
-use Rattle.std.proofs.Common.{◌≡◌, ℕ, Bool, true, List, [], ◌∷◌, ◌++◌, Option, None, refl, ap, sym, ◌∙◌, subst, map, append_assoc}
-use Rattle.std.specs.Prelude.{Result, Ok, Err}
+use Rattle.std.proofs.Common.{◌≡◌, ℕ, Bool, true, false, List, [], ◌∷◌, ◌++◌, Option, None, refl, ap, sym, ◌∙◌, subst, map, append_assoc}
+use Rattle.std.specs.Prelude.{Result, Ok, Err, OnErr, OnOk}
+use Rattle.std.proofs.lemmas.Bool.{true≢false}
 use Rattle.std.proofs.KnownBytes.{Appends-trans}
 use Rattle.std.specs.Io.KnownBytes.{Appends}
 use Rattle.machine.specs.Machine.{Handed}
@@ -127,3 +128,8 @@ module _ (keeps : Type 0) where
   came_anyway start m row input left ended (Ok x) h = h
   came_anyway start m row input left ended (Err halts.Device) h = h.0
   came_anyway start m row input left ended (Err halts.Write) h = h
+
+-- Where the device works, all is logged.
+pub logged_or_failed : {A E P : Type 0} (failed : Bool) (result : Result A E) → OnOk result P → OnErr result (failed ≡ true) → failed ≡ false → P
+logged_or_failed failed (Ok x) all fails works = all
+logged_or_failed failed (Err e) all fails works = absurd (true≢false (sym fails ∙ works))

@@ -10,6 +10,7 @@ use Rattle.legal_runs.specs.declared.outcomes.Outcome.{Outcome}
 use Rattle.legal_runs.specs.declared.outcomes.Outcome.TheVariants as outcomes
 use Rattle.legal_runs.specs.declared.outcomes.Step.TheVariants as steps
 use Rattle.machine.proofs.Events.{core_holds, core_step}
+use Rattle.machine.specs.Stages.{events_of}
 use Rattle.machine.specs.Steps.{IsCoreStep}
 use Rattle.machine.specs.declared.hands.Hand.{Hand}
 use Rattle.message.specs.Messages.{is_in_range}
@@ -50,7 +51,7 @@ module _ (keeps : Type 0) (start old : Handed) (taken : List (List ℕ)) (said r
 
   -- the ticket that the core gives next
   next_is : old.core.next ≡ next_ticket start.core.next (asked g taken)
-  next_is = ap (λ (w : Hands). w.core.next) (sym s.passes.ends) ∙ run_next g _ s.passes.events s.passes.legal
+  next_is = ap (λ (w : Hands). w.core.next) (sym s.passes.ends) ∙ run_next g _ (events_of s.passes.stages) s.passes.legal
       ∙ ap (λ (es : List Entry). next_ticket start.core.next (messages es)) s.passes.come_are
       ∙ ap (next_ticket start.core.next) (messages-ticketed start.core.next (asked g taken))
 

@@ -1,15 +1,34 @@
 -- Stretches of a run, one after the other.
-use Rattle.std.proofs.Common.{◌≡◌, ℕ, List, ◌++◌, ap, sym, ◌∙◌, subst}
+use Rattle.std.proofs.Common.{◌≡◌, ℕ, ◌+◌, Bool, List, [], ◌∷◌, ◌++◌, refl, ap, sym, ◌∙◌, subst, add_assoc, arith}
+use Rattle.std.specs.Prelude.{count_by, if◌then◌else◌}
+use Rattle.std.proofs.lemmas.List.{map-append}
+use Rattle.std.proofs.lemmas.List.Sums.{sum_by-append}
 use Rattle.affinity.specs.declared.geometry.Geometry.{Geometry}
-use Rattle.disk.proofs.Moments.{then, weaker}
+use Rattle.disk.specs.Device.{Medium}
 use Rattle.legal_runs.proofs.Joining.{runs_join}
-use Rattle.legal_runs.specs.Events.{Hands}
-use Rattle.legal_runs.specs.Runs.{IsLegal, last}
+use Rattle.legal_runs.specs.Events.{Event, Hands}
+use Rattle.legal_runs.specs.Runs.{IsLegal, answered, arrived, last}
 use Rattle.legal_runs.specs.World.{Entry}
 use Rattle.message.specs.declared.Reply.{Reply}
 use Rattle.machine.specs.Machine.{Handed, machine_of}
-use Rattle.serving.specs.Runs.{IsLeftBy, Passes}
-use Rattle.serving.proofs.Crashes.{left_by_first, left_by_second}
+use Rattle.machine.specs.Stages.{AreSafe, Stage, device_after, events_of}
+use Rattle.serving.specs.Runs.{Passes}
+
+safe-append : (g : Geometry) (w : Hands) (m : Medium) (xs ys : List Stage) → AreSafe g w m xs
+    → AreSafe g (last w (events_of xs)) (device_after m xs) ys → AreSafe g w m (xs ++ ys)
+safe-append g w m [] ys h k = k
+safe-append g w m (s ∷ xs) ys h k = (h.0, safe-append g s.event.world s.medium xs ys h.1 k)
+
+after-append : (m : Medium) (xs ys : List Stage) → device_after m (xs ++ ys) ≡ device_after (device_after m xs) ys
+after-append m [] ys = refl
+after-append m (s ∷ xs) ys = after-append s.medium xs ys
+
+-- how many of the events tell that the device failed
+abbrev rises : List Event → ℕ
+rises events = count_by (λ e. e.rose) events
+
+rises-append : (es fs : List Event) → rises (es ++ fs) ≡ rises es + rises fs
+rises-append es fs = sum_by-append (λ (e : Event). if e.rose then 1 else 0) es fs
 
 pub passes_on : (keeps : Type 0) (old mid new : Handed) (come more : List Entry) (told others : List (ℕ × Reply))
     → Passes keeps old mid come told → Passes keeps mid new more others → Passes keeps old new (come ++ more) (told ++ others)
@@ -17,21 +36,24 @@ passes_on keeps old mid new come more told others h k =
     let g = old.core.geometry in
     let w = machine_of old in
     let same : mid.core.geometry ≡ g = h.geometry in
-    let on : IsLegal g (last w h.events) k.events =
-    subst (λ (x : Hands). IsLegal g x k.events) (sym h.ends) (subst (λ (y : Geometry). IsLegal y (machine_of mid) k.events) same k.legal) in
-    let j = runs_join g w h.events k.events h.legal on in
+    let on : IsLegal g (last w (events_of h.stages)) (events_of k.stages) =
+    subst (λ (x : Hands). IsLegal g x (events_of k.stages)) (sym h.ends)
+    (subst (λ (y : Geometry). IsLegal y (machine_of mid) (events_of k.stages)) same k.legal) in
+    let j = runs_join g w (events_of h.stages) (events_of k.stages) h.legal on in
+    let both : events_of (h.stages ++ k.stages) ≡ events_of h.stages ++ events_of k.stages = map-append (λ (s : Stage). s.event) h.stages k.stages in
     record {
-      events = h.events ++ k.events;
-      legal = j.legal;
-      ends = j.last_is ∙ ap (λ (x : Hands). last x k.events) h.ends ∙ k.ends;
+      stages = h.stages ++ k.stages;
+      legal = subst (IsLegal g w) (sym both) j.legal;
+      ends = ap (λ (es : List Event). last w es) both ∙ j.last_is ∙ ap (λ (x : Hands). last x (events_of k.stages)) h.ends ∙ k.ends;
       geometry = k.geometry ∙ h.geometry;
-      come_are = j.arrived_is ∙ (λ i. h.come_are i ++ k.come_are i);
-      told_are = j.answered_is ∙ (λ i. h.told_are i ++ k.told_are i);
-      crash = λ kept. (then) old.core.medium mid.core.medium new.core.medium (IsLeftBy g w (h.events ++ k.events))
-          (weaker old.core.medium mid.core.medium (IsLeftBy g w h.events) (IsLeftBy g w (h.events ++ k.events))
-          (h.crash kept) (λ c. left_by_first g w h.events k.events c))
-          (weaker mid.core.medium new.core.medium (IsLeftBy mid.core.geometry (machine_of mid) k.events) (IsLeftBy g w (h.events ++ k.events))
-          (k.crash kept) (λ c left. left_by_second g w h.events k.events c
-          (subst (λ (x : Hands). IsLeftBy g x k.events c) (sym h.ends)
-          (subst (λ (y : Geometry). IsLeftBy y (machine_of mid) k.events c) same left))));
+      come_are = ap arrived both ∙ j.arrived_is ∙ (λ i. h.come_are i ++ k.come_are i);
+      told_are = ap answered both ∙ j.answered_is ∙ (λ i. h.told_are i ++ k.told_are i);
+      device = after-append old.core.medium h.stages k.stages ∙ ap (λ (m : Medium). device_after m k.stages) h.device ∙ k.device;
+      failures = k.failures ∙ ap (λ (n : ℕ). n + rises (events_of k.stages)) h.failures
+          ∙ add_assoc old.core.medium.faults (rises (events_of h.stages)) (rises (events_of k.stages))
+          ∙ ap (λ (n : ℕ). old.core.medium.faults + n) (sym (ap rises both ∙ rises-append (events_of h.stages) (events_of k.stages)));
+      any_moment = λ kept. safe-append g w old.core.medium h.stages k.stages (h.any_moment kept)
+          (subst (λ (x : Hands). AreSafe g x (device_after old.core.medium h.stages) k.stages) (sym h.ends)
+          (subst (λ (m : Medium). AreSafe g (machine_of mid) m k.stages) (sym h.device)
+          (subst (λ (y : Geometry). AreSafe y (machine_of mid) mid.core.medium k.stages) same (k.any_moment kept))));
     }

@@ -1,21 +1,28 @@
 -- A session that reads no more, and what it promises in the end.
-use Rattle.std.proofs.Common.{◌≡◌, ℕ, ◌-◌, ◌^◌, Bool, true, false, List, [], Option, Some, None, ap, sym, ◌∙◌, subst, length, replicate}
+use Rattle.std.proofs.Common.{◌≡◌, ℕ, zero, suc, ◌-◌, ◌^◌, Bool, true, false, List, [], Option, Some, None, refl, ap, sym, ◌∙◌, subst, length, map, replicate}
 use Rattle.std.specs.Prelude.{Ok, Err, IfSome}
+use Rattle.std.proofs.lemmas.Bool.{true≢false}
 use Rattle.std.proofs.lemmas.List.{length-replicate}
-use Rattle.legal_runs.proofs.Idle.{idle_sound}
-use Rattle.legal_runs.specs.Laws.{IsIdle}
-use Rattle.machine.specs.Machine.{Handed}
+use Rattle.legal_runs.proofs.Full.{last_none_out}
+use Rattle.legal_runs.proofs.Idle.{idle_sound, none_out}
+use Rattle.legal_runs.specs.Events.{Hands}
+use Rattle.legal_runs.specs.Laws.{IsIdle, full}
+use Rattle.machine.specs.Machine.{Handed, hand_of as hand_in, machine_of}
+use Rattle.machine.specs.Stages.{events_of}
+use Rattle.machine.specs.declared.hands.Hand.{Hand as Holding}
 use Rattle.message.specs.Grammar.{message_of}
 use Rattle.message.specs.Messages.{is_in_range}
 use Rattle.message.specs.Reader.{GivesLine}
 use Rattle.message.specs.declared.Msg.{Msg}
 use Rattle.parcel.specs.Run.{Asked}
 use Rattle.scheduler.specs.Kept.{Kept, StandsNow, world_of}
-use Rattle.serving.specs.Ends.{EndsSo}
+use Rattle.serving.specs.Ends.{EndsSo, IsWoundUp}
 use Rattle.serving.specs.Going.{Goes}
+use Rattle.serving.specs.Lending.{IsHome}
 use Rattle.serving.specs.Lines.{Line}
+use Rattle.serving.specs.Rows.{comes_next}
 use Rattle.serving.specs.Serve.{HasRunSo}
-use Rattle.serving.specs.Runs.{with_lent}
+use Rattle.serving.specs.Runs.{hand_of, with_lent}
 use Rattle.serving.specs.Steps.{Holds}
 use Rattle.serving.specs.Stops.{Advances, HasCome, HasEnded, HasStopped, IsStop, IsUnderWay, Place, PromisesAll, answer_at}
 use Rattle.serving.specs.declared.course.Halt.{Halt}
@@ -91,6 +98,10 @@ module _ (keeps : Type 0) (start : Handed) (idle : IsIdle (world_of start.core))
         → Goes keeps start p.machine [] input left ended before p.written
     all_said left ended h = subst (λ (l : List Line). Goes keeps start p.machine l input left ended before p.written) none h
 
+    -- it has not stopped since the device failed
+    not_failed : {P : Type 0} → HasStopped keeps start p input behind before stops.Failed → P
+    not_failed h = absurd (true≢false (sym h.why ∙ works))
+
     pub ends_by : (stop : Stop) → HasStopped keeps start p input behind before stop
         → EndsSo start.core p.machine.core input behind before p.written (answer_at stop)
     ends_by stops.End h =
@@ -101,75 +112,111 @@ module _ (keeps : Type 0) (start : Handed) (idle : IsIdle (world_of start.core))
         (subst (λ (b : Bool). Goes keeps start p.machine [] input h.left b before p.written) h.why.0 (all_said h.left h.ended h.goes)) works h.why.1
     ends_by stops.Exhausted h =
         by_line h.left h.ended h.why.1.0 h.why.1.1 (all_said h.left h.ended h.goes) works h.why.0 h.why.1.2 h.why.1.3 h.why.1.4
-    ends_by stops.Failed h = ends_at_device keeps start p.machine idle p.row input h.left h.ended before p.written h.goes h.why
+    ends_by stops.Failed h = not_failed h
 
-    pub runs_by : (stop : Stop) → HasStopped keeps start p input behind before stop
-        → HasRunSo keeps start p.machine.core input before p.written (answer_at stop)
-    runs_by stops.End h = runs_whole keeps start p.machine idle input h.left h.ended before p.written (all_said h.left h.ended h.goes) h.why.0
-    runs_by stops.Fault h = runs_to_read keeps start p.machine idle input h.left h.ended before p.written (all_said h.left h.ended h.goes)
-    runs_by stops.Exhausted h = runs_to_last_ticket keeps start p.machine idle input h.left h.ended before p.written (all_said h.left h.ended h.goes)
-    runs_by stops.Failed h = runs_to_device keeps start p.machine idle input h.left h.ended before p.written p.row h.goes
+    module _ (no_doubt : p.machine.core.failed ≡ false → p.machine.core.doubt ≡ []) (stands : keeps → StandsNow p.machine.core) where
+      runs_by : (stop : Stop) → HasStopped keeps start p input behind before stop
+          → HasRunSo keeps start p.machine.core input before p.written (answer_at stop)
+      runs_by stops.End h =
+          runs_whole keeps start p.machine idle input h.left h.ended before p.written no_doubt stands (all_said h.left h.ended h.goes) h.why.0
+      runs_by stops.Fault h =
+          runs_to_read keeps start p.machine idle input h.left h.ended before p.written no_doubt stands (all_said h.left h.ended h.goes)
+      runs_by stops.Exhausted h =
+          runs_to_last_ticket keeps start p.machine idle input h.left h.ended before p.written no_doubt stands (all_said h.left h.ended h.goes)
+      runs_by stops.Failed h = not_failed h
 
     pub promises_by : (stop : Stop) → HasStopped keeps start p input behind before stop
         → PromisesAll keeps start p.machine.core input behind before p.written (answer_at stop)
-    promises_by stop h = record { run = runs_by stop h; ends = ends_by stop h }
+    promises_by stop h = record { run = λ no_doubt stands. runs_by no_doubt stands stop h; ends = ends_by stop h }
 
   -- ---- where something has failed
 
-  pub device_ends : (left : Option (List ℕ)) (ended : Bool) → Goes keeps start p.machine p.row input left ended before p.written
-      → p.machine.core.failed ≡ true → PromisesAll keeps start p.machine.core input behind before p.written (Err faults.Device)
-  device_ends left ended h failed = record {
-    run = runs_to_device keeps start p.machine idle input left ended before p.written p.row h;
-    ends = ends_at_device keeps start p.machine idle p.row input left ended before p.written h failed;
-  }
+  module _ (wound_up : IsWoundUp p.machine.core) where
+    device_ends : (left : Option (List ℕ)) (ended : Bool) → Goes keeps start p.machine p.row input left ended before p.written
+        → p.machine.core.failed ≡ true → comes_next p.row ≡ false
+        → PromisesAll keeps start p.machine.core input behind before p.written (Err faults.Device)
+    device_ends left ended h failed last = record {
+      run = λ no_doubt stands. runs_to_device keeps start p.machine idle input left ended before p.written no_doubt stands p.row h last;
+      ends = ends_at_device keeps start p.machine idle p.row input left ended before p.written h failed wound_up;
+    }
 
-  pub write_ends : (left : Option (List ℕ)) (ended : Bool) (old now : Option (List ℕ)) → Goes keeps start p.machine p.row input left ended old now
-      → PromisesAll keeps start p.machine.core input behind before p.written (Err faults.Write)
-  write_ends left ended old now h = record {
-    run = runs_to_write keeps start p.machine idle input left ended old now p.row p.written h;
-    ends = tt;
-  }
+    write_ends : (left : Option (List ℕ)) (ended : Bool) (old now : Option (List ℕ)) → Goes keeps start p.machine p.row input left ended old now
+        → (p.machine.core.failed ≡ false → p.machine.core.ran ≡ [])
+        → PromisesAll keeps start p.machine.core input behind before p.written (Err faults.Write)
+    write_ends left ended old now h ran = record {
+      run = λ no_doubt stands. runs_to_write keeps start p.machine idle input left ended old now no_doubt stands p.row p.written h;
+      ends = (wound_up, ran);
+    }
 
-  pub halt_ends : (A : Type 0) (left : Option (List ℕ)) (ended : Bool) (why : Halt) → HasCome {A = A} keeps start p input left ended before (Err why)
-      → PromisesAll keeps start p.machine.core input behind before p.written (Err faults.Write)
-  halt_ends A left ended halts.Device h = write_ends left ended before p.written h.0
-  halt_ends A left ended halts.Write h = write_ends left ended None None h
+    halt_ends : (A : Type 0) (left : Option (List ℕ)) (ended : Bool) (why : Halt) → HasCome {A = A} keeps start p input left ended before (Err why)
+        → p.machine.core.failed ≡ true → PromisesAll keeps start p.machine.core input behind before p.written (Err faults.Write)
+    halt_ends A left ended halts.Device h failed =
+        write_ends left ended before p.written h.0 (λ works. absurd (true≢false (sym failed ∙ works)))
+    halt_ends A left ended halts.Write h failed =
+        write_ends left ended None None h (λ works. absurd (true≢false (sym failed ∙ works)))
 
--- From a place at which something has failed.
+-- ---- nothing is out once all is home
+
+all_empty : (n : ℕ) → full (map hand_in (map hand_of (replicate n None))) ≡ 0
+all_empty zero = refl
+all_empty (suc n) = all_empty n
+
+-- From a place at which something has failed. Nothing is lent any more, and all that was logged is answered.
 module _ (keeps : Type 0) (start : Handed) (idle : IsIdle (world_of start.core)) (o p : Place) (input behind before : Option (List ℕ)) where
   abbrev Ended : Halt → Type 0
   Ended why = HasEnded keeps start o input behind before (Err why)
 
-  pub device_well : (why : Halt) → why ≡ halts.Device → Ended why → Advances {A = Unit {0}} keeps o p (Ok tt)
-      → PromisesAll keeps start p.machine.core input behind before p.written (Err faults.Device)
-  device_well why is h k =
-      let at : Ended halts.Device = subst Ended is h in
-      device_ends keeps start idle p input behind before at.0 at.1 (k.comes start input at.0 at.1 before at.2.0) (k.failed at.2.1)
+  module _ (lent : List (Option Asked)) (home : IsHome lent) (hands : p.machine.hands ≡ map hand_of lent)
+      (answered : p.machine.core.logged ≡ []) where
+    wound_up : {row : List Line} {left before written : Option (List ℕ)} {ended : Bool} → Goes keeps start p.machine row input left ended before written
+        → IsWoundUp p.machine.core
+    wound_up h =
+        let s = h.serving.passes in
+        let none : full (machine_of p.machine).hands ≡ 0 =
+        ap (λ (hs : List Holding). full (map hand_in hs)) (hands ∙ ap (λ (l : List (Option Asked)). map hand_of l) home) ∙ all_empty (length lent) in
+        record {
+          none_out = ap (λ (w : Hands). w.core.out) (sym s.ends)
+              ∙ last_none_out start.core.geometry (machine_of start) (events_of s.stages) s.legal (none_out (world_of start.core) idle)
+              (ap (λ (w : Hands). full w.hands) s.ends ∙ none);
+          none_logged = answered;
+        }
 
-  pub device_ill : (why other : Halt) → why ≡ halts.Device → Ended why → Advances {A = Unit {0}} keeps o p (Err other)
-      → PromisesAll keeps start p.machine.core input behind before p.written (Err faults.Write)
-  device_ill why other is h k =
-      let at : Ended halts.Device = subst Ended is h in
-      halt_ends keeps start idle p input behind before (Unit {0}) at.0 at.1 other (k.comes start input at.0 at.1 before at.2.0)
+    pub device_well : (why : Halt) → why ≡ halts.Device → Ended why → Advances {A = Unit {0}} keeps o p (Ok tt) → comes_next p.row ≡ false
+        → PromisesAll keeps start p.machine.core input behind before p.written (Err faults.Device)
+    device_well why is h k last =
+        let at : Ended halts.Device = subst Ended is h in
+        let goes = k.comes start input at.0 at.1 before at.2.0 in
+        device_ends keeps start idle p input behind before (wound_up goes) at.0 at.1 goes (k.failed at.2.1) last
 
-  pub write_so : (why : Halt) → why ≡ halts.Write → Ended why
-      → ((left : Option (List ℕ)) (ended : Bool) → Goes keeps start o.machine o.row input left ended None None
-      → Goes keeps start p.machine p.row input left ended None None)
-      → PromisesAll keeps start p.machine.core input behind before p.written (Err faults.Write)
-  write_so why is h k =
-      let at : Ended halts.Write = subst Ended is h in
-      write_ends keeps start idle p input behind before at.0 at.1 None None (k at.0 at.1 at.2)
+    pub device_ill : (why other : Halt) → why ≡ halts.Device → Ended why → Advances {A = Unit {0}} keeps o p (Err other)
+        → PromisesAll keeps start p.machine.core input behind before p.written (Err faults.Write)
+    device_ill why other is h k =
+        let at : Ended halts.Device = subst Ended is h in
+        let come = k.comes start input at.0 at.1 before at.2.0 in
+        halt_ends keeps start idle p input behind before (wound_up_halted other at.0 at.1 come) (Unit {0}) at.0 at.1 other come (k.failed at.2.1)
+      where
+        wound_up_halted : (other : Halt) (left : Option (List ℕ)) (ended : Bool)
+            → HasCome {A = Unit {0}} keeps start p input left ended before (Err other) → IsWoundUp p.machine.core
+        wound_up_halted halts.Device left ended come = wound_up come.0
+        wound_up_halted halts.Write left ended come = wound_up come
+
+    pub write_so : (why : Halt) → why ≡ halts.Write → Ended why
+        → ((left : Option (List ℕ)) (ended : Bool) → Goes keeps start o.machine o.row input left ended None None
+        → Goes keeps start p.machine p.row input left ended None None) → (p.machine.core.failed ≡ false → p.machine.core.ran ≡ [])
+        → PromisesAll keeps start p.machine.core input behind before p.written (Err faults.Write)
+    write_so why is h k ran =
+        let at : Ended halts.Write = subst Ended is h in
+        let goes = k at.0 at.1 at.2 in
+        write_ends keeps start idle p input behind before (wound_up goes) at.0 at.1 None None goes ran
 
 -- ---- where it begins
 
 pub begins : (keeps : Type 0) (core : Kept) (lent : List (Option Asked)) (row : List Line) (drained : Bool) (input written : Option (List ℕ))
-    → row ≡ [] → drained ≡ false → core.failed ≡ false → (core.failed ≡ false → core.doubt ≡ []) → (keeps → StandsNow core)
-    → Goes keeps (with_lent core lent) (with_lent core lent) row input input drained written written
-begins keeps core lent row drained input written none begun works no_doubt stands =
+    → row ≡ [] → drained ≡ false → Goes keeps (with_lent core lent) (with_lent core lent) row input input drained written written
+begins keeps core lent row drained input written none begun =
     let start = with_lent core lent in
     subst (λ (l : List Line). Goes keeps start start l input input drained written written) (sym none)
-    (subst (λ (d : Bool). Goes keeps start start [] input input d written written) (sym begun)
-    (starts keeps start works (no_doubt works) stands input written))
+    (subst (λ (d : Bool). Goes keeps start start [] input input d written written) (sym begun) (starts keeps start input written))
 
 pub holds_first : (core : Kept) (lent : List (Option Asked)) (n : ℕ) → lent ≡ replicate n None → IsIdle (world_of core) → Holds (with_lent core lent)
 holds_first core lent n none idle = subst (λ (l : List (Option Asked)). Holds (with_lent core l)) (sym none)

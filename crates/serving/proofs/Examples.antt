@@ -1,20 +1,14 @@
--- Worked examples, by computing: which lines take tickets, what is known of lines, and what a crash may leave of a stretch of a run.
-use Rattle.std.proofs.Common.{◌≡◌, ℕ, false, List, [], ◌∷◌, map, refl, lit≤, inl, inr, arith}
-use Rattle.std.specs.Prelude.{None, codes}
+-- Worked examples, by computing: which lines take tickets, and what is known of lines.
+use Rattle.std.proofs.Common.{◌≡◌, ℕ, List, [], ◌∷◌, map, refl, lit≤, arith}
+use Rattle.std.specs.Prelude.{codes}
 use Rattle.affinity.specs.Geometry.{small}
-use Rattle.legal_runs.specs.Events.{Event, Hands, Empty, happens}
-use Rattle.legal_runs.specs.World.{World}
-use Rattle.legal_runs.specs.declared.outcomes.Step.{Step}
-use Rattle.legal_runs.specs.declared.outcomes.Step.TheVariants as steps
 use Rattle.message.specs.Grammar.{kind_named, message_of}
 use Rattle.message.specs.Lines.{number}
 use Rattle.message.specs.declared.Msg.TheVariants.{MakeVol, Create, Summary as AskSummary}
 use Rattle.message.specs.declared.Reply.TheVariants.{Done, Summary}
 use Rattle.plain.specs.Output.{joined, output_lines}
-use Rattle.plain.specs.Serial.{next_state}
 use Rattle.plain.specs.State.{empty}
 use Rattle.serving.specs.Lines.{Answered, AreKnown, NoMessage, OutOfRange, Unanswered, asked, next_ticket, text, ticketed}
-use Rattle.serving.specs.Runs.{IsLeftIn}
 
 -- ---- lines
 
@@ -59,39 +53,3 @@ what_they_say = refl
 the_same_as_the_serial_server : joined (output_lines small empty (codes "makevol 0 0" ∷ codes "makevol 9 0" ∷ codes "hello" ∷ [])) ≡ codes "done\nerror range\nerror line\n"
 unfolding message_of kind_named number
 the_same_as_the_serial_server = refl
-
--- ---- a crash in a stretch of a run
-
-abbrev opened : World
-opened = record {
-  waiting = [];
-  out = [];
-  ran = [];
-  logged = [];
-  settled = empty;
-  room = 4;
-  next = 0;
-  slots = 1;
-  failed = false;
-  doubt = [];
-  left = None;
-}
-
-abbrev one_hand : Hands
-one_hand = record { core = opened; hands = Empty ∷ [] }
-
--- the events of steps during which the device doesn't fail
-abbrev events_of : Hands → List Step → List Event
-events_of w [] = []
-events_of w (s ∷ ss) = record { step = s; outcome = (happens small 3 w s).0; rose = false; world = (happens small 3 w s).1 }
-    ∷ events_of (happens small 3 w s).1 ss
-
-abbrev one_message : List Event
-one_message = events_of one_hand (steps.Arrive (MakeVol 0 0) ∷ steps.Grant ∷ steps.Run 0 ∷ steps.Back 0 ∷ steps.Log 1 ∷ steps.Answer ∷ [])
-
--- A crash of it may leave nothing, or the volume.
-nothing_is_left : IsLeftIn small one_hand one_message empty
-nothing_is_left = inl (record { some = 0; at_most = lit≤ tt; state = refl })
-
-the_volume_is_left : IsLeftIn small one_hand one_message (next_state small empty (MakeVol 0 0))
-the_volume_is_left = inr (inr (inr (inr (inl (record { some = 1; at_most = lit≤ tt; state = refl })))))

@@ -12,6 +12,7 @@ use Rattle.legal_runs.specs.Laws.{IsIdle}
 use Rattle.legal_runs.specs.Runs.{answered, arrived, last}
 use Rattle.legal_runs.specs.World.{World, held}
 use Rattle.machine.specs.Machine.{Handed, machine_of}
+use Rattle.machine.specs.Stages.{events_of}
 use Rattle.message.specs.Grammar.{message_of}
 use Rattle.message.specs.Messages.{is_in_range}
 use Rattle.message.specs.declared.Msg.{Msg}
@@ -141,10 +142,10 @@ module _ (keeps : Type 0) (start now : Handed) (idle : IsIdle (world_of start.co
       let p = s.passes in
       let g = start.core.geometry in
       let n = start.core.next in
-      let counts = run_counts g (machine_of start) p.events p.legal in
-      let ends : inside (world_of now.core) ≡ inside (last (machine_of start) p.events).core = ap (λ (w : Hands). inside w.core) (sym p.ends) in
-      let come : length (arrived p.events) ≡ length (asked g taken) = ap length p.come_are ∙ length-ticketed n (asked g taken) in
-      let told : length (answered p.events) ≡ length s.told = ap length p.told_are in
+      let counts = run_counts g (machine_of start) (events_of p.stages) p.legal in
+      let ends : inside (world_of now.core) ≡ inside (last (machine_of start) (events_of p.stages)).core = ap (λ (w : Hands). inside w.core) (sym p.ends) in
+      let come : length (arrived (events_of p.stages)) ≡ length (asked g taken) = ap length p.come_are ∙ length-ticketed n (asked g taken) in
+      let told : length (answered (events_of p.stages)) ≡ length s.told = ap length p.told_are in
       let none = idle_inside (world_of start.core) idle in
       let takes = lines_take g s.told n taken said row s.known s.answered in
       let most = later_most n s.told in

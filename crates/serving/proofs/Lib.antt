@@ -1,5 +1,4 @@
 -- ---- for the crates above: stretches of a run, and what is known of lines
-pub mod Crashes
 pub mod Chain
 pub mod Tickets
 pub mod Stretches
@@ -24,5 +23,6 @@ pub mod Stopping
 pub mod Starting
 pub mod Promises
 pub mod Closing
+pub mod Told
 -- ---- this crate's own
 mod Examples

@@ -11,6 +11,7 @@ use Rattle.scheduler.specs.Kept.{Kept, StandsNow, world_of}
 use Rattle.serving.specs.Ends.{HasServed}
 use Rattle.serving.specs.Going.{Goes}
 use Rattle.serving.specs.Lines.{Line}
+use Rattle.serving.specs.Rows.{comes_next}
 use Rattle.serving.specs.Runs.{with_lent}
 use Rattle.serving.specs.Serve.{AreAll, HasRunSo}
 use Rattle.serving.specs.declared.fault.ServeFault.TheVariants as faults
@@ -26,43 +27,44 @@ all_taken (Some input) (Some bs) ended taken t at_end =
     let none : t.0 ≡ [] = sym (same_Some bs t.0 t.1) ∙ at_end in
     t.2.to_come ∙ ap (λ l. taken ++ lines l) none ∙ append-nil taken
 
+-- where the core at the end is as it always is
 module _ (keeps : Type 0) (start now : Handed) (idle : IsIdle (world_of start.core)) (input left : Option (List ℕ)) (ended : Bool)
-    (before written : Option (List ℕ)) where
+    (before written : Option (List ℕ)) (no_doubt : now.core.failed ≡ false → now.core.doubt ≡ []) (stands : keeps → StandsNow now.core) where
   pub runs_whole : Goes keeps start now [] input left ended before written → IsAtEnd left
       → HasRunSo keeps start now.core input before written (Ok tt)
   unfolding has_served
   runs_whole h at_end = record {
-    served = has_served keeps start now idle [] input left ended before written h;
+    served = has_served keeps start now idle [] input left ended before written h no_doubt stands;
     all = all_taken input left ended h.taken h.takes at_end;
   }
 
   pub runs_to_read : Goes keeps start now [] input left ended before written
       → HasRunSo keeps start now.core input before written (Err faults.Read)
-  runs_to_read h = has_served keeps start now idle [] input left ended before written h
+  runs_to_read h = has_served keeps start now idle [] input left ended before written h no_doubt stands
 
   pub runs_to_last_ticket : Goes keeps start now [] input left ended before written
       → HasRunSo keeps start now.core input before written (Err faults.Exhausted)
-  runs_to_last_ticket h = has_served keeps start now idle [] input left ended before written h
+  runs_to_last_ticket h = has_served keeps start now idle [] input left ended before written h no_doubt stands
 
-  pub runs_to_device : (row : List Line) → Goes keeps start now row input left ended before written
+  pub runs_to_device : (row : List Line) → Goes keeps start now row input left ended before written → comes_next row ≡ false
       → HasRunSo keeps start now.core input before written (Err faults.Device)
-  runs_to_device row h = (row, has_served keeps start now idle row input left ended before written h)
+  runs_to_device row h last = (row, has_served keeps start now idle row input left ended before written h no_doubt stands, last)
 
   -- whatever was written since
   pub runs_to_write : (row : List Line) (torn : Option (List ℕ)) → Goes keeps start now row input left ended before written
       → HasRunSo keeps start now.core input before torn (Err faults.Write)
   runs_to_write row torn h =
-      let s = has_served keeps start now idle row input left ended before written h in
-      (s.taken, s.events, s.run)
+      let s = has_served keeps start now idle row input left ended before written h no_doubt stands in
+      (s.taken, s.stages, s.run)
 
 -- ---- a server that was refused
 
-module _ (keeps : Type 0) (core : Kept) (places : ℕ) (idle : IsIdle (world_of core)) (works : core.failed ≡ false)
+module _ (keeps : Type 0) (core : Kept) (places : ℕ) (idle : IsIdle (world_of core))
     (no_doubt : core.failed ≡ false → core.doubt ≡ []) (stands : keeps → StandsNow core) (input before : Option (List ℕ)) where
   not_run : HasServed keeps (with_lent core (replicate places None)) core [] input before before
   not_run =
       let start = with_lent core (replicate places None) in
-      has_served keeps start start idle [] input input false before before (starts keeps start works (no_doubt works) stands input before)
+      has_served keeps start start idle [] input input false before before (starts keeps start input before) no_doubt stands
 
   pub no_workers_ran : HasRunSo keeps (with_lent core (replicate places None)) core input before before (Err faults.NoWorkers)
   no_workers_ran = not_run

@@ -1,19 +1,24 @@
 -- What a server has written when it ends, beside the serial server.
-use Rattle.std.proofs.Common.{◌≡◌, ◌≢◌, ℕ, ◌-◌, ◌^◌, Bool, true, false, List, [], ◌∷◌, ◌++◌, Option, Some, None, ap, sym, ◌∙◌, subst, length, map, take, inr, ⊎_elim, append_assoc, append-nil}
+use Rattle.std.proofs.Common.{◌≡◌, ◌≢◌, ℕ, ◌-◌, ◌^◌, ◌≤◌, Bool, true, false, List, [], ◌∷◌, ◌++◌, Option, Some, None, ap, sym, ◌∙◌, subst, length, map, take, inr, ⊎_elim, append_assoc, append-nil}
 use Rattle.std.specs.Prelude.{IfSome, Ok, Err}
 use Rattle.std.specs.Io.KnownBytes.{IsAtEnd}
 use Rattle.std.proofs.lemmas.Bool.{true≢false}
 use Rattle.std.proofs.lemmas.List.Elements.{recursion_from_All}
 use Rattle.std.proofs.lemmas.Option.{none-some, same_Some}
 use Rattle.affinity.specs.declared.geometry.Geometry.{Geometry}
-use Rattle.disk.proofs.Moments.{weaker}
+use Rattle.disk.specs.Device.{Leaves, Medium}
+use Rattle.disk.specs.Moments.{left_since, moment}
+use Rattle.journal.specs.Journal.{HoldsSome}
+use Rattle.legal_runs.specs.Crash.{in_doubt}
+use Rattle.machine.proofs.Events.{some_of}
+use Rattle.machine.proofs.Running.{left_by_run}
 use Rattle.legal_runs.proofs.Arrivals.{answered_by_ticket, arrived_by_ticket, settled_by_ticket}
 use Rattle.legal_runs.proofs.Idle.{idle_sound}
 use Rattle.legal_runs.proofs.Told.{IsIn}
 use Rattle.legal_runs.specs.Events.{Hands}
 use Rattle.legal_runs.specs.Laws.{IsIdle, IsSound}
 use Rattle.legal_runs.specs.World.{Entry}
-use Rattle.legal_runs.specs.Runs.{arrived}
+use Rattle.legal_runs.specs.Runs.{arrived, last}
 use Rattle.message.proofs.ReaderLemmas.{lines-first}
 use Rattle.message.specs.Grammar.{message_of}
 use Rattle.message.specs.Lines.{lines}
@@ -26,15 +31,14 @@ use Rattle.plain.specs.Output.{AnswersWholeLines, joined, output_lines, state_af
 use Rattle.plain.specs.Progress.{AreTaken, Takes}
 use Rattle.plain.specs.Serial.{fold}
 use Rattle.plain.specs.State.{State}
-use Rattle.scheduler.specs.Kept.{world_of}
-use Rattle.serving.specs.Ends.{AreFirst, AreServed, EndsSo, HasServed, settled}
+use Rattle.scheduler.specs.Kept.{StandsNow, world_of}
+use Rattle.serving.specs.Ends.{AreFirst, AreServed, EndsSo, HasServed, IsWoundUp, settled}
 use Rattle.serving.specs.Going.{Goes, IsServing}
 use Rattle.serving.specs.Lines.{AreKnown, Line, asked, text, ticketed}
 use Rattle.machine.specs.Machine.{Handed, machine_of}
-use Rattle.machine.specs.Stages.{StandsForRun}
-use Rattle.serving.specs.Runs.{IsLeftBy}
+use Rattle.machine.specs.Stages.{StandsForRun, device_after, events_of}
+use Rattle.serving.specs.Runs.{Passes}
 use Rattle.serving.specs.declared.fault.ServeFault.TheVariants as faults
-use Rattle.serving.proofs.Crashes.{left_since_start}
 use Rattle.serving.proofs.Inside.{idle_again}
 use Rattle.serving.proofs.Serial.{AreTold, all_said, asked_leads_there, messages-ticketed, said_is_serial}
 
@@ -51,19 +55,19 @@ module _ (keeps : Type 0) (start now : Handed) (idle : IsIdle (world_of start.co
   -- ---- of a run
 
   module _ (taken : List (List ℕ)) (said row : List Line) (s : IsServing keeps start now taken said row) where
-    by_line : by_ticket (arrived s.passes.events) ≡ ticketed start.core.next (asked g taken)
-    by_line = arrived_by_ticket g (machine_of start) s.passes.events s.passes.legal ∙ s.passes.come_are
+    by_line : by_ticket (arrived (events_of s.passes.stages)) ≡ ticketed start.core.next (asked g taken)
+    by_line = arrived_by_ticket g (machine_of start) (events_of s.passes.stages) s.passes.legal ∙ s.passes.come_are
 
     all_told : AreTold g s.told x start.core.next (asked g taken)
     all_told p is = inr (subst (λ (es : List Entry). IsIn p (told g x es)) by_line
-        (answered_by_ticket g (machine_of start) s.passes.events s.passes.legal sound idle p
+        (answered_by_ticket g (machine_of start) (events_of s.passes.stages) s.passes.legal sound idle p
         (subst (IsIn p) (sym s.passes.told_are) is)))
 
     leads : IsIdle (world_of now.core) → settled now.core ≡ state_after_lines g x taken
     leads ends =
         let e = s.passes.ends in
         ap (λ (w : Hands). w.core.settled) (sym e)
-        ∙ settled_by_ticket g (machine_of start) s.passes.events s.passes.legal sound idle (subst (λ (w : Hands). IsIdle w.core) (sym e) ends)
+        ∙ settled_by_ticket g (machine_of start) (events_of s.passes.stages) s.passes.legal sound idle (subst (λ (w : Hands). IsIdle w.core) (sym e) ends)
         ∙ ap (λ (es : List Entry). fold g x (messages es)) by_line
         ∙ ap (fold g x) (messages-ticketed start.core.next (asked g taken))
         ∙ asked_leads_there g x taken
@@ -158,25 +162,42 @@ module _ (keeps : Type 0) (start now : Handed) (idle : IsIdle (world_of start.co
       )
 
   pub ends_at_device : (row : List Line) (input left : Option (List ℕ)) (ended : Bool) (before written : Option (List ℕ))
-      → Goes keeps start now row input left ended before written → now.core.failed ≡ true
+      → Goes keeps start now row input left ended before written → now.core.failed ≡ true → IsWoundUp now.core
       → EndsSo start.core now.core input left before written (Err faults.Device)
-  ends_at_device row None left ended before written h failed = (failed, tt)
-  ends_at_device row (Some input) left ended before written h failed =
+  ends_at_device row None left ended before written h failed wound_up = (failed, wound_up, tt)
+  ends_at_device row (Some input) left ended before written h failed wound_up =
       let all = begins h.taken h.said row h.serving (lines h.takes.0)
       ∙ ap (λ ls. take (length h.said) (output_lines g x ls)) (sym h.takes.2.to_come) in
-      (failed, (joined (map text h.said), h.output, (length h.said, ap joined all)))
+      (failed, wound_up, (joined (map text h.said), h.output, (length h.said, ap joined all)))
 
   pub first_taken : (input left : Option (List ℕ)) (ended : Bool) (taken : List (List ℕ)) → Takes input left ended taken → AreFirst input taken
   first_taken None left ended taken t = tt
   first_taken (Some input) left ended taken t = (lines t.0, t.2.to_come)
 
+  -- What a crash leaves since event k ended, where the core at the end is as it always is.
+  pub left_since_event : {come : List Entry} {told : List (ℕ × Reply)} (p : Passes keeps start now come told) → (now.core.failed ≡ false → now.core.doubt ≡ []) → (keeps → StandsNow now.core) → keeps
+      → (k : ℕ) (c : List ℕ) → k ≤ length p.stages
+      → left_since now.core.medium (moment (device_after start.core.medium (take k p.stages))) c
+      → StandsForRun g (machine_of start) (events_of p.stages) k c
+  left_since_event p none stands kept k c le since =
+      let w = machine_of start in
+      let ends : (b : List ℕ) → Leaves (device_after start.core.medium p.stages) b
+      → HoldsSome g (last w (events_of p.stages)).core.settled (in_doubt (last w (events_of p.stages)).core []) b = λ b left.
+      subst (λ (x : Hands). HoldsSome g x.core.settled (in_doubt x.core []) b) (sym p.ends)
+      (subst (λ (y : Geometry). HoldsSome y (world_of now.core).settled (in_doubt (world_of now.core) []) b) p.geometry
+      (some_of now.core.geometry (world_of now.core).settled now.core.failed now.core.doubt [] b none
+      (stands kept b (subst (λ (m : Medium). Leaves m b) p.device left)))) in
+      left_by_run g w start.core.medium p.stages p.legal sound (p.any_moment kept) ends k c le
+      (subst (λ (m : Medium). left_since m (moment (device_after start.core.medium (take k p.stages))) c) (sym p.device) since)
+
   unfoldable pub has_served : (row : List Line) (input left : Option (List ℕ)) (ended : Bool) (before written : Option (List ℕ))
-      → Goes keeps start now row input left ended before written → HasServed keeps start now.core row input before written
-  has_served row input left ended before written h =
+      → Goes keeps start now row input left ended before written → (now.core.failed ≡ false → now.core.doubt ≡ [])
+      → (keeps → StandsNow now.core) → HasServed keeps start now.core row input before written
+  has_served row input left ended before written h none stands =
       let p = h.serving.passes in
       record {
         taken = h.taken;
-        events = p.events;
+        stages = p.stages;
         run = record {
           first = first_taken input left ended h.taken h.takes;
           legal = p.legal;
@@ -184,9 +205,10 @@ module _ (keeps : Type 0) (start now : Handed) (idle : IsIdle (world_of start.co
           ends = p.ends;
           geometry = p.geometry;
           arrived_are = p.come_are;
-          crash = λ kept. weaker start.core.medium now.core.medium (IsLeftBy g (machine_of start) p.events)
-              (StandsForRun g (machine_of start) p.events 0) (p.crash kept)
-              (λ c left. record { state = left.state; is = left.is; left = left_since_start g (machine_of start) p.events left.state p.legal sound left.left });
+          device = p.device;
+          failures = p.failures;
+          any_moment = p.any_moment;
+          crash = λ kept. left_since_event p none stands kept;
         };
         said = h.said;
         known = subst (λ (l : List (ℕ × Reply)). AreKnown g l start.core.next h.taken (h.said ++ row)) (sym p.told_are) h.serving.known;

@@ -12,6 +12,7 @@ use Rattle.legal_runs.specs.declared.outcomes.ArriveRefusal.TheVariants as arriv
 use Rattle.legal_runs.specs.declared.outcomes.Outcome.{Outcome}
 use Rattle.legal_runs.specs.declared.outcomes.Outcome.TheVariants as outcomes
 use Rattle.machine.specs.Machine.{Handed, machine_of}
+use Rattle.machine.specs.Stages.{events_of}
 use Rattle.message.specs.Messages.{is_in_range}
 use Rattle.message.specs.declared.Msg.{Msg}
 use Rattle.message.specs.declared.Reply.{Reply}
@@ -25,8 +26,8 @@ use Rattle.serving.specs.Runs.{Passes, inside}
 pub passes_count : (keeps : Type 0) (old new : Handed) (come : List Entry) (told : List (ℕ × Reply)) → Passes keeps old new come told
     → inside (world_of new.core) + length told ≡ inside (world_of old.core) + length come
 passes_count keeps old new come told p =
-    let run = run_counts old.core.geometry (machine_of old) p.events p.legal in
-    let ends : inside (last (machine_of old) p.events).core ≡ inside (world_of new.core) = ap (λ (w : Hands). inside w.core) p.ends in
+    let run = run_counts old.core.geometry (machine_of old) (events_of p.stages) p.legal in
+    let ends : inside (last (machine_of old) (events_of p.stages)).core ≡ inside (world_of new.core) = ap (λ (w : Hands). inside w.core) p.ends in
     let came = ap length p.come_are in
     let tells = ap length p.told_are in
     omega (arith, run, ends, came, tells)
@@ -49,7 +50,7 @@ run_slots g old (event ∷ events) legal =
 pub passes_slots : (keeps : Type 0) (old new : Handed) (come : List Entry) (told : List (ℕ × Reply)) → Passes keeps old new come told
     → new.core.slots ≡ old.core.slots
 passes_slots keeps old new come told p =
-    ap (λ (w : Hands). w.core.slots) (sym p.ends) ∙ run_slots old.core.geometry (machine_of old) p.events p.legal
+    ap (λ (w : Hands). w.core.slots) (sym p.ends) ∙ run_slots old.core.geometry (machine_of old) (events_of p.stages) p.legal
 
 -- ---- a slot for the next
 

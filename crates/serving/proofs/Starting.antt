@@ -1,5 +1,5 @@
 -- Where a server begins: nothing is read or written, nothing is lent, and no message is in it.
-use Rattle.std.proofs.Common.{◌≡◌, ℕ, zero, suc, false, List, [], Option, Some, None, refl, ap, sym, ◌∙◌, subst, map, take, inr, append-nil, arith, replicate}
+use Rattle.std.proofs.Common.{◌≡◌, ℕ, zero, suc, false, List, [], Option, Some, None, refl, ap, sym, ◌∙◌, subst, map, take, inr, add-zero, append-nil, arith, replicate}
 use Rattle.std.specs.Io.KnownBytes.{Appends}
 use Rattle.std.proofs.Math.Seq.{take-nil}
 use Rattle.std.proofs.lemmas.Option.{none-some}
@@ -13,7 +13,7 @@ use Rattle.plain.specs.Progress.{Takes}
 use Rattle.plain.specs.Serial.{fold}
 use Rattle.scheduler.specs.Kept.{Kept, StandsNow, world_of}
 use Rattle.serving.specs.Going.{Goes}
-use Rattle.serving.specs.Runs.{IsLeftBy, Passes, hand_of, with_lent}
+use Rattle.serving.specs.Runs.{Passes, hand_of, with_lent}
 use Rattle.serving.specs.Steps.{Holds}
 
 -- ---- nothing is lent
@@ -33,29 +33,18 @@ adds_none : (known : Option (List ℕ)) → Appends known known []
 adds_none None = tt
 adds_none (Some bytes) = sym (append-nil bytes)
 
-module _ (keeps : Type 0) (start : Handed) (works : start.core.failed ≡ false) (no_doubt : start.core.doubt ≡ [])
-    (stands : keeps → StandsNow start.core) where
-  abbrev g : Geometry
-  g = start.core.geometry
-
-  left_now : (c : List ℕ) → HoldsSome g (world_of start.core).settled start.core.doubt c → IsLeftBy g (machine_of start) [] c
-  left_now c h =
-      let none : take h.added start.core.doubt ≡ [] = ap (take h.added) no_doubt ∙ take-nil h.added in
-      record {
-        state = fold g (world_of start.core).settled (take h.added start.core.doubt);
-        is = h.is;
-        left = record { some = 0; at_most = omega arith; state = ap (fold g (world_of start.core).settled) none };
-      }
-
+module _ (keeps : Type 0) (start : Handed) where
   stays : Passes keeps start start [] []
   stays = record {
-    events = [];
+    stages = [];
     legal = tt;
     ends = refl;
     geometry = refl;
     come_are = refl;
     told_are = refl;
-    crash = λ kept. started start.core.medium (IsLeftBy g (machine_of start) []) (λ c left. left_now c (stands kept c left));
+    device = refl;
+    failures = sym (add-zero start.core.medium.faults);
+    any_moment = λ kept. tt;
   }
 
   pub starts : (input before : Option (List ℕ)) → Goes keeps start start [] input input false before before

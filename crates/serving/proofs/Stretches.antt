@@ -1,9 +1,7 @@
 -- One step of a run, behind those before it.
-use Rattle.std.proofs.Common.{◌≡◌, ℕ, Bool, List, [], ◌∷◌, ◌++◌, Result, Ok, Err, refl, ap, sym, ◌∙◌, subst, take, inl, append-nil, false, true, ◌≤◌, zero, suc, arith}
-use Rattle.std.specs.Prelude.{OnErr, OnOk, drop, length}
+use Rattle.std.proofs.Common.{◌≡◌, ℕ, Bool, List, [], ◌∷◌, ◌++◌, Result, Ok, Err, refl, ap, sym, ◌∙◌, subst, take, inl, append-nil, false, true, ◌≤◌, ◌+◌, add-zero, zero, suc, arith}
+use Rattle.std.specs.Prelude.{OnErr, OnOk, drop, length, if◌then◌else◌}
 use Rattle.affinity.specs.declared.geometry.Geometry.{Geometry}
-use Rattle.disk.proofs.Moments.{weaker}
-use Rattle.journal.specs.Journal.{HoldsSome}
 use Rattle.legal_runs.specs.Crash.{in_doubt}
 use Rattle.legal_runs.proofs.Apart.{length_held}
 use Rattle.legal_runs.proofs.Failures.{failure_lasts}
@@ -27,10 +25,14 @@ use Rattle.plain.specs.Serial.{fold}
 use Rattle.scheduler.specs.Calls.{Counts, IsCalled, IsLogStep, log_rose, logged, point_rose, stepped}
 use Rattle.scheduler.specs.Kept.{Kept, StandsThroughout, world_of}
 use Rattle.serving.specs.Lines.{Line, asked, ticketed}
-use Rattle.serving.specs.Runs.{IsLeftBy, Passes}
+use Rattle.serving.specs.Runs.{Passes}
 use Rattle.serving.specs.Steps.{GoesOn, Holds, KeepsOn}
 use Rattle.serving.proofs.Chain.{passes_on}
 use Rattle.serving.proofs.Tickets.{quiet_ticket}
+
+counted : (b : Bool) (old new : ℕ) → Counts b old new → new ≡ old + (0 + (if b then 1 else 0))
+counted true old new h = h
+counted false old new h = h ∙ sym (add-zero old)
 
 module _ (keeps : Type 0) (old new : Handed) (step : Step) (outcome : Outcome) (k : IsStep keeps old new step outcome) where
   abbrev event : Event
@@ -38,25 +40,17 @@ module _ (keeps : Type 0) (old new : Handed) (step : Step) (outcome : Outcome) (
 
   -- A step is a stretch of a run.
   pub step_passes : Passes keeps old new (arrives step outcome) (answers outcome)
-  step_passes =
-      let g = old.core.geometry in
-      let w = machine_of old in
-      let x = (world_of old.core).settled in
-      let doubt = in_doubt (world_of old.core) (event ∷ []) in
-      record {
-        events = event ∷ [];
-        legal = (k.allowed, tt);
-        ends = refl;
-        geometry = k.geometry;
-        come_are = append-nil (arrives step outcome);
-        told_are = append-nil (answers outcome);
-        crash = λ kept. weaker old.core.medium new.core.medium (HoldsSome g x doubt) (IsLeftBy g w (event ∷ [])) (k.any_moment kept)
-            (λ c h. record {
-              state = fold g x (take h.added doubt);
-              is = h.is;
-              left = inl (record { some = h.added; at_most = h.at_most; state = refl });
-            });
-      }
+  step_passes = record {
+    stages = record { event = event; medium = new.core.medium } ∷ [];
+    legal = (k.allowed, tt);
+    ends = refl;
+    geometry = k.geometry;
+    come_are = append-nil (arrives step outcome);
+    told_are = append-nil (answers outcome);
+    device = refl;
+    failures = counted k.rose old.core.medium.faults new.core.medium.faults k.failures;
+    any_moment = λ kept. (k.any_moment kept, tt);
+  }
 
 -- A stretch in which nothing arrives and nothing is answered leaves what is known of the lines.
 pub quiet_goes_on : (keeps : Type 0) (old new : Handed) → Passes keeps old new [] [] → (row : List Line) → GoesOn keeps old row new row
@@ -86,7 +80,7 @@ run_fails g old (event ∷ events) legal failed = run_fails g event.world events
 
 still_failed : (keeps : Type 0) (old new : Handed) → Passes keeps old new [] [] → old.core.failed ≡ true → new.core.failed ≡ true
 still_failed keeps old new p failed =
-    ap (λ (w : Hands). w.core.failed) (sym p.ends) ∙ run_fails old.core.geometry (machine_of old) p.events p.legal failed
+    ap (λ (w : Hands). w.core.failed) (sym p.ends) ∙ run_fails old.core.geometry (machine_of old) _ p.legal failed
 
 -- It keeps what the machine holds, too, where the new one holds what it should.
 pub quiet_keeps_on : (keeps : Type 0) (old new : Handed) → Holds new → Passes keeps old new [] [] → KeepsOn keeps old new

@@ -6,6 +6,7 @@ use Rattle.legal_runs.specs.Events.{Event, Hands}
 use Rattle.legal_runs.specs.Runs.{IsLegal, arrived, arrives, last}
 use Rattle.legal_runs.specs.World.{Entry, World}
 use Rattle.machine.specs.Machine.{Handed, machine_of}
+use Rattle.machine.specs.Stages.{events_of}
 use Rattle.message.specs.declared.Msg.{Msg}
 use Rattle.plain.specs.Order.{messages}
 use Rattle.serving.specs.Lines.{next_ticket, ticketed}
@@ -49,5 +50,5 @@ run_next g old (event ∷ events) legal =
 -- Where nothing arrives, the next ticket stays.
 pub quiet_ticket : (keeps : Type 0) (old new : Handed) → Passes keeps old new [] [] → new.core.next ≡ old.core.next
 quiet_ticket keeps old new p =
-    ap (λ (w : Hands). w.core.next) (sym p.ends) ∙ run_next old.core.geometry (machine_of old) p.events p.legal
+    ap (λ (w : Hands). w.core.next) (sym p.ends) ∙ run_next old.core.geometry (machine_of old) (events_of p.stages) p.legal
     ∙ ap (λ (es : List Entry). next_ticket old.core.next (messages es)) p.come_are

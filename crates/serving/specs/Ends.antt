@@ -1,14 +1,13 @@
 -- What a server has done when it ends.
-use Rattle.std.specs.Prelude.{◌≡◌, ◌-◌, ◌^◌, ℕ, true, false, List, ◌∷◌, ◌++◌, map, Option, Some, None, Result, Ok, Err}
+use Rattle.std.specs.Prelude.{◌≡◌, ◌≤◌, ◌+◌, ◌-◌, ◌^◌, ℕ, true, false, List, [], ◌∷◌, ◌++◌, map, take, length, count_by, Option, Some, None, Result, Ok, Err}
 use Rattle.std.specs.Io.KnownBytes.{Appends, IsAtEnd}
 use Rattle.std.specs.List.{AllByRecursion}
 use Rattle.affinity.specs.declared.geometry.Geometry.{Geometry}
-use Rattle.disk.specs.Moments.{LeavesOnly}
-use Rattle.legal_runs.specs.Events.{Event}
+use Rattle.disk.specs.Moments.{left_since, moment}
 use Rattle.legal_runs.specs.Laws.{IsIdle}
 use Rattle.legal_runs.specs.Runs.{IsLegal, answered, arrived, last}
 use Rattle.machine.specs.Machine.{Handed, machine_of}
-use Rattle.machine.specs.Stages.{StandsForRun}
+use Rattle.machine.specs.Stages.{AreSafe, Stage, StandsForRun, device_after, events_of}
 use Rattle.machine.specs.declared.hands.Hand.{Hand}
 use Rattle.message.specs.Grammar.{message_of}
 use Rattle.message.specs.Lines.{lines}
@@ -52,32 +51,45 @@ AreFirst None taken = Unit {0}
 AreFirst (Some input) taken = (more : List (List ℕ)) × (lines input ≡ taken ++ more)
 
 -- From the start there is a legal run to the core at the end, whose tickets go in order to the messages in range of the first
--- lines of the input. A crash meanwhile leaves what a crash of that run may leave.
-pub record HasRun (keeps : Type 0) (start : Handed) (new : Kept) (input : Option (List ℕ)) (taken : List (List ℕ)) (events : List Event) : Type 0 where
+-- lines of the input: its events, each with the device as it left it.
+pub record HasRun (keeps : Type 0) (start : Handed) (new : Kept) (input : Option (List ℕ)) (taken : List (List ℕ)) (stages : List Stage) : Type 0 where
   pub first : AreFirst input taken
-  pub legal : IsLegal start.core.geometry (machine_of start) events
+  pub legal : IsLegal start.core.geometry (machine_of start) (events_of stages)
   pub hands : List Hand
-  pub ends : last (machine_of start) events ≡ machine_of (record { core = new; hands = hands })
+  pub ends : last (machine_of start) (events_of stages) ≡ machine_of (record { core = new; hands = hands })
   pub geometry : new.geometry ≡ start.core.geometry
-  pub arrived_are : arrived events ≡ ticketed start.core.next (asked start.core.geometry taken)
-  pub crash : keeps → LeavesOnly start.core.medium new.medium (StandsForRun start.core.geometry (machine_of start) events 0)
+  pub arrived_are : arrived (events_of stages) ≡ ticketed start.core.next (asked start.core.geometry taken)
+  pub device : device_after start.core.medium stages ≡ new.medium
+  -- the device failed as often as the events tell
+  pub failures : new.medium.faults ≡ start.core.medium.faults + count_by (λ e. e.rose) (events_of stages)
+  -- what a crash leaves at each moment of each event
+  pub any_moment : keeps → AreSafe start.core.geometry (machine_of start) start.core.medium stages
+  -- For every k: a crash at any moment since event k ended leaves a device that stands for a state which the run may leave.
+  pub crash : keeps → (k : ℕ) (c : List ℕ) → k ≤ length stages
+      → left_since new.medium (moment (device_after start.core.medium (take k stages))) c
+      → StandsForRun start.core.geometry (machine_of start) (events_of stages) k c
 
 -- Behind what was written there is such a run: each line that was written is of a line that is no message or is out of range, or
 -- of one that was answered in the run. These lines that were read are not answered in the output.
 pub record HasServed (keeps : Type 0) (start : Handed) (new : Kept) (row : List Line) (input before written : Option (List ℕ)) : Type 0 where
   pub taken : List (List ℕ)
-  pub events : List Event
-  pub run : HasRun keeps start new input taken events
+  pub stages : List Stage
+  pub run : HasRun keeps start new input taken stages
   pub said : List Line
-  pub known : AreKnown start.core.geometry (answered events) start.core.next taken (said ++ row)
+  pub known : AreKnown start.core.geometry (answered (events_of stages)) start.core.next taken (said ++ row)
   pub are_answered : AllByRecursion (λ line. is_answered line ≡ true) said
   pub output : Appends before written (joined (map text said))
 
 -- ---- what each answer says of the core before and after, of the input and what is left of it, and of what was written
--- Where each line that was read is answered, nothing waits or is held, and the device works.
+-- Where each line that was read is answered, nothing waits or is held, and the device works. Where the device or the output has failed,
+-- no message is out with a worker and each that was logged is answered; and where the output alone has, each that ran is logged.
 
 abbrev pub settled : Kept → State
 settled core = (world_of core).settled
+
+pub record IsWoundUp (core : Kept) : Type 0 where
+  pub none_out : core.out ≡ []
+  pub none_logged : core.logged ≡ []
 
 abbrev pub EndsSo : Kept → Kept → Option (List ℕ) → Option (List ℕ) → Option (List ℕ) → Option (List ℕ) → Result (Unit {0}) ServeFault → Type 0
 EndsSo old new input left before written (Ok _) = IsIdle (world_of new) × (new.failed ≡ false) × IsAtEnd left
@@ -86,7 +98,8 @@ EndsSo old new input left before written (Err faults.Read) = IsIdle (world_of ne
     × Writes input before written (ServesWholeLines old.geometry (settled old) (settled new) left)
 EndsSo old new input left before written (Err faults.Exhausted) = IsIdle (world_of new) × (new.failed ≡ false) × (new.next ≡ 2 ^ 64 - 1)
     × Writes input before written (ServesLinesBefore old.geometry (settled old) (settled new))
-EndsSo old new input left before written (Err faults.Device) = (new.failed ≡ true) × Writes input before written (IsBeginning old.geometry (settled old))
-EndsSo old new input left before written (Err faults.Write) = Unit {0}
+EndsSo old new input left before written (Err faults.Device) = (new.failed ≡ true) × IsWoundUp new
+    × Writes input before written (IsBeginning old.geometry (settled old))
+EndsSo old new input left before written (Err faults.Write) = IsWoundUp new × (new.failed ≡ false → new.ran ≡ [])
 EndsSo old new input left before written (Err faults.NoWorkers) = (new ≡ old) × (left ≡ input) × (written ≡ before)
 EndsSo old new input left before written (Err faults.OutOfMemory) = (new ≡ old) × (left ≡ input) × (written ≡ before)

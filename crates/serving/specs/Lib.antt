@@ -1,4 +1,5 @@
 pub mod Lines
+pub mod Told
 pub mod Rows
 pub mod Runs
 pub mod Going

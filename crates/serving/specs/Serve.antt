@@ -1,13 +1,14 @@
 -- What a server promises of its whole call, by the answer that it gives.
-use Rattle.std.specs.Prelude.{◌≡◌, ◌≢◌, ℕ, List, [], Option, Some, None, Result, Ok, Err}
-use Rattle.legal_runs.specs.Events.{Event}
+use Rattle.std.specs.Prelude.{◌≡◌, ◌≢◌, ℕ, false, List, [], Option, Some, None, Result, Ok, Err}
 use Rattle.machine.specs.Machine.{Handed}
+use Rattle.machine.specs.Stages.{Stage}
 use Rattle.message.specs.Lines.{lines}
 use Rattle.oplog.specs.Layout.{layout_of}
 use Rattle.oplog.specs.Stands.{in_force, named_area}
 use Rattle.scheduler.specs.Kept.{Kept}
 use Rattle.serving.specs.Ends.{HasRun, HasServed}
 use Rattle.serving.specs.Lines.{Line}
+use Rattle.serving.specs.Rows.{comes_next}
 use Rattle.serving.specs.declared.fault.ServeFault.{ServeFault}
 use Rattle.serving.specs.declared.fault.ServeFault.TheVariants as faults
 
@@ -22,12 +23,13 @@ pub record HasServedAll (keeps : Type 0) (start : Handed) (new : Kept) (input be
   pub all : AreAll input served.taken
 
 -- There is a run behind what was written. Each line that was taken is answered in the output, but for a row of them where the device
--- failed. Where the output failed it is open what was written.
+-- failed, of which the first was not answered. Where the output failed it is open what was written.
 abbrev pub HasRunSo : Type 0 → Handed → Kept → Option (List ℕ) → Option (List ℕ) → Option (List ℕ) → Result (Unit {0}) ServeFault → Type 0
 HasRunSo keeps start new input before written (Ok _) = HasServedAll keeps start new input before written
-HasRunSo keeps start new input before written (Err faults.Device) = (row : List Line) × HasServed keeps start new row input before written
+HasRunSo keeps start new input before written (Err faults.Device) =
+    (row : List Line) × HasServed keeps start new row input before written × (comes_next row ≡ false)
 HasRunSo keeps start new input before written (Err faults.Write) =
-    (taken : List (List ℕ)) × (events : List Event) × HasRun keeps start new input taken events
+    (taken : List (List ℕ)) × (stages : List Stage) × HasRun keeps start new input taken stages
 HasRunSo keeps start new input before written (Err _) = HasServed keeps start new [] input before written
 
 -- None of the answers waits to be written, unless the output failed.

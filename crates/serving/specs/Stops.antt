@@ -9,7 +9,7 @@ use Rattle.message.specs.Reader.{GivesLine, LosesFront}
 use Rattle.message.specs.declared.Msg.{Msg}
 use Rattle.parcel.specs.Run.{Asked}
 use Rattle.legal_runs.specs.Laws.{IsIdle}
-use Rattle.scheduler.specs.Kept.{Kept, world_of}
+use Rattle.scheduler.specs.Kept.{Kept, StandsNow, world_of}
 use Rattle.serving.specs.Ends.{EndsSo}
 use Rattle.serving.specs.Going.{Goes}
 use Rattle.serving.specs.Lines.{Line}
@@ -106,8 +106,9 @@ abbrev pub AtEnd : Result Stop Halt → Type 0 → Type 0
 AtEnd (Ok stops.End) P = P
 AtEnd _ P = Unit {0}
 
--- What a server promises of its whole call, by its answer: of the run behind it, and of its end.
+-- What a server promises of its whole call, by its answer: of the run behind it, where the core at the end is as it always is, and of
+-- its end.
 pub record PromisesAll (keeps : Type 0) (start : Handed) (new : Kept) (input behind before written : Option (List ℕ))
     (result : Result (Unit {0}) ServeFault) : Type 0 where
-  pub run : HasRunSo keeps start new input before written result
+  pub run : (new.failed ≡ false → new.doubt ≡ []) → (keeps → StandsNow new) → HasRunSo keeps start new input before written result
   pub ends : EndsSo start.core new input behind before written result

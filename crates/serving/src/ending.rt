@@ -7,6 +7,8 @@ ghost use Rattle.machine.specs.Machine.{Handed};
 ghost use Rattle.message.specs.Waiting.{so_far};
 ghost use Rattle.scheduler.specs.Kept.{world_of};
 ghost use Rattle.serving.specs.Going.{Goes};
+ghost use Rattle.serving.specs.Lending.{IsHome};
+ghost use Rattle.serving.specs.Rows.{comes_next};
 ghost use Rattle.serving.specs.Runs.{with_lent};
 ghost use Rattle.serving.specs.Steps.{Holds};
 ghost use Rattle.serving.specs.Serve.{AllSent, HasBegun};
@@ -31,6 +33,7 @@ impl<D: Disk> Session<D> {
             (place_of self.old.core self.old.desk.lent self.old.row.lines (so_far contents self.old.out))
             (place_of self.new.core self.new.desk.lent self.new.row.lines (so_far contents self.new.out)) (Ok (tt {0})) }
         ensures bench { self.new.desk.bench ≡ self.old.desk.bench }
+        ensures home { IsHome self.new.desk.lent }
     {
         bring_home(rt, &mut self.core, bench, &mut self.desk);
     }
@@ -75,6 +78,9 @@ impl<D: Disk> Session<D> {
             (place_of self.new.core self.new.desk.lent self.new.row.lines (so_far (W.contents w.new) self.new.out)) result }
         ensures none_waits { OnOk result (self.new.out ≡ []) }
         ensures bench { self.new.desk.bench ≡ self.old.desk.bench }
+        ensures home { IsHome self.new.desk.lent }
+        ensures answered { self.new.core.logged ≡ [] }
+        ensures last { OnOk result (comes_next self.new.row.lines ≡ false) }
     {
         self.come_home(rt, bench);
         self.say_what_is_logged(w, gate)?;
@@ -90,6 +96,9 @@ impl<D: Disk> Session<D> {
             → Goes D.keeps start (with_lent self.old.core self.old.desk.lent) self.old.row.lines input left ended None None
             → Goes D.keeps start (with_lent self.new.core self.new.desk.lent) self.new.row.lines input left ended None None }
         ensures bench { self.new.desk.bench ≡ self.old.desk.bench }
+        ensures home { IsHome self.new.desk.lent }
+        ensures answered { self.new.core.logged ≡ [] }
+        ensures logged { self.new.core.failed ≡ false → self.new.core.ran ≡ [] }
     {
         self.come_home(rt, bench);
         // A fault of the device changes nothing any more.

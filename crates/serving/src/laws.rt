@@ -5,10 +5,11 @@ ghost use Rattle.std.specs.Prelude.{◌≡◌, ◌≢◌, ◌+◌, ◌<◌, ◌�
 ghost use Rattle.std.specs.Io.KnownBytes.{IsAtEnd};
 ghost use Rattle.std.specs.List.{AllByRecursion, Contains};
 ghost use Rattle.affinity.specs.declared.geometry.Geometry.{Geometry};
-ghost use Rattle.legal_runs.specs.Crash.{IsLeftSince};
-ghost use Rattle.legal_runs.specs.Events.{Event, Hands, arrive};
-ghost use Rattle.legal_runs.specs.Laws.{IsIdle, IsSound};
-ghost use Rattle.legal_runs.specs.Runs.{IsLegal};
+ghost use Rattle.disk.specs.Device.{Leaves};
+ghost use Rattle.disk.specs.Moments.{left_since, moment};
+ghost use Rattle.legal_runs.specs.Events.{arrive};
+ghost use Rattle.legal_runs.specs.Laws.{IsIdle};
+ghost use Rattle.legal_runs.specs.Runs.{went};
 ghost use Rattle.legal_runs.specs.World.{Entry};
 ghost use Rattle.legal_runs.specs.declared.outcomes.ArriveRefusal.TheVariants as arrivals;
 ghost use Rattle.legal_runs.specs.declared.outcomes.Outcome.TheVariants as outcomes;
@@ -21,12 +22,14 @@ ghost use Rattle.plain.specs.Order.{told};
 ghost use Rattle.plain.specs.Output.{output_lines, state_after_lines};
 ghost use Rattle.plain.specs.Serial.{fold};
 ghost use Rattle.plain.specs.State.{State};
-ghost use Rattle.scheduler.specs.Kept.{world_of};
-ghost use Rattle.serving.specs.Ends.{EndsSo, HasServed};
+ghost use Rattle.scheduler.specs.Kept.{Kept, StandsNow, world_of};
+ghost use Rattle.serving.specs.Ends.{EndsSo, HasRun, HasServed, IsWoundUp, settled};
 ghost use Rattle.serving.specs.Going.{Goes};
+ghost use Rattle.serving.specs.Told.{AreKept, HoldsLog};
 ghost use Rattle.serving.specs.Lines.{AreKnown, Line, asked, is_answered, text, ticketed};
-ghost use Rattle.machine.specs.Machine.{Handed};
-ghost use Rattle.serving.specs.Runs.{IsLeftIn, Passes, inside};
+ghost use Rattle.machine.specs.Machine.{Handed, machine_of};
+ghost use Rattle.machine.specs.Stages.{Stage, device_after, events_of};
+ghost use Rattle.serving.specs.Runs.{Passes, inside};
 ghost use Rattle.serving.specs.declared.fault.ServeFault.TheVariants as faults;
 
 use disk::Disk;
@@ -39,12 +42,6 @@ pub fn known_lines_are_serial()
         → AreKnown g replies n ls (said ++ row) → AllByRecursion (λ line. is_answered line ≡ true) said
         → map text said ≡ take (length said) (output_lines g x ls) }
     ensures state { (g : Geometry) (x : State) (ls : List (List ℕ)) → fold g x (asked g ls) ≡ state_after_lines g x ls }
-{}
-
-/// What a crash may leave in one of the worlds of a legal run is what one may leave of the run.
-pub fn what_is_left_in_a_run_is_left_by_it()
-    ensures { (g : Geometry) (old : Hands) (events : List Event) (x : State) → IsLegal g old events → IsSound g old.core
-        → IsLeftIn g old events x → IsLeftSince g old events 0 x }
 {}
 
 /// A stretch of a run that goes on where another ended makes one stretch with it.
@@ -92,8 +89,29 @@ pub fn serving_ends_as_the_serial_server<D: Disk>()
         → EndsSo start.core now.core input behind before written (Err faults.Exhausted) }
     ensures device { (start now : Handed) (row : List Line) (input left : Option (List ℕ)) (ended : Bool) (before written : Option (List ℕ))
         → IsIdle (world_of start.core) → Goes D.keeps start now row input left ended before written → now.core.failed ≡ true
-        → EndsSo start.core now.core input left before written (Err faults.Device) }
+        → IsWoundUp now.core → EndsSo start.core now.core input left before written (Err faults.Device) }
     ensures run { (start now : Handed) (row : List Line) (input left : Option (List ℕ)) (ended : Bool) (before written : Option (List ℕ))
         → IsIdle (world_of start.core) → Goes D.keeps start now row input left ended before written
+        → (now.core.failed ≡ false → now.core.doubt ≡ []) → (D.keeps → StandsNow now.core)
         → HasServed D.keeps start now.core row input before written }
+{}
+
+/// Where nothing was in doubt in the beginning, the device holds what a server has told. Each line that was written for a message with a
+/// ticket is of one that was logged in the run behind it, with that ticket and that reply. A crash at any moment since event k ended
+/// leaves what stands for where all that was logged by then leads, perhaps with more of the messages that arrived; and so, when the
+/// server has ended, for all that was logged in the run.
+pub fn what_was_told_is_on_the_device<D: Disk>()
+    ensures logged { (start : Handed) (new : Kept) (input : Option (List ℕ)) (taken : List (List ℕ)) (stages : List Stage)
+        → IsIdle (world_of start.core) → start.core.doubt ≡ [] → HasRun D.keeps start new input taken stages → D.keeps
+        → (k : ℕ) (c : List ℕ) → k ≤ length stages → left_since new.medium (moment (device_after start.core.medium (take k stages))) c
+        → HoldsLog start.core.geometry (settled start.core) (ticketed start.core.next (asked start.core.geometry taken))
+        (went (machine_of start) (take k (events_of stages))) c }
+    ensures left { (start : Handed) (new : Kept) (input : Option (List ℕ)) (taken : List (List ℕ)) (stages : List Stage)
+        → IsIdle (world_of start.core) → start.core.doubt ≡ [] → HasRun D.keeps start new input taken stages → D.keeps
+        → (c : List ℕ) → Leaves new.medium c
+        → HoldsLog start.core.geometry (settled start.core) (ticketed start.core.next (asked start.core.geometry taken))
+        (went (machine_of start) (events_of stages)) c }
+    ensures told { (start : Handed) (new : Kept) (row : List Line) (input before written : Option (List ℕ))
+        → IsIdle (world_of start.core) → (h : HasServed D.keeps start new row input before written)
+        → AreKept start.core.geometry (went (machine_of start) (events_of h.stages)) start.core.next h.taken (map text h.said) }
 {}

@@ -222,7 +222,6 @@ impl<D: Disk> Session<D> {
         ensures begun { HasBegun result }
         ensures bench { self.new.desk.bench ≡ self.old.desk.bench }
     {
-        self.core.stands();
         match self.serve_to_end(rt, lines, w, bench, gate) {
             Ok(Stop::End) => Ok(()),
             Ok(Stop::Fault) => Err(ServeFault::Read),
@@ -264,6 +263,8 @@ impl<D: Disk> Session<D> {
         ensures begun { HasBegun result }
         ensures bench { self.new.desk.bench ≡ self.old.desk.bench }
     {
-        self.serve_so(rt, lines, w, bench, gate)
+        let ended = self.serve_so(rt, lines, w, bench, gate);
+        self.core.stands();
+        ended
     }
 }

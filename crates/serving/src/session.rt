@@ -1,8 +1,10 @@
 //! A session: the core, the dispatcher's seat, the lines that were read, and the answers that wait. Each step of it goes on
 //! with its run.
 
-ghost use Rattle.std.specs.Prelude.{◌≡◌, ℕ, false, List, [], Option, Some, OnOk, Ok};
+ghost use Rattle.std.specs.Prelude.{◌≡◌, ℕ, true, false, List, [], Option, Some, OnErr, OnOk, Ok};
 ghost use Rattle.message.specs.Waiting.{so_far};
+ghost use Rattle.scheduler.specs.Kept.{world_of};
+ghost use Rattle.serving.specs.Rows.{comes_next};
 ghost use Rattle.serving.specs.Runs.{with_lent};
 ghost use Rattle.serving.specs.Steps.{Holds};
 ghost use Rattle.serving.specs.Stops.{Advances, place_of};
@@ -45,6 +47,8 @@ impl<D: Disk> Session<D> {
             (place_of self.new.core self.new.desk.lent self.new.row.lines (so_far contents self.new.out)) result }
         ensures same { (self.new.row ≡ self.old.row) × (self.new.out ≡ self.old.out) }
         ensures works { OnOk result (self.new.core.failed ≡ false) }
+        ensures logged { OnOk result (self.new.core.ran ≡ []) }
+        ensures failed { OnErr result (self.new.core.failed ≡ true) }
     {
         match log_all(&mut self.core) {
             Ok(_) => Ok(()),
@@ -61,6 +65,7 @@ impl<D: Disk> Session<D> {
         ensures kept { (contents : Option (List ℕ)) → Advances D.keeps
             (place_of self.old.core self.old.desk.lent self.old.row.lines (so_far contents self.old.out))
             (place_of self.new.core self.new.desk.lent self.new.row.lines (so_far contents self.new.out)) (Ok (tt {0})) }
+        ensures world { world_of self.new.core ≡ record (world_of self.old.core) { logged = [] } }
     {
         answer_all(&mut self.core, &mut self.row, gate, &mut self.course.since);
     }
@@ -106,6 +111,8 @@ impl<D: Disk> Session<D> {
         ensures kept { Advances D.keeps
             (place_of self.old.core self.old.desk.lent self.old.row.lines (so_far (W.contents w.old) self.old.out))
             (place_of self.new.core self.new.desk.lent self.new.row.lines (so_far (W.contents w.new) self.new.out)) result }
+        ensures core { self.new.core ≡ self.old.core }
+        ensures last { OnOk result (comes_next self.new.row.lines ≡ false) }
     {
         match say_all(&mut self.row, &mut self.out, w) {
             Ok(()) => Ok(()),
@@ -126,6 +133,8 @@ impl<D: Disk> Session<D> {
         ensures kept { Advances D.keeps
             (place_of self.old.core self.old.desk.lent self.old.row.lines (so_far (W.contents w.old) self.old.out))
             (place_of self.new.core self.new.desk.lent self.new.row.lines (so_far (W.contents w.new) self.new.out)) result }
+        ensures answered { self.new.core.logged ≡ [] }
+        ensures last { OnOk result (comes_next self.new.row.lines ≡ false) }
     {
         self.answer_what_is_logged(gate);
         self.say_what_is_next(w)

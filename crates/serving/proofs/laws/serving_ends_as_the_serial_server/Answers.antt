@@ -15,9 +15,9 @@ returns-clause-exhausted g c start now input left behind ended before written li
     ends_exhausted g.D.Disk.keeps start now idle input left behind ended before written line m h works next found is in_range
 
 pub returns-clause-device : goal.returns-clause-device
-returns-clause-device g c start now row input left ended before written idle h failed =
-    ends_at_device g.D.Disk.keeps start now idle row input left ended before written h failed
+returns-clause-device g c start now row input left ended before written idle h failed wound_up =
+    ends_at_device g.D.Disk.keeps start now idle row input left ended before written h failed wound_up
 
 pub returns-clause-run : goal.returns-clause-run
-returns-clause-run g c start now row input left ended before written idle h =
-    has_served g.D.Disk.keeps start now idle row input left ended before written h
+returns-clause-run g c start now row input left ended before written idle h no_doubt stands =
+    has_served g.D.Disk.keeps start now idle row input left ended before written h no_doubt stands

@@ -8,11 +8,11 @@ use Rattle.serving.specs.declared.fault.ServeFault.{ServeFault}
 use Rattle.serving.proofs.server.serve.Goals as goal
 
 pub returns-then-workers-eq0-clause-run : goal.returns-then-workers-eq0-clause-run
-returns-then-workers-eq0-clause-run g c = no_workers_ran g.D.Disk.keeps c.args.core c.args.workers c.requires.idle c.requires.works
+returns-then-workers-eq0-clause-run g c = no_workers_ran g.D.Disk.keeps c.args.core c.args.workers c.requires.idle
     c.stands.ensures.no_doubt c.stands.ensures.now (g.R.Read.remaining c.args.r.now) (g.W.Write.contents c.args.w.now)
 
 pub returns-in_default-clause-run : goal.returns-in_default-clause-run
-returns-in_default-clause-run g c = no_memory_ran g.D.Disk.keeps c.args.core c.args.workers c.requires.idle c.requires.works
+returns-in_default-clause-run g c = no_memory_ran g.D.Disk.keeps c.args.core c.args.workers c.requires.idle
     c.stands.ensures.no_doubt c.stands.ensures.now (g.R.Read.remaining c.args.r.now) (g.W.Write.contents c.args.w.now)
 
 pub returns-in-Ok-ended-clause-run : goal.returns-in-Ok-ended-clause-run

@@ -8,7 +8,7 @@ returns g c = record {
   gives = λ places. (
     refl,
     refl,
-    no_memory_ran g.D.Disk.keeps c.args.self.core places c.requires.can_begin.0 c.requires.can_begin.1 c.stands.ensures.no_doubt c.stands.ensures.now
+    no_memory_ran g.D.Disk.keeps c.args.self.core places c.requires.can_begin.0 c.stands.ensures.no_doubt c.stands.ensures.now
         (g.R.Read.remaining c.args.self.reader.now) (g.W.Write.contents c.args.self.writer.now),
     (refl, refl, refl),
     tt,

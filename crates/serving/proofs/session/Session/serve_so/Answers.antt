@@ -26,7 +26,7 @@ serve_to_end-requires-clause-under_way g c =
     let start = with_lent s.core s.desk.lent in
     let w = g.W.Write.contents c.args.w.now in
     let first = begins g.D.Disk.keeps s.core s.desk.lent s.row.lines (is_drained c.args.lines.now) (unread rest c.args.lines.now) (so_far w s.out)
-    c.requires.row.0 c.requires.begun c.requires.works c.stands.ensures.no_doubt c.stands.ensures.now in
+    c.requires.row.0 c.requires.begun in
     let fits = c.requires.row.1 in
     record {
       start = start;
@@ -45,7 +45,7 @@ returns-in-Ok-End-clause-promises g c =
     let start = with_lent s.core s.desk.lent in
     let w = g.W.Write.contents c.args.w.now in
     let first = begins g.D.Disk.keeps s.core s.desk.lent s.row.lines (is_drained c.args.lines.now) (unread rest c.args.lines.now) (so_far w s.out)
-    c.requires.row.0 c.requires.begun c.requires.works c.stands.ensures.no_doubt c.stands.ensures.now in
+    c.requires.row.0 c.requires.begun in
     let p : Place = place_of n.self.core n.self.desk.lent n.self.row.lines (so_far (g.W.Write.contents n.w) n.self.out) in
     let k = c.serve_to_end.ensures.kept start (unread rest c.args.lines.now) (so_far w s.out) first in
     let e = c.in-Ok-End.is ∙ ap Ok c.in-Ok-End.field-0-is in
@@ -62,7 +62,7 @@ returns-in-Ok-Fault-clause-promises g c =
     let start = with_lent s.core s.desk.lent in
     let w = g.W.Write.contents c.args.w.now in
     let first = begins g.D.Disk.keeps s.core s.desk.lent s.row.lines (is_drained c.args.lines.now) (unread rest c.args.lines.now) (so_far w s.out)
-    c.requires.row.0 c.requires.begun c.requires.works c.stands.ensures.no_doubt c.stands.ensures.now in
+    c.requires.row.0 c.requires.begun in
     let p : Place = place_of n.self.core n.self.desk.lent n.self.row.lines (so_far (g.W.Write.contents n.w) n.self.out) in
     let k = c.serve_to_end.ensures.kept start (unread rest c.args.lines.now) (so_far w s.out) first in
     let e = c.in-Ok-Fault.is ∙ ap Ok c.in-Ok-Fault.field-0-is in
@@ -79,7 +79,7 @@ returns-in-Ok-Exhausted-clause-promises g c =
     let start = with_lent s.core s.desk.lent in
     let w = g.W.Write.contents c.args.w.now in
     let first = begins g.D.Disk.keeps s.core s.desk.lent s.row.lines (is_drained c.args.lines.now) (unread rest c.args.lines.now) (so_far w s.out)
-    c.requires.row.0 c.requires.begun c.requires.works c.stands.ensures.no_doubt c.stands.ensures.now in
+    c.requires.row.0 c.requires.begun in
     let p : Place = place_of n.self.core n.self.desk.lent n.self.row.lines (so_far (g.W.Write.contents n.w) n.self.out) in
     let k = c.serve_to_end.ensures.kept start (unread rest c.args.lines.now) (so_far w s.out) first in
     let e = c.in-Ok-Exhausted.is ∙ ap Ok c.in-Ok-Exhausted.field-0-is in
@@ -96,6 +96,6 @@ returns-in-Err-clause-promises g c =
     let start = with_lent s.core s.desk.lent in
     let w = g.W.Write.contents c.args.w.now in
     let first = begins g.D.Disk.keeps s.core s.desk.lent s.row.lines (is_drained c.args.lines.now) (unread rest c.args.lines.now) (so_far w s.out)
-    c.requires.row.0 c.requires.begun c.requires.works c.stands.ensures.no_doubt c.stands.ensures.now in
+    c.requires.row.0 c.requires.begun in
     c.end_early.ensures.kept start (unread rest c.args.lines.now) (rest (source n.lines)) (so_far w s.out) c.requires.idle
     (c.in-Err.ensures.kept start (unread rest c.args.lines.now) (so_far w s.out) first)

@@ -1,0 +1,38 @@
+-- What was written for the lines that were taken, beside the log that a device holds.
+use Rattle.std.specs.Prelude.{◌≡◌, ◌⊎◌, ℕ, true, false, List, [], ◌∷◌, ◌++◌, Option, Some, None}
+use Rattle.std.specs.List.{Contains}
+use Rattle.affinity.specs.declared.geometry.Geometry.{Geometry}
+use Rattle.checkpoint.specs.Recovery.{holds}
+use Rattle.legal_runs.specs.Events.{loggable}
+use Rattle.legal_runs.specs.Laws.{IsSerialLog}
+use Rattle.legal_runs.specs.World.{Entry, Replied}
+use Rattle.message.specs.Grammar.{message_of}
+use Rattle.message.specs.Messages.{is_in_range}
+use Rattle.message.specs.Replies.{reply_line, no_message}
+use Rattle.message.specs.declared.Msg.{Msg}
+use Rattle.message.specs.declared.Reply.{Reply}
+use Rattle.message.specs.declared.Reply.TheVariants.{Refused}
+use Rattle.message.specs.declared.Refusal.TheVariants.{Range}
+use Rattle.plain.specs.Serial.{fold}
+use Rattle.plain.specs.State.{State}
+use Rattle.serving.specs.Lines.{asked_in, next_ticket}
+
+-- The output has this line for a line of this message, or of none: that it is none, that it is out of range, or a reply with which
+-- the log has the message under this ticket.
+abbrev pub IsKept : Geometry → List Replied → ℕ → Option Msg → List ℕ → Type 0
+IsKept g log n None line = line ≡ no_message
+IsKept g log n (Some m) line = ((is_in_range g m ≡ false) × (line ≡ reply_line (Refused Range)))
+    ⊎ ((is_in_range g m ≡ true) × ((reply : Reply) × (line ≡ reply_line reply) × Contains log (n, m, reply)))
+
+-- It has these lines for the first of the lines that were taken. The first that takes a ticket takes n, and each further one the next.
+abbrev pub AreKept : Geometry → List Replied → ℕ → List (List ℕ) → List (List ℕ) → Type 0
+AreKept g log n taken [] = Unit {0}
+AreKept g log n [] (line ∷ lines) = ⊥
+AreKept g log n (l ∷ ls) (line ∷ lines) = IsKept g log n (message_of l) line × AreKept g log (next_ticket n (asked_in g (message_of l))) ls lines
+
+-- These bytes stand for where this log leads from this state, with more behind it. Both together are a log that the serial server may
+-- write, of messages that arrived.
+pub record HoldsLog (g : Geometry) (x : State) (arrivals : List Entry) (log : List Replied) (bytes : List ℕ) : Type 0 where
+  pub more : List Replied
+  pub serial : IsSerialLog g x arrivals (log ++ more)
+  pub stands : holds g bytes ≡ Some (fold g x (loggable (log ++ more)))
