@@ -9,3 +9,5 @@ mod calls;
 mod devices;
 #[cfg(test)]
 mod service;
+#[cfg(test)]
+mod stopping;

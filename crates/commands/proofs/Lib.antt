@@ -1,3 +1,4 @@
 pub mod Telling
 pub mod OnDevice
+pub mod Kept
 mod Examples

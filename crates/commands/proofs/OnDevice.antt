@@ -8,9 +8,8 @@ use Rattle.checkpoint.specs.Recovery.{holds}
 use Rattle.disk.proofs.Leaves.{itself}
 use Rattle.disk.specs.Device.{AreBytes, Leaves, Medium}
 use Rattle.journal.specs.Opening.{OpeningLeaves}
-use Rattle.legal_runs.specs.Events.{Event}
 use Rattle.legal_runs.specs.Laws.{IsIdle}
-use Rattle.machine.specs.Machine.{Handed, machine_of}
+use Rattle.machine.specs.Stages.{Stage}
 use Rattle.plain.specs.Serial.{fold}
 use Rattle.plain.specs.State.{State}
 use Rattle.message.specs.declared.Msg.{Msg}
@@ -20,7 +19,7 @@ use Rattle.serving.specs.Serve.{HasEmptyLog, HasRunSo, RefusesNone}
 use Rattle.serving.specs.declared.fault.ServeFault.{ServeFault}
 use Rattle.serving.specs.declared.fault.ServeFault.TheVariants as faults
 use Rattle.commands.specs.Faults.{as_told}
-use Rattle.commands.specs.Serving.{EndsOnDevice, HasLived, HasNoRecords, HasServedBy, HasServedNothing, IsLife, StandsFor, StoodFor, Went, at_start}
+use Rattle.commands.specs.Serving.{EndsOnDevice, HasLived, HasNoRecords, HasServedBy, HasServedNothing, IsLife, StandsFor, StoodFor, Went, at_start, run_behind}
 use Rattle.commands.specs.declared.service.Service.{Service}
 
 -- no message is in a core that was just opened
@@ -29,33 +28,19 @@ is_idle slots c just = record { none_waits = just.none_waits; none_held = rw (ju
 
 -- ---- the run
 
--- whatever the end, there is a run from the start
-run_of : (keeps : Type 0) (start : Handed) (now : Kept) (input before written : Option (List ℕ)) (end : Result (Unit {0}) ServeFault)
-    → HasRunSo keeps start now input before written end → (taken : List (List ℕ)) × (events : List Event) × HasRun keeps start now input taken events
-run_of keeps start now input before written (Ok _) h = (h.served.taken, h.served.events, h.served.run)
-run_of keeps start now input before written (Err faults.Device) h = (h.1.taken, h.1.events, h.1.run)
-run_of keeps start now input before written (Err faults.Write) h = h
-run_of keeps start now input before written (Err faults.Read) h = (h.taken, h.events, h.run)
-run_of keeps start now input before written (Err faults.Exhausted) h = (h.taken, h.events, h.run)
-run_of keeps start now input before written (Err faults.NoWorkers) h = (h.taken, h.events, h.run)
-run_of keeps start now input before written (Err faults.OutOfMemory) h = (h.taken, h.events, h.run)
-
 -- what is known of the core before and after
 module _ (keeps : Type 0) (s : Service) (old : Medium) (start now : Kept) (end : Result (Unit {0}) ServeFault)
     (input left before written : Option (List ℕ)) where
   pub is_life : IsJustOpened s.slots start → (keeps → HasHeader start.geometry old.now) → (keeps → holds start.geometry old.now ≡ Some (settled start))
-      → HasRunSo keeps (at_start s start) now input before written end → keeps → IsLife s start old now.medium
-  is_life fresh header stood run k =
-      let r = run_of keeps (at_start s start) now input before written end run in (
-        r.1,
-        record {
-          header = header k;
-          stood = stood k;
-          idle = is_idle s.slots start fresh;
-          legal = r.2.legal;
-          crash = λ c left. (r.2.crash k).each c left;
-        },
-      )
+      → (taken : List (List ℕ)) (stages : List Stage) → HasRun keeps (at_start s start) now input taken stages → keeps
+      → IsLife s start old now.medium stages
+  is_life fresh header stood taken stages run keep = λ k within. record {
+    header = header keep;
+    stood = stood keep;
+    idle = is_idle s.slots start fresh;
+    legal = run.legal;
+    crash = λ c left. run.crash keep k c within left;
+  }
 
   abbrev pub has_served_by : IsJustOpened s.slots start → (keeps → HasHeader start.geometry old.now)
       → (keeps → holds start.geometry old.now ≡ Some (settled start)) → (keeps → OpeningLeaves old start.medium)
@@ -72,7 +57,7 @@ module _ (keeps : Type 0) (s : Service) (old : Medium) (start now : Kept) (end :
     ends = ends;
     leaves = leaves;
     given_back = refl;
-    life = is_life fresh header stood run;
+    life = let behind = run_behind keeps (at_start s start) now input before written end run in is_life fresh header stood behind.0 behind.1 behind.2;
   }
 
 -- such a service is one that has lived
@@ -152,7 +137,7 @@ ends_on_device keeps s old new (Err faults.Read) input left before written h no_
 ends_on_device keeps s old new (Err faults.Exhausted) input left before written h no_doubt bytes workers emptied =
     (workers, (went keeps s old new (Err faults.Exhausted) input left before written h no_doubt bytes h.run.run.geometry h.ends.1, h.ends.3))
 ends_on_device keeps s old new (Err faults.Device) input left before written h no_doubt bytes workers emptied =
-    (workers, (h.start.geometry, settled h.start, stood_for keeps s old new (Err faults.Device) input left before written h no_doubt bytes, h.ends.1))
+    (workers, (h.start.geometry, settled h.start, stood_for keeps s old new (Err faults.Device) input left before written h no_doubt bytes, h.ends.2))
 ends_on_device keeps s old new (Err faults.Write) input left before written h no_doubt bytes workers emptied =
     (workers, (h.start.geometry, settled h.start, stood_for keeps s old new (Err faults.Write) input left before written h no_doubt bytes))
 ends_on_device keeps s old new (Err faults.NoWorkers) input left before written h no_doubt bytes workers emptied =

@@ -2,3 +2,4 @@ pub mod Faults
 pub mod Lines
 pub mod Ends
 pub mod Serving
+pub mod Kept

@@ -1,5 +1,5 @@
 -- What it is to serve a device: what was written when the service ends, what the device stands for then, and what a crash meanwhile leaves.
-use Rattle.std.specs.Prelude.{◌≡◌, ◌≢◌, ◌⊎◌, ℕ, List, [], ◌∷◌, replicate, Option, Some, None, Result, Ok, Err}
+use Rattle.std.specs.Prelude.{◌≡◌, ◌≢◌, ◌⊎◌, ◌≤◌, ℕ, List, [], ◌∷◌, length, take, replicate, Option, Some, None, Result, Ok, Err}
 use Rattle.std.specs.Io.KnownBytes.{IsAtEnd}
 use Rattle.affinity.specs.declared.geometry.Geometry.{Geometry}
 use Rattle.checkpoint.specs.Header.{HasHeader}
@@ -10,20 +10,21 @@ use Rattle.disk.specs.Moments.{moment}
 use Rattle.disk.specs.RealFile.{FileKeeps}
 use Rattle.disk.specs.declared.fault.FileFault.{FileFault}
 use Rattle.journal.specs.Opening.{IsRefusedUnwritten, OpeningLeaves}
-use Rattle.legal_runs.specs.Events.{Event}
 use Rattle.legal_runs.specs.Lives.{Ran}
 use Rattle.machine.specs.Lives.{IsRunLife}
 use Rattle.machine.specs.Machine.{Handed, machine_of}
+use Rattle.machine.specs.Stages.{Stage, device_after, events_of}
 use Rattle.message.specs.Lines.{lines}
 use Rattle.oplog.specs.Layout.{layout_of}
 use Rattle.oplog.specs.Stands.{in_force, named_area}
 use Rattle.plain.specs.Output.{IsBeginning, Writes}
 use Rattle.plain.specs.State.{State}
 use Rattle.scheduler.specs.Kept.{IsJustOpened, Kept, StandsNow}
-use Rattle.serving.specs.Ends.{AreServed, EndsSo, ServesLinesBefore, ServesWholeLines, settled}
+use Rattle.serving.specs.Ends.{AreServed, EndsSo, HasRun, ServesLinesBefore, ServesWholeLines, settled}
 use Rattle.serving.specs.Runs.{with_lent}
 use Rattle.serving.specs.Serve.{HasRunSo}
 use Rattle.serving.specs.declared.fault.ServeFault.{ServeFault}
+use Rattle.serving.specs.declared.fault.ServeFault.TheVariants as serve_faults
 use Rattle.commands.specs.Faults.{as_told, of_file}
 use Rattle.commands.specs.declared.faults.Fault.{Fault}
 use Rattle.commands.specs.declared.faults.Fault.TheVariants.{Read, Write, OutOfMemory, Device, NoWorkers, NoTicketLeft, Open}
@@ -93,16 +94,27 @@ EndsOnDevice keeps s old new (Err _) input left before written = ⊥
 abbrev pub at_start : Service → Kept → Handed
 at_start s start = with_lent start (replicate s.workers None)
 
--- It is a life of the device as the law of lives in `machine` has them: it was opened, it made a run, and a crash at any moment since
--- the opening leaves what a crash of that run may leave.
-abbrev pub IsLife : Service → Kept → Medium → Medium → Type 0
-IsLife s start old new = (events : List Event) × IsRunLife (record {
+-- the run behind what was served, whatever the end: the lines that were taken, and the events, each with the device as it left it
+abbrev pub run_behind : (keeps : Type 0) (start : Handed) (now : Kept) (input before written : Option (List ℕ)) (end : Result (Unit {0}) ServeFault)
+    → HasRunSo keeps start now input before written end → (taken : List (List ℕ)) × (stages : List Stage) × HasRun keeps start now input taken stages
+run_behind keeps start now input before written (Ok _) h = (h.served.taken, h.served.stages, h.served.run)
+run_behind keeps start now input before written (Err serve_faults.Device) h = (h.1.taken, h.1.stages, h.1.run)
+run_behind keeps start now input before written (Err serve_faults.Write) h = h
+run_behind keeps start now input before written (Err serve_faults.Read) h = (h.taken, h.stages, h.run)
+run_behind keeps start now input before written (Err serve_faults.Exhausted) h = (h.taken, h.stages, h.run)
+run_behind keeps start now input before written (Err serve_faults.NoWorkers) h = (h.taken, h.stages, h.run)
+run_behind keeps start now input before written (Err serve_faults.OutOfMemory) h = (h.taken, h.stages, h.run)
+
+-- With this run it is a life of the device, in the sense of the law of lives in `machine`, for every k: it was opened, it made the run,
+-- and the crash comes at any moment since event k ended.
+abbrev pub IsLife : Service → Kept → Medium → Medium → List Stage → Type 0
+IsLife s start old new stages = (k : ℕ) → k ≤ length stages → IsRunLife (record {
   began = old;
   ended = new;
-  since = moment start.medium;
+  since = moment (device_after start.medium (take k stages));
   geometry = start.geometry;
-  life = Ran (machine_of (at_start s start)) events 0;
-}) (machine_of (at_start s start)) events 0
+  life = Ran (machine_of (at_start s start)) (events_of stages) k;
+}) (machine_of (at_start s start)) (events_of stages) k
 
 -- The device was opened as a server in which no message is, which served and came to this end. Behind what was written there is a legal
 -- run of it, and a crash meanwhile leaves what a crash of that run may leave.
@@ -118,7 +130,7 @@ pub record HasServedBy (keeps : Type 0) (s : Service) (old new : Medium) (end : 
   pub ends : EndsSo start now input left before written end
   pub leaves : keeps → StandsNow now
   pub given_back : new ≡ now.medium
-  pub life : keeps → IsLife s start old new
+  pub life : keeps → let behind = run_behind keeps (at_start s start) now input before written end run in IsLife s start old new behind.1
 
 -- So it was; or the device could not be opened. A crash while it is opened leaves what stands for the same, or is refused for the
 -- same fault.

@@ -11,6 +11,7 @@ mod on_device;
 mod reports;
 mod service;
 mod showing;
+mod stopping;
 
 pub use answering::answer_input;
 pub use faults::Fault;
@@ -19,3 +20,4 @@ pub use on_device::{serve_device, serve_on};
 pub use reports::{WRONG_WORDS, report, report_unread_words};
 pub use service::Service;
 pub use showing::show_device;
+pub use stopping::serve_stopped;

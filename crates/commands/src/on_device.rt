@@ -6,6 +6,7 @@ ghost use Rattle.serving.specs.Ends.{EndsSo};
 ghost use Rattle.serving.specs.Runs.{with_lent};
 ghost use Rattle.serving.specs.Serve.{HasEmptyLog, HasRunSo, RefusesNone};
 ghost use Rattle.commands.specs.Faults.{as_told};
+ghost use Rattle.commands.specs.Kept.{KeepsWhatWasTold};
 ghost use Rattle.commands.specs.Serving.{EndsInFile, EndsOnDevice, HasLived};
 
 use crate::faults::Fault;
@@ -69,6 +70,8 @@ pub fn serve_on<T: Threads + Wait + Sync, R: Read, W: Write, D: Disk + Drop>(
     ensures ends { EndsOnDevice D.keeps service (D.medium disk) (D.medium result.0) result.1 (R.remaining r.old) (R.remaining r.new)
         (W.contents w.old) (W.contents w.new) }
     ensures lived { HasLived D.keeps service (D.medium disk) (D.medium result.0) result.1 (R.remaining r.old) (R.remaining r.new)
+        (W.contents w.old) (W.contents w.new) }
+    ensures kept { KeepsWhatWasTold D.keeps (D.medium disk) (D.medium result.0) result.1 (R.remaining r.old)
         (W.contents w.old) (W.contents w.new) }
 {
     let core = match Core::open(alloc, disk, usize::from(service.slots)) {

@@ -1,0 +1,85 @@
+-- What was told is kept: from the run behind it, and what the core says of its device at the end.
+use Rattle.std.proofs.Common.{ℕ, List, [], ◌++◌, map, Option, subst}
+use Rattle.std.specs.Prelude.{Result, Ok, Err}
+use Rattle.checkpoint.proofs.Fine.{fine, head}
+use Rattle.disk.specs.Device.{Leaves, Medium}
+use Rattle.legal_runs.specs.Events.{loggable}
+use Rattle.legal_runs.specs.Runs.{went}
+use Rattle.machine.specs.Machine.{machine_of}
+use Rattle.machine.specs.Stages.{events_of}
+use Rattle.plain.specs.Serial.{fold}
+use Rattle.scheduler.specs.Kept.{IsJustOpened, Kept}
+use Rattle.serving.proofs.Told.{holds_all, written_are_kept}
+use Rattle.serving.specs.Ends.{HasServed, settled}
+use Rattle.serving.specs.Lines.{asked, text, ticketed}
+use Rattle.serving.specs.Told.{AreKept, HoldsLog}
+use Rattle.serving.specs.declared.fault.ServeFault.{ServeFault}
+use Rattle.serving.specs.declared.fault.ServeFault.TheVariants as faults
+use Rattle.commands.proofs.OnDevice.{is_idle}
+use Rattle.commands.specs.Faults.{as_told}
+use Rattle.commands.specs.Kept.{HoldsWhatWasTold, KeepsWhatWasTold, UnlessUntold}
+use Rattle.commands.specs.Serving.{HasServedBy, StoodFor, at_start}
+use Rattle.commands.specs.declared.faults.Fault.{Fault}
+use Rattle.commands.specs.declared.faults.Fault.TheVariants as ends
+use Rattle.commands.specs.declared.service.Service.{Service}
+
+module _ (keeps : Type 0) (s : Service) (old new : Medium) (end : Result (Unit {0}) ServeFault) (input left before written : Option (List ℕ))
+    (h : HasServedBy keeps s old new end input left before written) where
+  held : (row : _) → HasServed keeps (at_start s h.start) h.now row input before written → keeps → (c : List ℕ) → Leaves new c
+      → HoldsWhatWasTold old input before written c
+  held row served keep c leaves =
+      let g = h.start.geometry in
+      let x = settled h.start in
+      let log = went (machine_of (at_start s h.start)) (events_of served.stages) in
+      let idle = is_idle s.slots h.start h.fresh in
+      let on_device : HoldsLog g x (ticketed 0 (asked g served.taken)) log c =
+      subst (λ (t : ℕ). HoldsLog g x (ticketed t (asked g served.taken)) log c) h.fresh.next
+      (holds_all keeps (at_start s h.start) h.now input served.taken served.stages idle h.fresh.no_doubt served.run keep c
+      (subst (λ (m : Medium). Leaves m c) h.given_back leaves)) in
+      let state = fold g x (loggable (log ++ on_device.more)) in
+      record {
+        geometry = g;
+        start = x;
+        stood = record { header = λ _. h.header keep; stood = λ _. h.stood keep };
+        taken = served.taken;
+        first = served.run.first;
+        told = map text served.said;
+        output = served.output;
+        log = log;
+        kept = subst (λ (t : ℕ). AreKept g log t served.taken (map text served.said)) h.fresh.next
+            (written_are_kept keeps (at_start s h.start) h.now row input before written idle served);
+        holds = on_device;
+        header = head g c state leaves.bytes on_device.stands;
+        not_refused = fine g c state leaves.bytes on_device.stands;
+      }
+
+-- whatever the end
+pub keeps_what_was_told : (keeps : Type 0) (s : Service) (old new : Medium) (end : Result (Unit {0}) ServeFault) (input left before written : Option (List ℕ))
+    → HasServedBy keeps s old new end input left before written → KeepsWhatWasTold keeps old new (as_told end) input before written
+keeps_what_was_told keeps s old new (Ok _) input left before written h =
+    held keeps s old new (Ok tt) input left before written h [] h.run.served
+keeps_what_was_told keeps s old new (Err faults.Device) input left before written h =
+    held keeps s old new (Err faults.Device) input left before written h h.run.0 h.run.1
+keeps_what_was_told keeps s old new (Err faults.Write) input left before written h = tt
+keeps_what_was_told keeps s old new (Err faults.Read) input left before written h =
+    held keeps s old new (Err faults.Read) input left before written h [] h.run
+keeps_what_was_told keeps s old new (Err faults.Exhausted) input left before written h =
+    held keeps s old new (Err faults.Exhausted) input left before written h [] h.run
+keeps_what_was_told keeps s old new (Err faults.NoWorkers) input left before written h =
+    held keeps s old new (Err faults.NoWorkers) input left before written h [] h.run
+keeps_what_was_told keeps s old new (Err faults.OutOfMemory) input left before written h =
+    held keeps s old new (Err faults.OutOfMemory) input left before written h [] h.run
+
+-- what follows of what is so follows of it at each end
+pub told_so : {P Q : Type 0} (end : Result (Unit {0}) Fault) (before written : Option (List ℕ)) → (P → Q)
+    → UnlessUntold end before written P → UnlessUntold end before written Q
+told_so (Err ends.Write) before written f k = tt
+told_so (Err (ends.Open fault)) before written f k = k
+told_so (Ok _) before written f k = f k
+told_so (Err ends.Read) before written f k = f k
+told_so (Err ends.GeometryOutOfRange) before written f k = f k
+told_so (Err ends.OutOfMemory) before written f k = f k
+told_so (Err ends.Device) before written f k = f k
+told_so (Err ends.NoWorkers) before written f k = f k
+told_so (Err ends.NoTicketLeft) before written f k = f k
+told_so (Err (ends.Format fault)) before written f k = f k
