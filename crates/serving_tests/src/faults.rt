@@ -1,5 +1,5 @@
 //! Servers on devices that fail or stop at any call, and are torn behind that.
-use crate::noting::{Notes, Taking};
+use crate::noting::{Notes, Noting, Taking};
 use crate::running::{End, Ended, SMALL, Way, serve_on};
 use affinity::Geometry;
 use checkpoint::OpenFault;
@@ -79,13 +79,14 @@ fn first(count: usize) -> u32 {
 }
 
 impl Play {
-    fn new(alloc: Global) -> Result<Play, Wrong> {
+    /// One on a device that was formatted, with other bytes at some places.
+    fn new(alloc: Global, changes: &[(usize, u8)]) -> Result<Play, Wrong> {
         let Ok(g) = Geometry::new(SMALL) else {
             return Err(Wrong::Unfit);
         };
         let mut play = Play {
             lines: Vec::new(alloc),
-            blank: device_with(alloc, SMALL, &[])?.bytes().to_vec(alloc)?,
+            blank: device_with(alloc, SMALL, changes)?.bytes().to_vec(alloc)?,
             questions: Questions::new(alloc, &g)?,
             known: Vec::new(alloc),
         };
@@ -113,7 +114,7 @@ impl Play {
         known.any(|known| known.changes & answered == answered && known.told == *told)
     }
 
-    /// Serves on a device that fails at this call, and looks at what a crash leaves.
+    /// Serves on a device that fails at this call, and gives what a crash leaves.
     fn meet<T: Threads + Wait + Sync>(
         &self,
         rt: &T,
@@ -136,36 +137,54 @@ impl Play {
             fails_at: 0,
             notes: &notes,
         };
+        let device = Noting {
+            device,
+            notes: &notes,
+        };
         let ended = serve_on(rt, alloc, device, way, &mut input, &mut writer, &OpenGate);
         let Ended { device, end } = ended;
-        let met = Met {
-            is_whole: device.calls() < n,
-            is_chained: notes.taken.get() >= 2 && is_chained(device.bytes()),
-        };
-        if !is_told(end, met.is_whole) {
+        let device = device.device;
+        let is_whole = device.calls() < n;
+        // No call follows the one that failed, also where the core that came back is asked for more.
+        let is_last = is_whole || device.calls() == n;
+        if !is_last || !is_told(end, is_whole) || !has_said(&notes, way) {
             return Err(Wrong::Untold(crash));
         }
+        let answered = notes.taken.get() as usize;
+        let is_chained = answered >= 2 && is_chained(device.bytes());
         // The fuses of the device that is opened are off.
-        let device = if crash.kind < KINDS {
+        let left = if crash.kind < KINDS {
             device.crash(torn(alloc, crash.kind)?)
         } else {
             MemDisk::of_bytes(alloc, device.bytes().to_vec(alloc)?)?
         };
-        let (found, _) = find(alloc, device, &self.questions)?;
-        if !self.allows(notes.taken.get() as usize, &found) {
-            return Err(Wrong::Found(crash));
-        }
-        Ok(met)
+        Ok(Met {
+            is_whole,
+            is_chained,
+            answered,
+            left,
+        })
     }
 }
 
+/// Whether each change whose record was synced is told of, but for those behind one that isn't; and no other is. Among these
+/// changes at most one can be logged while another worker has the one before it.
+fn has_said(notes: &Notes, way: Way) -> bool {
+    let behind = notes.logged.get().saturating_sub(notes.taken.get());
+    !notes.is_early.get() && behind < way.workers as u64
+}
+
 /// What came of a session whose device was to fail.
-#[derive(Clone, Copy)]
+#[derive(Drop)]
 struct Met {
     /// It ended before that.
     is_whole: bool,
     /// Lines were written, and records are in the half behind the one that is named.
     is_chained: bool,
+    /// How many lines were written.
+    answered: usize,
+    /// The device behind the crash.
+    left: MemDisk,
 }
 
 /// Whether half 1 is open to half 0 behind it, and that has a record.
@@ -179,34 +198,126 @@ fn is_told(end: End, is_whole: bool) -> bool {
         End::Whole => is_whole,
         End::Unopened(why) => !is_whole && why == OpenFault::Device,
         End::Fault(why) => !is_whole && why == ServeFault::Device,
+        End::Deaf => false,
     }
 }
 
 /// More calls than a session has.
 const MOST_CALLS: u64 = 1000;
 
-/// Kinds of crash that are tried at each call, of which this is the first: 0 to 3. All four together try each kind, and
-/// none, where the call fails alone.
-fn kinds_at(call: u64, first: usize) -> [usize; 2] {
-    let kind = (call as usize).saturating_add(first);
-    [kind % (KINDS + 1), kind.saturating_add(4) % (KINDS + 1)]
+/// The bytes of a device that a crash left, and what was found on it.
+#[derive(Drop)]
+struct Seen {
+    bytes: Vec<u8>,
+    found: Found,
 }
 
-/// Lets a session meet a fault at each call of the device, and a crash behind it. At some of them records are in both halves.
+/// Of how many calls of an opening one is stopped, with each of the devices that are opened another.
+const SPREAD: usize = 4;
+
+/// Stops the opening of a device of these bytes at some of its calls, from the first or a later one on, with a crash behind that:
+/// the same is found again.
+fn reopen(
+    alloc: Global,
+    questions: &Questions,
+    crash: Crash,
+    seen: &Seen,
+    first: usize,
+) -> Result<(), Wrong> {
+    for call in (1..MOST_CALLS).skip(first % SPREAD).step_by(SPREAD) {
+        let kind = first.saturating_add(call as usize) % KINDS;
+        let second = Crash { call, kind };
+        let mut device = MemDisk::of_bytes(alloc, seen.bytes.to_vec(alloc)?)?;
+        device.stop_at(call.max(1));
+        let (mut found, device) = find(alloc, device, questions)?;
+        let is_opened = device.calls() < call;
+        if !is_opened {
+            (found, _) = find(alloc, device.crash(torn(alloc, kind)?), questions)?;
+        }
+        if found != seen.found {
+            return Err(Wrong::Reopened(crash, second));
+        }
+        if is_opened {
+            return Ok(());
+        }
+    }
+    Err(Wrong::Endless)
+}
+
+/// Devices that were opened, of which those with the same bytes are opened once.
+#[derive(Drop)]
+struct Openings {
+    seen: Vec<Seen>,
+}
+
+impl Openings {
+    /// Where a device of these bytes stands among those that were opened.
+    fn place_of(&self, bytes: &[u8]) -> Option<usize> {
+        self.seen
+            .iter()
+            .position(|seen| seen.bytes.as_slice() == bytes)
+    }
+
+    /// Opens the device that a crash left, also stopped at some of its calls, and tells where it stands.
+    fn open(
+        &mut self,
+        alloc: Global,
+        play: &Play,
+        crash: Crash,
+        left: MemDisk,
+    ) -> Result<usize, Wrong> {
+        if let Some(place) = self.place_of(left.bytes()) {
+            return Ok(place);
+        }
+        let bytes = left.bytes().to_vec(alloc)?;
+        let (found, _) = find(alloc, left, &play.questions)?;
+        let seen = Seen { bytes, found };
+        let place = self.seen.len();
+        reopen(alloc, &play.questions, crash, &seen, place)?;
+        self.seen.push(seen)?;
+        Ok(place)
+    }
+
+    /// Whether this may be found where so many lines were written.
+    fn allows(
+        &mut self,
+        alloc: Global,
+        play: &Play,
+        crash: Crash,
+        met: Met,
+    ) -> Result<bool, Wrong> {
+        let place = self.open(alloc, play, crash, met.left)?;
+        let seen = self.seen.get(place);
+        Ok(seen.is_some_and(|seen| play.allows(met.answered, &seen.found)))
+    }
+}
+
+/// Lets a session meet a fault at each call of the device, and a crash behind it: at each call one in so many of the kinds, and
+/// of none, where the call fails alone. At some of them records are in both halves.
 fn survives<T: Threads + Wait + Sync>(
     rt: &T,
     alloc: Global,
     way: Way,
-    first: usize,
+    play: &Play,
+    one_in: usize,
 ) -> Result<(), Wrong> {
-    let play = Play::new(alloc)?;
+    let mut openings = Openings {
+        seen: Vec::new(alloc),
+    };
     let mut was_chained = false;
     for call in 1..MOST_CALLS {
         let mut is_whole = false;
-        for kind in kinds_at(call, first) {
-            let met = play.meet(rt, alloc, way, Crash { call, kind })?;
+        for kind in 0..=KINDS {
+            if (call as usize).saturating_add(kind) % one_in.max(1) != 0 {
+                continue;
+            }
+            let crash = Crash { call, kind };
+            let met = play.meet(rt, alloc, way, crash)?;
             is_whole = met.is_whole;
             was_chained = was_chained || met.is_chained;
+            if !openings.allows(alloc, play, crash, met)? {
+                return Err(Wrong::Found(crash));
+            }
         }
         if is_whole {
             return if was_chained {
@@ -230,20 +341,29 @@ fn way(workers: usize, every: u64) -> Way {
 
 #[test]
 fn answers_of_one_worker_survive(rt: HostRuntime) -> Result<(), Fail> {
-    Ok(survives(&rt, rt.alloc(), way(1, 0), 0)?)
+    let play = Play::new(rt.alloc(), &[])?;
+    survives(&rt, rt.alloc(), way(1, 0), &play, 1)?;
+    Ok(())
 }
 
+/// The image of the device is of version 1 at first.
 #[test]
 fn answers_of_one_worker_between_points_survive(rt: HostRuntime) -> Result<(), Fail> {
-    Ok(survives(&rt, rt.alloc(), way(1, 1), 1)?)
+    let play = Play::new(rt.alloc(), &[(4424, 1)])?;
+    survives(&rt, rt.alloc(), way(1, 1), &play, 4)?;
+    Ok(())
 }
 
 #[test]
 fn answers_of_two_workers_survive(rt: HostRuntime) -> Result<(), Fail> {
-    Ok(survives(&rt, rt.alloc(), way(2, 0), 2)?)
+    let play = Play::new(rt.alloc(), &[])?;
+    survives(&rt, rt.alloc(), way(2, 0), &play, 4)?;
+    Ok(())
 }
 
 #[test]
 fn answers_of_two_workers_between_points_survive(rt: HostRuntime) -> Result<(), Fail> {
-    Ok(survives(&rt, rt.alloc(), way(2, 1), 3)?)
+    let play = Play::new(rt.alloc(), &[])?;
+    survives(&rt, rt.alloc(), way(2, 1), &play, 1)?;
+    Ok(())
 }

@@ -2,6 +2,8 @@
 #![tactic(auto)]
 
 #[cfg(test)]
+mod again;
+#[cfg(test)]
 mod drawing;
 #[cfg(test)]
 mod faults;
@@ -21,3 +23,5 @@ mod running;
 mod sessions;
 #[cfg(test)]
 mod streams;
+#[cfg(test)]
+mod waiting;

@@ -1,40 +1,77 @@
 //! A device, a reader and a writer that note what is done with them.
 use disk::{Disk, DiskFault};
-use std::cell::Cell;
 use std::io;
 use std::io::{ErrorKind, Read, Write};
+use std::sync::atomic::{AtomicBool, AtomicU64, Ordering};
+
+/// A number that every thread may look at, and one adds to.
+#[derive(Drop)]
+pub(crate) struct Count(AtomicU64);
+
+impl Count {
+    fn new() -> Count {
+        Count(AtomicU64::new(0))
+    }
+
+    pub(crate) fn get(&self) -> u64 {
+        self.0.load(Ordering::SeqCst)
+    }
+
+    fn set(&self, number: u64) {
+        self.0.store(number, Ordering::SeqCst);
+    }
+
+    fn add(&self, more: u64) {
+        self.set(self.get().saturating_add(more));
+    }
+}
+
+/// Whether something has come, which every thread may look at.
+#[derive(Drop)]
+pub(crate) struct Flag(AtomicBool);
+
+impl Flag {
+    pub(crate) fn new() -> Flag {
+        Flag(AtomicBool::new(false))
+    }
+
+    pub(crate) fn get(&self) -> bool {
+        self.0.load(Ordering::SeqCst)
+    }
+
+    pub(crate) fn set(&self) {
+        self.0.store(true, Ordering::SeqCst);
+    }
+}
 
 /// What a device, a reader and a writer of one server have seen.
 #[derive(Drop)]
 pub(crate) struct Notes {
     /// Gates of records that were written since the last sync.
-    loose: Cell<u64>,
+    loose: Count,
     /// Records whose gates were synced.
-    pub(crate) logged: Cell<u64>,
+    pub(crate) logged: Count,
+    /// Chain bytes that became 1.
+    pub(crate) cuts: Count,
     /// How often the root byte was written.
-    pub(crate) points: Cell<u64>,
-    pub(crate) reads: Cell<u64>,
+    pub(crate) points: Count,
+    pub(crate) reads: Count,
     /// Writes and flushes of the output.
-    pub(crate) writes: Cell<u64>,
+    pub(crate) writes: Count,
     /// Lines that the reader gave.
-    given: Cell<u64>,
+    given: Count,
     /// Lines that the writer took.
-    pub(crate) taken: Cell<u64>,
+    pub(crate) taken: Count,
     /// Lines that it took before its last flush.
-    flushed: Cell<u64>,
+    flushed: Count,
     /// Whether the writer has failed.
-    failed: Cell<bool>,
+    failed: Flag,
     /// Whether a line was written before its record was synced.
-    pub(crate) is_early: Cell<bool>,
+    pub(crate) is_early: Flag,
     /// Whether the input was read while a line was not answered, or while its answer was not flushed.
-    pub(crate) is_late: Cell<bool>,
+    pub(crate) is_late: Flag,
     /// Whether something was read or written behind a fault of the writer.
-    pub(crate) is_deaf: Cell<bool>,
-}
-
-/// Adds to what is counted.
-fn add(count: &Cell<u64>, more: u64) {
-    count.set(count.get().saturating_add(more));
+    pub(crate) is_deaf: Flag,
 }
 
 /// How many lines end in these bytes.
@@ -45,31 +82,35 @@ fn ends_in(bytes: &[u8]) -> u64 {
 impl Notes {
     pub(crate) fn new() -> Notes {
         Notes {
-            loose: Cell::new(0),
-            logged: Cell::new(0),
-            points: Cell::new(0),
-            reads: Cell::new(0),
-            writes: Cell::new(0),
-            given: Cell::new(0),
-            taken: Cell::new(0),
-            flushed: Cell::new(0),
-            failed: Cell::new(false),
-            is_early: Cell::new(false),
-            is_late: Cell::new(false),
-            is_deaf: Cell::new(false),
+            loose: Count::new(),
+            logged: Count::new(),
+            cuts: Count::new(),
+            points: Count::new(),
+            reads: Count::new(),
+            writes: Count::new(),
+            given: Count::new(),
+            taken: Count::new(),
+            flushed: Count::new(),
+            failed: Flag::new(),
+            is_early: Flag::new(),
+            is_late: Flag::new(),
+            is_deaf: Flag::new(),
         }
     }
 
     /// Something was read or written.
     fn note_stream(&self) {
         if self.failed.get() {
-            self.is_deaf.set(true);
+            self.is_deaf.set();
         }
     }
 }
 
 /// Where the root byte lies.
 const ROOT: u64 = 64;
+
+/// Where the chain bytes of the two halves of the small server lie.
+const CHAINS: [u64; 2] = [128, 2276];
 
 /// Where the gates of the records lie in the two halves of the small server, each with the first byte behind them.
 const GATES: [(u64, u64); 2] = [(192, 196), (2340, 2344)];
@@ -87,6 +128,11 @@ fn gates_in(at: u64, bytes: &[u8]) -> u64 {
         }
     }
     count
+}
+
+/// Whether a chain byte becomes 1 where these bytes are written from here on.
+fn opens_chain(at: u64, bytes: &[u8]) -> bool {
+    CHAINS.contains(&at) && bytes.first() == Some(&1)
 }
 
 /// A device that passes each call on to another one, and notes it. Contracts know nothing of what it keeps.
@@ -110,15 +156,19 @@ impl<D: Disk> Disk for Noting<'_, D> {
     }
 
     fn write_at(&mut self, at: u64, bytes: &[u8]) -> Result<(), DiskFault> {
-        add(&self.notes.loose, gates_in(at, bytes));
-        add(&self.notes.points, u64::from(at == ROOT));
+        self.notes.loose.add(gates_in(at, bytes));
+        self.notes.points.add(u64::from(at == ROOT));
+        self.notes.cuts.add(u64::from(opens_chain(at, bytes)));
         self.device.write_at(at, bytes)
     }
 
     fn sync(&mut self) -> Result<(), DiskFault> {
-        add(&self.notes.logged, self.notes.loose.get());
+        let answer = self.device.sync();
+        if answer.is_ok() {
+            self.notes.logged.add(self.notes.loose.get());
+        }
         self.notes.loose.set(0);
-        self.device.sync()
+        answer
     }
 
     ghost fits = { λ n. D.fits n.device };
@@ -138,9 +188,9 @@ pub(crate) struct Pieces<'a> {
 impl Read for Pieces<'_> {
     fn read(&mut self, buf: &mut [u8]) -> io::Result<usize> {
         self.notes.note_stream();
-        add(&self.notes.reads, 1);
+        self.notes.reads.add(1);
         if self.notes.flushed.get() != self.notes.given.get() {
-            self.notes.is_late.set(true);
+            self.notes.is_late.set();
         }
         if self.left.is_empty() && self.fails {
             return Err(io::Error::from(ErrorKind::Other));
@@ -149,7 +199,7 @@ impl Read for Pieces<'_> {
         let (piece, left) = self.left.split_at(len);
         buf[..len].copy_from_slice(piece);
         self.left = left;
-        add(&self.notes.given, ends_in(piece));
+        self.notes.given.add(ends_in(piece));
         Ok(len)
     }
 }
@@ -167,9 +217,9 @@ impl Taking<'_> {
     /// One more call, which fails or doesn't.
     fn call(&mut self) -> io::Result<()> {
         self.notes.note_stream();
-        add(&self.notes.writes, 1);
+        self.notes.writes.add(1);
         if self.notes.writes.get() == self.fails_at {
-            self.notes.failed.set(true);
+            self.notes.failed.set();
             return Err(io::Error::from(ErrorKind::Other));
         }
         Ok(())
@@ -180,9 +230,9 @@ impl Write for Taking<'_> {
     fn write(&mut self, buf: &[u8]) -> io::Result<usize> {
         self.call()?;
         let piece = &buf[..self.size.min(buf.len())];
-        add(&self.notes.taken, ends_in(piece));
+        self.notes.taken.add(ends_in(piece));
         if self.notes.taken.get() > self.notes.logged.get() {
-            self.notes.is_early.set(true);
+            self.notes.is_early.set();
         }
         self.output.write(piece)
     }

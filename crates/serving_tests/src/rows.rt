@@ -119,16 +119,19 @@ fn lines_that_are_too_long_are_answered(rt: HostRuntime) -> Result<(), Fail> {
 const LEAVES: [(&[(usize, u8)], &[u8], u64, usize, [u32; 3]); 5] = [
     (&[], b"", 0, 0, [0, 0, 0]),
     (&[], THREE_CHANGES, 0, 0, [1, 1, 1]),
-    (&[], THREE_CHANGES, 2, 1, [1, 1, 1]),
+    // A point is due with the second record, not behind it.
+    (&[], TWO_CHANGES, 2, 1, [1, 1, 0]),
     // Images of version 1, the second with a volume.
     (&[(4424, 1)], b"", 0, 0, [0, 0, 0]),
     (&[(4424, 1), (4488, 1)], b"label 0 0\n", 0, 0, [1, 0, 0]),
 ];
 
+const TWO_CHANGES: &[u8] = b"makevol 0 0\ncreate 0 0 0\n";
+
 const THREE_CHANGES: &[u8] = b"makevol 0 0\ncreate 0 0 0\nwrite 0 0 0 0 61\n";
 
 /// Where lines were served to their end, this area is named, and there is so much in it, and no record behind it.
-fn leaves(
+pub(crate) fn leaves(
     rt: &impl Abort,
     alloc: Global,
     device: MemDisk,

@@ -5,9 +5,11 @@ use affinity::Geometry;
 use checkpoint::OpenFault;
 use disk::Disk;
 use harness::Wrong;
+use legal_runs::{ArriveRefusal, CoreFault, PointRefusal};
+use message::Msg;
 use plain::serve_plain;
-use scheduler::Core;
-use serving::{ServeFault, serve};
+use scheduler::{Core, Granted};
+use serving::{ServeError, ServeFault, serve};
 use std::alloc::Global;
 use std::io::{Read, Write};
 use std::process::Abort;
@@ -35,6 +37,8 @@ pub(crate) enum End {
     /// Its device was refused.
     Unopened(OpenFault),
     Fault(ServeFault),
+    /// Its device failed, and the core that came back goes on as if it had not.
+    Deaf,
 }
 
 /// A device that was served on, and how that ended.
@@ -68,6 +72,25 @@ pub(crate) fn serial(alloc: Global, numbers: [u16; 8], lines: &[u8]) -> Result<V
     }
 }
 
+/// Whether a core says that its device has failed, whatever it is asked.
+fn says_failed<D: Disk>(core: &mut Core<D>) -> bool {
+    core.arrive(&Msg::Summary) == Err(ArriveRefusal::Failed)
+        && matches!(core.grant(), Granted::Failed)
+        && core.log(1) == Err(CoreFault::Failed)
+        && core.point() == Err(PointRefusal::Failed)
+        && core.cut() == Err(PointRefusal::Failed)
+        && core.piece() == Err(PointRefusal::Failed)
+        && core.flip() == Err(PointRefusal::Failed)
+}
+
+/// How a server ended with this fault. Where its device failed, its core is asked for more.
+fn fault_end<D: Disk>(core: &mut Core<D>, fault: ServeFault) -> End {
+    if fault == ServeFault::Device && !says_failed(core) {
+        return End::Deaf;
+    }
+    End::Fault(fault)
+}
+
 /// Opens a device and serves on it, with at most 64 workers.
 pub(crate) fn serve_on<T: Threads + Wait + Sync, R: Read, W: Write, D: Disk + Drop, G: Gate + Sync>(
     rt: &T,
@@ -92,10 +115,13 @@ pub(crate) fn serve_on<T: Threads + Wait + Sync, R: Read, W: Write, D: Disk + Dr
             device: core.into_disk(),
             end: End::Whole,
         },
-        Err(e) => Ended {
-            device: e.core.into_disk(),
-            end: End::Fault(e.fault),
-        },
+        Err(ServeError { mut core, fault }) => {
+            let end = fault_end(&mut core, fault);
+            Ended {
+                device: core.into_disk(),
+                end,
+            }
+        }
     }
 }
 
