@@ -1,0 +1,348 @@
+"""The disk of examples/block_device: fio fills and verifies it, the server is killed, and fio verifies it again. A client of
+its own then writes with many requests in flight while the server is killed, and looks at each sector afterwards: what was
+answered is there, and what was not has the old or the new bytes. None of them is left without an answer."""
+import os
+import random
+import shutil
+import signal
+import socket
+import struct
+import subprocess
+import threading
+import time
+from urllib.parse import quote
+
+import program
+from lives import GREATEST
+from meaning import options_of
+from program import PATIENCE, TOP, check, put_bytes, run
+
+TOOLS = {"nbdkit with its plugin for Python": ["nbdkit", "python", "--dump-plugin"],
+         "fio with its engine for NBD": ["fio", "--enghelp=nbd"]}
+PLUGIN = os.path.join(TOP, "examples", "block_device", "plugin.py")
+SECTOR, SECTORS = 512, 16384
+DISK_SIZE = SECTOR * SECTORS
+READ, WRITE, FLUSH, TRIM, ZERO = 0, 1, 3, 4, 6  # requests of NBD
+EIO, EINVAL = 5, 22
+
+LONGEST_FIO = 120  # seconds that fio may take
+FIO_LIVES = 1.5  # seconds from its start to the kill; it writes for four
+KILLS = 40
+DEPTH = 64  # requests in flight
+LONGEST = 24  # sectors of a request
+MOST_ANSWERS = 600  # before a kill
+
+# Runs the program, and notes the number of the process that serves.
+STARTING = """#!/bin/sh
+[ "$1" = serve ] && echo $$ >"{pid}"
+exec "{program}" "$@"
+"""
+
+
+class Disk:
+    """A device in a file, and nbdkit with the plugin, which serves it at a socket."""
+
+    def __init__(self, folder):
+        self.folder = folder
+        self.device, self.socket = os.path.join(folder, "device"), os.path.join(folder, "socket")
+        self.waffd, self.pid = os.path.join(folder, "waffd"), os.path.join(folder, "pid")
+        with open(self.waffd, "w", encoding="utf-8") as file:
+            file.write(STARTING.format(pid=self.pid, program=os.path.abspath(program.PROGRAM)))
+        os.chmod(self.waffd, 0o755)
+        end = run(["format", self.device, *options_of(GREATEST)])
+        if end[0] != 0:
+            raise RuntimeError(f"format: {end}")
+
+    def start(self):
+        if os.path.exists(self.socket):
+            os.unlink(self.socket)  # nbdkit leaves it
+        words = ["nbdkit", "--exit-with-parent", "--unix", self.socket, *self.plugin_of(self.device)]
+        with open(os.path.join(self.folder, "faults"), "ab") as faults:
+            self.nbdkit = subprocess.Popen(words, stdin=subprocess.DEVNULL, stdout=faults, stderr=faults)
+        Client(self).close()  # it is ready
+
+    def plugin_of(self, device):
+        return ["python", PLUGIN, f"device={device}", f"waffd={self.waffd}"]
+
+    def stop(self):
+        """Ends nbdkit in order, and with it the server."""
+        self.nbdkit.terminate()
+        try:
+            return self.nbdkit.wait(PATIENCE)
+        except subprocess.TimeoutExpired:
+            self.nbdkit.kill()
+            return None
+
+    def kill(self):
+        """Kills the server, and leaves nbdkit alone."""
+        with open(self.pid, encoding="utf-8") as file:
+            os.kill(int(file.read()), signal.SIGKILL)
+
+    def fio(self, *options):
+        """What is wrong with a run of fio, or None."""
+        words = ["fio", "--name=disk", "--ioengine=nbd", f"--uri=nbd+unix:///?socket={quote(self.socket)}",
+                 f"--size={DISK_SIZE}", "--iodepth=16", "--verify=crc32c", *options]
+        try:
+            end = subprocess.run(words, cwd=self.folder, capture_output=True, text=True, timeout=LONGEST_FIO, check=False)
+        except subprocess.TimeoutExpired:
+            return "no end"
+        return None if end.returncode == 0 else f"status {end.returncode}, {(end.stderr + end.stdout)[:300]!r}"
+
+
+class Client:
+    """A connection by NBD. Requests are sent, and answers taken, in any order."""
+
+    def __init__(self, disk):
+        self.socket = socket.socket(socket.AF_UNIX)
+        self.socket.settimeout(PATIENCE)
+        self.connect(disk.socket)
+        self.sent = 0
+        self.counts = {}  # of bytes that the answer to each read brings
+        self.take(18)  # NBDMAGIC, IHAVEOPT, flags
+        self.socket.sendall(struct.pack(">I8sII", 3, b"IHAVEOPT", 1, 0))  # the export without a name
+        size = struct.unpack(">QH", self.take(10))[0]
+        if size != DISK_SIZE:
+            raise RuntimeError(f"the disk has {size} bytes")
+
+    def connect(self, path):
+        end = time.monotonic() + PATIENCE
+        while True:
+            try:
+                return self.socket.connect(path)
+            except OSError:
+                if time.monotonic() > end:
+                    raise
+                time.sleep(0.05)
+
+    def take(self, count):
+        data = b""
+        while len(data) < count:
+            piece = self.socket.recv(count - len(data))
+            if not piece:
+                raise ConnectionError("nbdkit has closed the connection")
+            data += piece
+        return data
+
+    def send(self, kind, offset=0, count=0, data=b"", flags=0):
+        """Sends a request, and returns the number by which its answer is known."""
+        self.sent += 1
+        if kind == READ:
+            self.counts[self.sent] = count
+        self.socket.sendall(struct.pack(">IHHQQI", 0x25609513, flags, kind, self.sent, offset, count) + data)
+        return self.sent
+
+    def answer(self):
+        """The number of the request that is answered next, its error or 0, and what was read."""
+        _, error, number = struct.unpack(">IIQ", self.take(16))
+        count = self.counts.pop(number, 0)
+        return number, error, b"" if error else self.take(count)
+
+    def ask(self, kind, offset=0, count=0, data=b""):
+        self.send(kind, offset, count, data)
+        return self.answer()[1:]
+
+    def wait_for_end(self):
+        """Until nbdkit tells that the server, which was killed, has ended. A read may be answered before."""
+        while self.ask(READ, 0, SECTOR)[0] != EIO:
+            pass
+
+    def close(self):
+        self.socket.close()
+
+
+def sectors_of(disk):
+    """What each sector holds."""
+    client = Client(disk)
+    data = b""
+    while len(data) < DISK_SIZE:
+        error, piece = client.ask(READ, len(data), DISK_SIZE // 16)
+        if error:
+            raise RuntimeError(f"a read at {len(data)} was answered with error {error}")
+        data += piece
+    client.close()
+    return [data[at:at + SECTOR] for at in range(0, DISK_SIZE, SECTOR)]
+
+
+# ---- fio
+
+
+def try_fio(disk):
+    check("fio fills the disk and verifies it", disk.fio("--rw=randwrite", "--bs=4k"))
+    client = Client(disk)
+    disk.kill()
+    client.wait_for_end()
+    for name, kind in (("read", READ), ("write", WRITE), ("trim", TRIM), ("flush", FLUSH)):
+        count = 0 if kind == FLUSH else SECTOR
+        error = client.ask(kind, 0, count, bytes(count) if kind == WRITE else b"")[0]
+        check(f"the server is killed, and a {name} is answered with EIO", None if error == EIO else f"error {error}")
+    client.close()
+    check("fio connects anew, and all is there", disk.fio("--rw=randwrite", "--bs=4k", "--verify_only"))
+    disk.kill()
+    status = disk.stop()
+    check("the server is killed, and nbdkit ends", None if status == 0 else f"status {status}")
+    disk.start()
+    check("nbdkit starts again, and all is there", disk.fio("--rw=randwrite", "--bs=4k", "--verify_only"))
+    check("fio by four connections, with requests of many sizes",
+          disk.fio("--rw=randwrite", "--bsrange=512-64k", "--numjobs=4", "--size=2M", "--offset_increment=2M"))
+
+
+def try_fio_cut(disk):
+    """What fio wrote before the kill it can't tell from what it was to write. But each sector is a whole one of its own."""
+    check("fio fills the disk by sectors", disk.fio("--rw=randwrite", "--bs=512"))
+    killing = threading.Timer(FIO_LIVES, disk.kill)
+    killing.start()
+    began = time.monotonic()
+    problem = disk.fio("--rw=randwrite", "--bs=512", "--do_verify=0", f"--rate=,{DISK_SIZE // 4}")
+    killing.join()
+    took = time.monotonic() - began - FIO_LIVES
+    is_told = problem is not None and "Input/output error" in problem and took < PATIENCE
+    check("the server is killed while fio writes, and fio ends with EIO", None if is_told else f"{took:.0f} s, {problem}")
+    check("fio finds each sector whole, and at its place", disk.fio("--rw=read", "--bs=512"))
+
+
+# ---- what is refused
+
+
+def try_refused(disk):
+    other, sealed, zeros, none = (os.path.join(disk.folder, name) for name in ("other", "sealed", "zeros", "none"))
+    run(["format", other])
+    run(["format", sealed, *options_of(GREATEST)])
+    run(["serve", sealed], b"makevol 3 7\nseal 3 7\n")
+    put_bytes(zeros, bytes(1000))
+    rows = (("that is served", disk.device, "is served already"), ("of another geometry", other, "geometry"),
+            ("with a sealed volume", sealed, "create 3 7 0 was answered: error sealed"),
+            ("that isn't formatted", zeros, "not formatted"), ("that isn't there", none, "can't be opened"))
+    for name, device, text in rows:
+        words = ["nbdkit", "--foreground", "--unix", "-", *disk.plugin_of(device)]
+        try:
+            end = subprocess.run(words, capture_output=True, text=True, timeout=PATIENCE, check=False)
+            problem = None if end.returncode == 1 and text in end.stderr else f"status {end.returncode}, {end.stderr[-200:]!r}"
+        except subprocess.TimeoutExpired:
+            problem = "it is served"
+        check(f"a device {name} is refused", problem)
+
+
+# ---- sectors that are trimmed, and requests of other sizes
+
+
+def try_requests(disk):
+    client = Client(disk)
+    whole = b"x" * (4 * SECTOR)
+    for name, kind in (("trim", TRIM), ("zero", ZERO)):
+        errors = [client.ask(WRITE, 0, len(whole), whole)[0], client.ask(kind, SECTOR, 2 * SECTOR)[0]]
+        found = client.ask(READ, 0, len(whole))
+        wanted = whole[:SECTOR] + bytes(2 * SECTOR) + whole[:SECTOR]
+        is_right = errors == [0, 0] and found == (0, wanted)
+        check(f"{name} leaves zeros, there alone", None if is_right else f"{errors} {found!r:.80}")
+    for offset, count in ((0, 100), (100, SECTOR)):
+        errors = [client.ask(READ, offset, count)[0], client.ask(WRITE, offset, count, bytes(count))[0],
+                  client.ask(TRIM, offset, count)[0], client.ask(ZERO, offset, count)[0]]
+        check(f"{count} bytes at {offset} are refused", None if set(errors) == {EINVAL} else f"errors {errors}")
+    error, found = client.ask(READ, 0, DISK_SIZE)
+    check("the whole disk in one request", None if not error and len(found) == DISK_SIZE else f"error {error}")
+    client.close()
+
+
+# ---- kills with requests in flight
+
+
+class Load:
+    """Writes, trims and zeros of no sector that another one in flight has, and what each sector may hold by them."""
+
+    def __init__(self, disk):
+        self.disk, self.random = disk, random.Random(1)
+        self.certain = sectors_of(disk)
+        self.count = 0
+
+    def connect(self):
+        self.client = Client(self.disk)
+        self.in_flight = {}  # the first sector and the sectors' bytes, by the number of the request
+        self.open = {}  # the bytes that a sector was asked to hold, where that isn't answered
+
+    def send(self):
+        count = self.random.randrange(1, LONGEST + 1)
+        first = self.random.randrange(SECTORS - count + 1)
+        if any(sector in self.open for sector in range(first, first + count)):
+            return
+        kind = self.random.choice((WRITE, WRITE, WRITE, TRIM, ZERO))
+        self.count += 1
+        data = [b"%8d%8d" % (self.count, at) * 32 if kind == WRITE else bytes(SECTOR) for at in range(count)]
+        self.open.update(zip(range(first, first + count), data))
+        number = self.client.send(kind, first * SECTOR, count * SECTOR, b"".join(data) if kind == WRITE else b"",
+                                  self.random.randrange(2))
+        self.in_flight[number] = first, data
+
+    def take(self):
+        """Takes an answer. Where it says that all was done, the sectors hold what was asked."""
+        number, error, _ = self.client.answer()
+        first, data = self.in_flight.pop(number)
+        if error not in (0, EIO):
+            raise RuntimeError(f"error {error}")
+        if not error:
+            for at, sector in enumerate(data, first):
+                self.certain[at] = sector
+                del self.open[at]
+        return error
+
+    def life(self):
+        """Requests until the server is killed. How many got an error."""
+        self.connect()
+        for _ in range(self.random.randrange(MOST_ANSWERS)):
+            while len(self.in_flight) < DEPTH:
+                self.send()
+            if self.take():
+                raise RuntimeError("an error before the server was killed")
+        while len(self.in_flight) < DEPTH:
+            self.send()
+        self.disk.kill()
+        errors = sum(self.take() != 0 for _ in range(len(self.in_flight)))
+        self.client.wait_for_end()
+        self.client.close()
+        return errors
+
+    def problem(self):
+        """The sectors that hold neither what they have to nor what they may, or None."""
+        found = sectors_of(self.disk)
+        wrong = [at for at, data in enumerate(found) if data not in (self.certain[at], self.open.get(at))]
+        self.certain = found
+        return f"{len(wrong)} sectors, {wrong[:5]}, hold something else" if wrong else None
+
+
+def try_kills(disk):
+    load = Load(disk)
+    errors, problem = 0, None
+    for number in range(KILLS):
+        try:
+            errors += load.life()
+            problem = load.problem()
+        except (OSError, RuntimeError) as error:
+            problem = repr(error)
+        if problem is not None:
+            problem = f"kill {number}: {problem}"
+            break
+    check(f"{KILLS} kills with {DEPTH} requests in flight, {errors} of them answered with EIO", problem)
+
+
+# ---- all of it
+
+
+def is_installed(words):
+    return shutil.which(words[0]) is not None and subprocess.run(words, capture_output=True, check=False).returncode == 0
+
+
+def try_all(folder):
+    missing = [name for name, words in TOOLS.items() if not is_installed(words)]
+    if missing:
+        print(f"not tried: examples/block_device, which needs {' and '.join(missing)}", flush=True)
+        return
+    disk = Disk(folder)
+    disk.start()
+    for part in (try_fio, try_fio_cut, try_requests, try_kills, try_refused):
+        try:
+            part(disk)
+        except (OSError, RuntimeError, subprocess.TimeoutExpired) as error:
+            check(f"{part.__name__} comes to its end", repr(error))
+    status = disk.stop()
+    check("nbdkit ends in order", None if status == 0 else f"status {status}")
+    shown = run(["show", disk.device])[1].decode().splitlines()[2:3]
+    check("and so does the server, which leaves no record", None if shown == ["records 0"] else f"{shown}")
