@@ -197,6 +197,7 @@ def try_lives(folder, server, count, stop, name):
     device = Device(folder, server)
     drawing = Drawing(str(server), device.g)
     killed, number, problem = 0, 0, None
+    most = max(LIVES_A_KILL * count, 100)
     while killed < count:
         number += 1
         lines = drawing.lines(drawing.random.choice((20, 400, 4000)))
@@ -207,7 +208,7 @@ def try_lives(folder, server, count, stop, name):
             problem = f"life {number}: {problem}"
             shutil.copyfile(device.path, "/tmp/waffd_device_with_a_problem")
             break
-        if number == LIVES_A_KILL * count:
+        if number == most and killed < count:
             problem = "they are over before they are killed"
             break
     check(f"{killed} of {number} lives {name}: {device.name()}", problem)
@@ -215,8 +216,10 @@ def try_lives(folder, server, count, stop, name):
 
 # ---- how lives end
 
-LIVES = 200  # that are killed, of each kind, over all servers
-LIVES_A_KILL = 10  # at most
+# That are killed, over all servers: a quarter at a random moment, a quarter in a call of the device, and half with torn writes.
+LIVES = 800
+LEAST_LIVES = 4 * len(SERVERS)
+LIVES_A_KILL = 10  # at most, and a hundred where few are to be killed
 LONGEST_LIFE = 60
 
 
@@ -242,8 +245,9 @@ AS_WRITTEN = (1,)  # a number of stop.c's list: all that was written stays
 TORN = tuple(range(11))
 
 
-def try_kills(folder, between):
-    count = LIVES // len(SERVERS)
+def try_kills(folder, between, lives_wanted):
+    """Lives of each server, as many of each as of the next."""
+    count = lives_wanted // LEAST_LIVES
     for server in SERVERS:
         try_lives(folder, server, count, killed_at_random, "killed at a random moment")
     for server in SERVERS:
@@ -255,6 +259,7 @@ def try_kills(folder, between):
 # ---- long random inputs
 
 LINES = 1000000  # over all of these servers
+LEAST_LINES = 10000  # so that each of them has some
 LONG_SERVERS = (
     (SMALL, 2, 16, 0, 1), (SMALL, 1, 1, 0, 0.1), (SMALL, 8, 64, 7, 2), (WIDE, 1, 64, 0, 4), (WIDE, 4, 256, 0, 10),
     (WIDE, 8, 1024, 5, 2), (WIDE, 3, 17, 1, 0.3), (NARROW, 2, 2, 0, 0.3), (NARROW, 64, 1024, 1024, 4),
@@ -262,14 +267,14 @@ LONG_SERVERS = (
     (COMMON, 8, 16, 200, 2), (GREATEST, 2, 1024, 0, 16), (GREATEST, 8, 1024, 1000, 12))
 
 
-def try_lines(folder):
+def try_lines(folder, lines_wanted):
     """The last number of a server is its share of the lines."""
     shares = sum(server[4] for server in LONG_SERVERS)
-    left = LINES
+    left = lines_wanted
     for number, (*server, share) in enumerate(LONG_SERVERS):
         device = Device(folder, server)
         last = number + 1 == len(LONG_SERVERS)
-        count = left if last else int(LINES * share / shares)
+        count = left if last else int(lines_wanted * share / shares)
         left -= count
         lines = Drawing(f"long {number}", device.g).lines(count)
         began = time.monotonic()

@@ -13,15 +13,25 @@ WRITE_FAULT = b"waffd: write fault\n"
 DEVICE_FAULT = b"waffd: device fault\n"
 NO_MEMORY = b"waffd: out of memory\n"
 
+passed = 0
 failures = 0
 
 
 def check(name, problem):
     """Prints a check. `problem` is None where it passed."""
-    global failures
+    global passed, failures
     if problem is not None:
         failures += 1
+    else:
+        passed += 1
     print(f"{'ok    ' if problem is None else 'FAILED'} {name}{'' if problem is None else ': ' + problem}", flush=True)
+
+
+def check_each(name, count, least, problem):
+    """Prints a check of so many calls or requests, each tried once: fewer than these can't be all that there are."""
+    if problem is None and count < least:
+        problem = f"there have to be {least} at least"
+    check(name, problem)
 
 
 def run(words, given=b"", env=None, closed=(), stdin=None, stdout=None):

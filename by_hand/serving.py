@@ -10,14 +10,16 @@ import time
 import program
 from lives import COMMON, SMALL, Device, text_of
 from meaning import options_of
-from program import (DEVICE_FAULT, NO_MEMORY, PATIENCE, READ_FAULT, WRITE_FAULT, bytes_of, check, is_beginning, problem_of,
-                     put_bytes, run, same_bytes)
+from program import (DEVICE_FAULT, NO_MEMORY, PATIENCE, READ_FAULT, WRITE_FAULT, bytes_of, check, check_each, is_beginning,
+                     problem_of, put_bytes, run, same_bytes)
 
 MADE = b"makevol 0 0\ncreate 0 0 0\nwrite 0 0 0 0 6162\nread 0 0 0 0\n"
 REPLIES = b"done\ndone\ndone\nblock 6162\n"
 EACH_KIND = (b"makevol 0 0\ncreate 0 0 0\ncreate 0 0 1\nwrite 0 0 0 0 6162\nlist 0 0\nusage 0 0\nsummary\n"
              b"setlabel 0 0 6162\nlabel 0 0\nseal 0 0\nunseal 0 0\npunch 0 0 0 0\nread 0 0 0 0\ndelete 0 0 1\ndropvol 0 0\n")
 MOST_REQUESTS = 10000
+LEAST_REQUESTS = 10  # for memory, of a server: what is read, the row of lines, the core, the bench and the answers among them
+LEAST_CALLS = 50  # of the device, while some thirty changes are logged
 
 # Places of the small device: the root zone, the two images, and the first record of each half with its gate.
 ROOT, IMAGE_0, IMAGE_1 = 64, 4424, 6632
@@ -270,12 +272,14 @@ def try_refused(folder, between):
     file = File(folder)
     given = os.path.join(folder, "given")
     put_bytes(given, EACH_KIND)
-    for options in (("--workers", "1", "--slots", "1"), (), ("--workers", "8", "--slots", "1024", "--every", "2")):
+    for options in (("--workers", "1", "--slots", "1"), (), ("--workers", "64", "--slots", "1024", "--every", "2")):
         name = "serve " + (" ".join(options) or "without options")
         count, problem = try_each_refused(file, between, "REFUSE_ONE", given, options, True)
-        check(f"each of {count} requests for memory is refused alone, nothing is read: {name}", problem)
+        told = f"each of {count} requests for memory is refused alone, nothing is read: {name}"
+        check_each(told, count, LEAST_REQUESTS, problem)
         count, problem = try_each_refused(file, between, "REFUSE_FROM", given, options, False)
-        check(f"each of {count} is refused with all behind it, nothing is read: {name}", problem)
+        told = f"each of {count} is refused with all behind it, nothing is read: {name}"
+        check_each(told, count, LEAST_REQUESTS, problem)
         count, problem = try_each_refused(file, between, "REFUSE_THREAD", given, options, False)
         threads = int(options[1]) if options else 2
         if problem is None and count != threads:
@@ -357,7 +361,8 @@ def try_device_faults(folder, between):
                 problem = problem_of(end, 1, lambda output: is_beginning(output, output), DEVICE_FAULT)
                 problem = problem or device.judge(lines, end[1], False)
             found = None if problem is None else f"call {number}: {problem}"
-            check(f"each of {number - 1} calls of the device fails {name}: {slots} slots, every {every}", found)
+            told = f"each of {number - 1} calls of the device fails {name}: {slots} slots, every {every}"
+            check_each(told, number - 1, LEAST_CALLS, found)
 
 
 def try_stream_faults(folder, between):
@@ -374,4 +379,4 @@ def try_stream_faults(folder, between):
                 break
             problem = problem_of(end, 1, None, told) or device.judge(lines, end[1], False)
         found = None if problem is None else f"call {number}: {problem}"
-        check(f"serve, each of {number - 1} calls fails in turn: {turn}", found)
+        check_each(f"serve, each of {number - 1} calls fails in turn: {turn}", number - 1, 2, found)
