@@ -109,24 +109,36 @@ module _ (g : Geometry) where
         };
       }
 
-  pub left_by_run : (w : Hands) (m : Medium) (stages : List Stage) → IsLegal g w (events_of stages) → IsSound g w.core
+  left_by_run : (w : Hands) (m : Medium) (stages : List Stage) → IsLegal g w (events_of stages) → IsSound g w.core
       → AreSafe g w m stages → EndsSo w m stages → (k : ℕ) (c : List ℕ) → k ≤ length stages
       → left_since (device_after m stages) (moment (device_after m (take k stages))) c → StandsForRun g w (events_of stages) k c
   left_by_run w m stages legal sound safe ends k c le since =
       stands_for_run w (events_of stages) k c legal sound (from_event w m stages safe ends k c le since)
 
-  -- ---- one stage more
+  -- So it is where the core at the end is as it always is.
+  pub left_since_event : (w : Hands) (m : Medium) (stages : List Stage) (new : Handed) → IsLegal g w (events_of stages) → IsSound g w.core
+      → AreSafe g w m stages → last w (events_of stages) ≡ machine_of new → new.core.geometry ≡ g → device_after m stages ≡ new.core.medium
+      → (new.core.failed ≡ false → new.core.doubt ≡ []) → StandsNow new.core → (k : ℕ) (c : List ℕ) → k ≤ length stages
+      → left_since new.core.medium (moment (device_after m (take k stages))) c → StandsForRun g w (events_of stages) k c
+  left_since_event w m stages new legal sound safe ended same device none stands k c le since =
+      let ends : EndsSo w m stages = λ b left.
+      subst (λ (x : Hands). HoldsSome g x.core.settled (in_doubt x.core []) b) (sym ended)
+      (subst (λ (y : Geometry). HoldsSome y (world_of new.core).settled (in_doubt (world_of new.core) []) b) same
+      (some_of new.core.geometry (world_of new.core).settled new.core.failed new.core.doubt [] b none
+      (stands b (subst (λ (x : Medium). Leaves x b) device left)))) in
+      left_by_run w m stages legal sound safe ends k c le
+      (subst (λ (x : Medium). left_since x (moment (device_after m (take k stages))) c) (sym device) since)
 
-  safe-push : (w : Hands) (m : Medium) (stages : List Stage) (stage : Stage) → AreSafe g w m stages
-      → LeavesOnly (device_after m stages) stage.medium (HoldsSome g (last w (events_of stages)).core.settled
-      (in_doubt (last w (events_of stages)).core (stage.event ∷ [])))
-      → AreSafe g w m (stages ++ stage ∷ [])
-  safe-push w m [] stage safe one = (one, tt)
-  safe-push w m (s ∷ stages) stage safe one = (safe.0, safe-push s.event.world s.medium stages stage safe.1 one)
+  -- ---- stages behind others
 
-after-push : (m : Medium) (stages : List Stage) (stage : Stage) → device_after m (stages ++ stage ∷ []) ≡ stage.medium
-after-push m [] stage = refl
-after-push m (s ∷ stages) stage = after-push s.medium stages stage
+  pub safe-append : (w : Hands) (m : Medium) (xs ys : List Stage) → AreSafe g w m xs
+      → AreSafe g (last w (events_of xs)) (device_after m xs) ys → AreSafe g w m (xs ++ ys)
+  safe-append w m [] ys h k = k
+  safe-append w m (s ∷ xs) ys h k = (h.0, safe-append s.event.world s.medium xs ys h.1 k)
+
+pub after-append : (m : Medium) (xs ys : List Stage) → device_after m (xs ++ ys) ≡ device_after (device_after m xs) ys
+after-append m [] ys = refl
+after-append m (s ∷ xs) ys = after-append s.medium xs ys
 
 told-push : (w : Hands) (m : Medium) (stages : List Stage) (stage : Stage) → TouchAsTold w m stages
     → Counts stage.event.rose (device_after m stages).faults stage.medium.faults
@@ -170,17 +182,19 @@ more_stages keeps old now new asked came step outcome h k quiet =
     record {
       stages = h.stages ++ stage ∷ [];
       run = subst (IsRun g (machine_of old) (machine_of new) (asked ++ step ∷ []) (came ++ outcome ∷ [])) (sym pushed) run;
-      device = after-push old.core.medium h.stages stage;
+      device = after-append old.core.medium h.stages (stage ∷ []);
       told = told-push (machine_of old) old.core.medium h.stages stage h.told
           (subst (λ (m : Medium). Counts k.rose m.faults new.core.medium.faults) (sym h.device) k.failures)
           (λ none. quiet (ap (λ (x : Hands). touches_device x.core step) (sym here) ∙ none) ∙ sym h.device);
       geometry = k.geometry ∙ h.geometry;
-      any_moment = λ kept. safe-push g (machine_of old) old.core.medium h.stages stage (h.any_moment kept)
-          (subst (λ (x : Hands). LeavesOnly device new.core.medium (HoldsSome g x.core.settled (in_doubt x.core (event ∷ [])))) (sym here)
-          (subst (λ (y : Geometry). LeavesOnly device new.core.medium (HoldsSome y (world_of now.core).settled (in_doubt (world_of now.core) (event ∷ []))))
-          h.geometry
-          (subst (λ (m : Medium). LeavesOnly m new.core.medium (HoldsSome now.core.geometry (world_of now.core).settled
-          (in_doubt (world_of now.core) (event ∷ [])))) (sym h.device) (k.any_moment kept))));
+      any_moment = λ kept. safe-append g (machine_of old) old.core.medium h.stages (stage ∷ []) (h.any_moment kept) (
+        subst (λ (x : Hands). LeavesOnly device new.core.medium (HoldsSome g x.core.settled (in_doubt x.core (event ∷ [])))) (sym here)
+            (subst (λ (y : Geometry). LeavesOnly device new.core.medium (HoldsSome y (world_of now.core).settled (in_doubt (world_of now.core) (event ∷ []))))
+            h.geometry
+            (subst (λ (m : Medium). LeavesOnly m new.core.medium (HoldsSome now.core.geometry (world_of now.core).settled
+            (in_doubt (world_of now.core) (event ∷ [])))) (sym h.device) (k.any_moment kept))),
+        tt,
+      );
     }
 
 -- ---- the whole run
@@ -197,15 +211,10 @@ has_run keeps old new asked came sound h none stands =
     let g = old.core.geometry in
     let w = machine_of old in
     let events = events_of h.stages in
-    let ends : keeps → EndsSo g w old.core.medium h.stages = λ kept c left.
-    subst (λ (x : Hands). HoldsSome g x.core.settled (in_doubt x.core []) c) (sym h.run.ends)
-    (subst (λ (y : Geometry). HoldsSome y (world_of new.core).settled (in_doubt (world_of new.core) []) c) h.geometry
-    (some_of new.core.geometry (world_of new.core).settled new.core.failed new.core.doubt [] c none
-    (stands kept c (subst (λ (m : Medium). Leaves m c) h.device left)))) in
     record {
       ran = h;
-      crash = λ kept k c le since. left_by_run g w old.core.medium h.stages h.run.legal sound (h.any_moment kept) (ends kept) k c le
-          (subst (λ (m : Medium). left_since m (moment (device_after old.core.medium (take k h.stages))) c) (sym h.device) since);
+      crash = λ kept. left_since_event g w old.core.medium h.stages new h.run.legal sound (h.any_moment kept) h.run.ends h.geometry h.device none
+          (stands kept);
       apart = (sound.apart, worlds_apart g events (run_sound g w events h.run.legal sound));
       in_log_order = sym (run_follows g w events h.run.legal sound).told;
       in_ticket_order = λ idle reply is. contains_in _ reply

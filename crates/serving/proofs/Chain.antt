@@ -1,5 +1,5 @@
 -- Stretches of a run, one after the other.
-use Rattle.std.proofs.Common.{◌≡◌, ℕ, ◌+◌, Bool, List, [], ◌∷◌, ◌++◌, refl, ap, sym, ◌∙◌, subst, add_assoc, arith}
+use Rattle.std.proofs.Common.{◌≡◌, ℕ, ◌+◌, List, ◌++◌, ap, sym, ◌∙◌, subst, add_assoc}
 use Rattle.std.specs.Prelude.{count_by, if◌then◌else◌}
 use Rattle.std.proofs.lemmas.List.{map-append}
 use Rattle.std.proofs.lemmas.List.Sums.{sum_by-append}
@@ -10,18 +10,10 @@ use Rattle.legal_runs.specs.Events.{Event, Hands}
 use Rattle.legal_runs.specs.Runs.{IsLegal, answered, arrived, last}
 use Rattle.legal_runs.specs.World.{Entry}
 use Rattle.message.specs.declared.Reply.{Reply}
+use Rattle.machine.proofs.Running.{after-append, safe-append}
 use Rattle.machine.specs.Machine.{Handed, machine_of}
 use Rattle.machine.specs.Stages.{AreSafe, Stage, device_after, events_of}
 use Rattle.serving.specs.Runs.{Passes}
-
-safe-append : (g : Geometry) (w : Hands) (m : Medium) (xs ys : List Stage) → AreSafe g w m xs
-    → AreSafe g (last w (events_of xs)) (device_after m xs) ys → AreSafe g w m (xs ++ ys)
-safe-append g w m [] ys h k = k
-safe-append g w m (s ∷ xs) ys h k = (h.0, safe-append g s.event.world s.medium xs ys h.1 k)
-
-after-append : (m : Medium) (xs ys : List Stage) → device_after m (xs ++ ys) ≡ device_after (device_after m xs) ys
-after-append m [] ys = refl
-after-append m (s ∷ xs) ys = after-append s.medium xs ys
 
 -- how many of the events tell that the device failed
 abbrev rises : List Event → ℕ

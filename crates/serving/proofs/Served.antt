@@ -1,24 +1,19 @@
 -- What a server has written when it ends, beside the serial server.
-use Rattle.std.proofs.Common.{◌≡◌, ◌≢◌, ℕ, ◌-◌, ◌^◌, ◌≤◌, Bool, true, false, List, [], ◌∷◌, ◌++◌, Option, Some, None, ap, sym, ◌∙◌, subst, length, map, take, inr, ⊎_elim, append_assoc, append-nil}
+use Rattle.std.proofs.Common.{◌≡◌, ◌≢◌, ℕ, ◌-◌, ◌^◌, Bool, true, false, List, [], ◌∷◌, ◌++◌, Option, Some, None, ap, sym, ◌∙◌, subst, length, map, take, inr, ⊎_elim, append_assoc, append-nil}
 use Rattle.std.specs.Prelude.{IfSome, Ok, Err}
 use Rattle.std.specs.Io.KnownBytes.{IsAtEnd}
 use Rattle.std.proofs.lemmas.Bool.{true≢false}
 use Rattle.std.proofs.lemmas.List.Elements.{recursion_from_All}
 use Rattle.std.proofs.lemmas.Option.{none-some, same_Some}
 use Rattle.affinity.specs.declared.geometry.Geometry.{Geometry}
-use Rattle.disk.specs.Device.{Leaves, Medium}
-use Rattle.disk.specs.Moments.{left_since, moment}
-use Rattle.journal.specs.Journal.{HoldsSome}
-use Rattle.legal_runs.specs.Crash.{in_doubt}
-use Rattle.machine.proofs.Events.{some_of}
-use Rattle.machine.proofs.Running.{left_by_run}
+use Rattle.machine.proofs.Running.{left_since_event}
 use Rattle.legal_runs.proofs.Arrivals.{answered_by_ticket, arrived_by_ticket, settled_by_ticket}
 use Rattle.legal_runs.proofs.Idle.{idle_sound}
 use Rattle.legal_runs.proofs.Told.{IsIn}
 use Rattle.legal_runs.specs.Events.{Hands}
 use Rattle.legal_runs.specs.Laws.{IsIdle, IsSound}
 use Rattle.legal_runs.specs.World.{Entry}
-use Rattle.legal_runs.specs.Runs.{arrived, last}
+use Rattle.legal_runs.specs.Runs.{arrived}
 use Rattle.message.proofs.ReaderLemmas.{lines-first}
 use Rattle.message.specs.Grammar.{message_of}
 use Rattle.message.specs.Lines.{lines}
@@ -36,8 +31,7 @@ use Rattle.serving.specs.Ends.{AreFirst, AreServed, EndsSo, HasServed, IsWoundUp
 use Rattle.serving.specs.Going.{Goes, IsServing}
 use Rattle.serving.specs.Lines.{AreKnown, Line, asked, text, ticketed}
 use Rattle.machine.specs.Machine.{Handed, machine_of}
-use Rattle.machine.specs.Stages.{StandsForRun, device_after, events_of}
-use Rattle.serving.specs.Runs.{Passes}
+use Rattle.machine.specs.Stages.{events_of}
 use Rattle.serving.specs.declared.fault.ServeFault.TheVariants as faults
 use Rattle.serving.proofs.Inside.{idle_again}
 use Rattle.serving.proofs.Serial.{AreTold, all_said, asked_leads_there, messages-ticketed, said_is_serial}
@@ -174,22 +168,6 @@ module _ (keeps : Type 0) (start now : Handed) (idle : IsIdle (world_of start.co
   first_taken None left ended taken t = tt
   first_taken (Some input) left ended taken t = (lines t.0, t.2.to_come)
 
-  -- What a crash leaves since event k ended, where the core at the end is as it always is.
-  pub left_since_event : {come : List Entry} {told : List (ℕ × Reply)} (p : Passes keeps start now come told) → (now.core.failed ≡ false → now.core.doubt ≡ []) → (keeps → StandsNow now.core) → keeps
-      → (k : ℕ) (c : List ℕ) → k ≤ length p.stages
-      → left_since now.core.medium (moment (device_after start.core.medium (take k p.stages))) c
-      → StandsForRun g (machine_of start) (events_of p.stages) k c
-  left_since_event p none stands kept k c le since =
-      let w = machine_of start in
-      let ends : (b : List ℕ) → Leaves (device_after start.core.medium p.stages) b
-      → HoldsSome g (last w (events_of p.stages)).core.settled (in_doubt (last w (events_of p.stages)).core []) b = λ b left.
-      subst (λ (x : Hands). HoldsSome g x.core.settled (in_doubt x.core []) b) (sym p.ends)
-      (subst (λ (y : Geometry). HoldsSome y (world_of now.core).settled (in_doubt (world_of now.core) []) b) p.geometry
-      (some_of now.core.geometry (world_of now.core).settled now.core.failed now.core.doubt [] b none
-      (stands kept b (subst (λ (m : Medium). Leaves m b) p.device left)))) in
-      left_by_run g w start.core.medium p.stages p.legal sound (p.any_moment kept) ends k c le
-      (subst (λ (m : Medium). left_since m (moment (device_after start.core.medium (take k p.stages))) c) (sym p.device) since)
-
   unfoldable pub has_served : (row : List Line) (input left : Option (List ℕ)) (ended : Bool) (before written : Option (List ℕ))
       → Goes keeps start now row input left ended before written → (now.core.failed ≡ false → now.core.doubt ≡ [])
       → (keeps → StandsNow now.core) → HasServed keeps start now.core row input before written
@@ -208,7 +186,8 @@ module _ (keeps : Type 0) (start now : Handed) (idle : IsIdle (world_of start.co
           device = p.device;
           failures = p.failures;
           any_moment = p.any_moment;
-          crash = λ kept. left_since_event p none stands kept;
+          crash = λ kept. left_since_event g (machine_of start) start.core.medium p.stages now p.legal sound (p.any_moment kept) p.ends
+              p.geometry p.device none (stands kept);
         };
         said = h.said;
         known = subst (λ (l : List (ℕ × Reply)). AreKnown g l start.core.next h.taken (h.said ++ row)) (sym p.told_are) h.serving.known;

@@ -81,16 +81,17 @@ pub record HasServed (keeps : Type 0) (start : Handed) (new : Kept) (row : List 
   pub output : Appends before written (joined (map text said))
 
 -- ---- what each answer says of the core before and after, of the input and what is left of it, and of what was written
--- Where each line that was read is answered, nothing waits or is held, and the device works. Where the device or the output has failed,
--- no message is out with a worker and each that was logged is answered; and where the output alone has, each that ran is logged.
 
 abbrev pub settled : Kept → State
 settled core = (world_of core).settled
 
+-- No message is out with a worker, and each that was logged is answered.
 pub record IsWoundUp (core : Kept) : Type 0 where
   pub none_out : core.out ≡ []
   pub none_logged : core.logged ≡ []
 
+-- Where each line that was read is answered, nothing waits or is held, and the device works. Where the device or the output has failed,
+-- the core is wound up; and where the output alone has, each message that ran is logged.
 abbrev pub EndsSo : Kept → Kept → Option (List ℕ) → Option (List ℕ) → Option (List ℕ) → Option (List ℕ) → Result (Unit {0}) ServeFault → Type 0
 EndsSo old new input left before written (Ok _) = IsIdle (world_of new) × (new.failed ≡ false) × IsAtEnd left
     × Writes input before written (λ bytes w. AreServed old.geometry (settled old) (settled new) (lines bytes) w)

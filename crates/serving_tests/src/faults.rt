@@ -123,12 +123,7 @@ impl Play {
         crash: Crash,
     ) -> Result<Met, Wrong> {
         let mut device = MemDisk::of_bytes(alloc, self.blank.to_vec(alloc)?)?;
-        let n = crash.call.max(1);
-        if crash.kind < KINDS {
-            device.stop_at(n);
-        } else {
-            device.fail_at(n);
-        }
+        let n = set_fuse(&mut device, crash);
         let notes = Notes::new();
         let mut input = self.lines.as_slice();
         let mut writer = Taking {
@@ -165,6 +160,17 @@ impl Play {
             left,
         })
     }
+}
+
+/// Lets the call of this crash fail, or stop the device for good: which call that is.
+fn set_fuse(device: &mut MemDisk, crash: Crash) -> u64 {
+    let n = crash.call.max(1);
+    if crash.kind < KINDS {
+        device.stop_at(n);
+    } else {
+        device.fail_at(n);
+    }
+    n
 }
 
 /// Whether each change whose record was synced is told of, but for those behind one that isn't; and no other is. Among these
