@@ -1,17 +1,12 @@
 -- Where a server begins: nothing is read or written, nothing is lent, and no message is in it.
-use Rattle.std.proofs.Common.{◌≡◌, ℕ, zero, suc, false, List, [], Option, Some, None, refl, ap, sym, ◌∙◌, subst, map, take, inr, add-zero, append-nil, arith, replicate}
+use Rattle.std.proofs.Common.{◌≡◌, ℕ, zero, suc, false, List, [], Option, Some, None, refl, ap, sym, ◌∙◌, subst, map, inr, add-zero, append-nil, replicate}
 use Rattle.std.specs.Io.KnownBytes.{Appends}
-use Rattle.std.proofs.Math.Seq.{take-nil}
 use Rattle.std.proofs.lemmas.Option.{none-some}
-use Rattle.affinity.specs.declared.geometry.Geometry.{Geometry}
-use Rattle.disk.proofs.Moments.{started}
-use Rattle.journal.specs.Journal.{HoldsSome}
 use Rattle.legal_runs.specs.Laws.{IsSound}
-use Rattle.machine.specs.Machine.{Handed, IsHandOf, hand_at, machine_of, ticket_in}
+use Rattle.machine.specs.Machine.{Handed, IsHandOf, hand_at, ticket_in}
 use Rattle.machine.specs.declared.hands.Hand.TheVariants as has
 use Rattle.plain.specs.Progress.{Takes}
-use Rattle.plain.specs.Serial.{fold}
-use Rattle.scheduler.specs.Kept.{Kept, StandsNow, world_of}
+use Rattle.scheduler.specs.Kept.{Kept, world_of}
 use Rattle.serving.specs.Going.{Goes}
 use Rattle.serving.specs.Runs.{Passes, hand_of, with_lent}
 use Rattle.serving.specs.Steps.{Holds}

@@ -1,8 +1,7 @@
 -- One step of a run, behind those before it.
-use Rattle.std.proofs.Common.{◌≡◌, ℕ, Bool, List, [], ◌∷◌, ◌++◌, Result, Ok, Err, refl, ap, sym, ◌∙◌, subst, take, inl, append-nil, false, true, ◌≤◌, ◌+◌, add-zero, zero, suc, arith}
+use Rattle.std.proofs.Common.{◌≡◌, ℕ, Bool, List, [], ◌∷◌, ◌++◌, Result, Ok, Err, refl, ap, sym, ◌∙◌, subst, take, append-nil, false, true, ◌≤◌, ◌+◌, add-zero, zero, suc, arith}
 use Rattle.std.specs.Prelude.{OnErr, OnOk, drop, length, if◌then◌else◌}
 use Rattle.affinity.specs.declared.geometry.Geometry.{Geometry}
-use Rattle.legal_runs.specs.Crash.{in_doubt}
 use Rattle.legal_runs.proofs.Apart.{length_held}
 use Rattle.legal_runs.proofs.Failures.{failure_lasts}
 use Rattle.legal_runs.specs.Events.{Event, Hands, batch}
@@ -21,7 +20,6 @@ use Rattle.machine.specs.Machine.{Handed, machine_of}
 use Rattle.machine.specs.Steps.{IsCoreStep, IsStep}
 use Rattle.machine.specs.declared.hands.Hand.{Hand}
 use Rattle.message.specs.declared.Reply.{Reply}
-use Rattle.plain.specs.Serial.{fold}
 use Rattle.scheduler.specs.Calls.{Counts, IsCalled, IsLogStep, log_rose, logged, point_rose, stepped}
 use Rattle.scheduler.specs.Kept.{Kept, StandsThroughout, world_of}
 use Rattle.serving.specs.Lines.{Line, asked, ticketed}
