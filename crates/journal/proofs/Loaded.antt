@@ -112,7 +112,7 @@ held_after g log n t u x w0 w1 is chained only held =
 
 -- ---- in the words of contracts
 
-pub opened : (p : Parts) (old m : Medium) (j : Held) → IsMade p m → IsMadeOf old.now p m → IsWholeTree p.tree → j ≡ held_of p.halves None false m → IsOpened old j (state_in p.tree)
+pub opened : (p : Parts) (old m : Medium) (j : Held) → IsMade p m → IsMadeOf old.now p m → IsWholeTree p.tree → j ≡ held_of p.halves p.named_marks.items p.other_marks.items None false m → IsOpened old j (state_in p.tree)
 opened p old m j made is whole same =
     subst (λ (h : Held). IsOpened old h (state_in p.tree)) (sym same)
     (record {
@@ -122,6 +122,7 @@ opened p old m j made is whole same =
       is = is.is;
       sound = settled_of p.halves p.frozen.items p.named_marks.items p.other_marks.items p.due.items None false m is.sound;
       emptied = is.emptied;
+      marks = made.marks;
       state = subst (λ (g : Geometry). IsState g (state_in p.tree)) (sym made.geometry) whole.state;
     })
 

@@ -15,7 +15,8 @@ use Rattle.image.proofs.Untouched.{piece_stays}
 use Rattle.plain.proofs.Kept.{step_kept}
 use Rattle.std.specs.List.{AllByRecursion}
 use Rattle.journal.specs.Journal.{AreCarriedOut, HoldsSome, IsSettled, records_in}
-use Rattle.journal.specs.Keeping.{IsCutOr, IsFresh, IsPlaced, IsSound, MarksTouched, coming, held_of}
+use Rattle.journal.specs.Keeping.{IsCutOr, IsFresh, IsPlaced, IsSound, coming, held_of}
+use Rattle.journal.specs.Marks.{MarksTouched}
 use Rattle.journal.specs.Steps.{IsStanding, run_on}
 use Rattle.journal.specs.Stretches.{AgreeUnmarked, image_in, stretch_of}
 use Rattle.journal.proofs.Cutting.{named_below}
@@ -90,7 +91,7 @@ fresh_more g x ms old new bytes is_state out touched fresh y is n few unmarked =
     fresh x refl n few kept.0 ∙ sym (all_stay g x ms n is_state out kept.1) ∙ ap (λ (o : Option State). stretch_of g (unwrap_or o x) n) is
 
 -- the journal's facts, in the words of contracts
-pub settled_of : (log : Log) (frozen : List ℕ) (named others due : List Bool) (left : Option ℕ) (failed : Bool) (m : Medium) → IsSound log frozen named others due left m → IsSettled (held_of log left failed m)
+pub settled_of : {a b : List Bool} → (log : Log) (frozen : List ℕ) (named others due : List Bool) (left : Option ℕ) (failed : Bool) (m : Medium) → IsSound log frozen named others due left m → IsSettled (held_of log a b left failed m)
 settled_of log frozen named others due left failed m sound = record {
   some = sound.some;
   each = λ c gone. holds_by log.geometry log.named log.current (holds log.geometry m.now) c (sound.stands c gone);

@@ -9,7 +9,8 @@ use Rattle.disk.specs.Moments.{LeavesOnly}
 use Rattle.disk.proofs.Leaves.{itself}
 use Rattle.disk.proofs.Moments.{leaves_now}
 use Rattle.image.specs.Image.{read}
-use Rattle.journal.specs.Keeping.{IsFresh, IsPlaced, IsSound, count_marked}
+use Rattle.journal.specs.Keeping.{IsFresh, IsPlaced, IsSound}
+use Rattle.journal.specs.Marks.{count_marked}
 use Rattle.journal.specs.Steps.{IsStanding, run_on}
 use Rattle.journal.specs.Stretches.{IsPatchedAt, image_in, stretch_in}
 use Rattle.journal.specs.Journal.{records_in}

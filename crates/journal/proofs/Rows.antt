@@ -5,12 +5,12 @@ use Rattle.std.proofs.lemmas.Bool.{cases_eq, cases_lt}
 use Rattle.image.specs.Touched.{touches}
 use Rattle.image.proofs.Measures.{all-append}
 use Rattle.message.specs.declared.Msg.{Msg}
-use Rattle.std.proofs.lemmas.List.{get_or-replicate, get_or-set_other, get_or-set_same, length-set, take_more, append-nil, drop_all, take_all}
+use Rattle.std.proofs.lemmas.List.{ext_get_or, get_or-replicate, get_or-set_other, get_or-set_same, length-set, take_more, append-nil, drop_all, take_all}
 use Rattle.std.proofs.Math.Seq.{take-add}
 use Rattle.affinity.specs.declared.geometry.Geometry.{Geometry}
 use Rattle.image.specs.Pieces.{piece_count}
 use Rattle.plain.specs.State.{one_if}
-use Rattle.journal.specs.Keeping.{MarksTouched, count_marked}
+use Rattle.journal.specs.Marks.{MarksTouched, count_marked}
 use Rattle.journal.specs.Stretches.{AreAllMarked, stretch_at, stretch_in, stretch_size}
 use Rattle.journal.proofs.Places.{stretch_end, stretch_next}
 use Rattle.oplog.specs.Layout.{image_size}
@@ -143,6 +143,19 @@ message_more g ms i d old mid new few so_far more n below =
     all-parts : {X : Type 0} (P : X → Type 0) (xs ys : List X) → AllByRecursion P (xs ++ ys) → AllByRecursion P xs × AllByRecursion P ys
     all-parts P [] ys all = (tt, all)
     all-parts P (x ∷ xs) ys all = let rest = all-parts P xs ys all.1 in ((all.0, rest.0), rest.1)
+
+by_false : (a b : Bool) → (a ≡ false → b ≡ false) → (b ≡ false → a ≡ false) → a ≡ b
+by_false true true there back = refl
+by_false true false there back = back refl
+by_false false true there back = sym (there refl)
+by_false false false there back = refl
+
+-- with no message the marks are as they were
+pub same_marks : (g : Geometry) (ms : List Msg) (old new : List Bool) → length ms ≡ 0 → length old ≡ piece_count g → length new ≡ length old → MarksTouched g ms old new → new ≡ old
+same_marks g [] old new none size same touched =
+    ext_get_or true new old same
+    (λ n few. let looked = touched n (omega (arith, few, same, size)) in by_false _ _ (λ off. (looked.0 off).0) (λ off. looked.1 (off, tt)))
+same_marks g (m ∷ ms) old new none size same touched = absurd (omega (arith, none))
 
 -- ---- all of them
 

@@ -3,6 +3,7 @@ use Rattle.std.specs.Prelude.{◌≡◌, ◌≤◌, ℕ, ◌+◌, Bool, true, Li
 use Rattle.affinity.specs.declared.geometry.Geometry.{Geometry}
 use Rattle.checkpoint.specs.Recovery.{holds}
 use Rattle.disk.specs.Device.{Medium, Leaves}
+use Rattle.journal.specs.Marks.{Marks}
 use Rattle.message.specs.declared.Msg.{Msg}
 use Rattle.message.specs.Messages.{IsMessage}
 use Rattle.oplog.specs.Layout.{layout_of}
@@ -17,6 +18,8 @@ pub record Held : Type 0 where
   pub room : ℕ
   -- how many pieces of a cut are still to be written, while one is in progress
   pub left : Option ℕ
+  -- which pieces of each image may be others than those of what is settled
+  pub marks : Marks
   -- whether the device has failed in a call
   pub failed : Bool
   pub medium : Medium

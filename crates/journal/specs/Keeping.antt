@@ -1,16 +1,14 @@
 -- What a journal keeps true of its device between calls. No clause of a public function cites this module.
-use Rattle.std.specs.Prelude.{◌≡◌, ◌↔◌, ◌<◌, ◌-◌, ℕ, suc, Bool, true, false, List, [], ◌∷◌, length, get_or, Option, Some, None, is_some}
-use Rattle.std.specs.List.{AllByRecursion}
+use Rattle.std.specs.Prelude.{◌≡◌, ◌<◌, ◌-◌, ℕ, Bool, true, false, List, length, get_or, Option, Some, None, is_some}
 use Rattle.affinity.specs.declared.geometry.Geometry.{Geometry}
 use Rattle.checkpoint.specs.Recovery.{holds}
 use Rattle.disk.specs.Device.{Leaves, Medium}
 use Rattle.image.specs.Image.{read}
 use Rattle.image.specs.Pieces.{piece_count}
-use Rattle.image.specs.Touched.{touches}
 use Rattle.journal.specs.Journal.{Held, records_in}
+use Rattle.journal.specs.Marks.{count_marked}
 use Rattle.journal.specs.Steps.{IsStanding, run_on}
 use Rattle.journal.specs.Stretches.{AgreeUnmarked, image_in, stretch_in, stretch_of}
-use Rattle.message.specs.declared.Msg.{Msg}
 use Rattle.oplog.specs.Calls.{IsReadyFor}
 use Rattle.oplog.specs.Front.{front}
 use Rattle.oplog.specs.Layout.{layout_of, other}
@@ -19,21 +17,10 @@ use Rattle.plain.specs.State.{State, IsState}
 
 -- ---- marks
 
--- how many are marked
-abbrev pub count_marked : List Bool → ℕ
-count_marked [] = 0
-count_marked (true ∷ marks) = suc (count_marked marks)
-count_marked (false ∷ marks) = count_marked marks
-
 -- Each stretch that isn't marked is the one of a state, where there is one.
 abbrev pub IsFresh : Geometry → Option State → List Bool → List ℕ → Type 0
 IsFresh g x marks bytes = (y : State) → x ≡ Some y → (n : ℕ) → n < piece_count g → get_or marks n true ≡ false
     → stretch_in g bytes n ≡ stretch_of g y n
-
--- Marks after these messages: a piece isn't marked exactly where it wasn't before and none of the messages touches it.
-abbrev pub MarksTouched : Geometry → List Msg → List Bool → List Bool → Type 0
-MarksTouched g ms old new = (n : ℕ) → n < piece_count g
-    → (get_or new n true ≡ false) ↔ ((get_or old n true ≡ false) × AllByRecursion (λ m. touches g m n ≡ false) ms)
 
 -- ---- a cut
 
@@ -73,11 +60,12 @@ pub record IsSound (log : Log) (frozen : List ℕ) (named others due : List Bool
   pub others_fresh : IsFresh log.geometry (holds log.geometry m.now) others (coming log frozen left m)
   pub by_cut : IsCutOr log frozen due left m
 
-abbrev pub held_of : Log → Option ℕ → Bool → Medium → Held
-held_of log left failed m = record {
+abbrev pub held_of : Log → List Bool → List Bool → Option ℕ → Bool → Medium → Held
+held_of log named others left failed m = record {
   geometry = log.geometry;
   room = log.geometry.half - log.used;
   left = left;
+  marks = record { named = named; others = others };
   failed = failed;
   medium = m;
 }

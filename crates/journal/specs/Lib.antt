@@ -1,3 +1,4 @@
+pub mod Marks
 pub mod Journal
 pub mod Stretches
 pub mod Steps

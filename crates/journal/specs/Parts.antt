@@ -10,6 +10,7 @@ use Rattle.disk.specs.Device.{Medium}
 use Rattle.image.specs.Pieces.{piece_count}
 use Rattle.journal.specs.declared.opening.Parts.{Parts}
 use Rattle.journal.specs.Keeping.{IsSound}
+use Rattle.journal.specs.Marks.{Marks, opened_marks}
 use Rattle.journal.specs.Opening.{IsRefusedBehind}
 use Rattle.oplog.specs.Calls.{HasParts}
 use Rattle.oplog.specs.Layout.{image_size, layout_of}
@@ -27,6 +28,10 @@ pub record IsRefusedAlike (g : Geometry) (before c : List ℕ) : Type 0 where
   pub header : HasHeader g c
   pub refused : refused g c ≡ refused g before
 
+-- the marks that a journal is made of
+abbrev pub marks_of : Parts → Marks
+marks_of p = record { named = p.named_marks.items; others = p.other_marks.items }
+
 -- What a journal is made of: a log with no record and all its room, and for each piece its marks.
 pub record IsMade (p : Parts) (m : Medium) : Type 0 where
   pub geometry : p.halves.geometry ≡ p.tree.geometry
@@ -37,6 +42,7 @@ pub record IsMade (p : Parts) (m : Medium) : Type 0 where
   pub frozen : length p.frozen.items ≡ image_size p.halves.geometry
   pub named_marks : length p.named_marks.items ≡ piece_count p.halves.geometry
   pub other_marks : length p.other_marks.items ≡ piece_count p.halves.geometry
+  pub marks : marks_of p ≡ opened_marks p.halves.geometry
   pub due : length p.due.items ≡ piece_count p.halves.geometry
 
 -- It was opened from a device with these bytes, and the tree holds the state for which they stand.

@@ -4,6 +4,7 @@ ghost use Rattle.checkpoint.specs.Recovery.{holds};
 ghost use Rattle.disk.specs.Moments.{LeavesOnly};
 ghost use Rattle.image.specs.Pieces.{piece_count};
 ghost use Rattle.journal.specs.Journal.{Held, AreCarriedOut, HoldsSome, IsSettled, after_call, records, settled};
+ghost use Rattle.journal.specs.Marks.{AreBothTouched, count_marked, cut_marks, flipped_marks, pointed_marks};
 ghost use Rattle.oplog.specs.Log.{CountsLogFault, IsNotBad};
 ghost use Rattle.oplog.specs.Logged.{AreLogged, records_of};
 ghost use Rattle.parcel.specs.Tree.{IsWholeTree, state_in};
@@ -58,7 +59,7 @@ impl<D: Disk> Model for Journal<D> {
 
     ghost Value = { Held };
 
-    ghost view = { λ j. held_of j.halves j.left j.failed (D.medium j.disk) };
+    ghost view = { λ j. held_of j.halves j.named_marks.items j.other_marks.items j.left j.failed (D.medium j.disk) };
 
     ghost invariant = { λ j. HasParts j.halves (D.medium j.disk)
         × (j.halves.used ≤ j.halves.geometry.half)
@@ -94,7 +95,7 @@ impl<D: Disk> Journal<D> {
         requires other_marks { length other_marks.items ≡ piece_count halves.geometry }
         requires due { length due.items ≡ piece_count halves.geometry }
         requires sound { D.keeps → IsSound halves frozen.items named_marks.items other_marks.items due.items None (D.medium disk) }
-        ensures { result ≡ held_of halves None false (D.medium disk) }
+        ensures { result ≡ held_of halves named_marks.items other_marks.items None false (D.medium disk) }
     {
         Journal {
             disk,
@@ -123,9 +124,11 @@ impl<D: Disk> Journal<D> {
             settled self.new ≡ option_map (λ x. fold self.old.geometry x messages.now) (settled self.old)) }
         ensures records { OnOk result (D.keeps → records self.new ≡ records self.old ++ records_of messages.now) }
         ensures sound { OnOk result (D.keeps → IsSettled self.new) }
+        ensures marked { OnOk result (AreBothTouched self.old.geometry messages.now self.old.marks self.new.marks) }
         ensures none { length messages.now ≡ 0 → self.new ≡ self.old }
         ensures after { self.new ≡ after_call result
-            (record self.old { room = self.old.room - length messages.now; medium = self.new.medium }) self.old }
+            (record self.old { room = self.old.room - length messages.now; marks = self.new.marks; medium = self.new.medium })
+            self.old }
         ensures not_bad { IsNotBad result }
         ensures counts { CountsLogFault result self.old.medium.faults self.new.medium.faults }
     {
@@ -154,7 +157,8 @@ impl<D: Disk> Journal<D> {
         ensures sound { OnOk result (D.keeps → IsSettled self.new) }
         ensures emptied { OnOk result (D.keeps → records self.new ≡ []) }
         ensures after { self.new ≡ after_call result
-            (record self.old { room = self.old.geometry.half; medium = self.new.medium }) self.old }
+            (record self.old { room = self.old.geometry.half; marks = pointed_marks self.old.marks; medium = self.new.medium })
+            self.old }
         ensures not_bad { IsNotBad result }
         ensures counts { CountsLogFault result self.old.medium.faults self.new.medium.faults }
     {
@@ -173,7 +177,7 @@ impl<D: Disk> Journal<D> {
     }
 
     /// Begins a point: what is settled, which a whole tree holds, is kept as the state of the cut, and records go to the
-    /// other half from now on, behind those in force.
+    /// other half from now on, behind those in force. As many pieces are left to write as are marked in the other image.
     pub fn cut(&mut self, tree: &Tree) -> Result<(), LogFault>
         requires sound { self.old.failed ≡ false }
         requires alone { self.old.left ≡ None }
@@ -185,8 +189,13 @@ impl<D: Disk> Journal<D> {
         ensures settled { OnOk result (D.keeps → settled self.new ≡ settled self.old) }
         ensures sound { OnOk result (D.keeps → IsSettled self.new) }
         ensures records { OnOk result (D.keeps → records self.new ≡ records self.old) }
-        ensures begun { OnOk result ((n : ℕ) × (n ≤ piece_count self.old.geometry)
-            × (self.new ≡ record self.old { room = self.old.geometry.half; left = Some n; medium = self.new.medium })) }
+        ensures begun { OnOk result (self.new ≡ record self.old {
+          room = self.old.geometry.half;
+          left = Some (count_marked self.old.marks.others);
+          marks = cut_marks self.old.marks;
+          medium = self.new.medium;
+        }) }
+        ensures few { OnOk result (count_marked self.old.marks.others ≤ piece_count self.old.geometry) }
         ensures broken { OnErr result (self.new ≡ record self.old { failed = true; medium = self.new.medium }) }
         ensures not_bad { IsNotBad result }
         ensures counts { CountsLogFault result self.old.medium.faults self.new.medium.faults }
@@ -244,7 +253,8 @@ impl<D: Disk> Journal<D> {
         ensures sound { OnOk result (D.keeps → IsSettled self.new) }
         ensures records { OnOk result (D.keeps →
             (first : List (List ℕ)) × (records self.old ≡ first ++ records self.new)) }
-        ensures after { self.new ≡ after_call result (record self.old { left = None; medium = self.new.medium }) self.old }
+        ensures after { self.new ≡ after_call result
+            (record self.old { left = None; marks = flipped_marks self.old.marks; medium = self.new.medium }) self.old }
         ensures not_bad { IsNotBad result }
         ensures counts { CountsLogFault result self.old.medium.faults self.new.medium.faults }
     {

@@ -1,7 +1,7 @@
 //! Rows of marks, one for each piece of an image.
 ghost use Rattle.std.specs.Prelude.{◌≡◌, ◌<◌, ◌∷◌, [], true, false, get_or, length, replicate, IfSome, IsNone};
 ghost use Rattle.image.specs.Pieces.{piece_count};
-ghost use Rattle.journal.specs.Keeping.{MarksTouched, count_marked};
+ghost use Rattle.journal.specs.Marks.{MarksTouched, count_marked};
 
 use affinity::Geometry;
 use image::touched;

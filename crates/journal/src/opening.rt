@@ -9,8 +9,9 @@ ghost use Rattle.disk.specs.Device.{IsSynced, Leaves};
 ghost use Rattle.disk.specs.Moments.{LeavesOnly};
 ghost use Rattle.image.specs.Image.{image_of};
 ghost use Rattle.image.specs.Pieces.{piece_count};
+ghost use Rattle.journal.specs.Marks.{opened_marks};
 ghost use Rattle.journal.specs.Opening.{IsOpened, IsRefusedUnwritten, OpeningLeaves, StandsAs};
-ghost use Rattle.journal.specs.Parts.{IsBad, IsMade, IsMadeOf, IsRefusedAlike};
+ghost use Rattle.journal.specs.Parts.{IsBad, IsMade, IsMadeOf, IsRefusedAlike, marks_of};
 ghost use Rattle.journal.specs.Stretches.{AreAllMarked};
 ghost use Rattle.journal.specs.Steps.{IsAlone, IsFinished, IsPointed, StandsStill, finished_now, pointed};
 ghost use Rattle.oplog.specs.Calls.{HasParts};
@@ -62,6 +63,7 @@ fn take_memory(alloc: Global, g: &Geometry) -> Result<(Parts, Vec<u8>), OpenFaul
     ensures named_marks { IfOk result (λ r. length r.0.named_marks.items ≡ piece_count g.now) }
     ensures other_marks { IfOk result (λ r. length r.0.other_marks.items ≡ piece_count g.now) }
     ensures all { IfOk result (λ r. AreAllMarked g.now r.0.other_marks.items) }
+    ensures marks { IfOk result (λ r. marks_of r.0 ≡ opened_marks g.now) }
     ensures due { IfOk result (λ r. length r.0.due.items ≡ piece_count g.now) }
     ensures fault { IfErr result (λ e. e ≡ OutOfMemory) }
 {

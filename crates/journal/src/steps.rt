@@ -13,7 +13,7 @@ ghost use Rattle.oplog.specs.Layout.{image_size, other};
 ghost use Rattle.oplog.specs.Log.{CountsLogFault, IsNotBad};
 ghost use Rattle.plain.specs.State.{State};
 
-use crate::stretches::write_image;
+use crate::stretches::{make_last, write_image};
 use disk::Disk;
 use oplog::{Halves, LogFault};
 
@@ -99,7 +99,7 @@ pub(crate) fn flip_on<D: Disk>(
     ensures counts { CountsLogFault result (D.medium disk.old).faults (D.medium disk.new).faults }
     ensures len { length (D.medium disk.new).now ≡ length (D.medium disk.old).now }
 {
-    if disk.sync().is_err() {
+    if make_last(disk).is_err() {
         return Err(LogFault::Device);
     }
     halves.flip_root(disk)?;

@@ -75,8 +75,8 @@ fn write_run<D: Disk>(
     Ok(())
 }
 
-/// Makes last what was written: at `Ok` a crash leaves it.
-fn make_last<D: Disk>(disk: &mut D) -> Result<(), DiskFault>
+/// Makes last what was written of an image, before it is named: at `Ok` a crash leaves it.
+pub(crate) fn make_last<D: Disk>(disk: &mut D) -> Result<(), DiskFault>
     ensures syncs { D.keeps → Syncs result (D.medium disk.old) (D.medium disk.new) }
     ensures inside { IsErrOf result DiskFault.OutOfRange → ⊥ }
     ensures counts { CountsFault result (D.medium disk.old).faults (D.medium disk.new).faults }

@@ -8,6 +8,7 @@ use Rattle.disk.proofs.Moments.{leaves_now, started, weaker}
 use Rattle.disk.specs.Device.{Medium}
 use Rattle.disk.specs.Moments.{LeavesOnly}
 use Rattle.journal.specs.Journal.{HoldsSome, settled}
+use Rattle.journal.specs.Marks.{Marks}
 use Rattle.legal_runs.proofs.Sound.{event_sound}
 use Rattle.legal_runs.specs.Laws.{IsSound}
 use Rattle.legal_runs.specs.World.{World}
@@ -48,8 +49,8 @@ still_standing keeps p k keep ms new same =
 pub called_sound : (g : Geometry) (old new : World) (step : Step) (outcome : Outcome) (rose : Bool) → IsCalled g old new step outcome rose → IsSound g old → IsSound g new
 called_sound g old new step outcome rose called sound = event_sound g (record { core = old; hands = [] }) _ (called []) sound
 
-abbrev pub with_journal : Parts → ℕ → Option ℕ → Bool → Medium → Parts
-with_journal p room left failed medium = record p { journal = record p.journal { room = room; left = left; failed = failed; medium = medium } }
+abbrev pub with_journal : Parts → ℕ → Option ℕ → Bool → Marks → Medium → Parts
+with_journal p room left failed marks medium = record p { journal = record p.journal { room = room; left = left; failed = failed; marks = marks; medium = medium } }
 
 module _ (keeps : Type 0) (p : Parts) (k : IsCore keeps p) (works : p.journal.failed ≡ false) where
   abbrev g : Geometry
@@ -68,15 +69,15 @@ module _ (keeps : Type 0) (p : Parts) (k : IsCore keeps p) (works : p.journal.fa
         subst (λ (m : Medium). LeavesOnly p.journal.medium m (HoldsSome g (world_in p).settled (if p.journal.failed then p.batch else []))) (sym same)
         (subst (λ ds. LeavesOnly p.journal.medium medium (HoldsSome g (world_in p).settled ds)) (sym (cond-false p.journal.failed p.batch [] works)) (step_moments keep))
 
-    pub step_stands : (room : ℕ) (left : Option ℕ) (failed : Bool) → keeps → StandsNow (kept_of (with_journal p room left failed medium))
-    step_stands room left failed keep c leaves = subst (λ ds. HoldsSome g (world_in p).settled ds c) (sym (k.no_doubt works))
+    pub step_stands : (room : ℕ) (left : Option ℕ) (failed : Bool) (marks : Marks) → keeps → StandsNow (kept_of (with_journal p room left failed marks medium))
+    step_stands room left failed marks keep c leaves = subst (λ ds. HoldsSome g (world_in p).settled ds c) (sym (k.no_doubt works))
         (leaves_now p.journal.medium medium _ (step_moments keep) c leaves)
 
     -- the step was made, or the device failed
-    pub step_core : (room : ℕ) (left : Option ℕ) (failed : Bool) → IsSound g (world_in (with_journal p room left failed medium))
-        → (keeps → failed ≡ false → settled (record p.journal { room = room; left = left; failed = failed; medium = medium }) ≡ settled p.journal)
-        → IsCore keeps (with_journal p room left failed medium)
-    step_core room left failed sound same = record {
+    pub step_core : (room : ℕ) (left : Option ℕ) (failed : Bool) (marks : Marks) → IsSound g (world_in (with_journal p room left failed marks medium))
+        → (keeps → failed ≡ false → settled (record p.journal { room = room; left = left; failed = failed; marks = marks; medium = medium }) ≡ settled p.journal)
+        → IsCore keeps (with_journal p room left failed marks medium)
+    step_core room left failed marks sound same = record {
       claimed = k.claimed;
       placed = k.placed;
       turned = k.turned;
@@ -88,6 +89,6 @@ module _ (keeps : Type 0) (p : Parts) (k : IsCore keeps p) (works : p.journal.fa
       geometry = k.geometry;
       tree = k.tree;
       is_settled = λ keep fine. same keep fine ∙ settled_now keep;
-      stands = step_stands room left failed;
+      stands = step_stands room left failed marks;
       no_doubt = λ fine. k.no_doubt works;
     }

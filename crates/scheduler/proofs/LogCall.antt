@@ -137,7 +137,7 @@ module _ (keeps : Type 0) (row : Row Slot) (replies : List Reply) (tree : TreeVi
             (any keep (world_in p).settled (k.is_settled keep works))
 
         pub log_call_throughout : (now : Kept) → now.medium ≡ new.medium → keeps → StandsThroughout (batch_of (world_in p) n) (kept_of p) now
-        log_call_throughout now same keep = log_throughout keeps p k works n flight new.medium any_at now same keep
+        log_call_throughout now same keep = log_throughout keeps p k works n flight new.marks new.medium any_at now same keep
 
         pub log_untouched : (length passed ≡ 0 → new ≡ journal) → touches_device (world_in p) (steps.Log n) ≡ false → new.medium ≡ journal.medium
         log_untouched same quiet = ap (λ (j : Held). j.medium) (same (none_passed (none_to_log journal.failed (length (batch_of (world_in p) n)) works quiet)))
@@ -163,7 +163,7 @@ module _ (keeps : Type 0) (row : Row Slot) (replies : List Reply) (tree : TreeVi
           }
 
           pub doubt_call_core : IsCore keeps doubting
-          doubt_call_core = subst (IsCore keeps) (sym doubting_is) (doubt_core keeps p k works n flight new.medium any_at doubt_sound)
+          doubt_call_core = subst (IsCore keeps) (sym doubting_is) (doubt_core keeps p k works n flight new.marks new.medium any_at doubt_sound)
 
           pub doubt_call_world : world_in doubting ≡ record (world_in p) { failed = true; doubt = batch_of (world_in p) n }
           doubt_call_world = ap world_in doubting_is ∙ (λ i. record (world_in p) { failed = true; doubt = same_batch keeps p k n i })
@@ -173,7 +173,7 @@ module _ (keeps : Type 0) (row : Row Slot) (replies : List Reply) (tree : TreeVi
 
         -- ---- they are logged
 
-        module _ (made : new ≡ record journal { room = journal.room - length passed; medium = new.medium })
+        module _ (made : new ≡ record journal { room = journal.room - length passed; marks = new.marks; medium = new.medium })
             (settles : keeps → settled new ≡ option_map (λ x. fold journal.geometry x passed) (settled journal)) (stands : keeps → IsSettled new)
             (moved : Row Slot) (has : HasLogged count row moved) (flew : ℕ) (flew_is : flew ≡ changing_in row (take count slots))
             (first : TreeView) (first_is : first ≡ opened) (after_since : List Msg) (since_is : after_since ≡ since ++ messages)
@@ -205,8 +205,8 @@ module _ (keeps : Type 0) (row : Row Slot) (replies : List Reply) (tree : TreeVi
               let same = min_is in
               omega (arith, now, were, same)
 
-          after_is : after ≡ with_log p n (flight - flew) room new.medium
-          after_is = λ i. record (with_log p n (flight - flew) room new.medium) {
+          after_is : after ≡ with_log p n (flight - flew) room new.marks new.medium
+          after_is = λ i. record (with_log p n (flight - flew) room new.marks new.medium) {
             lines = record {
               waiting = same_line row moved replies 0 has.values has.waiting i;
               out = same_line row moved replies 1 has.values has.out i;
@@ -215,24 +215,24 @@ module _ (keeps : Type 0) (row : Row Slot) (replies : List Reply) (tree : TreeVi
             };
             free = ap (λ (fs : List ℕ). length fs) has.free i;
             capacity = log_size i;
-            journal = (made ∙ (λ j. record journal { room = journal.room - length (passed_at j); medium = new.medium })) i;
+            journal = (made ∙ (λ j. record journal { room = journal.room - length (passed_at j); marks = new.marks; medium = new.medium })) i;
             batch = empty i;
             opened = first_is i;
             since = (since_is ∙ ap (λ (ms : List Msg). since ++ ms) messages_are) i;
           }
 
-          settles_at : keeps → settled (record journal { room = room; medium = new.medium }) ≡ Some (world_in (with_log p n (flight - flew) room new.medium)).settled
+          settles_at : keeps → settled (record journal { room = room; marks = new.marks; medium = new.medium }) ≡ Some (world_in (with_log p n (flight - flew) room new.marks new.medium)).settled
           settles_at keep =
               sym (ap settled made) ∙ settles keep
               ∙ ap (option_map (λ x. fold journal.geometry x passed)) (k.is_settled keep works)
               ∙ ap (λ (ms : List Msg). Some (fold journal.geometry (world_in p).settled ms)) passed_at
               ∙ ap Some (sym (fold-joined journal.geometry (state_in opened) since (batch_at p n)))
 
-          stands_at : keeps → (c : List ℕ) → Leaves new.medium c → holds journal.geometry c ≡ settled (record journal { room = room; medium = new.medium })
+          stands_at : keeps → (c : List ℕ) → Leaves new.medium c → holds journal.geometry c ≡ settled (record journal { room = room; marks = new.marks; medium = new.medium })
           stands_at keep c leaves = ap (λ (j : Held). holds j.geometry c) (sym made) ∙ (stands keep).each c leaves ∙ ap settled made
 
           pub log_call_core : IsCore keeps after
-          log_call_core = subst (IsCore keeps) (sym after_is) (log_core keeps p k works n (flight - flew) new.medium (flies flew flew_is) settles_at stands_at)
+          log_call_core = subst (IsCore keeps) (sym after_is) (log_core keeps p k works n (flight - flew) new.marks new.medium (flies flew flew_is) settles_at stands_at)
 
           pub log_call_world : world_in after ≡ log journal.geometry (world_in p) n
-          log_call_world = ap world_in after_is ∙ log_world keeps p k works n (flight - flew) new.medium
+          log_call_world = ap world_in after_is ∙ log_world keeps p k works n (flight - flew) new.marks new.medium

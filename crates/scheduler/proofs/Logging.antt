@@ -12,6 +12,7 @@ use Rattle.disk.proofs.Moments.{leaves_now}
 use Rattle.disk.specs.Device.{Leaves, Medium}
 use Rattle.disk.specs.Moments.{LeavesOnly}
 use Rattle.journal.specs.Journal.{AreCarriedOut, HoldsSome, settled}
+use Rattle.journal.specs.Marks.{Marks}
 use Rattle.legal_runs.proofs.Lists.{all_back, all_front, all_join, before_back, before_front}
 use Rattle.legal_runs.proofs.Moves.{Logs}
 use Rattle.legal_runs.proofs.Room.{log_has_room}
@@ -104,10 +105,10 @@ module _ (keeps : Type 0) (p : Parts) (k : IsCore keeps p) (n : ℕ) where
 
 -- ---- what stands afterwards
 
-abbrev pub with_log : Parts → ℕ → ℕ → ℕ → Medium → Parts
-with_log p n flight room medium = record p {
+abbrev pub with_log : Parts → ℕ → ℕ → ℕ → Marks → Medium → Parts
+with_log p n flight room marks medium = record p {
   lines = record p.lines { ran = drop n p.lines.ran; logged = p.lines.logged ++ take n p.lines.ran };
-  journal = record p.journal { room = room; medium = medium };
+  journal = record p.journal { room = room; marks = marks; medium = medium };
   batch = [];
   flight = flight;
   since = p.since ++ batch_at p n;
@@ -116,12 +117,12 @@ with_log p n flight room medium = record p {
 abbrev pub with_doubt : Parts → ℕ → Medium → Parts
 with_doubt p n medium = record p { journal = record p.journal { failed = true; medium = medium }; batch = batch_at p n }
 
-module _ (keeps : Type 0) (p : Parts) (k : IsCore keeps p) (works : p.journal.failed ≡ false) (n flight : ℕ) (medium : Medium) where
+module _ (keeps : Type 0) (p : Parts) (k : IsCore keeps p) (works : p.journal.failed ≡ false) (n flight : ℕ) (marks : Marks) (medium : Medium) where
   abbrev room : ℕ
   room = p.journal.room - length (batch_at p n)
 
   abbrev after : Parts
-  after = with_log p n flight room medium
+  after = with_log p n flight room marks medium
 
   pub log_world : world_in after ≡ log p.journal.geometry (world_in p) n
   log_world = λ i. record (world_in after) {
@@ -133,8 +134,8 @@ module _ (keeps : Type 0) (p : Parts) (k : IsCore keeps p) (works : p.journal.fa
   }
 
   module _ (flies : flight + changing (take n p.lines.ran) ≡ p.flight)
-      (is_settled : keeps → settled (record p.journal { room = room; medium = medium }) ≡ Some (world_in after).settled)
-      (stands : keeps → (c : List ℕ) → Leaves medium c → holds p.journal.geometry c ≡ settled (record p.journal { room = room; medium = medium })) where
+      (is_settled : keeps → settled (record p.journal { room = room; marks = marks; medium = medium }) ≡ Some (world_in after).settled)
+      (stands : keeps → (c : List ℕ) → Leaves medium c → holds p.journal.geometry c ≡ settled (record p.journal { room = room; marks = marks; medium = medium })) where
     pub log_core : IsCore keeps after
     log_core =
         let whole = sym (take-append-drop n p.lines.ran) in

@@ -7,6 +7,7 @@ use Rattle.checkpoint.specs.Recovery.{holds}
 use Rattle.disk.specs.Moments.{LeavesOnly}
 use Rattle.image.specs.Pieces.{piece_count}
 use Rattle.journal.specs.Journal.{Held, after_call, settled}
+use Rattle.journal.specs.Marks.{Marks, count_marked, cut_marks, flipped_marks, pointed_marks}
 use Rattle.legal_runs.specs.Events.{point_refusal}
 use Rattle.legal_runs.specs.Laws.{IsSound}
 use Rattle.legal_runs.specs.World.{World, held}
@@ -87,16 +88,16 @@ module _ (keeps : Type 0) (p : Parts) (k : IsCore keeps p) (why : point_refusal 
 
 module _ (keeps : Type 0) (p : Parts) (k : IsCore keeps p) (works : p.journal.failed ≡ false) (new : Held)
     (any : keeps → LeavesOnly p.journal.medium new.medium (λ c. holds p.journal.geometry c ≡ settled p.journal)) where
-  pub made_core : (room : ℕ) (left : Option ℕ) → new ≡ record p.journal { room = room; left = left; medium = new.medium }
-      → (keeps → settled new ≡ settled p.journal) → IsSound p.journal.geometry (world_in (with_journal p room left p.journal.failed new.medium))
+  pub made_core : (room : ℕ) (left : Option ℕ) (marks : Marks) → new ≡ record p.journal { room = room; left = left; marks = marks; medium = new.medium }
+      → (keeps → settled new ≡ settled p.journal) → IsSound p.journal.geometry (world_in (with_journal p room left p.journal.failed marks new.medium))
       → IsCore keeps (record p { journal = new })
-  made_core room left is same sound = subst (λ (j : Held). IsCore keeps (record p { journal = j })) (sym is)
-      (step_core keeps p k works new.medium any room left p.journal.failed sound (λ keep fine. sym (ap settled is) ∙ same keep))
+  made_core room left marks is same sound = subst (λ (j : Held). IsCore keeps (record p { journal = j })) (sym is)
+      (step_core keeps p k works new.medium any room left p.journal.failed marks sound (λ keep fine. sym (ap settled is) ∙ same keep))
 
   pub broken_core : new ≡ record p.journal { failed = true; medium = new.medium }
-      → IsSound p.journal.geometry (world_in (with_journal p p.journal.room p.journal.left true new.medium)) → IsCore keeps (record p { journal = new })
+      → IsSound p.journal.geometry (world_in (with_journal p p.journal.room p.journal.left true p.journal.marks new.medium)) → IsCore keeps (record p { journal = new })
   broken_core is sound = subst (λ (j : Held). IsCore keeps (record p { journal = j })) (sym is)
-      (step_core keeps p k works new.medium any p.journal.room p.journal.left true sound (λ keep fine. absurd (true≢false fine)))
+      (step_core keeps p k works new.medium any p.journal.room p.journal.left true p.journal.marks sound (λ keep fine. absurd (true≢false fine)))
 
   pub step_moment : keeps → StandsThroughout [] (kept_of p) (kept_of (record p { journal = new }))
   step_moment = step_throughout keeps p k works new.medium any (kept_of (record p { journal = new })) refl
@@ -110,7 +111,7 @@ module _ (keeps : Type 0) (p : Parts) (k : IsCore keeps p) (new : Held)
   w = world_in p
 
   -- failing leaves all that makes a world sound
-  failed_sound : IsSound g (world_in (with_journal p p.journal.room p.journal.left true new.medium))
+  failed_sound : IsSound g (world_in (with_journal p p.journal.room p.journal.left true p.journal.marks new.medium))
   failed_sound = record {
     apart = k.sound.apart;
     replied = k.sound.replied;
@@ -121,16 +122,16 @@ module _ (keeps : Type 0) (p : Parts) (k : IsCore keeps p) (new : Held)
     fits = k.sound.fits;
   }
 
-  pointed_sound : point_refusal (world_in p) ≡ None → IsSound g (world_in (with_journal p g.half p.journal.left p.journal.failed new.medium))
+  pointed_sound : point_refusal (world_in p) ≡ None → IsSound g (world_in (with_journal p g.half p.journal.left p.journal.failed new.marks new.medium))
   pointed_sound why = called_sound g w (record w { room = g.half }) steps.Point outcomes.Pointed false
       (point_called g w (record w { room = g.half }) (Ok tt) (why, refl)) k.sound
 
-  cut_sound : point_refusal (world_in p) ≡ None → (n : ℕ) → n ≤ piece_count g → IsSound g (world_in (with_journal p g.half (Some n) p.journal.failed new.medium))
+  cut_sound : point_refusal (world_in p) ≡ None → (n : ℕ) → n ≤ piece_count g → IsSound g (world_in (with_journal p g.half (Some n) p.journal.failed new.marks new.medium))
   cut_sound why n few = called_sound g w (record w { room = g.half; left = Some n }) steps.Cut outcomes.Cut false
       (cut_called g w (record w { room = g.half; left = Some n }) (Ok tt) (why, (n, few, refl))) k.sound
 
   -- whatever is left to write
-  left_sound : (left : Option ℕ) → IsSound g (world_in (with_journal p p.journal.room left p.journal.failed new.medium))
+  left_sound : (left : Option ℕ) → IsSound g (world_in (with_journal p p.journal.room left p.journal.failed new.marks new.medium))
   left_sound left = record {
     apart = k.sound.apart;
     replied = k.sound.replied;
@@ -142,24 +143,28 @@ module _ (keeps : Type 0) (p : Parts) (k : IsCore keeps p) (new : Held)
   }
 
   module _ (result : Result (Unit {0}) LogFault) (why : point_refusal (world_in p) ≡ None) (settles : OnOk result (keeps → settled new ≡ settled p.journal)) where
-    pub point_core : new ≡ after_call result (record p.journal { room = p.journal.geometry.half; medium = new.medium }) p.journal
+    pub point_core : new ≡ after_call result (record p.journal { room = p.journal.geometry.half; marks = pointed_marks p.journal.marks; medium = new.medium }) p.journal
         → IsCore keeps (record p { journal = new })
     point_core is = by result is settles
       where
-        by : (r : Result (Unit {0}) LogFault) → new ≡ after_call r (record p.journal { room = p.journal.geometry.half; medium = new.medium }) p.journal
+        by : (r : Result (Unit {0}) LogFault) → new ≡ after_call r (record p.journal { room = p.journal.geometry.half; marks = pointed_marks p.journal.marks; medium = new.medium }) p.journal
             → OnOk r (keeps → settled new ≡ settled p.journal) → IsCore keeps (record p { journal = new })
-        by (Ok u) is same = made_core keeps p k (point_works keeps p k why) new any p.journal.geometry.half p.journal.left is same (pointed_sound why)
+        by (Ok u) is same = made_core keeps p k (point_works keeps p k why) new any p.journal.geometry.half p.journal.left (pointed_marks p.journal.marks) is same (pointed_sound why)
         by (Err e) is same = broken_core keeps p k (point_works keeps p k why) new any is failed_sound
 
-    pub cut_core : OnOk result ((n : ℕ) × (n ≤ piece_count g) × (new ≡ record p.journal { room = g.half; left = Some n; medium = new.medium }))
+    abbrev pub cut_journal : Held
+    cut_journal = record p.journal { room = g.half; left = Some (count_marked p.journal.marks.others); marks = cut_marks p.journal.marks; medium = new.medium }
+
+    pub cut_core : OnOk result (new ≡ cut_journal) → OnOk result (count_marked p.journal.marks.others ≤ piece_count g)
         → OnErr result (new ≡ record p.journal { failed = true; medium = new.medium }) → IsCore keeps (record p { journal = new })
-    cut_core begun broken = by result begun broken settles
+    cut_core begun few broken = by result begun few broken settles
       where
-        by : (r : Result (Unit {0}) LogFault) → OnOk r ((n : ℕ) × (n ≤ piece_count g) × (new ≡ record p.journal { room = g.half; left = Some n; medium = new.medium }))
+        by : (r : Result (Unit {0}) LogFault) → OnOk r (new ≡ cut_journal) → OnOk r (count_marked p.journal.marks.others ≤ piece_count g)
             → OnErr r (new ≡ record p.journal { failed = true; medium = new.medium }) → OnOk r (keeps → settled new ≡ settled p.journal)
             → IsCore keeps (record p { journal = new })
-        by (Ok u) begun broken same = made_core keeps p k (point_works keeps p k why) new any g.half (Some begun.0) begun.2 same (cut_sound why begun.0 begun.1)
-        by (Err e) begun broken same = broken_core keeps p k (point_works keeps p k why) new any broken failed_sound
+        by (Ok u) begun few broken same =
+            made_core keeps p k (point_works keeps p k why) new any g.half (Some (count_marked p.journal.marks.others)) (cut_marks p.journal.marks) begun same (cut_sound why (count_marked p.journal.marks.others) few)
+        by (Err e) begun few broken same = broken_core keeps p k (point_works keeps p k why) new any broken failed_sound
 
   module _ (result : Result ℕ LogFault) (works : p.journal.failed ≡ false)
       (settles : OnOk result (keeps → settled new ≡ settled p.journal)) where
@@ -169,15 +174,15 @@ module _ (keeps : Type 0) (p : Parts) (k : IsCore keeps p) (new : Held)
       where
         by : (r : Result ℕ LogFault) → new ≡ after_call r (record p.journal { left = option_map (λ l. l - 1) p.journal.left; medium = new.medium }) p.journal
             → OnOk r (keeps → settled new ≡ settled p.journal) → IsCore keeps (record p { journal = new })
-        by (Ok u) is same = made_core keeps p k works new any p.journal.room (option_map (λ l. l - 1) p.journal.left) is same (left_sound (option_map (λ l. l - 1) p.journal.left))
+        by (Ok u) is same = made_core keeps p k works new any p.journal.room (option_map (λ l. l - 1) p.journal.left) p.journal.marks is same (left_sound (option_map (λ l. l - 1) p.journal.left))
         by (Err e) is same = broken_core keeps p k works new any is failed_sound
 
   module _ (result : Result (Unit {0}) LogFault) (works : p.journal.failed ≡ false)
       (settles : OnOk result (keeps → settled new ≡ settled p.journal)) where
-    pub flip_core : new ≡ after_call result (record p.journal { left = None; medium = new.medium }) p.journal → IsCore keeps (record p { journal = new })
+    pub flip_core : new ≡ after_call result (record p.journal { left = None; marks = flipped_marks p.journal.marks; medium = new.medium }) p.journal → IsCore keeps (record p { journal = new })
     flip_core is = by result is settles
       where
-        by : (r : Result (Unit {0}) LogFault) → new ≡ after_call r (record p.journal { left = None; medium = new.medium }) p.journal
+        by : (r : Result (Unit {0}) LogFault) → new ≡ after_call r (record p.journal { left = None; marks = flipped_marks p.journal.marks; medium = new.medium }) p.journal
             → OnOk r (keeps → settled new ≡ settled p.journal) → IsCore keeps (record p { journal = new })
-        by (Ok u) is same = made_core keeps p k works new any p.journal.room None is same (left_sound None)
+        by (Ok u) is same = made_core keeps p k works new any p.journal.room None (flipped_marks p.journal.marks) is same (left_sound None)
         by (Err e) is same = broken_core keeps p k works new any is failed_sound

@@ -1,5 +1,5 @@
 use Rattle.std.proofs.Common.{◌≡◌, ◌≤◌, take}
-use Rattle.journal.specs.Keeping.{count_marked}
+use Rattle.journal.specs.Marks.{count_marked}
 use Rattle.journal.proofs.marks.count_marked.Given as goal
 
 abbrev pub invariant-loop-is_marked : goal.invariant-loop-is_marked

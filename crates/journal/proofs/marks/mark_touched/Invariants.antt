@@ -1,5 +1,5 @@
 use Rattle.std.proofs.Common.{◌≡◌, length, take}
-use Rattle.journal.specs.Keeping.{MarksTouched}
+use Rattle.journal.specs.Marks.{MarksTouched}
 use Rattle.journal.proofs.marks.mark_touched.Given as goal
 
 abbrev pub invariant-loop-m : goal.invariant-loop-m

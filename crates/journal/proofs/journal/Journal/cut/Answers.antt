@@ -1,4 +1,4 @@
-use Rattle.std.proofs.Common.{◌≡◌, ◌-◌, false, Option, Some, None, ℕ, List, length, sym, ◌∙◌, ap, subst, arith}
+use Rattle.std.proofs.Common.{◌≡◌, ◌-◌, Bool, false, Option, Some, None, ℕ, List, length, replicate, sym, ◌∙◌, ap, subst, arith}
 use Rattle.std.proofs.lemmas.List.{length-replicate}
 use Rattle.affinity.specs.declared.geometry.Geometry.{Geometry}
 use Rattle.checkpoint.specs.Recovery.{holds}
@@ -6,7 +6,9 @@ use Rattle.disk.specs.Moments.{LeavesOnly}
 use Rattle.image.specs.Image.{image_of}
 use Rattle.image.specs.Pieces.{piece_count}
 use Rattle.journal.specs.Journal.{Held, records, records_in, settled}
-use Rattle.journal.specs.Keeping.{IsPlaced, IsSound, count_marked, held_of}
+use Rattle.journal.specs.Keeping.{IsPlaced, IsSound, held_of}
+use Rattle.journal.specs.Marks.{count_marked, cut_marks, unmarked}
+use Rattle.journal.specs.Steps.{cut_now}
 use Rattle.journal.proofs.Logging.{settled_of}
 use Rattle.journal.proofs.Rows.{count_most, whole_items, whole_put}
 use Rattle.journal.proofs.Saving.{cut_settled, cut_sound}
@@ -58,16 +60,25 @@ returns-clause-sound g c = λ k.
 pub returns-clause-begun : goal.returns-clause-begun
 returns-clause-begun g c =
     let w1 = g.D.Disk.medium c.cut_on.new.disk in
-    let most = count_most c.swap.new.x.items in
-    let count = c.count_marked.ensures ∙ ap count_marked c.deref.ensures.value in
-    let long : length c.swap.new.x.items ≡ piece_count c.args.self.now.geometry = ap (λ v. length v.items) c.swap.ensures.x_after ∙ c.self.invariant.4 ∙ ap (λ (h : Held). piece_count h.geometry) c.self.view_is in
-    let all : c.self.inside.halves.geometry.half - 0 ≡ c.self.inside.halves.geometry.half = omega arith in (
-      c.count_marked.result,
-      omega (arith, most, count, long),
-      ap (λ (l : Log). held_of l (Some c.count_marked.result) c.self.inside.failed w1) c.in_default.ensures.log
-          ∙ ap (λ (n : ℕ). record (held_of c.self.inside.halves (Some c.count_marked.result) c.self.inside.failed w1) { room = n }) all
-          ∙ ap (λ (h : Held). record h { room = h.geometry.half; left = Some c.count_marked.result; medium = w1 }) c.self.view_is,
-    )
+    let count = c.count_marked.ensures ∙ ap count_marked c.deref.ensures.value ∙ ap (λ v. count_marked v.items) c.swap.ensures.x_after in
+    let all : c.self.inside.halves.geometry.half - 0 ≡ c.self.inside.halves.geometry.half = omega arith in
+    let named = c.self.inside.named_marks.items in
+    let put = whole_put c.swap.new.y.len c.clear_marks.new.marks c.swap.new.y.items (ap length c.clear_marks.ensures ∙ length-replicate _ false ∙ ap length c.deref_mut-2.ensures.value) (ap length c.clear_marks.ensures ∙ length-replicate _ false ∙ c.deref_mut-2.ensures.len) in
+    let long : length c.deref_mut-2.result.now ≡ length c.self.inside.other_marks.items =
+    ap length c.deref_mut-2.ensures.value ∙ ap (λ v. length v.items) c.swap.ensures.y_after ∙ c.self.invariant.5 ∙ sym c.self.invariant.4 in
+    let others = put ∙ c.clear_marks.ensures ∙ ap (λ (n : ℕ). replicate n false) long in
+    ap (λ (l : Log). held_of l named (whole_items c.swap.new.y.len c.clear_marks.new.marks c.swap.new.y.items) (Some c.count_marked.result) c.self.inside.failed w1) c.in_default.ensures.log
+    ∙ ap (λ (l : List Bool). held_of (cut_now c.self.inside.halves) named l (Some c.count_marked.result) c.self.inside.failed w1) others
+    ∙ ap (λ (n : ℕ). held_of (cut_now c.self.inside.halves) named (unmarked c.self.inside.other_marks.items) (Some n) c.self.inside.failed w1) count
+    ∙ ap (λ (n : ℕ). record (held_of (cut_now c.self.inside.halves) named (unmarked c.self.inside.other_marks.items) (Some (count_marked c.self.inside.other_marks.items)) c.self.inside.failed w1) { room = n }) all
+    ∙ ap (λ (h : Held). record h { room = h.geometry.half; left = Some (count_marked h.marks.others); marks = cut_marks h.marks; medium = w1 }) c.self.view_is
+
+pub returns-clause-few : goal.returns-clause-few
+returns-clause-few g c =
+    let most = count_most c.self.inside.other_marks.items in
+    let count = ap (λ (h : Held). count_marked h.marks.others) c.self.view_is in
+    let long : length c.self.inside.other_marks.items ≡ piece_count c.args.self.now.geometry = c.self.invariant.4 ∙ ap (λ (h : Held). piece_count h.geometry) c.self.view_is in
+    omega (arith, most, count, long)
 
 pub returns-clause-records : goal.returns-clause-records
 returns-clause-records g c = λ k.

@@ -1,12 +1,13 @@
-use Rattle.std.proofs.Common.{◌≡◌, ◌+◌, ◌++◌, false, Some, length, option_map, refl, sym, ◌∙◌, ap, subst, arith}
+use Rattle.std.proofs.Common.{◌≡◌, ℕ, ◌+◌, ◌++◌, false, Some, length, option_map, refl, sym, ◌∙◌, ap, subst, arith}
 use Rattle.affinity.specs.declared.geometry.Geometry.{Geometry}
 use Rattle.checkpoint.specs.Recovery.{holds}
 use Rattle.disk.specs.Moments.{LeavesOnly}
 use Rattle.image.specs.Pieces.{piece_count}
 use Rattle.journal.specs.Journal.{AreCarriedOut, Held, HoldsSome, records, records_in, settled}
-use Rattle.journal.specs.Keeping.{IsPlaced}
+use Rattle.journal.specs.Keeping.{IsPlaced, held_of}
+use Rattle.journal.specs.Marks.{AreBothTouched}
 use Rattle.journal.proofs.Logging.{log_kept, log_moments, log_records, log_told, placed_used, settled_of, touched_along}
-use Rattle.journal.proofs.Rows.{whole_put}
+use Rattle.journal.proofs.Rows.{same_marks, whole_items, whole_put}
 use Rattle.oplog.specs.Layout.{device_size, image_size}
 use Rattle.oplog.specs.Log.{Log, layout}
 use Rattle.oplog.specs.Logged.{records_of}
@@ -59,6 +60,35 @@ returns-clause-records g c = λ k.
     (ap (λ (l : Log). records_in l.geometry (g.D.Disk.medium c.append.new.disk).now) c.in_default.ensures.log
     ∙ log_records c.self.inside.halves c.self.inside.frozen.items c.self.inside.named_marks.items c.self.inside.other_marks.items c.self.inside.due.items c.self.inside.left c.args.messages.now
     (g.D.Disk.medium c.self.inside.disk) (g.D.Disk.medium c.append.new.disk) (g.met.D.Disk.bytes c.self.inside.disk) (c.self.invariant.7 fine k) (c.in_default.ensures.added k))
+
+pub returns-clause-marked : goal.returns-clause-marked
+returns-clause-marked g c =
+    let same : c.geometry-g.result ≡ c.self.inside.halves.geometry = c.geometry-g.ensures ∙ ap (λ (l : Log). l.geometry) c.in_default.ensures.log in
+    let first = whole_put c.self.inside.named_marks.len c.mark_touched.new.marks c.self.inside.named_marks.items (c.mark_touched.ensures.size ∙ ap length c.deref_mut.ensures.value) (c.mark_touched.ensures.size ∙ c.deref_mut.ensures.len) in
+    let second = whole_put c.self.inside.other_marks.len c.mark_touched-2.new.marks c.self.inside.other_marks.items (c.mark_touched-2.ensures.size ∙ ap length c.deref_mut-2.ensures.value) (c.mark_touched-2.ensures.size ∙ c.deref_mut-2.ensures.len) in
+    subst (λ (h : Held). AreBothTouched h.geometry c.args.messages.now h.marks (record {
+      named = whole_items c.self.inside.named_marks.len c.mark_touched.new.marks c.self.inside.named_marks.items;
+      others = whole_items c.self.inside.other_marks.len c.mark_touched-2.new.marks c.self.inside.other_marks.items;
+    })) c.self.view_is
+    (record {
+      named = touched_along _ _ c.args.messages.now _ _ _ _ same c.deref_mut.ensures.value first c.mark_touched.ensures.touched;
+      others = touched_along _ _ c.args.messages.now _ _ _ _ same c.deref_mut-2.ensures.value second c.mark_touched-2.ensures.touched;
+    })
+
+pub returns-clause-none : goal.returns-clause-none
+returns-clause-none g c = λ none.
+    let used : c.self.inside.halves.used + length c.args.messages.now ≡ c.self.inside.halves.used = omega (arith, none) in
+    let log = c.in_default.ensures.log in
+    let same : c.geometry-g.result ≡ c.self.inside.halves.geometry = c.geometry-g.ensures ∙ ap (λ (l : Log). l.geometry) log in
+    let first = whole_put c.self.inside.named_marks.len c.mark_touched.new.marks c.self.inside.named_marks.items (c.mark_touched.ensures.size ∙ ap length c.deref_mut.ensures.value) (c.mark_touched.ensures.size ∙ c.deref_mut.ensures.len) in
+    let second = whole_put c.self.inside.other_marks.len c.mark_touched-2.new.marks c.self.inside.other_marks.items (c.mark_touched-2.ensures.size ∙ ap length c.deref_mut-2.ensures.value) (c.mark_touched-2.ensures.size ∙ c.deref_mut-2.ensures.len) in
+    let named = same_marks c.self.inside.halves.geometry c.args.messages.now _ _ none c.self.invariant.3 (ap length first ∙ c.mark_touched.ensures.size ∙ ap length c.deref_mut.ensures.value)
+    (touched_along _ _ c.args.messages.now _ _ _ _ same c.deref_mut.ensures.value first c.mark_touched.ensures.touched) in
+    let others = same_marks c.self.inside.halves.geometry c.args.messages.now _ _ none c.self.invariant.4 (ap length second ∙ c.mark_touched-2.ensures.size ∙ ap length c.deref_mut-2.ensures.value)
+    (touched_along _ _ c.args.messages.now _ _ _ _ same c.deref_mut-2.ensures.value second c.mark_touched-2.ensures.touched) in
+    (λ i. held_of (log i) (named i) (others i) c.self.inside.left c.self.inside.failed (g.D.Disk.medium (c.append.ensures.none none i)))
+    ∙ ap (λ (n : ℕ). held_of (record c.self.inside.halves { used = n }) c.self.inside.named_marks.items c.self.inside.other_marks.items c.self.inside.left c.self.inside.failed (g.D.Disk.medium c.self.inside.disk)) used
+    ∙ c.self.view_is
 
 pub invariant_of-self-2 : goal.invariant_of-self-2
 invariant_of-self-2 g c =

@@ -5,7 +5,8 @@ use Rattle.checkpoint.specs.Recovery.{holds}
 use Rattle.disk.proofs.Moments.{started}
 use Rattle.disk.specs.Moments.{LeavesOnly}
 use Rattle.journal.specs.Journal.{Held, IsSettled, records, settled}
-use Rattle.journal.specs.Keeping.{IsPlaced, count_marked}
+use Rattle.journal.specs.Keeping.{IsPlaced}
+use Rattle.journal.specs.Marks.{count_marked}
 use Rattle.journal.proofs.Logging.{settled_of}
 use Rattle.journal.proofs.Piecing.{piece_left, piece_moments, piece_records, piece_same, piece_some, piece_sound, pieced_along, some_left}
 use Rattle.oplog.specs.Changes.{ChangesOnly, IsSameBut}

@@ -3,6 +3,7 @@ use Rattle.std.specs.Prelude.{if◌then◌else◌}
 use Rattle.disk.specs.Moments.{LeavesOnly}
 use Rattle.image.specs.Pieces.{piece_count}
 use Rattle.journal.specs.Journal.{Held, HoldsSome}
+use Rattle.journal.specs.Marks.{count_marked}
 use Rattle.legal_runs.specs.World.{World}
 use Rattle.oplog.proofs.Answered.{on_ok}
 use Rattle.legal_runs.specs.Events.{point_refusal}
@@ -26,7 +27,7 @@ cut-requires-clause-state g c = point_state g.D.Disk.keeps (parts c.self.inside.
 pub invariant_of-self : goal.invariant_of-self
 invariant_of-self g c = (
   c.self.invariant.0,
-  cut_core g.D.Disk.keeps (parts c.self.inside.slots c.self.inside.replies.items c.self.inside.tree c.self.inside.journal c.self.inside.turns c.self.inside.batch.items c.self.inside.next c.self.inside.flight c.self.inside.history.opened c.self.inside.history.since) c.self.invariant.1 c.cut.new.self c.cut.ensures.any_moment c.cut.result (ap (λ (o : Kept). point_refusal (world_of o)) c.self.view_is ∙ sym c.point_refusal.ensures ∙ c.in_default.is) c.cut.ensures.settled c.cut.ensures.begun c.cut.ensures.broken,
+  cut_core g.D.Disk.keeps (parts c.self.inside.slots c.self.inside.replies.items c.self.inside.tree c.self.inside.journal c.self.inside.turns c.self.inside.batch.items c.self.inside.next c.self.inside.flight c.self.inside.history.opened c.self.inside.history.since) c.self.invariant.1 c.cut.new.self c.cut.ensures.any_moment c.cut.result (ap (λ (o : Kept). point_refusal (world_of o)) c.self.view_is ∙ sym c.point_refusal.ensures ∙ c.in_default.is) c.cut.ensures.settled c.cut.ensures.begun c.cut.ensures.few c.cut.ensures.broken,
   c.self.invariant.2,
   c.self.invariant.3,
   c.self.invariant.4,
@@ -40,7 +41,7 @@ returns-then-is_err-clause-any_moment g c = λ keep.
 pub invariant_of-self-2 : goal.invariant_of-self-2
 invariant_of-self-2 g c = (
   c.self.invariant.0,
-  cut_core g.D.Disk.keeps (parts c.self.inside.slots c.self.inside.replies.items c.self.inside.tree c.self.inside.journal c.self.inside.turns c.self.inside.batch.items c.self.inside.next c.self.inside.flight c.self.inside.history.opened c.self.inside.history.since) c.self.invariant.1 c.cut.new.self c.cut.ensures.any_moment c.cut.result (ap (λ (o : Kept). point_refusal (world_of o)) c.self.view_is ∙ sym c.point_refusal.ensures ∙ c.in_default.is) c.cut.ensures.settled c.cut.ensures.begun c.cut.ensures.broken,
+  cut_core g.D.Disk.keeps (parts c.self.inside.slots c.self.inside.replies.items c.self.inside.tree c.self.inside.journal c.self.inside.turns c.self.inside.batch.items c.self.inside.next c.self.inside.flight c.self.inside.history.opened c.self.inside.history.since) c.self.invariant.1 c.cut.new.self c.cut.ensures.any_moment c.cut.result (ap (λ (o : Kept). point_refusal (world_of o)) c.self.view_is ∙ sym c.point_refusal.ensures ∙ c.in_default.is) c.cut.ensures.settled c.cut.ensures.begun c.cut.ensures.few c.cut.ensures.broken,
   c.self.invariant.2,
   c.self.invariant.3,
   c.self.invariant.4,
@@ -54,6 +55,7 @@ returns-clause-any_moment g c = λ keep.
 pub returns-clause-world : goal.returns-clause-world
 returns-clause-world g c =
     let begun = on_ok c.cut.result _ (sym c.is_err.ensures.value ∙ c.if-is_err.false) c.cut.ensures.begun in
+    let few = on_ok c.cut.result _ (sym c.is_err.ensures.value ∙ c.if-is_err.false) c.cut.ensures.few in
     let new : Held → World = λ j. world_in (parts c.self.inside.slots c.self.inside.replies.items c.self.inside.tree j c.self.inside.turns c.self.inside.batch.items c.self.inside.next c.self.inside.flight c.self.inside.history.opened c.self.inside.history.since) in
     subst (λ (o : Kept). (point_refusal (world_of o) ≡ None) × ((n : ℕ) × (n ≤ piece_count o.geometry) × (new c.cut.new.self ≡ record (world_of o) { room = o.geometry.half; left = Some n }))) c.self.view_is
-    (ap (λ (o : Kept). point_refusal (world_of o)) c.self.view_is ∙ sym c.point_refusal.ensures ∙ c.in_default.is, (begun.0, begun.1, ap new begun.2))
+    (ap (λ (o : Kept). point_refusal (world_of o)) c.self.view_is ∙ sym c.point_refusal.ensures ∙ c.in_default.is, (count_marked c.self.inside.journal.marks.others, few, ap new begun))

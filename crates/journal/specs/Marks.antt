@@ -1,0 +1,51 @@
+-- Marks of a journal: for each of the two images, which of its pieces may be others than those of what is settled.
+use Rattle.std.specs.Prelude.{◌≡◌, ◌↔◌, ◌<◌, ℕ, suc, Bool, true, false, List, [], ◌∷◌, get_or, length, replicate}
+use Rattle.std.specs.List.{AllByRecursion}
+use Rattle.affinity.specs.declared.geometry.Geometry.{Geometry}
+use Rattle.image.specs.Pieces.{piece_count}
+use Rattle.image.specs.Touched.{touches}
+use Rattle.message.specs.declared.Msg.{Msg}
+
+pub record Marks : Type 0 where
+  -- of the image that is named
+  pub named : List Bool
+  -- of the other one, as it is or will be once a cut is written
+  pub others : List Bool
+
+-- how many are marked
+abbrev pub count_marked : List Bool → ℕ
+count_marked [] = 0
+count_marked (true ∷ marks) = suc (count_marked marks)
+count_marked (false ∷ marks) = count_marked marks
+
+-- Marks after these messages: a piece isn't marked exactly where it wasn't before and none of the messages touches it.
+abbrev pub MarksTouched : Geometry → List Msg → List Bool → List Bool → Type 0
+MarksTouched g ms old new = (n : ℕ) → n < piece_count g
+    → (get_or new n true ≡ false) ↔ ((get_or old n true ≡ false) × AllByRecursion (λ m. touches g m n ≡ false) ms)
+
+-- the same in both images
+pub record AreBothTouched (g : Geometry) (ms : List Msg) (old new : Marks) : Type 0 where
+  pub named : MarksTouched g ms old.named new.named
+  pub others : MarksTouched g ms old.others new.others
+
+-- as many marks, none of them set
+abbrev pub unmarked : List Bool → List Bool
+unmarked marks = replicate (length marks) false
+
+-- ---- the marks after a step
+
+-- The other image was written and named: none of its pieces is marked. The image that was named keeps its marks.
+abbrev pub pointed_marks : Marks → Marks
+pointed_marks marks = record { named = unmarked marks.others; others = marks.named }
+
+-- A cut has begun: the pieces of the other image that were marked are due, and then none is.
+abbrev pub cut_marks : Marks → Marks
+cut_marks marks = record { named = marks.named; others = unmarked marks.others }
+
+-- The other image is named from now on: each keeps its marks.
+abbrev pub flipped_marks : Marks → Marks
+flipped_marks marks = record { named = marks.others; others = marks.named }
+
+-- A device was just opened: the named image is that of its state, and of the other one nothing is known.
+abbrev pub opened_marks : Geometry → Marks
+opened_marks g = record { named = replicate (piece_count g) false; others = replicate (piece_count g) true }
