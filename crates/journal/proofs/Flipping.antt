@@ -50,6 +50,7 @@ module _ (log : Log) (frozen : List ℕ) (named others due : List Bool) (left : 
         named_fresh =
             subst (λ (o : Option State). IsFresh log.geometry o others (image_in log.geometry (other log.named) w1)) (sym same)
             (subst (λ (l : List ℕ). IsFresh log.geometry (holds log.geometry w0.now) others l) (sym (flipped.images (other log.named) (omega arith) ∙ written.is)) sound'.others_fresh);
+        frozen_fresh = λ none. subst (λ (o : Option State). IsFresh log.geometry o others frozen) (sym same) sound'.others_fresh;
         others_fresh =
             subst (λ (o : Option State). IsFresh log.geometry o named (image_in log.geometry (other (other log.named)) w1)) (sym same)
             (subst (λ (n : ℕ). IsFresh log.geometry (holds log.geometry w0.now) named (image_in log.geometry n w1)) (sym back)

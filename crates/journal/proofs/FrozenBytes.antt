@@ -1,13 +1,15 @@
 -- How an image is put together, piece by piece.
-use Rattle.std.proofs.Common.{◌≡◌, ℕ, zero, suc, ◌+◌, ◌-◌, ◌<◌, ◌≤◌, List, ◌++◌, length, take, drop, sym, ◌∙◌, ap, subst, arith, length-append, length-drop}
-use Rattle.std.proofs.lemmas.List.{append_assoc, append-nil, length-take-le, take_all, take_at}
+use Rattle.std.proofs.Common.{◌≡◌, ℕ, zero, suc, ◌+◌, ◌-◌, ◌<◌, ◌≤◌, Bool, true, false, List, ◌++◌, length, take, drop, get_or, refl, sym, ◌∙◌, ap, subst, arith, length-append, length-drop}
+use Rattle.std.proofs.lemmas.List.{append_assoc, append-nil, drop-drop, drop-take, drop_at, length-take-le, take_all, take_at}
+use Rattle.std.proofs.Math.Seq.{take-add}
 use Rattle.affinity.specs.declared.geometry.Geometry.{Geometry}
 use Rattle.image.specs.Image.{head_of, image_of}
 use Rattle.image.specs.Pieces.{joined_below, piece_at, piece_count, piece_of, piece_size}
 use Rattle.image.proofs.Joining.{length-pieces}
 use Rattle.journal.proofs.Places.{image_size_is}
-use Rattle.oplog.specs.Layout.{image_size}
-use Rattle.plain.specs.State.{State}
+use Rattle.journal.specs.Stretches.{AreSpelled, stretch_in, stretch_of}
+use Rattle.oplog.specs.Layout.{image_size, slice}
+use Rattle.plain.specs.State.{State, sum_below}
 
 -- where a piece begins, and that it lies inside
 pub piece_after : (g : Geometry) (n : ℕ) → piece_at g (n + 1) ≡ piece_at g n + piece_size g n
@@ -55,3 +57,68 @@ all_put g x n at bytes all place size so_far =
 pub put_long : (at k : ℕ) (bytes part : List ℕ) → at + k ≤ length bytes → length part ≡ k → length (take at bytes ++ (part ++ drop k (drop at bytes))) ≡ length bytes
 put_long at k bytes part inside size =
     omega (arith, inside, size, length-append (take at bytes) (part ++ drop k (drop at bytes)), length-append part (drop k (drop at bytes)), length-take-le at bytes (omega (arith, inside)), length-drop k (drop at bytes), length-drop at bytes)
+
+-- ---- a piece that is there already
+
+-- behind the bytes that were put in, all is as it was
+pub rest_put : (at k : ℕ) (bytes part : List ℕ) → at ≤ length bytes → length part ≡ k → drop (at + k) (take at bytes ++ (part ++ drop k (drop at bytes))) ≡ drop (at + k) bytes
+rest_put at k bytes part inside size =
+    ap (drop (at + k)) (sym (append_assoc (take at bytes) part (drop k (drop at bytes))))
+    ∙ drop_at (take at bytes ++ part) (drop k (drop at bytes)) (at + k) (length-append (take at bytes) part ∙ (λ i. length-take-le at bytes inside i + size i))
+    ∙ drop-drop k at bytes
+
+-- the same from one place on
+pub rest_more : (at k : ℕ) (now old : List ℕ) → drop at now ≡ drop at old → drop (at + k) now ≡ drop (at + k) old
+rest_more at k now old same = sym (drop-drop k at now) ∙ ap (drop k) same ∙ drop-drop k at old
+
+-- what a stretch that isn't marked says of its piece
+pub piece_there : (g : Geometry) (x : State) (n : ℕ) (bytes : List ℕ) → stretch_in g bytes n ≡ stretch_of g x n → slice bytes (piece_at g n) (piece_size g n) ≡ piece_of 2 g x n
+piece_there g x zero bytes is = sym (drop-take 64 (piece_size g 0) bytes) ∙ ap (drop 64) is ∙ drop_at (head_of 2) (piece_of 2 g x 0) 64 refl
+piece_there g x (suc n) bytes is = is
+
+pub one_there : (g : Geometry) (x : State) (n at k : ℕ) (bytes old : List ℕ) → at ≡ piece_at g n → k ≡ piece_size g n → take at bytes ≡ first_pieces g x n → drop at bytes ≡ drop at old
+    → stretch_in g old n ≡ stretch_of g x n → take (at + k) bytes ≡ first_pieces g x (n + 1)
+one_there g x n at k bytes old place size so_far rest is =
+    let piece : take k (drop at bytes) ≡ piece_of 2 g x n = ap (take k) rest ∙ (λ i. take (size i) (drop (place i) old)) ∙ piece_there g x n old is in
+    take-add at k bytes ∙ one_more g x n (take at bytes) (take k (drop at bytes)) so_far piece
+
+-- An image with its head has the stretches that it had.
+pub headed : (g : Geometry) (x : State) (marks : List Bool) (old new : List ℕ) → take 64 new ≡ head_of 2 → drop 64 new ≡ drop 64 old → AreSpelled g x marks old → AreSpelled g x marks new
+headed g x marks old new head rest right zero few unmarked =
+    take-add 64 (piece_size g 0) new ∙ (λ i. head i ++ take (piece_size g 0) (rest i)) ∙ ap (λ (l : List ℕ). head_of 2 ++ l) (piece_there g x 0 old (right 0 few unmarked))
+headed g x marks old new head rest right (suc n) few unmarked =
+    ap (take (piece_size g (suc n))) (rest_more 64 (sum_below (suc n) (piece_size g)) new old rest) ∙ right (suc n) few unmarked
+
+-- ---- one piece after the other
+
+-- The first pieces are those of a state, and the rest is as it was: where what isn't marked was right at first.
+pub record IsFrozenTo (g : Geometry) (x : State) (marks : List Bool) (first : List ℕ) (n at : ℕ) (bytes : List ℕ) : Type 0 where
+  pub place : at ≡ piece_at g n
+  pub size : length bytes ≡ length first
+  pub rest : drop at bytes ≡ drop at first
+  pub so_far : AreSpelled g x marks first → take at bytes ≡ first_pieces g x n
+
+module _ (g : Geometry) (x : State) (marks : List Bool) (first : List ℕ) (n at k : ℕ) (bytes : List ℕ) (long : length first ≡ image_size g) (few : n < piece_count g) (size : k ≡ piece_size g n)
+    (so_far : IsFrozenTo g x marks first n at bytes) where
+  inside : at + k ≤ length bytes
+  inside = let in_image = piece_inside g n few in omega (arith, in_image, long, size, so_far.place, so_far.size)
+
+  -- a piece that is marked is spelled
+  pub put_one : (k' : ℕ) (part : List ℕ) → k' ≡ k → length part ≡ k → part ≡ piece_of 2 g x n → IsFrozenTo g x marks first (n + 1) (at + k) (take at bytes ++ (part ++ drop k' (drop at bytes)))
+  put_one k' part same size' is =
+      subst (λ (j : ℕ). IsFrozenTo g x marks first (n + 1) (at + k) (take at bytes ++ (part ++ drop j (drop at bytes)))) (sym same)
+      (record {
+        place = (λ i. so_far.place i + size i) ∙ sym (piece_after g n);
+        size = put_long at k bytes part inside size' ∙ so_far.size;
+        rest = rest_put at k bytes part (omega (arith, inside)) size' ∙ rest_more at k bytes first so_far.rest;
+        so_far = λ right. piece_put at k bytes part (omega (arith, inside)) size' ∙ one_more g x n (take at bytes) part (so_far.so_far right) is;
+      })
+
+  -- one that isn't is there already
+  pub pass_one : get_or marks n true ≡ false → IsFrozenTo g x marks first (n + 1) (at + k) bytes
+  pass_one unmarked = record {
+    place = (λ i. so_far.place i + size i) ∙ sym (piece_after g n);
+    size = so_far.size;
+    rest = rest_more at k bytes first so_far.rest;
+    so_far = λ right. one_there g x n at k bytes first so_far.place size (so_far.so_far right) so_far.rest (right n few unmarked);
+  }

@@ -194,6 +194,10 @@ module _ (log : Log) (frozen : List ℕ) (named others due : List Bool) (left : 
               (fresh_more log.geometry x ms named named' (image_in log.geometry log.named w1) (sound.state x is) out touched
               (subst (λ (l : List ℕ). IsFresh log.geometry (Some x) named l) (sym (images log.named is_area))
               (subst (λ (o : Option State). IsFresh log.geometry o named (image_in log.geometry log.named w0)) is sound.named_fresh)));
+          frozen_fresh = λ none.
+              subst (λ (o : Option State). IsFresh log.geometry o named' frozen) (sym log_settled)
+              (fresh_more log.geometry x ms named named' frozen (sound.state x is) out touched
+              (subst (λ (o : Option State). IsFresh log.geometry o named frozen) is (sound.frozen_fresh none)));
           others_fresh =
               subst (λ (l : List ℕ). IsFresh log.geometry (holds log.geometry w1.now) others' l) (sym (coming_used log (log.used + length ms) frozen left w1))
               (subst (λ (o : Option State). IsFresh log.geometry o others' (coming log frozen left w1)) (sym log_settled)

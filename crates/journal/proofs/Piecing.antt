@@ -1,5 +1,5 @@
 -- What a crash leaves while a piece of a cut is written, and what the journal keeps once it is.
-use Rattle.std.proofs.Common.{◌≡◌, ◌≢◌, ◌<◌, ◌-◌, ℕ, Bool, true, false, List, length, get_or, set, Option, Some, None, is_some, option_map, ⊎_elim, refl, sym, ◌∙◌, ap, subst, arith, true≢false}
+use Rattle.std.proofs.Common.{◌≡◌, ◌≢◌, ◌<◌, ◌-◌, ℕ, Bool, true, false, List, length, get_or, set, Option, Some, None, is_some, option_map, unwrap_or, ⊎_elim, refl, sym, ◌∙◌, ap, subst, arith, true≢false}
 use Rattle.std.proofs.lemmas.Bool.{cases_eq}
 use Rattle.std.proofs.lemmas.List.{get_or-set_other}
 use Rattle.affinity.specs.declared.geometry.Geometry.{Geometry}
@@ -34,6 +34,11 @@ piece_left log due (Some l) n count some placed few marked is =
     let fewer = count_cleared due n few marked in
     let one : l - 1 ≡ count = omega (arith, fewer, is, placed.1) in
     ap (λ (k : ℕ). Some k) one
+
+-- one fewer, and those are the ones that are due then
+pub piece_counted : (log : Log) (due : List Bool) (left : Option ℕ) (n fewer : ℕ) → is_some left ≡ true → IsPlaced log due left → n < length due → get_or due n false ≡ true → fewer ≡ unwrap_or left 0 - 1 → fewer ≡ count_marked (set due n false)
+piece_counted log due None n fewer some placed few marked is = absurd (true≢false (sym some))
+piece_counted log due (Some l) n fewer some placed few marked is = let one = count_cleared due n few marked in omega (arith, one, is, placed.1)
 
 pub piece_some : (log : Log) (due : List Bool) (left : Option ℕ) (n : ℕ) → IsPlaced log due left → n < length due → get_or due n false ≡ true → left ≡ Some 0 → ⊥
 piece_some log due left n placed few marked none =
@@ -97,6 +102,7 @@ module _ (log : Log) (frozen : List ℕ) (named others due : List Bool) (left : 
           named_fresh =
               subst (λ (o : Option State). IsFresh log.geometry o named (image_in log.geometry log.named w1)) (sym same)
               (subst (λ (l : List ℕ). IsFresh log.geometry (holds log.geometry w0.now) named l) (sym (pieced.same.others (image log.named) (λ is. omega (arith, is, is_area)))) sound.named_fresh);
+          frozen_fresh = λ none. absurd (true≢false (ap is_some none));
           others_fresh = subst (λ (o : Option State). IsFresh log.geometry o others frozen) (sym same) sound'.others_fresh;
           by_cut = record {
             behind = ap (λ (rs : List (List ℕ)). run_on log.geometry (read log.geometry frozen) rs) other_half.0 ∙ sound'.by_cut.behind ∙ sym same;

@@ -1,15 +1,19 @@
 -- Rows of marks, and what is known of an image by them.
-use Rattle.std.proofs.Common.{◌≡◌, ◌≢◌, ◌↔◌, ⊎_elim, ℕ, zero, suc, ◌+◌, ◌<◌, ◌≤◌, Bool, true, false, List, [], ◌∷◌, ◌++◌, length, take, drop, get_or, replicate, set, refl, sym, ◌∙◌, ap, subst, arith, true≢false}
+use Rattle.std.proofs.Common.{◌≡◌, ◌≢◌, ◌↔◌, ⊎_elim, ℕ, zero, suc, ◌+◌, ◌<◌, ◌≤◌, Bool, true, false, ◌&&◌, List, [], ◌∷◌, ◌++◌, length, take, drop, get_or, replicate, set, refl, sym, ◌∙◌, ap, subst, arith, true≢false}
 use Rattle.std.specs.List.{AllByRecursion}
-use Rattle.std.proofs.lemmas.Bool.{cases_eq, cases_lt}
-use Rattle.image.specs.Touched.{touches}
+use Rattle.std.proofs.lemmas.Bool.{cases_eq, cases_lt, eqb-true}
+use Rattle.std.specs.Prelude.{◌==◌}
+use Rattle.image.specs.Touched.{touches, touches_part}
+use Rattle.image.proofs.Numbers.{in_parts, number_there}
 use Rattle.image.proofs.Measures.{all-append}
 use Rattle.message.specs.declared.Msg.{Msg}
 use Rattle.std.proofs.lemmas.List.{ext_get_or, get_or-replicate, get_or-set_other, get_or-set_same, length-set, take_more, append-nil, drop_all, take_all}
 use Rattle.std.proofs.Math.Seq.{take-add}
 use Rattle.affinity.specs.declared.geometry.Geometry.{Geometry}
-use Rattle.image.specs.Pieces.{piece_count}
+use Rattle.image.specs.Pieces.{aggregate_of, part_of, piece_count, pieces_of_volume, volume_of, volume_piece_number}
+use Rattle.plain.specs.Serial.{key}
 use Rattle.plain.specs.State.{one_if}
+use Rattle.journal.specs.Keeping.{AreClearBefore}
 use Rattle.journal.specs.Marks.{MarksTouched, count_marked}
 use Rattle.journal.specs.Stretches.{AreAllMarked, stretch_at, stretch_in, stretch_size}
 use Rattle.journal.proofs.Places.{stretch_end, stretch_next}
@@ -30,6 +34,22 @@ count_passed xs i few is = let after = count_after false xs i few is in omega (a
 
 pub count_all : (xs : List Bool) (n : ℕ) → n ≡ length xs → count_marked (take n xs) ≡ count_marked xs
 count_all xs n all = ap count_marked (take_all n xs (omega (arith, all)))
+
+-- one number more before which no mark is set
+pub clear_next : (n : ℕ) (xs : List Bool) → get_or xs n false ≡ false → AreClearBefore n xs → AreClearBefore (n + 1) xs
+clear_next n xs off so_far i few =
+    ⊎_elim (λ (less : i < n). so_far i less) (λ (more : n ≤ i). let here : i ≡ n = omega (arith, few, more) in ap (λ (k : ℕ). get_or xs k false) here ∙ off) (cases_lt i n)
+
+-- the one at which the looking ended is cleared too
+pub clear_set : (n : ℕ) (xs : List Bool) → n < length xs → AreClearBefore n xs → AreClearBefore (n + 1) (set xs n false)
+clear_set n xs few so_far =
+    clear_next n (set xs n false) (get_or-set_same xs n false false few)
+    (λ i less. get_or-set_other xs n i false false (λ here. omega (arith, here, less)) ∙ so_far i less)
+
+pub none_counted : (xs : List Bool) → ((i : ℕ) → i < length xs → get_or xs i false ≡ false) → count_marked xs ≡ 0
+none_counted [] off = refl
+none_counted (true ∷ xs) off = absurd (true≢false (off 0 (omega arith)))
+none_counted (false ∷ xs) off = none_counted xs (λ i few. off (suc i) (omega (arith, few)))
 
 pub count_most : (xs : List Bool) → count_marked xs ≤ length xs
 count_most [] = omega arith
@@ -81,8 +101,42 @@ pub record AreMarked (g : Geometry) (m : Msg) (k : ℕ) (old new : List Bool) : 
   pub marked : (i : ℕ) → i < k → (get_or new i true ≡ false) ↔ ((get_or old i true ≡ false) × (touches g m i ≡ false))
   pub rest : (i : ℕ) → k ≤ i → get_or new i true ≡ get_or old i true
 
-pub none_looked : (g : Geometry) (m : Msg) (old : List Bool) → AreMarked g m 0 old old
-none_looked g m old = record { size = refl; marked = λ i few. absurd (omega (arith, few)); rest = λ i far. refl }
+three_true : (p q r : Bool) → (p && q && r) ≡ true → (p ≡ true) × (q ≡ true)
+three_true true true r on = (refl, refl)
+three_true true false r on = absurd (true≢false (sym on))
+three_true false q r on = absurd (true≢false (sym on))
+
+off_unless : (t : Bool) → (t ≡ true → ⊥) → t ≡ false
+off_unless true never = absurd (never refl)
+off_unless false never = refl
+
+-- the number of the first piece of a message's volume
+abbrev pub first_of : Geometry → Msg → ℕ
+first_of g m = volume_piece_number g (key m).0 (key m).1
+
+-- what a message touches is of its own volume
+touched_inside : (g : Geometry) (m : Msg) (n : ℕ) → touches g m n ≡ true → (first_of g m ≤ n) × (n < first_of g m + pieces_of_volume g)
+touched_inside g m n on =
+    let is_volume = three_true ((key m).0 == aggregate_of g n) ((key m).1 == volume_of g n) (touches_part g m (part_of g n)) on in
+    let a = eqb-true (key m).0 (aggregate_of g n) is_volume.0 in
+    let v = eqb-true (key m).1 (volume_of g n) is_volume.1 in
+    let at : first_of g m ≡ volume_piece_number g (aggregate_of g n) (volume_of g n) = λ i. volume_piece_number g (a i) (v i) in
+    let there = number_there g n in
+    let few = in_parts g n in
+    (omega (arith, at, there, few), omega (arith, at, there, few))
+
+untouched_before : (g : Geometry) (m : Msg) (n : ℕ) → n < first_of g m → touches g m n ≡ false
+untouched_before g m n before = off_unless (touches g m n) (λ on. let inside = touched_inside g m n on in omega (arith, before, inside.0))
+
+untouched_after : (g : Geometry) (m : Msg) (n : ℕ) → first_of g m + pieces_of_volume g ≤ n → touches g m n ≡ false
+untouched_after g m n after = off_unless (touches g m n) (λ on. let inside = touched_inside g m n on in omega (arith, after, inside.1))
+
+pub none_looked : (g : Geometry) (m : Msg) (k : ℕ) (old : List Bool) → k ≡ first_of g m → AreMarked g m k old old
+none_looked g m k old first = record {
+  size = refl;
+  marked = λ i few. ((λ off. (off, untouched_before g m i (omega (arith, few, first)))), (λ both. both.0));
+  rest = λ i far. refl;
+}
 
 apart : (i k : ℕ) → i ≢ k → i < k + 1 → i < k
 apart i k elsewhere below = ⊎_elim (λ (less : i < k). less) (λ (more : k ≤ i). absurd (elsewhere (omega (arith, below, more)))) (cases_lt i k)
@@ -119,9 +173,15 @@ one_passed g m k old new off so_far = record {
   rest = λ i far. so_far.rest i (omega (arith, far));
 }
 
-pub all_looked : (g : Geometry) (m : Msg) (k : ℕ) (old new : List Bool) → k ≡ piece_count g → AreMarked g m k old new → MarksTouched g (m ∷ []) old new
+pub all_looked : (g : Geometry) (m : Msg) (k : ℕ) (old new : List Bool) → ((n : ℕ) → n < piece_count g → k ≤ n → first_of g m + pieces_of_volume g ≤ n)
+    → AreMarked g m k old new → MarksTouched g (m ∷ []) old new
 all_looked g m k old new all so_far n few =
-    let looked = so_far.marked n (omega (arith, few, all)) in ((λ unmarked. let both = looked.0 unmarked in (both.0, (both.1, tt))), (λ both. looked.1 (both.0, both.1.0)))
+    ⊎_elim
+    (λ (less : n < k).
+    let looked = so_far.marked n less in ((λ unmarked. let both = looked.0 unmarked in (both.0, (both.1, tt))), (λ both. looked.1 (both.0, both.1.0))))
+    (λ (more : k ≤ n).
+    let kept = so_far.rest n more in ((λ unmarked. (sym kept ∙ unmarked, (untouched_after g m n (all n few more), tt))), (λ both. kept ∙ both.0)))
+    (cases_lt n k)
 
 pub no_message : (g : Geometry) (old : List Bool) → MarksTouched g [] old old
 no_message g old n few = ((λ unmarked. (unmarked, tt)), (λ both. both.0))

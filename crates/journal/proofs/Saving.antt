@@ -12,7 +12,7 @@ use Rattle.image.proofs.Measures.{state_is_measured}
 use Rattle.image.proofs.Reading.{read_again}
 use Rattle.journal.specs.Keeping.{IsFresh, IsPlaced, IsSound}
 use Rattle.journal.specs.Steps.{IsAlone, IsBegun, IsPointed, IsStanding, cut_now, pointed, run_on}
-use Rattle.journal.specs.Stretches.{AgreeUnmarked, image_in, stretch_in, stretch_of}
+use Rattle.journal.specs.Stretches.{AgreeUnmarked, AreAllMarked, AreSpelled, image_in, stretch_in, stretch_of}
 use Rattle.journal.proofs.Cutting.{named_below}
 use Rattle.journal.proofs.Forced.{forced_calm}
 use Rattle.journal.proofs.Standing.{holds_now, run_none}
@@ -40,7 +40,19 @@ module _ (g : Geometry) (x : Option State) (y : State) (frozen : List ℕ) (is :
   pub frozen_agrees : (marks : List Bool) (bytes : List ℕ) → IsFresh g x marks bytes → AgreeUnmarked g marks bytes frozen
   frozen_agrees marks bytes fresh n few unmarked = fresh y is n few unmarked ∙ sym (frozen_is g y is_state n few) ∙ sym (ap (λ (l : List ℕ). stretch_in g l n) spelled)
 
+-- where all is marked there is nothing that has to be right
+pub all_right : (g h : Geometry) (y : State) (marks : List Bool) (bytes : List ℕ) → g ≡ h → AreAllMarked h marks → AreSpelled g y marks bytes
+all_right g h y marks bytes same all =
+    subst (λ (z : Geometry). AreSpelled z y marks bytes) (sym same) (λ n few unmarked. absurd (true≢false (sym (all n few) ∙ unmarked)))
+
 -- ---- of a journal with no cut in progress
+
+-- what was frozen last, where it isn't marked
+pub frozen_right : (log : Log) (frozen : List ℕ) (named others due : List Bool) (left : Option ℕ) (w0 : Medium) (y : State) → left ≡ None → IsSound log frozen named others due left w0 → holds log.geometry w0.now ≡ Some y
+    → (g : Geometry) (marks : List Bool) (bytes : List ℕ) → g ≡ log.geometry → marks ≡ named → bytes ≡ frozen → AreSpelled g y marks bytes
+frozen_right log frozen named others due left w0 y alone sound is g marks bytes same same' same'' =
+    subst (λ (h : Geometry). AreSpelled h y marks bytes) (sym same) (subst (λ (row : List Bool). AreSpelled log.geometry y row bytes) (sym same')
+    (subst (λ (l : List ℕ). AreSpelled log.geometry y named l) (sym same'') (sound.frozen_fresh alone y is)))
 
 module _ (log : Log) (frozen frozen' : List ℕ) (named others due : List Bool) (left : Option ℕ) (w0 : Medium) (y : State) (alone : left ≡ None) (placed' : IsPlaced log due left) (sound' : IsSound log frozen named others due left w0)
     (is : holds log.geometry w0.now ≡ Some y) (is_state : IsState log.geometry y) (spelled : frozen' ≡ image_of 2 log.geometry y) (are : AreBytes w0.now) where
@@ -83,6 +95,8 @@ module _ (log : Log) (frozen frozen' : List ℕ) (named others due : List Bool) 
           named_fresh =
               subst (λ (o : Option State). IsFresh log.geometry o named' (image_in log.geometry (other log.named) w1)) (sym same)
               (subst (λ (l : List ℕ). IsFresh log.geometry (holds log.geometry w0.now) named' l) (sym made.is) (frozen_fresh log.geometry (holds log.geometry w0.now) y frozen' is is_state spelled named'));
+          frozen_fresh = λ none.
+              subst (λ (o : Option State). IsFresh log.geometry o named' frozen') (sym same) (frozen_fresh log.geometry (holds log.geometry w0.now) y frozen' is is_state spelled named');
           others_fresh =
               subst (λ (o : Option State). IsFresh log.geometry o others' (image_in log.geometry (other (other log.named)) w1)) (sym same)
               (subst (λ (n : ℕ). IsFresh log.geometry (holds log.geometry w0.now) others' (image_in log.geometry n w1)) (sym back)
@@ -107,6 +121,7 @@ module _ (log : Log) (frozen frozen' : List ℕ) (named others due : List Bool) 
           named_fresh =
               subst (λ (o : Option State). IsFresh log.geometry o named (image_in log.geometry log.named w1)) (sym same)
               (subst (λ (l : List ℕ). IsFresh log.geometry (holds log.geometry w0.now) named l) (sym (begun.images log.named is_area)) sound.named_fresh);
+          frozen_fresh = λ none. absurd (true≢false (ap is_some none));
           others_fresh = subst (λ (o : Option State). IsFresh log.geometry o others' frozen') (sym same) (frozen_fresh log.geometry (holds log.geometry w0.now) y frozen' is is_state spelled others');
           by_cut = record {
             behind = ap (λ (rs : List (List ℕ)). run_on log.geometry (read log.geometry frozen') rs) begun.none ∙ run_none log.geometry (read log.geometry frozen') ∙ reads ∙ sym same;
@@ -133,6 +148,8 @@ opened_sound log frozen named others due w0 w1 y alone is is_state spelled all a
       named_fresh =
           subst (λ (o : Option State). IsFresh log.geometry o named (image_in log.geometry (other log.named) w1)) (sym same)
           (subst (λ (l : List ℕ). IsFresh log.geometry (holds log.geometry w0.now) named l) (sym made.is) (frozen_fresh log.geometry (holds log.geometry w0.now) y frozen is is_state spelled named));
+      frozen_fresh = λ none.
+          subst (λ (o : Option State). IsFresh log.geometry o named frozen) (sym same) (frozen_fresh log.geometry (holds log.geometry w0.now) y frozen is is_state spelled named);
       others_fresh = λ z is' n few unmarked. absurd (true≢false (sym (all n few) ∙ unmarked));
       by_cut = tt;
     }

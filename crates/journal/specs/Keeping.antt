@@ -4,11 +4,10 @@ use Rattle.affinity.specs.declared.geometry.Geometry.{Geometry}
 use Rattle.checkpoint.specs.Recovery.{holds}
 use Rattle.disk.specs.Device.{Leaves, Medium}
 use Rattle.image.specs.Image.{read}
-use Rattle.image.specs.Pieces.{piece_count}
 use Rattle.journal.specs.Journal.{Held, records_in}
 use Rattle.journal.specs.Marks.{count_marked}
 use Rattle.journal.specs.Steps.{IsStanding, run_on}
-use Rattle.journal.specs.Stretches.{AgreeUnmarked, image_in, stretch_in, stretch_of}
+use Rattle.journal.specs.Stretches.{AgreeUnmarked, AreSpelled, image_in}
 use Rattle.oplog.specs.Calls.{IsReadyFor}
 use Rattle.oplog.specs.Front.{front}
 use Rattle.oplog.specs.Layout.{layout_of, other}
@@ -19,10 +18,13 @@ use Rattle.plain.specs.State.{State, IsState}
 
 -- Each stretch that isn't marked is the one of a state, where there is one.
 abbrev pub IsFresh : Geometry → Option State → List Bool → List ℕ → Type 0
-IsFresh g x marks bytes = (y : State) → x ≡ Some y → (n : ℕ) → n < piece_count g → get_or marks n true ≡ false
-    → stretch_in g bytes n ≡ stretch_of g y n
+IsFresh g x marks bytes = (y : State) → x ≡ Some y → AreSpelled g y marks bytes
 
 -- ---- a cut
+
+-- No mark before this number is set.
+abbrev pub AreClearBefore : ℕ → List Bool → Type 0
+AreClearBefore n marks = (i : ℕ) → i < n → get_or marks i false ≡ false
 
 -- A cut is in progress: its image, with the records of the other half behind it, leads to what the device stands for, and
 -- each of its stretches that isn't due is on the device.
@@ -57,6 +59,8 @@ pub record IsSound (log : Log) (frozen : List ℕ) (named others due : List Bool
   pub count : left ≡ None → length (records_in log.geometry m.now) ≡ log.used
   pub state : (x : State) → holds log.geometry m.now ≡ Some x → IsState log.geometry x
   pub named_fresh : IsFresh log.geometry (holds log.geometry m.now) named (image_in log.geometry log.named m)
+  -- while no cut is in progress, the image that was frozen last is the named one, so that it goes by the same marks
+  pub frozen_fresh : left ≡ None → IsFresh log.geometry (holds log.geometry m.now) named frozen
   pub others_fresh : IsFresh log.geometry (holds log.geometry m.now) others (coming log frozen left m)
   pub by_cut : IsCutOr log frozen due left m
 

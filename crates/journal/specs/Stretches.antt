@@ -30,6 +30,10 @@ stretch_of g x (suc n) = piece_of 2 g x (suc n)
 abbrev pub AgreeUnmarked : Geometry → List Bool → List ℕ → List ℕ → Type 0
 AgreeUnmarked g marks xs ys = (n : ℕ) → n < piece_count g → get_or marks n true ≡ false → stretch_in g xs n ≡ stretch_in g ys n
 
+-- Each stretch that isn't marked is the one of this state.
+abbrev pub AreSpelled : Geometry → State → List Bool → List ℕ → Type 0
+AreSpelled g x marks bytes = (n : ℕ) → n < piece_count g → get_or marks n true ≡ false → stretch_in g bytes n ≡ stretch_of g x n
+
 -- Every stretch is marked.
 abbrev pub AreAllMarked : Geometry → List Bool → Type 0
 AreAllMarked g marks = (n : ℕ) → n < piece_count g → get_or marks n true ≡ true

@@ -1,10 +1,12 @@
 //! The state of a point or a cut, frozen as the bytes of its image.
-ghost use Rattle.std.specs.Prelude.{◌≡◌, ◌≤◌, length, take};
+ghost use Rattle.std.specs.Prelude.{◌≡◌, ◌≤◌, drop, length, take};
 ghost use Rattle.image.specs.Image.{head_of, image_of};
+ghost use Rattle.image.specs.Pieces.{piece_count};
+ghost use Rattle.journal.specs.Stretches.{AreSpelled};
 ghost use Rattle.oplog.specs.Layout.{image_size};
 ghost use Rattle.parcel.specs.Tree.{IsWholeTree, state_in};
 
-use crate::stretches::{piece_count, piece_size};
+use crate::stretches::piece_size;
 use oplog::layout::IMAGE_HEAD_SIZE;
 use parcel::{Tree, write_piece};
 
@@ -15,6 +17,7 @@ const VERSION: u8 = 2;
 fn write_head(bytes: &mut [u8])
     requires { 64 ≤ length bytes.old }
     ensures head { take 64 bytes.new ≡ head_of 2 }
+    ensures rest { drop 64 bytes.new ≡ drop 64 bytes.old }
     ensures size { length bytes.new ≡ length bytes.old }
 {
     let mut head = [0u8; IMAGE_HEAD_SIZE];
@@ -22,19 +25,24 @@ fn write_head(bytes: &mut [u8])
     bytes[..IMAGE_HEAD_SIZE].copy_from_slice(&head);
 }
 
-/// Writes the image of what a whole tree holds.
-pub(crate) fn freeze(tree: &Tree, bytes: &mut [u8])
+/// Makes bytes the image of what a whole tree holds, of which all stretches but the marked ones are there already: those
+/// alone are spelled.
+pub(crate) fn freeze(tree: &Tree, marks: &[bool], bytes: &mut [u8])
     requires whole { IsWholeTree tree.now }
+    requires marks { length marks.now ≡ piece_count tree.now.geometry }
     requires size { length bytes.old ≡ image_size tree.now.geometry }
-    ensures image { bytes.new ≡ image_of 2 tree.now.geometry (state_in tree.now) }
+    ensures image { AreSpelled tree.now.geometry (state_in tree.now) marks.now bytes.old
+        → bytes.new ≡ image_of 2 tree.now.geometry (state_in tree.now) }
     ensures size { length bytes.new ≡ length bytes.old }
 {
     let g = tree.geometry();
     write_head(bytes);
     let mut at = IMAGE_HEAD_SIZE;
-    for n in 0..piece_count(&g) {
+    for (n, is_marked) in marks.iter().enumerate() {
         let end = at + piece_size(&g, n);
-        write_piece(tree, n, &mut bytes[at..end]);
+        if *is_marked {
+            write_piece(tree, n, &mut bytes[at..end]);
+        }
         at = end;
     }
 }

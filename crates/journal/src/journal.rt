@@ -44,6 +44,9 @@ pub struct Journal<D: Disk> {
     /// Which pieces of a cut are still to be written.
     due: Vec<bool>,
 
+    /// A number before which none is: the next one is looked for from here on.
+    looked: usize,
+
     /// How many these are, while a cut is in progress.
     left: Option<usize>,
     failed: bool,
@@ -53,7 +56,7 @@ impl<D: Disk> Model for Journal<D> {
     ghost use Rattle.std.specs.Prelude.{◌≡◌, ◌≤◌, ◌*◌, false, length};
     ghost use Rattle.image.specs.Pieces.{piece_count};
     ghost use Rattle.journal.specs.Journal.{Held};
-    ghost use Rattle.journal.specs.Keeping.{IsPlaced, IsSound, held_of};
+    ghost use Rattle.journal.specs.Keeping.{AreClearBefore, IsPlaced, IsSound, held_of};
     ghost use Rattle.oplog.specs.Calls.{HasParts};
     ghost use Rattle.oplog.specs.Layout.{image_size};
 
@@ -69,7 +72,8 @@ impl<D: Disk> Model for Journal<D> {
         × (length j.due.items ≡ piece_count j.halves.geometry)
         × (j.failed ≡ false → (j.halves.failed ≡ false) × IsPlaced j.halves j.due.items j.left)
         × (j.failed ≡ false → D.keeps →
-        IsSound j.halves j.frozen.items j.named_marks.items j.other_marks.items j.due.items j.left (D.medium j.disk)) };
+        IsSound j.halves j.frozen.items j.named_marks.items j.other_marks.items j.due.items j.left (D.medium j.disk))
+        × (j.looked ≤ length j.due.items) × AreClearBefore j.looked j.due.items };
 }
 
 impl<D: Disk> Journal<D> {
@@ -104,6 +108,7 @@ impl<D: Disk> Journal<D> {
             named_marks,
             other_marks,
             due,
+            looked: 0,
             left: None,
             failed: false,
         }
@@ -162,7 +167,7 @@ impl<D: Disk> Journal<D> {
         ensures not_bad { IsNotBad result }
         ensures counts { CountsLogFault result self.old.medium.faults self.new.medium.faults }
     {
-        freeze(tree, &mut self.frozen);
+        freeze(tree, &self.named_marks, &mut self.frozen);
         if let Err(fault) = point_on(
             &mut self.halves,
             &mut self.disk,
@@ -200,13 +205,14 @@ impl<D: Disk> Journal<D> {
         ensures not_bad { IsNotBad result }
         ensures counts { CountsLogFault result self.old.medium.faults self.new.medium.faults }
     {
-        freeze(tree, &mut self.frozen);
+        freeze(tree, &self.named_marks, &mut self.frozen); // messages go on behind it
         if let Err(fault) = cut_on(&mut self.halves, &mut self.disk) {
             self.failed = true;
             return Err(fault);
         }
         mem::swap(&mut self.due, &mut self.other_marks);
         clear_marks(&mut self.other_marks);
+        self.looked = 0;
         self.left = Some(count_marked(&self.due));
         Ok(())
     }
@@ -227,7 +233,7 @@ impl<D: Disk> Journal<D> {
         ensures not_bad { IsNotBad result }
         ensures counts { CountsLogFault result self.old.medium.faults self.new.medium.faults }
     {
-        let Some(n) = first_marked(&self.due) else {
+        let Some(n) = first_marked(&self.due, self.looked) else {
             return Ok(0);
         };
         let g = self.halves.geometry();
@@ -237,7 +243,8 @@ impl<D: Disk> Journal<D> {
             return Err(LogFault::Device);
         }
         self.due[n] = false;
-        let left = count_marked(&self.due);
+        self.looked = n + 1;
+        let left = self.left.unwrap_or(0).saturating_sub(1);
         self.left = Some(left);
         Ok(left)
     }

@@ -132,7 +132,7 @@ fn finish_cut<D: Disk>(
     ensures counts { CountsLogFault result (D.medium disk.old).faults (D.medium disk.new).faults }
     ensures len { length (D.medium disk.new).now ≡ length (D.medium disk.old).now }
 {
-    freeze(tree, frozen);
+    freeze(tree, marks, frozen);
     finish_on(halves, disk, frozen, marks)
 }
 
@@ -260,7 +260,7 @@ fn last_point<D: Disk>(
     ensures counts { CountsOpenFault result (D.medium disk.old).faults (D.medium disk.new).faults }
     ensures len { length (D.medium disk.new).now ≡ length (D.medium disk.old).now }
 {
-    freeze(tree, frozen);
+    freeze(tree, marks, frozen);
     point_on(halves, disk, frozen, marks)?;
     Ok(())
 }

@@ -1,9 +1,9 @@
-use Rattle.std.proofs.Common.{◌≡◌, ◌∙◌, arith, false, get_or}
-use Rattle.std.proofs.lemmas.Grind.{common_steps}
-use Rattle.journal.proofs.Rows.{count_passed}
+use Rattle.std.proofs.Common.{arith}
+use Rattle.journal.proofs.Rows.{clear_next, none_counted}
 use Rattle.journal.proofs.marks.first_marked.Goals as goal
 
 pub loop-n-preserved : goal.loop-n-preserved
-loop-n-preserved c =
-    let unmarked : get_or c.args.marks.now c.loop-n.n false ≡ false = grind (arith, common_steps) in
-    count_passed c.args.marks.now c.loop-n.n (omega arith) unmarked ∙ c.loop-n.invariant
+loop-n-preserved c = clear_next c.loop-n.n c.args.marks.now c.if-marks-n.false c.loop-n.invariant
+
+pub returns-clause-none : goal.returns-clause-none
+returns-clause-none c = λ none. none_counted c.args.marks.now (λ i few. c.loop-n.invariant i (omega (arith, few, c.loop-n-test.false)))

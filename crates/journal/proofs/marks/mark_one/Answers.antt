@@ -5,7 +5,7 @@ use Rattle.journal.proofs.marks.mark_one.Goals as goal
 use Rattle.journal.proofs.marks.mark_one.Goals.{then-touched, else-touched}
 
 pub loop-n-init : goal.loop-n-init
-loop-n-init c = none_looked c.args.g.now c.args.m.now c.args.marks.now
+loop-n-init c = none_looked c.args.g.now c.args.m.now _ c.args.marks.now c.first_piece-first.ensures.first
 
 pub loop-n-preserved : goal.loop-n-preserved
 loop-n-preserved c =
@@ -22,4 +22,4 @@ loop-n-preserved c =
 
 pub returns-clause-touched : goal.returns-clause-touched
 returns-clause-touched c =
-    all_looked c.args.g.now c.args.m.now c.loop-n.n c.args.marks.now c.loop-n.marks (omega (arith, c.requires.size)) c.loop-n.invariant
+    all_looked c.args.g.now c.args.m.now c.loop-n.n c.args.marks.now c.loop-n.marks (λ n few after. omega (arith, few, after, c.loop-n-test.false, c.min-end.ensures, c.from.ensures, c.first_piece-first.ensures.first, c.requires.size)) c.loop-n.invariant

@@ -11,7 +11,7 @@ use Rattle.journal.specs.Marks.{count_marked, cut_marks, unmarked}
 use Rattle.journal.specs.Steps.{cut_now}
 use Rattle.journal.proofs.Logging.{settled_of}
 use Rattle.journal.proofs.Rows.{count_most, whole_items, whole_put}
-use Rattle.journal.proofs.Saving.{cut_settled, cut_sound}
+use Rattle.journal.proofs.Saving.{frozen_right, cut_settled, cut_sound}
 use Rattle.oplog.specs.Layout.{device_size, image_size, other}
 use Rattle.oplog.specs.Log.{Log, layout}
 use Rattle.parcel.specs.Tree.{state_in}
@@ -32,10 +32,11 @@ returns-clause-settled g c = λ k.
     let alone : c.self.inside.left ≡ None = ap (λ (h : Held). h.left) c.self.view_is ∙ c.requires.alone in
     let geometry : c.args.tree.now.geometry ≡ c.self.inside.halves.geometry = c.requires.geometry ∙ sym (ap (λ (h : Held). h.geometry) c.self.view_is) in
     let is_state = subst (λ (x : Geometry). IsState x (state_in c.args.tree.now)) geometry c.requires.whole.state in
-    let spelled : c.freeze.new.bytes ≡ image_of 2 c.self.inside.halves.geometry (state_in c.args.tree.now) = c.freeze.ensures.image ∙ ap (λ (x : Geometry). image_of 2 x (state_in c.args.tree.now)) geometry in
     let frozen = whole_put c.self.inside.frozen.len c.freeze.new.bytes c.self.inside.frozen.items (c.freeze.ensures.size ∙ ap length c.deref_mut.ensures.value) (c.freeze.ensures.size ∙ c.deref_mut.ensures.len) in
     let w0 = g.D.Disk.medium c.self.inside.disk in
     let is : holds c.self.inside.halves.geometry w0.now ≡ Some (state_in c.args.tree.now) = ap settled c.self.view_is ∙ c.requires.state k in
+    let right = frozen_right c.self.inside.halves c.self.inside.frozen.items c.self.inside.named_marks.items c.self.inside.other_marks.items c.self.inside.due.items c.self.inside.left w0 (state_in c.args.tree.now) alone (c.self.invariant.7 fine k) is c.args.tree.now.geometry c.deref.result.now c.deref_mut.result.now geometry c.deref.ensures.value c.deref_mut.ensures.value in
+    let spelled : c.freeze.new.bytes ≡ image_of 2 c.self.inside.halves.geometry (state_in c.args.tree.now) = c.freeze.ensures.image right ∙ ap (λ (x : Geometry). image_of 2 x (state_in c.args.tree.now)) geometry in
     let w1 = g.D.Disk.medium c.cut_on.new.disk in
     let begun = c.in_default.ensures.begun k in
     ap (λ (x : Geometry). holds x w1.now) c.cut_on.ensures.geometry ∙ cut_settled c.self.inside.halves c.self.inside.frozen.items c.freeze.new.bytes c.self.inside.named_marks.items c.self.inside.other_marks.items c.self.inside.due.items c.self.inside.left w0 (state_in c.args.tree.now) alone (c.self.invariant.6 fine).1 (c.self.invariant.7 fine k) is is_state spelled (g.met.D.Disk.bytes c.self.inside.disk) w1 (g.met.D.Disk.bytes c.cut_on.new.disk) begun ∙ ap settled c.self.view_is
@@ -46,10 +47,11 @@ returns-clause-sound g c = λ k.
     let alone : c.self.inside.left ≡ None = ap (λ (h : Held). h.left) c.self.view_is ∙ c.requires.alone in
     let geometry : c.args.tree.now.geometry ≡ c.self.inside.halves.geometry = c.requires.geometry ∙ sym (ap (λ (h : Held). h.geometry) c.self.view_is) in
     let is_state = subst (λ (x : Geometry). IsState x (state_in c.args.tree.now)) geometry c.requires.whole.state in
-    let spelled : c.freeze.new.bytes ≡ image_of 2 c.self.inside.halves.geometry (state_in c.args.tree.now) = c.freeze.ensures.image ∙ ap (λ (x : Geometry). image_of 2 x (state_in c.args.tree.now)) geometry in
     let frozen = whole_put c.self.inside.frozen.len c.freeze.new.bytes c.self.inside.frozen.items (c.freeze.ensures.size ∙ ap length c.deref_mut.ensures.value) (c.freeze.ensures.size ∙ c.deref_mut.ensures.len) in
     let w0 = g.D.Disk.medium c.self.inside.disk in
     let is : holds c.self.inside.halves.geometry w0.now ≡ Some (state_in c.args.tree.now) = ap settled c.self.view_is ∙ c.requires.state k in
+    let right = frozen_right c.self.inside.halves c.self.inside.frozen.items c.self.inside.named_marks.items c.self.inside.other_marks.items c.self.inside.due.items c.self.inside.left w0 (state_in c.args.tree.now) alone (c.self.invariant.7 fine k) is c.args.tree.now.geometry c.deref.result.now c.deref_mut.result.now geometry c.deref.ensures.value c.deref_mut.ensures.value in
+    let spelled : c.freeze.new.bytes ≡ image_of 2 c.self.inside.halves.geometry (state_in c.args.tree.now) = c.freeze.ensures.image right ∙ ap (λ (x : Geometry). image_of 2 x (state_in c.args.tree.now)) geometry in
     let w1 = g.D.Disk.medium c.cut_on.new.disk in
     let begun = c.in_default.ensures.begun k in
     settled_of c.cut_on.new.halves (whole_items c.self.inside.frozen.len c.freeze.new.bytes c.self.inside.frozen.items) c.self.inside.named_marks.items (whole_items c.swap.new.y.len c.clear_marks.new.marks c.swap.new.y.items) c.swap.new.x.items (Some c.count_marked.result) c.self.inside.failed w1
@@ -60,7 +62,7 @@ returns-clause-sound g c = λ k.
 pub returns-clause-begun : goal.returns-clause-begun
 returns-clause-begun g c =
     let w1 = g.D.Disk.medium c.cut_on.new.disk in
-    let count = c.count_marked.ensures ∙ ap count_marked c.deref.ensures.value ∙ ap (λ v. count_marked v.items) c.swap.ensures.x_after in
+    let count = c.count_marked.ensures ∙ ap count_marked c.deref-2.ensures.value ∙ ap (λ v. count_marked v.items) c.swap.ensures.x_after in
     let all : c.self.inside.halves.geometry.half - 0 ≡ c.self.inside.halves.geometry.half = omega arith in
     let named = c.self.inside.named_marks.items in
     let put = whole_put c.swap.new.y.len c.clear_marks.new.marks c.swap.new.y.items (ap length c.clear_marks.ensures ∙ length-replicate _ false ∙ ap length c.deref_mut-2.ensures.value) (ap length c.clear_marks.ensures ∙ length-replicate _ false ∙ c.deref_mut-2.ensures.len) in
@@ -90,7 +92,6 @@ invariant_of-self-2 g c =
     let alone : c.self.inside.left ≡ None = ap (λ (h : Held). h.left) c.self.view_is ∙ c.requires.alone in
     let geometry : c.args.tree.now.geometry ≡ c.self.inside.halves.geometry = c.requires.geometry ∙ sym (ap (λ (h : Held). h.geometry) c.self.view_is) in
     let is_state = subst (λ (x : Geometry). IsState x (state_in c.args.tree.now)) geometry c.requires.whole.state in
-    let spelled : c.freeze.new.bytes ≡ image_of 2 c.self.inside.halves.geometry (state_in c.args.tree.now) = c.freeze.ensures.image ∙ ap (λ (x : Geometry). image_of 2 x (state_in c.args.tree.now)) geometry in
     let frozen = whole_put c.self.inside.frozen.len c.freeze.new.bytes c.self.inside.frozen.items (c.freeze.ensures.size ∙ ap length c.deref_mut.ensures.value) (c.freeze.ensures.size ∙ c.deref_mut.ensures.len) in
     let log = c.in_default.ensures.log in
     let same = c.cut_on.ensures.geometry in
@@ -104,14 +105,18 @@ invariant_of-self-2 g c =
       (λ fine.
           let placed = subst (λ (o : Option ℕ). IsPlaced c.self.inside.halves c.self.inside.due.items o) alone (c.self.invariant.6 fine).1 in (
             ap (λ (l : Log). l.failed) log ∙ (c.self.invariant.6 fine).0,
-            (ap (λ (l : Log). l.current) log ∙ sym (ap (λ (l : Log). other l.named) log), sym (c.count_marked.ensures ∙ ap count_marked c.deref.ensures.value)),
+            (ap (λ (l : Log). l.current) log ∙ sym (ap (λ (l : Log). other l.named) log), sym (c.count_marked.ensures ∙ ap count_marked c.deref-2.ensures.value)),
           )),
       (λ fine k.
           let w0 = g.D.Disk.medium c.self.inside.disk in
           let is : holds c.self.inside.halves.geometry w0.now ≡ Some (state_in c.args.tree.now) = ap settled c.self.view_is ∙ c.requires.state k in
+          let right = frozen_right c.self.inside.halves c.self.inside.frozen.items c.self.inside.named_marks.items c.self.inside.other_marks.items c.self.inside.due.items c.self.inside.left w0 (state_in c.args.tree.now) alone (c.self.invariant.7 fine k) is c.args.tree.now.geometry c.deref.result.now c.deref_mut.result.now geometry c.deref.ensures.value c.deref_mut.ensures.value in
+          let spelled : c.freeze.new.bytes ≡ image_of 2 c.self.inside.halves.geometry (state_in c.args.tree.now) = c.freeze.ensures.image right ∙ ap (λ (x : Geometry). image_of 2 x (state_in c.args.tree.now)) geometry in
           let w1 = g.D.Disk.medium c.cut_on.new.disk in
           let begun = c.in_default.ensures.begun k in
           subst (λ (l : List ℕ). IsSound c.cut_on.new.halves l c.self.inside.named_marks.items (whole_items c.swap.new.y.len c.clear_marks.new.marks c.swap.new.y.items) c.swap.new.x.items (Some c.count_marked.result) w1) (sym frozen)
           (subst (λ (l : Log). IsSound l c.freeze.new.bytes c.self.inside.named_marks.items (whole_items c.swap.new.y.len c.clear_marks.new.marks c.swap.new.y.items) c.swap.new.x.items (Some c.count_marked.result) w1) (sym c.in_default.ensures.log)
           (cut_sound c.self.inside.halves c.self.inside.frozen.items c.freeze.new.bytes c.self.inside.named_marks.items c.self.inside.other_marks.items c.self.inside.due.items c.self.inside.left w0 (state_in c.args.tree.now) alone (c.self.invariant.6 fine).1 (c.self.invariant.7 fine k) is is_state spelled (g.met.D.Disk.bytes c.self.inside.disk) w1 (g.met.D.Disk.bytes c.cut_on.new.disk) (whole_items c.swap.new.y.len c.clear_marks.new.marks c.swap.new.y.items) c.swap.new.x.items c.count_marked.result (ap (λ v. v.items) c.swap.ensures.x_after) begun))),
+      omega arith,
+      (λ i few. absurd (omega (arith, few))),
     )

@@ -79,4 +79,6 @@ invariant_of-self-2 g c =
           flip_kept c.self.inside.halves c.flip_on.new.halves c.self.inside.frozen.items c.self.inside.named_marks.items c.self.inside.other_marks.items c.self.inside.due.items c.swap.new.x.items c.swap.new.y.items c.self.inside.left (g.D.Disk.medium c.self.inside.disk) (g.D.Disk.medium c.flip_on.new.disk) none
           log (ap (λ v. v.items) c.swap.ensures.x_after) (ap (λ v. v.items) c.swap.ensures.y_after)
           (g.met.D.Disk.bytes c.self.inside.disk) (g.met.D.Disk.bytes c.flip_on.new.disk) placed written sound (c.in_default.ensures.flipped k)),
+      c.self.invariant.8,
+      c.self.invariant.9,
     )

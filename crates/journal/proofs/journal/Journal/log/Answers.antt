@@ -114,4 +114,6 @@ invariant_of-self-2 g c =
           (g.D.Disk.medium c.self.inside.disk) (g.D.Disk.medium c.append.new.disk) log (g.met.D.Disk.bytes c.self.inside.disk) (g.met.D.Disk.bytes c.append.new.disk) (c.self.invariant.7 fine k) out (c.in_default.ensures.added k) (c.self.invariant.6 fine).1
           (touched_along _ _ c.args.messages.now _ _ _ _ same c.deref_mut.ensures.value first c.mark_touched.ensures.touched)
           (touched_along _ _ c.args.messages.now _ _ _ _ same c.deref_mut-2.ensures.value second c.mark_touched-2.ensures.touched)),
+      c.self.invariant.8,
+      c.self.invariant.9,
     )

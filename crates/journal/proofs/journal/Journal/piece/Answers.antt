@@ -5,10 +5,10 @@ use Rattle.checkpoint.specs.Recovery.{holds}
 use Rattle.disk.proofs.Moments.{started}
 use Rattle.disk.specs.Moments.{LeavesOnly}
 use Rattle.journal.specs.Journal.{Held, IsSettled, records, settled}
-use Rattle.journal.specs.Keeping.{IsPlaced}
-use Rattle.journal.specs.Marks.{count_marked}
+use Rattle.journal.specs.Keeping.{AreClearBefore, IsPlaced}
 use Rattle.journal.proofs.Logging.{settled_of}
-use Rattle.journal.proofs.Piecing.{piece_left, piece_moments, piece_records, piece_same, piece_some, piece_sound, pieced_along, some_left}
+use Rattle.journal.proofs.Rows.{clear_set}
+use Rattle.journal.proofs.Piecing.{piece_counted, piece_left, piece_moments, piece_records, piece_same, piece_some, piece_sound, pieced_along, some_left}
 use Rattle.oplog.specs.Changes.{ChangesOnly, IsSameBut}
 use Rattle.oplog.specs.Layout.{layout_of, image, other}
 use Rattle.oplog.proofs.Answered.{on_ok}
@@ -81,9 +81,9 @@ returns-clause-sound g c = λ k.
     let written = on_ok c.write_stretch.result _ (sym c.is_err.ensures.value ∙ c.if-is_err.false) c.write_stretch.ensures.written k in
     let pieced = pieced_along c.geometry-g.result c.self.inside.halves.geometry c.named-area.result c.self.inside.halves.named c.in-Some.n c.deref-2.result.now c.self.inside.frozen.items w0 w1 c.geometry-g.ensures c.named-area.ensures.named c.deref-2.ensures.value
     (record { moments = c.write_stretch.ensures.any_moment k; same = c.write_stretch.ensures.same k; is = written; ready = c.write_stretch.ensures.ready k }) in
-    settled_of c.self.inside.halves c.self.inside.frozen.items c.self.inside.named_marks.items c.self.inside.other_marks.items (set c.self.inside.due.items c.in-Some.n false) (Some c.count_marked-left.result) c.self.inside.failed w1
+    settled_of c.self.inside.halves c.self.inside.frozen.items c.self.inside.named_marks.items c.self.inside.other_marks.items (set c.self.inside.due.items c.in-Some.n false) (Some c.saturating_sub-left.result) c.self.inside.failed w1
     (piece_sound c.self.inside.halves c.self.inside.frozen.items c.self.inside.named_marks.items c.self.inside.other_marks.items c.self.inside.due.items c.self.inside.left w0 w1 (g.met.D.Disk.bytes c.self.inside.disk) (c.self.invariant.7 fine k) (g.met.D.Disk.bytes c.write_stretch.new.disk)
-    c.in-Some.n left.0 c.count_marked-left.result left.1 few pieced)
+    c.in-Some.n left.0 c.saturating_sub-left.result left.1 few pieced)
 
 pub returns-clause-left : goal.returns-clause-left
 returns-clause-left g c =
@@ -91,17 +91,17 @@ returns-clause-left g c =
     let few = subst (λ (l : List Bool). c.in-Some.n < length l) c.deref.ensures.value c.in-Some.ensures.inside in
     let marked = subst (λ (l : List Bool). get_or l c.in-Some.n false ≡ true) c.deref.ensures.value c.in-Some.ensures.marked in
     sym (ap (λ (h : Held). option_map (λ (l : ℕ). l - 1) h.left) c.self.view_is)
-    ∙ piece_left c.self.inside.halves c.self.inside.due.items c.self.inside.left c.in-Some.n c.count_marked-left.result (ap (λ (h : Held). is_some h.left) c.self.view_is ∙ c.requires.running) (c.self.invariant.6 fine).1 few marked
-    (c.count_marked-left.ensures ∙ ap count_marked c.deref-3.ensures.value)
+    ∙ piece_left c.self.inside.halves c.self.inside.due.items c.self.inside.left c.in-Some.n c.saturating_sub-left.result (ap (λ (h : Held). is_some h.left) c.self.view_is ∙ c.requires.running) (c.self.invariant.6 fine).1 few marked
+    (piece_counted c.self.inside.halves c.self.inside.due.items c.self.inside.left c.in-Some.n c.saturating_sub-left.result (ap (λ (h : Held). is_some h.left) c.self.view_is ∙ c.requires.running) (c.self.invariant.6 fine).1 few marked (c.saturating_sub-left.ensures ∙ ap (λ (n : ℕ). n - 1) c.unwrap_or.ensures))
 
 pub returns-clause-after : goal.returns-clause-after
 returns-clause-after g c =
     let fine : c.self.inside.failed ≡ false = ap (λ (h : Held). h.failed) c.self.view_is ∙ c.requires.sound in
     let few = subst (λ (l : List Bool). c.in-Some.n < length l) c.deref.ensures.value c.in-Some.ensures.inside in
     let marked = subst (λ (l : List Bool). get_or l c.in-Some.n false ≡ true) c.deref.ensures.value c.in-Some.ensures.marked in
-    let left = piece_left c.self.inside.halves c.self.inside.due.items c.self.inside.left c.in-Some.n c.count_marked-left.result (ap (λ (h : Held). is_some h.left) c.self.view_is ∙ c.requires.running) (c.self.invariant.6 fine).1 few marked
-    (c.count_marked-left.ensures ∙ ap count_marked c.deref-3.ensures.value) in
-    ap (λ (h : Held). record h { left = Some c.count_marked-left.result; medium = g.D.Disk.medium c.write_stretch.new.disk }) c.self.view_is
+    let left = piece_left c.self.inside.halves c.self.inside.due.items c.self.inside.left c.in-Some.n c.saturating_sub-left.result (ap (λ (h : Held). is_some h.left) c.self.view_is ∙ c.requires.running) (c.self.invariant.6 fine).1 few marked
+    (piece_counted c.self.inside.halves c.self.inside.due.items c.self.inside.left c.in-Some.n c.saturating_sub-left.result (ap (λ (h : Held). is_some h.left) c.self.view_is ∙ c.requires.running) (c.self.invariant.6 fine).1 few marked (c.saturating_sub-left.ensures ∙ ap (λ (n : ℕ). n - 1) c.unwrap_or.ensures)) in
+    ap (λ (h : Held). record h { left = Some c.saturating_sub-left.result; medium = g.D.Disk.medium c.write_stretch.new.disk }) c.self.view_is
     ∙ ap (λ (l : Option ℕ). record c.args.self.now { left = l; medium = g.D.Disk.medium c.write_stretch.new.disk }) (sym left ∙ ap (λ (h : Held). option_map (λ (l : ℕ). l - 1) h.left) c.self.view_is)
 
 pub returns-clause-records : goal.returns-clause-records
@@ -116,7 +116,8 @@ returns-clause-records g c = λ k.
 
 pub invariant_of-self-2 : goal.invariant_of-self-2
 invariant_of-self-2 g c =
-    let few = subst (λ (l : List Bool). c.in-Some.n < length l) c.deref.ensures.value c.in-Some.ensures.inside in (
+    let few = subst (λ (l : List Bool). c.in-Some.n < length l) c.deref.ensures.value c.in-Some.ensures.inside in
+    let marked = subst (λ (l : List Bool). get_or l c.in-Some.n false ≡ true) c.deref.ensures.value c.in-Some.ensures.marked in (
       omega (arith, c.self.invariant.0, c.write_stretch.ensures.len),
       c.self.invariant.1,
       c.self.invariant.2,
@@ -126,7 +127,7 @@ invariant_of-self-2 g c =
       (λ fine.
           let left = some_left c.self.inside.left (ap (λ (h : Held). is_some h.left) c.self.view_is ∙ c.requires.running) in
           let placed = subst (λ (l : Option ℕ). IsPlaced c.self.inside.halves c.self.inside.due.items l) left.1 (c.self.invariant.6 fine).1 in
-          ((c.self.invariant.6 fine).0, (placed.0, sym (c.count_marked-left.ensures ∙ ap count_marked c.deref-3.ensures.value)))),
+          ((c.self.invariant.6 fine).0, (placed.0, sym (piece_counted c.self.inside.halves c.self.inside.due.items c.self.inside.left c.in-Some.n c.saturating_sub-left.result (ap (λ (h : Held). is_some h.left) c.self.view_is ∙ c.requires.running) (c.self.invariant.6 fine).1 few marked (c.saturating_sub-left.ensures ∙ ap (λ (n : ℕ). n - 1) c.unwrap_or.ensures))))),
       (λ fine k.
           let w0 = g.D.Disk.medium c.self.inside.disk in
           let w1 = g.D.Disk.medium c.write_stretch.new.disk in
@@ -135,5 +136,7 @@ invariant_of-self-2 g c =
           let pieced = pieced_along c.geometry-g.result c.self.inside.halves.geometry c.named-area.result c.self.inside.halves.named c.in-Some.n c.deref-2.result.now c.self.inside.frozen.items w0 w1 c.geometry-g.ensures c.named-area.ensures.named c.deref-2.ensures.value
           (record { moments = c.write_stretch.ensures.any_moment k; same = c.write_stretch.ensures.same k; is = written; ready = c.write_stretch.ensures.ready k }) in
           piece_sound c.self.inside.halves c.self.inside.frozen.items c.self.inside.named_marks.items c.self.inside.other_marks.items c.self.inside.due.items c.self.inside.left w0 w1 (g.met.D.Disk.bytes c.self.inside.disk) (c.self.invariant.7 fine k) (g.met.D.Disk.bytes c.write_stretch.new.disk)
-          c.in-Some.n left.0 c.count_marked-left.result left.1 few pieced),
+          c.in-Some.n left.0 c.saturating_sub-left.result left.1 few pieced),
+      let long = length-set c.self.inside.due.items c.in-Some.n false in omega (arith, few, long),
+      clear_set c.in-Some.n c.self.inside.due.items few (subst (λ (l : List Bool). AreClearBefore c.in-Some.n l) c.deref.ensures.value c.in-Some.ensures.clear),
     )

@@ -11,7 +11,7 @@ use Rattle.journal.specs.Steps.{IsPointed}
 use Rattle.journal.specs.Stretches.{AgreeUnmarked, image_in}
 use Rattle.journal.proofs.Logging.{settled_of}
 use Rattle.journal.proofs.Rows.{whole_items, whole_put}
-use Rattle.journal.proofs.Saving.{agrees, is_alone, point_settled, point_sound, reads}
+use Rattle.journal.proofs.Saving.{frozen_right, agrees, is_alone, point_settled, point_sound, reads}
 use Rattle.oplog.specs.Layout.{layout_of, device_size, image_size, other}
 use Rattle.oplog.specs.Log.{Log, layout}
 use Rattle.oplog.specs.Stands.{in_force, named_area}
@@ -25,10 +25,11 @@ point_on-requires-clause-alone g c = λ k.
     let alone : c.self.inside.left ≡ None = ap (λ (h : Held). h.left) c.self.view_is ∙ c.requires.alone in
     let geometry : c.args.tree.now.geometry ≡ c.self.inside.halves.geometry = c.requires.geometry ∙ sym (ap (λ (h : Held). h.geometry) c.self.view_is) in
     let is_state = subst (λ (x : Geometry). IsState x (state_in c.args.tree.now)) geometry c.requires.whole.state in
-    let spelled : c.freeze.new.bytes ≡ image_of 2 c.self.inside.halves.geometry (state_in c.args.tree.now) = c.freeze.ensures.image ∙ ap (λ (x : Geometry). image_of 2 x (state_in c.args.tree.now)) geometry in
     let frozen = whole_put c.self.inside.frozen.len c.freeze.new.bytes c.self.inside.frozen.items (c.freeze.ensures.size ∙ ap length c.deref_mut.ensures.value) (c.freeze.ensures.size ∙ c.deref_mut.ensures.len) in
     let w0 = g.D.Disk.medium c.self.inside.disk in
     let is : holds c.self.inside.halves.geometry w0.now ≡ Some (state_in c.args.tree.now) = ap settled c.self.view_is ∙ c.requires.state k in
+    let right = frozen_right c.self.inside.halves c.self.inside.frozen.items c.self.inside.named_marks.items c.self.inside.other_marks.items c.self.inside.due.items c.self.inside.left w0 (state_in c.args.tree.now) alone (c.self.invariant.7 fine k) is c.args.tree.now.geometry c.deref.result.now c.deref_mut.result.now geometry c.deref.ensures.value c.deref_mut.ensures.value in
+    let spelled : c.freeze.new.bytes ≡ image_of 2 c.self.inside.halves.geometry (state_in c.args.tree.now) = c.freeze.ensures.image right ∙ ap (λ (x : Geometry). image_of 2 x (state_in c.args.tree.now)) geometry in
     is_alone c.self.inside.halves c.self.inside.frozen.items c.freeze.new.bytes c.self.inside.named_marks.items c.self.inside.other_marks.items c.self.inside.due.items c.self.inside.left w0 (state_in c.args.tree.now) alone (c.self.invariant.6 fine).1 (c.self.invariant.7 fine k) is is_state spelled (g.met.D.Disk.bytes c.self.inside.disk)
 
 pub point_on-requires-clause-image : goal.point_on-requires-clause-image
@@ -37,11 +38,12 @@ point_on-requires-clause-image g c = λ k.
     let alone : c.self.inside.left ≡ None = ap (λ (h : Held). h.left) c.self.view_is ∙ c.requires.alone in
     let geometry : c.args.tree.now.geometry ≡ c.self.inside.halves.geometry = c.requires.geometry ∙ sym (ap (λ (h : Held). h.geometry) c.self.view_is) in
     let is_state = subst (λ (x : Geometry). IsState x (state_in c.args.tree.now)) geometry c.requires.whole.state in
-    let spelled : c.freeze.new.bytes ≡ image_of 2 c.self.inside.halves.geometry (state_in c.args.tree.now) = c.freeze.ensures.image ∙ ap (λ (x : Geometry). image_of 2 x (state_in c.args.tree.now)) geometry in
     let frozen = whole_put c.self.inside.frozen.len c.freeze.new.bytes c.self.inside.frozen.items (c.freeze.ensures.size ∙ ap length c.deref_mut.ensures.value) (c.freeze.ensures.size ∙ c.deref_mut.ensures.len) in
     let w0 = g.D.Disk.medium c.self.inside.disk in
     let is : holds c.self.inside.halves.geometry w0.now ≡ Some (state_in c.args.tree.now) = ap settled c.self.view_is ∙ c.requires.state k in
-    ap (read c.self.inside.halves.geometry) (c.deref.ensures.value ∙ frozen) ∙ reads c.self.inside.halves c.self.inside.frozen.items c.freeze.new.bytes c.self.inside.named_marks.items c.self.inside.other_marks.items c.self.inside.due.items c.self.inside.left w0 (state_in c.args.tree.now) alone (c.self.invariant.6 fine).1 (c.self.invariant.7 fine k) is is_state spelled (g.met.D.Disk.bytes c.self.inside.disk)
+    let right = frozen_right c.self.inside.halves c.self.inside.frozen.items c.self.inside.named_marks.items c.self.inside.other_marks.items c.self.inside.due.items c.self.inside.left w0 (state_in c.args.tree.now) alone (c.self.invariant.7 fine k) is c.args.tree.now.geometry c.deref.result.now c.deref_mut.result.now geometry c.deref.ensures.value c.deref_mut.ensures.value in
+    let spelled : c.freeze.new.bytes ≡ image_of 2 c.self.inside.halves.geometry (state_in c.args.tree.now) = c.freeze.ensures.image right ∙ ap (λ (x : Geometry). image_of 2 x (state_in c.args.tree.now)) geometry in
+    ap (read c.self.inside.halves.geometry) (c.deref-2.ensures.value ∙ frozen) ∙ reads c.self.inside.halves c.self.inside.frozen.items c.freeze.new.bytes c.self.inside.named_marks.items c.self.inside.other_marks.items c.self.inside.due.items c.self.inside.left w0 (state_in c.args.tree.now) alone (c.self.invariant.6 fine).1 (c.self.invariant.7 fine k) is is_state spelled (g.met.D.Disk.bytes c.self.inside.disk)
 
 pub point_on-requires-clause-unmarked : goal.point_on-requires-clause-unmarked
 point_on-requires-clause-unmarked g c = λ k.
@@ -49,12 +51,13 @@ point_on-requires-clause-unmarked g c = λ k.
     let alone : c.self.inside.left ≡ None = ap (λ (h : Held). h.left) c.self.view_is ∙ c.requires.alone in
     let geometry : c.args.tree.now.geometry ≡ c.self.inside.halves.geometry = c.requires.geometry ∙ sym (ap (λ (h : Held). h.geometry) c.self.view_is) in
     let is_state = subst (λ (x : Geometry). IsState x (state_in c.args.tree.now)) geometry c.requires.whole.state in
-    let spelled : c.freeze.new.bytes ≡ image_of 2 c.self.inside.halves.geometry (state_in c.args.tree.now) = c.freeze.ensures.image ∙ ap (λ (x : Geometry). image_of 2 x (state_in c.args.tree.now)) geometry in
     let frozen = whole_put c.self.inside.frozen.len c.freeze.new.bytes c.self.inside.frozen.items (c.freeze.ensures.size ∙ ap length c.deref_mut.ensures.value) (c.freeze.ensures.size ∙ c.deref_mut.ensures.len) in
     let w0 = g.D.Disk.medium c.self.inside.disk in
     let is : holds c.self.inside.halves.geometry w0.now ≡ Some (state_in c.args.tree.now) = ap settled c.self.view_is ∙ c.requires.state k in
-    subst (λ (l : List ℕ). AgreeUnmarked c.self.inside.halves.geometry c.deref-2.result.now (image_in c.self.inside.halves.geometry (other c.self.inside.halves.named) w0) l) (sym (c.deref.ensures.value ∙ frozen))
-    (subst (λ (l : List Bool). AgreeUnmarked c.self.inside.halves.geometry l (image_in c.self.inside.halves.geometry (other c.self.inside.halves.named) w0) c.freeze.new.bytes) (sym c.deref-2.ensures.value) (agrees c.self.inside.halves c.self.inside.frozen.items c.freeze.new.bytes c.self.inside.named_marks.items c.self.inside.other_marks.items c.self.inside.due.items c.self.inside.left w0 (state_in c.args.tree.now) alone (c.self.invariant.6 fine).1 (c.self.invariant.7 fine k) is is_state spelled (g.met.D.Disk.bytes c.self.inside.disk)))
+    let right = frozen_right c.self.inside.halves c.self.inside.frozen.items c.self.inside.named_marks.items c.self.inside.other_marks.items c.self.inside.due.items c.self.inside.left w0 (state_in c.args.tree.now) alone (c.self.invariant.7 fine k) is c.args.tree.now.geometry c.deref.result.now c.deref_mut.result.now geometry c.deref.ensures.value c.deref_mut.ensures.value in
+    let spelled : c.freeze.new.bytes ≡ image_of 2 c.self.inside.halves.geometry (state_in c.args.tree.now) = c.freeze.ensures.image right ∙ ap (λ (x : Geometry). image_of 2 x (state_in c.args.tree.now)) geometry in
+    subst (λ (l : List ℕ). AgreeUnmarked c.self.inside.halves.geometry c.deref-3.result.now (image_in c.self.inside.halves.geometry (other c.self.inside.halves.named) w0) l) (sym (c.deref-2.ensures.value ∙ frozen))
+    (subst (λ (l : List Bool). AgreeUnmarked c.self.inside.halves.geometry l (image_in c.self.inside.halves.geometry (other c.self.inside.halves.named) w0) c.freeze.new.bytes) (sym c.deref-3.ensures.value) (agrees c.self.inside.halves c.self.inside.frozen.items c.freeze.new.bytes c.self.inside.named_marks.items c.self.inside.other_marks.items c.self.inside.due.items c.self.inside.left w0 (state_in c.args.tree.now) alone (c.self.invariant.6 fine).1 (c.self.invariant.7 fine k) is is_state spelled (g.met.D.Disk.bytes c.self.inside.disk)))
 
 pub returns-in-Err-clause-any_moment : goal.returns-in-Err-clause-any_moment
 returns-in-Err-clause-any_moment g c = λ k.
@@ -70,12 +73,13 @@ returns-clause-settled g c = λ k.
     let alone : c.self.inside.left ≡ None = ap (λ (h : Held). h.left) c.self.view_is ∙ c.requires.alone in
     let geometry : c.args.tree.now.geometry ≡ c.self.inside.halves.geometry = c.requires.geometry ∙ sym (ap (λ (h : Held). h.geometry) c.self.view_is) in
     let is_state = subst (λ (x : Geometry). IsState x (state_in c.args.tree.now)) geometry c.requires.whole.state in
-    let spelled : c.freeze.new.bytes ≡ image_of 2 c.self.inside.halves.geometry (state_in c.args.tree.now) = c.freeze.ensures.image ∙ ap (λ (x : Geometry). image_of 2 x (state_in c.args.tree.now)) geometry in
     let frozen = whole_put c.self.inside.frozen.len c.freeze.new.bytes c.self.inside.frozen.items (c.freeze.ensures.size ∙ ap length c.deref_mut.ensures.value) (c.freeze.ensures.size ∙ c.deref_mut.ensures.len) in
     let w0 = g.D.Disk.medium c.self.inside.disk in
     let is : holds c.self.inside.halves.geometry w0.now ≡ Some (state_in c.args.tree.now) = ap settled c.self.view_is ∙ c.requires.state k in
+    let right = frozen_right c.self.inside.halves c.self.inside.frozen.items c.self.inside.named_marks.items c.self.inside.other_marks.items c.self.inside.due.items c.self.inside.left w0 (state_in c.args.tree.now) alone (c.self.invariant.7 fine k) is c.args.tree.now.geometry c.deref.result.now c.deref_mut.result.now geometry c.deref.ensures.value c.deref_mut.ensures.value in
+    let spelled : c.freeze.new.bytes ≡ image_of 2 c.self.inside.halves.geometry (state_in c.args.tree.now) = c.freeze.ensures.image right ∙ ap (λ (x : Geometry). image_of 2 x (state_in c.args.tree.now)) geometry in
     let w1 = g.D.Disk.medium c.point_on.new.disk in
-    let made = subst (λ (l : List ℕ). IsPointed c.self.inside.halves l w0 w1) (c.deref.ensures.value ∙ frozen) (c.in_default.ensures.pointed k) in
+    let made = subst (λ (l : List ℕ). IsPointed c.self.inside.halves l w0 w1) (c.deref-2.ensures.value ∙ frozen) (c.in_default.ensures.pointed k) in
     ap (λ (x : Geometry). holds x w1.now) c.point_on.ensures.geometry ∙ point_settled c.self.inside.halves c.self.inside.frozen.items c.freeze.new.bytes c.self.inside.named_marks.items c.self.inside.other_marks.items c.self.inside.due.items c.self.inside.left w0 (state_in c.args.tree.now) alone (c.self.invariant.6 fine).1 (c.self.invariant.7 fine k) is is_state spelled (g.met.D.Disk.bytes c.self.inside.disk) w1 (g.met.D.Disk.bytes c.point_on.new.disk) made ∙ ap settled c.self.view_is
 
 pub returns-clause-emptied : goal.returns-clause-emptied
@@ -84,12 +88,13 @@ returns-clause-emptied g c = λ k.
     let alone : c.self.inside.left ≡ None = ap (λ (h : Held). h.left) c.self.view_is ∙ c.requires.alone in
     let geometry : c.args.tree.now.geometry ≡ c.self.inside.halves.geometry = c.requires.geometry ∙ sym (ap (λ (h : Held). h.geometry) c.self.view_is) in
     let is_state = subst (λ (x : Geometry). IsState x (state_in c.args.tree.now)) geometry c.requires.whole.state in
-    let spelled : c.freeze.new.bytes ≡ image_of 2 c.self.inside.halves.geometry (state_in c.args.tree.now) = c.freeze.ensures.image ∙ ap (λ (x : Geometry). image_of 2 x (state_in c.args.tree.now)) geometry in
     let frozen = whole_put c.self.inside.frozen.len c.freeze.new.bytes c.self.inside.frozen.items (c.freeze.ensures.size ∙ ap length c.deref_mut.ensures.value) (c.freeze.ensures.size ∙ c.deref_mut.ensures.len) in
     let w0 = g.D.Disk.medium c.self.inside.disk in
     let is : holds c.self.inside.halves.geometry w0.now ≡ Some (state_in c.args.tree.now) = ap settled c.self.view_is ∙ c.requires.state k in
+    let right = frozen_right c.self.inside.halves c.self.inside.frozen.items c.self.inside.named_marks.items c.self.inside.other_marks.items c.self.inside.due.items c.self.inside.left w0 (state_in c.args.tree.now) alone (c.self.invariant.7 fine k) is c.args.tree.now.geometry c.deref.result.now c.deref_mut.result.now geometry c.deref.ensures.value c.deref_mut.ensures.value in
+    let spelled : c.freeze.new.bytes ≡ image_of 2 c.self.inside.halves.geometry (state_in c.args.tree.now) = c.freeze.ensures.image right ∙ ap (λ (x : Geometry). image_of 2 x (state_in c.args.tree.now)) geometry in
     let w1 = g.D.Disk.medium c.point_on.new.disk in
-    let made = subst (λ (l : List ℕ). IsPointed c.self.inside.halves l w0 w1) (c.deref.ensures.value ∙ frozen) (c.in_default.ensures.pointed k) in
+    let made = subst (λ (l : List ℕ). IsPointed c.self.inside.halves l w0 w1) (c.deref-2.ensures.value ∙ frozen) (c.in_default.ensures.pointed k) in
     ap (λ (x : Geometry). in_force (layout_of x) (named_area (layout_of x) w1.now) w1.now) c.point_on.ensures.geometry ∙ made.emptied
 
 pub returns-clause-sound : goal.returns-clause-sound
@@ -98,12 +103,13 @@ returns-clause-sound g c = λ k.
     let alone : c.self.inside.left ≡ None = ap (λ (h : Held). h.left) c.self.view_is ∙ c.requires.alone in
     let geometry : c.args.tree.now.geometry ≡ c.self.inside.halves.geometry = c.requires.geometry ∙ sym (ap (λ (h : Held). h.geometry) c.self.view_is) in
     let is_state = subst (λ (x : Geometry). IsState x (state_in c.args.tree.now)) geometry c.requires.whole.state in
-    let spelled : c.freeze.new.bytes ≡ image_of 2 c.self.inside.halves.geometry (state_in c.args.tree.now) = c.freeze.ensures.image ∙ ap (λ (x : Geometry). image_of 2 x (state_in c.args.tree.now)) geometry in
     let frozen = whole_put c.self.inside.frozen.len c.freeze.new.bytes c.self.inside.frozen.items (c.freeze.ensures.size ∙ ap length c.deref_mut.ensures.value) (c.freeze.ensures.size ∙ c.deref_mut.ensures.len) in
     let w0 = g.D.Disk.medium c.self.inside.disk in
     let is : holds c.self.inside.halves.geometry w0.now ≡ Some (state_in c.args.tree.now) = ap settled c.self.view_is ∙ c.requires.state k in
+    let right = frozen_right c.self.inside.halves c.self.inside.frozen.items c.self.inside.named_marks.items c.self.inside.other_marks.items c.self.inside.due.items c.self.inside.left w0 (state_in c.args.tree.now) alone (c.self.invariant.7 fine k) is c.args.tree.now.geometry c.deref.result.now c.deref_mut.result.now geometry c.deref.ensures.value c.deref_mut.ensures.value in
+    let spelled : c.freeze.new.bytes ≡ image_of 2 c.self.inside.halves.geometry (state_in c.args.tree.now) = c.freeze.ensures.image right ∙ ap (λ (x : Geometry). image_of 2 x (state_in c.args.tree.now)) geometry in
     let w1 = g.D.Disk.medium c.point_on.new.disk in
-    let made = subst (λ (l : List ℕ). IsPointed c.self.inside.halves l w0 w1) (c.deref.ensures.value ∙ frozen) (c.in_default.ensures.pointed k) in
+    let made = subst (λ (l : List ℕ). IsPointed c.self.inside.halves l w0 w1) (c.deref-2.ensures.value ∙ frozen) (c.in_default.ensures.pointed k) in
     settled_of c.point_on.new.halves (whole_items c.self.inside.frozen.len c.freeze.new.bytes c.self.inside.frozen.items) c.exchange_marks.new.named.items c.exchange_marks.new.other.items c.self.inside.due.items c.self.inside.left c.self.inside.failed w1
     (subst (λ (o : Option ℕ). IsSound c.point_on.new.halves (whole_items c.self.inside.frozen.len c.freeze.new.bytes c.self.inside.frozen.items) c.exchange_marks.new.named.items c.exchange_marks.new.other.items c.self.inside.due.items o w1) (sym alone)
     (subst (λ (l : List ℕ). IsSound c.point_on.new.halves l c.exchange_marks.new.named.items c.exchange_marks.new.other.items c.self.inside.due.items None w1) (sym frozen)
@@ -116,7 +122,6 @@ invariant_of-self-2 g c =
     let alone : c.self.inside.left ≡ None = ap (λ (h : Held). h.left) c.self.view_is ∙ c.requires.alone in
     let geometry : c.args.tree.now.geometry ≡ c.self.inside.halves.geometry = c.requires.geometry ∙ sym (ap (λ (h : Held). h.geometry) c.self.view_is) in
     let is_state = subst (λ (x : Geometry). IsState x (state_in c.args.tree.now)) geometry c.requires.whole.state in
-    let spelled : c.freeze.new.bytes ≡ image_of 2 c.self.inside.halves.geometry (state_in c.args.tree.now) = c.freeze.ensures.image ∙ ap (λ (x : Geometry). image_of 2 x (state_in c.args.tree.now)) geometry in
     let frozen = whole_put c.self.inside.frozen.len c.freeze.new.bytes c.self.inside.frozen.items (c.freeze.ensures.size ∙ ap length c.deref_mut.ensures.value) (c.freeze.ensures.size ∙ c.deref_mut.ensures.len) in
     let log = c.in_default.ensures.log in
     let same = c.point_on.ensures.geometry in (
@@ -133,10 +138,14 @@ invariant_of-self-2 g c =
       (λ fine k.
           let w0 = g.D.Disk.medium c.self.inside.disk in
           let is : holds c.self.inside.halves.geometry w0.now ≡ Some (state_in c.args.tree.now) = ap settled c.self.view_is ∙ c.requires.state k in
+          let right = frozen_right c.self.inside.halves c.self.inside.frozen.items c.self.inside.named_marks.items c.self.inside.other_marks.items c.self.inside.due.items c.self.inside.left w0 (state_in c.args.tree.now) alone (c.self.invariant.7 fine k) is c.args.tree.now.geometry c.deref.result.now c.deref_mut.result.now geometry c.deref.ensures.value c.deref_mut.ensures.value in
+          let spelled : c.freeze.new.bytes ≡ image_of 2 c.self.inside.halves.geometry (state_in c.args.tree.now) = c.freeze.ensures.image right ∙ ap (λ (x : Geometry). image_of 2 x (state_in c.args.tree.now)) geometry in
           let w1 = g.D.Disk.medium c.point_on.new.disk in
-          let made = subst (λ (l : List ℕ). IsPointed c.self.inside.halves l w0 w1) (c.deref.ensures.value ∙ frozen) (c.in_default.ensures.pointed k) in
+          let made = subst (λ (l : List ℕ). IsPointed c.self.inside.halves l w0 w1) (c.deref-2.ensures.value ∙ frozen) (c.in_default.ensures.pointed k) in
           subst (λ (o : Option ℕ). IsSound c.point_on.new.halves (whole_items c.self.inside.frozen.len c.freeze.new.bytes c.self.inside.frozen.items) c.exchange_marks.new.named.items c.exchange_marks.new.other.items c.self.inside.due.items o w1) (sym alone)
           (subst (λ (l : List ℕ). IsSound c.point_on.new.halves l c.exchange_marks.new.named.items c.exchange_marks.new.other.items c.self.inside.due.items None w1) (sym frozen)
           (subst (λ (l : Log). IsSound l c.freeze.new.bytes c.exchange_marks.new.named.items c.exchange_marks.new.other.items c.self.inside.due.items None w1) (sym c.in_default.ensures.log)
           (point_sound c.self.inside.halves c.self.inside.frozen.items c.freeze.new.bytes c.self.inside.named_marks.items c.self.inside.other_marks.items c.self.inside.due.items c.self.inside.left w0 (state_in c.args.tree.now) alone (c.self.invariant.6 fine).1 (c.self.invariant.7 fine k) is is_state spelled (g.met.D.Disk.bytes c.self.inside.disk) w1 (g.met.D.Disk.bytes c.point_on.new.disk) c.exchange_marks.new.named.items c.exchange_marks.new.other.items (ap (λ v. v.items) c.exchange_marks.ensures.kept) made)))),
+      c.self.invariant.8,
+      c.self.invariant.9,
     )
