@@ -18,7 +18,7 @@ pub(crate) trait Duty {
     /// Whether it can be begun.
     ghost can_begin: { Self → Type 0 };
 
-    /// What comes of it at a bench of so many places, where nothing is lent at first.
+    /// What comes of it at a bench of this many places, where nothing is lent at first.
     ghost gives: { Self → ℕ → Self.Output → Type 0 };
 
     /// Does it, and hands the seat back.
@@ -41,7 +41,7 @@ pub(crate) trait Duty {
         ensures gives { (places : ℕ) → gives self places result };
 }
 
-/// Does a duty while so many workers run at a bench of as many places. Declines it where there is no
+/// Does a duty while workers run at a bench of as many places. Declines it where there is no
 /// memory or one of them can't be started.
 pub(crate) fn with_workers<T: Threads + Wait + Sync, G: Gate + Sync, S: Duty<Output = A> + Drop, A>(
     rt: &T,

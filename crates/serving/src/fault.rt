@@ -7,7 +7,7 @@ pub enum ServeFault {
     NoWorkers,
     /// The input could not be read. The whole lines that were read before are answered.
     Read,
-    /// The output could not be written. What was written of it is open.
+    /// The output could not be written. What was written of it is unknown.
     Write,
     /// The device failed. Whole lines were written, of messages that were logged before.
     Device,

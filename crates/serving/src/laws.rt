@@ -34,7 +34,7 @@ ghost use Rattle.serving.specs.declared.fault.ServeFault.TheVariants as faults;
 
 use disk::Disk;
 
-/// Lines whose messages were told what the serial server tells them by ticket are answered as the serial server answers them,
+/// Lines whose messages got the serial server's replies by ticket are answered as the serial server answers them,
 /// as far as they are answered; and their messages lead where the lines lead there.
 pub fn known_lines_are_serial()
     ensures output { (g : Geometry) (x : State) (n : ℕ) (ls : List (List ℕ)) (replies : List (ℕ × Reply)) (said row : List Line)
@@ -50,7 +50,7 @@ pub fn stretches_join<D: Disk>()
         → Passes D.keeps mid new more others → Passes D.keeps old new (come ++ more) (replies ++ others) }
 {}
 
-/// How many messages wait or are held grows by those that arrive, less those that are answered, and always as many fit in. So a
+/// How many messages wait or are held grows by the arrivals, less the answered ones, and always as many fit in. So a
 /// message isn't refused for want of a slot while fewer lines are read and not answered in the output than there are slots.
 pub fn what_is_inside_is_what_arrived_less_what_was_answered<D: Disk>()
     ensures count { (old new : Handed) (come : List Entry) (replies : List (ℕ × Reply)) → Passes D.keeps old new come replies
@@ -73,7 +73,7 @@ pub fn each_message_inside_has_its_line<D: Disk>()
 /// A server that began with nothing in it has written what the serial server writes, however many messages ran at once: all of
 /// it where it has come to the end, the answers to the whole lines that were read where a read failed, those to the lines
 /// before one that found no ticket, and at every moment a beginning of it in whole lines. Where each line that was read is
-/// answered, nothing waits or is held, and it has settled what the serial server reaches. Behind each line that was written
+/// answered, nothing waits or is held, and it has settled what the serial server reaches. For each line that was written
 /// there is a legal run.
 pub fn serving_ends_as_the_serial_server<D: Disk>()
     ensures whole { (start now : Handed) (input left : Option (List ℕ)) (ended : Bool) (before written : Option (List ℕ))
@@ -96,8 +96,8 @@ pub fn serving_ends_as_the_serial_server<D: Disk>()
         → HasServed D.keeps start now.core row input before written }
 {}
 
-/// Where nothing was in doubt in the beginning, the device holds what a server has told. Each line that was written for a message with a
-/// ticket is of one that was logged in the run behind it, with that ticket and that reply. A crash at any moment since event k ended
+/// Where nothing was in doubt in the beginning, the device holds what was answered. Each line that was written for a message with a
+/// ticket is of a message logged in its run, with that ticket and that reply. A crash at any moment since event k ended
 /// leaves what stands for where all that was logged by then leads, perhaps with more of the messages that arrived; and so, when the
 /// server has ended, for all that was logged in the run.
 pub fn what_was_told_is_on_the_device<D: Disk>()

@@ -90,7 +90,7 @@ pub(crate) fn bring_home<T: Wait, D: Disk>(
 pub(crate) enum Sent {
     /// The message went out, and its job is offered to the workers.
     Job,
-    /// No message is eligible, and none lacks room alone.
+    /// None is eligible, and none waits only for room in the log.
     NoneEligible,
     /// No message is eligible, and some message lacks room in the log alone.
     NoRoom,

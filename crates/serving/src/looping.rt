@@ -99,7 +99,7 @@ impl<D: Disk> Session<D> {
         }
     }
 
-    /// Answers each line that was read, and makes the last consistency point behind them.
+    /// Answers each line that was read, and makes the last consistency point after them.
     fn end_whole<T: Wait, W: Write, G: Gate>(
         &mut self,
         rt: &T,

@@ -51,7 +51,7 @@ fn tells_of_held(why: PointRefusal) -> bool
     matches!(why, PointRefusal::Held)
 }
 
-/// Begins the next consistency point behind the one in progress: whether it began. It doesn't where a message is held. At `Err`
+/// Begins the next consistency point after the one in progress: whether it began. It doesn't where a message is held. At `Err`
 /// the device has failed.
 pub(crate) fn next_point<D: Disk>(core: &mut Core<D>) -> Result<bool, PointRefusal>
     ensures kept { (hands : List Hand) → Holds (record { core = core.old; hands = hands })
@@ -70,7 +70,7 @@ pub(crate) fn next_point<D: Disk>(core: &mut Core<D>) -> Result<bool, PointRefus
     Err(why)
 }
 
-/// Makes the last consistency point of a server in which nothing waits or is held, behind the one in progress: the log is
+/// Makes the last consistency point of a server in which nothing waits or is held, after the one in progress: the log is
 /// empty then. At `Err` the device has failed.
 pub(crate) fn last_point<D: Disk>(core: &mut Core<D>) -> Result<(), PointRefusal>
     requires { IsIdle (world_of core.old) }

@@ -21,7 +21,7 @@ pub(crate) enum Came {
     Line,
     /// The end of the input.
     End,
-    /// A line whose message found no ticket, no room, or a device that has failed. It is in neither.
+    /// A line whose message the core refused. It is in neither.
     Refused(ArriveRefusal),
 }
 

@@ -27,7 +27,7 @@ pub enum Line {
 /// Which kind of line lies at a place of the row.
 #[derive(Clone, Copy)]
 enum LineKind {
-    /// One that is no message.
+    /// A line that is no message.
     NoMessage,
     /// A message with a number that is out of range.
     OutOfRange,
@@ -83,7 +83,7 @@ fn first_ticket(ticketed: &VecDeque<Line>) -> Option<u64>
     }
 }
 
-/// Whether the tickets go up by one, where a line with this ticket comes behind these.
+/// Whether the tickets go up by one, where a line with this ticket comes after these.
 fn stays_in_order(ticketed: &VecDeque<Line>, in_order: bool, ticket: u64) -> bool
     requires { in_order ≡ true → AreInOrder ticketed.now.items }
     ensures { result ≡ true → (line : Line) → IsOf ticket line → AreInOrder (ticketed.now.items ++ line ∷ []) }
@@ -115,7 +115,7 @@ fn places_of(ticketed: &VecDeque<Line>, in_order: bool, ticket: u64) -> Range<us
 }
 
 impl Row {
-    /// An empty one, with room for so many lines.
+    /// An empty row, with room for `slots` lines.
     pub(crate) fn new(alloc: Global, slots: usize) -> Result<Row, AllocError>
         ensures lines { IfOk result (λ row. row.lines ≡ []) }
         ensures slots { IfOk result (λ row. row.slots ≡ slots) }
@@ -161,7 +161,7 @@ impl Row {
         }
     }
 
-    /// Puts a line behind the others. It is inlined, so that no line is copied with the room for a reply that it doesn't have.
+    /// Puts a line after the others. It is inlined, so that no line is copied with the room for a reply that it doesn't have.
     #[inline(always)]
     pub(crate) fn push(&mut self, line: Line)
         requires room { length self.old.lines < self.old.slots }

@@ -17,8 +17,8 @@ use scheduler::Core;
 use std::io::Write;
 use workers::Gate;
 
-/// Answers the message that was logged first, if there is one: its line in the row has its reply then. Adds it to `records` where
-/// it changed something, as far as that counts. Whether there was one.
+/// Answers the message that was logged first, if there is one: its line in the row has its reply then. Counts it in `records` if
+/// it changed something, saturating. Whether there was one.
 pub(crate) fn answer_one<D: Disk, G: Gate>(
     core: &mut Core<D>,
     row: &mut Row,
@@ -63,7 +63,7 @@ pub(crate) fn answer_all<D: Disk, G: Gate>(
     }
 }
 
-/// Writes what a line is answered behind the lines that wait, if it is answered: whether it is.
+/// Writes what a line is answered after the lines that wait, if it is answered: whether it is.
 fn say<W: Write>(line: &Line, out: &mut ReplyBuffer, w: &mut W) -> Result<bool, WriteFault>
     ensures said { IfOk result (λ said. said ≡ is_answered line.now) }
     ensures written { OnOk result
@@ -78,7 +78,7 @@ fn say<W: Write>(line: &Line, out: &mut ReplyBuffer, w: &mut W) -> Result<bool, 
     Ok(true)
 }
 
-/// Writes what the lines at the front of the row are answered, up to the first that is not answered, behind the lines that
+/// Writes what the lines at the front of the row are answered, up to the first that is not answered, after the lines that
 /// wait. They leave the row.
 ///
 /// # Errors

@@ -43,7 +43,7 @@ struct Buffers {
     out: ReplyBuffer,
 }
 
-// Takes the memory that the lines need, of which so many are read and not answered at once.
+// Takes the memory that the lines need, of which `slots` are read and not answered at once.
 fn take_buffers(alloc: Global, slots: usize) -> Result<Buffers, AllocError>
     ensures room { IfOk result (λ buffers. 1101 ≤ vec_len buffers.input) }
     ensures row { IfOk result (λ buffers. (buffers.row.lines ≡ []) × (buffers.row.slots ≡ slots)) }

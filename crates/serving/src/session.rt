@@ -83,7 +83,7 @@ impl<D: Disk> Session<D> {
         answer_one(&mut self.core, &mut self.row, gate, &mut self.course.since)
     }
 
-    /// Answers all that is logged, and takes the consistency point in progress a step on behind each answer.
+    /// Answers all that is logged, and moves the point in progress a step on after each answer.
     fn answer_and_move_on<G: Gate>(&mut self, gate: &G) -> Result<(), Halt>
         requires holds { Holds (with_lent self.old.core self.old.desk.lent) }
         ensures holds { Holds (with_lent self.new.core self.new.desk.lent) }
@@ -102,7 +102,7 @@ impl<D: Disk> Session<D> {
         Ok(())
     }
 
-    /// Writes the lines that are next in order behind those that wait.
+    /// Writes the lines that are next in order after the waiting ones.
     fn say_what_is_next<W: Write>(&mut self, w: &mut W) -> Result<(), Halt>
         requires holds { Holds (with_lent self.old.core self.old.desk.lent) }
         ensures holds { Holds (with_lent self.new.core self.new.desk.lent) }
@@ -140,7 +140,7 @@ impl<D: Disk> Session<D> {
         self.say_what_is_next(w)
     }
 
-    /// The same, with a step of the consistency point in progress behind each answer.
+    /// The same, with a step of the consistency point in progress after each answer.
     pub(crate) fn say_and_move_on<W: Write, G: Gate>(
         &mut self,
         w: &mut W,
@@ -176,7 +176,7 @@ impl<D: Disk> Session<D> {
         }
     }
 
-    /// Sends all that waits, behind the last answer. The device works then: nothing is left to log, and a log of nothing tells
+    /// Sends all that waits, after the last answer. The device works then: nothing is left to log, and a log of nothing tells
     /// whether it has failed.
     pub(crate) fn send_last<W: Write>(&mut self, w: &mut W) -> Result<(), Halt>
         requires holds { Holds (with_lent self.old.core self.old.desk.lent) }

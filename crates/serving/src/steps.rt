@@ -1,4 +1,4 @@
-//! What a server does with its core between one line and the next: each call goes on with its run.
+//! The core's calls, each with the fact that it extends the legal run.
 
 ghost use Rattle.std.specs.Prelude.{◌≡◌, ◌≤◌, ◌++◌, ℕ, true, false, List, [], Some, None, OnOk, OnErr};
 ghost use Rattle.image.specs.Pieces.{piece_count};

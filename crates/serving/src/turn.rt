@@ -24,7 +24,7 @@ const PATIENCE: usize = 16384;
 /// How often they are looked at until other threads may go first, if they wait for a processor.
 const LOOKS: usize = 32;
 
-/// Lets a moment pass behind a look at the places, of which there were so many.
+/// Spins once after look `looks`, and yields at every 32nd.
 fn pause(looks: usize) {
     if looks % LOOKS == 0 {
         yield_now();
@@ -165,7 +165,7 @@ impl<D: Disk> Session<D> {
     }
 
     /// Lets messages go out, takes back what comes, logs it in one go, answers it and writes the lines that are next in order. A
-    /// consistency point in progress goes on by one step behind each answer.
+    /// consistency point in progress goes on by one step after each answer.
     fn work_off<W: Write, G: Gate>(
         &mut self,
         bench: &Bench,

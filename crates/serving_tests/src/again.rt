@@ -23,8 +23,8 @@ const SECOND: &[u8] = b"read 0 0 0 0\nwrite 0 0 0 1 62\nread 0 0 0 1\n";
 /// What both are answered.
 const ANSWERS: &[u8] = b"done\ndone\ndone\nblock 61\ndone\nblock 62\n";
 
-/// Whether the first input can't be read to its end, whether a cut is begun behind it, and which area is named in the end:
-/// opening names area 1, and each point the other one. An input that ends has a point behind it.
+/// Whether the first input can't be read to its end, whether a cut is begun after it, and which area is named in the end:
+/// opening names area 1, and each point the other one. An input that ends has a point after it.
 const TWICE: [(bool, bool, usize); 4] = [
     (false, false, 1),
     (true, false, 0),

@@ -28,7 +28,7 @@ impl Draw {
     }
 }
 
-/// What a line begins with, how many numbers follow, and how many digits of data behind them.
+/// What a line begins with, how many numbers follow, and how many digits of data after them.
 const KINDS: [(&[u8], usize, usize); 20] = [
     (b"makevol", 2, 0),
     (b"dropvol", 2, 0),
@@ -74,7 +74,7 @@ fn add_line(draw: &mut Draw, end: u64, lines: &mut Vec<u8>) -> Result<(), AllocE
     Ok(())
 }
 
-/// So many lines whose numbers are digits below `end`, behind those that make a volume with two files.
+/// Lines whose numbers are digits below `end`, after the ones that make a volume with two files.
 pub(crate) fn draw_lines(
     alloc: Global,
     seed: u64,

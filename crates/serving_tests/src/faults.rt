@@ -1,4 +1,4 @@
-//! Servers on devices that fail or stop at any call, and are torn behind that.
+//! Servers on devices that fail or stop at any call, and are torn after that.
 use crate::noting::{Notes, Noting, Taking};
 use crate::running::{End, Ended, SMALL, Way, serve_on};
 use affinity::Geometry;
@@ -32,7 +32,7 @@ const ORDERS: [[usize; 10]; 2] = [
     [0, 1, 3, 2, 4, 6, 5, 7, 8, 9],
 ];
 
-/// Some changes, and what a server tells behind them.
+/// Some changes, and what a server tells after them.
 #[derive(Drop)]
 struct Known {
     /// The sum of 2 to the power of each one's place.
@@ -49,7 +49,7 @@ struct Play {
     known: Vec<Known>,
 }
 
-/// What is known behind the first so many changes in this order.
+/// What is known after the first m changes in this order.
 fn behind(
     alloc: Global,
     g: &Geometry,
@@ -104,7 +104,7 @@ impl Play {
         Ok(play)
     }
 
-    /// Whether this may be found where so many lines were written.
+    /// Whether this may be found if this many lines were written.
     fn allows(&self, answered: usize, found: &Found) -> bool {
         let Found::Tells(told) = found else {
             return false;
@@ -173,7 +173,7 @@ fn set_fuse(device: &mut MemDisk, crash: Crash) -> u64 {
     n
 }
 
-/// Whether each change whose record was synced is told of, but for those behind one that isn't; and no other is. Among these
+/// Whether each change whose record was synced is reported, but for those after one that isn't; and no other is. Among these
 /// changes at most one can be logged while another worker has the one before it.
 fn has_said(notes: &Notes, way: Way) -> bool {
     let behind = notes.logged.get().saturating_sub(notes.taken.get());
@@ -185,15 +185,15 @@ fn has_said(notes: &Notes, way: Way) -> bool {
 struct Met {
     /// It ended before that.
     is_whole: bool,
-    /// Lines were written, and records are in the half behind the one that is named.
+    /// Lines were written, and records are in the half after the named one.
     is_chained: bool,
     /// How many lines were written.
     answered: usize,
-    /// The device behind the crash.
+    /// The device after the crash.
     left: MemDisk,
 }
 
-/// Whether half 1 is open to half 0 behind it, and that has a record.
+/// Whether half 1 is open to half 0 after it, and that has a record.
 fn is_chained(bytes: &[u8]) -> bool {
     bytes.get(2276) == Some(&1) && bytes.get(192) == Some(&1)
 }
@@ -221,7 +221,7 @@ struct Seen {
 /// Of how many calls of an opening one is stopped, with each of the devices that are opened another.
 const SPREAD: usize = 4;
 
-/// Stops the opening of a device of these bytes at some of its calls, from the first or a later one on, with a crash behind that:
+/// Stops the opening of a device of these bytes at some of its calls, from the first or a later one on, with a crash after that:
 /// the same is found again.
 fn reopen(
     alloc: Global,
@@ -257,7 +257,7 @@ struct Openings {
 }
 
 impl Openings {
-    /// Where a device of these bytes stands among those that were opened.
+    /// Where a device of these bytes stands among the opened ones.
     fn place_of(&self, bytes: &[u8]) -> Option<usize> {
         self.seen
             .iter()
@@ -284,7 +284,7 @@ impl Openings {
         Ok(place)
     }
 
-    /// Whether this may be found where so many lines were written.
+    /// Whether this may be found if this many lines were written.
     fn allows(
         &mut self,
         alloc: Global,
@@ -298,7 +298,7 @@ impl Openings {
     }
 }
 
-/// Lets a session meet a fault at each call of the device, and a crash behind it: at each call one in so many of the kinds, and
+/// Lets a session meet a fault at each call of the device, and a crash after it: at each call one in so many of the kinds, and
 /// of none, where the call fails alone. At some of them records are in both halves.
 fn survives<T: Threads + Wait + Sync>(
     rt: &T,

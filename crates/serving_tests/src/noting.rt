@@ -70,7 +70,7 @@ pub(crate) struct Notes {
     pub(crate) is_early: Flag,
     /// Whether the input was read while a line was not answered, or while its answer was not flushed.
     pub(crate) is_late: Flag,
-    /// Whether something was read or written behind a fault of the writer.
+    /// Whether something was read or written after a fault of the writer.
     pub(crate) is_deaf: Flag,
 }
 
@@ -112,7 +112,7 @@ const ROOT: u64 = 64;
 /// Where the chain bytes of the two halves of the small server lie.
 const CHAINS: [u64; 2] = [128, 2276];
 
-/// Where the gates of the records lie in the two halves of the small server, each with the first byte behind them.
+/// Where the gates of the records lie in the two halves of the small server, each with the first byte after them.
 const GATES: [(u64, u64); 2] = [(192, 196), (2340, 2344)];
 
 /// How many gates of records are opened where these bytes are written from here on.
@@ -204,7 +204,7 @@ impl Read for Pieces<'_> {
     }
 }
 
-/// Takes at most so many bytes at a time. The n-th call fails, where n is not 0.
+/// Takes at most this many bytes at a time. The n-th call fails, where n is not 0.
 #[derive(Drop)]
 pub(crate) struct Taking<'a> {
     pub(crate) output: Vec<u8>,

@@ -10,7 +10,7 @@ use std::test::Fail;
 use std::thread::Threads;
 use workers::OpenGate;
 
-/// So many lines, each a change that is done.
+/// `count` lines, each a change that is done.
 fn changes(alloc: Global, count: usize) -> Result<Vec<u8>, AllocError> {
     let mut lines = Vec::new(alloc);
     for number in 0..count {
@@ -24,7 +24,7 @@ fn changes(alloc: Global, count: usize) -> Result<Vec<u8>, AllocError> {
     Ok(lines)
 }
 
-/// How many changes there are, and a point after so many; and how many points are made, at least and at most. A half of the
+/// How many changes there are, and after how many there is a point; and how many points are made, at least and at most. A half of the
 /// log has four records.
 const POINTS: [(usize, u64, u64, u64); 10] = [
     // There is a point where the log is full and at the end.
@@ -41,7 +41,7 @@ const POINTS: [(usize, u64, u64, u64); 10] = [
     (40, 100, 10, 10),
 ];
 
-/// Serves so many changes in pieces of this size. No line is written before its record is synced; gives how many points there
+/// Serves changes in pieces of this size. No line is written before its record is synced; gives how many points there
 /// were.
 fn points_of<T: Threads + Wait + Sync + Abort>(
     rt: &T,

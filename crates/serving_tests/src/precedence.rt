@@ -1,4 +1,4 @@
-//! Which fault is told where several befall one session.
+//! Which fault is reported if several befall one session.
 use crate::noting::{Notes, Pieces, Taking};
 use crate::running::{End, Ended, SMALL, Way, ends, holds, serve_on};
 use checkpoint::OpenFault;
@@ -12,7 +12,7 @@ use std::test::Fail;
 use std::thread::Threads;
 use workers::OpenGate;
 
-/// Some lines, behind which the input can't be read.
+/// Some lines, after which the input can't be read.
 const LINES: &[u8] = b"makevol 0 0
 create 0 0 0
 write 0 0 0 0 61
@@ -45,7 +45,7 @@ fn end_of(failed: Failed, has_begun: bool) -> End {
     }
 }
 
-/// Serves the lines, and looks at what is told.
+/// Serves the lines, and looks at what is reported.
 fn told<T: Threads + Wait + Sync + Abort>(
     rt: &T,
     alloc: Global,

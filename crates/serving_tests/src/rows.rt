@@ -87,7 +87,7 @@ fn rows_are_answered(rt: HostRuntime) -> Result<(), Fail> {
     Ok(())
 }
 
-/// This line with so many digits behind it, and its end.
+/// This line with `digits` digits after it, and its end.
 fn long_line(alloc: Global, line: &[u8], digits: usize) -> Result<Vec<u8>, AllocError> {
     let mut long = line.to_vec(alloc)?;
     for _ in 0..digits {
@@ -97,7 +97,7 @@ fn long_line(alloc: Global, line: &[u8], digits: usize) -> Result<Vec<u8>, Alloc
     Ok(long)
 }
 
-/// What lines begin with, and how many digits are behind: too much data, too long a label, and too long a line.
+/// What lines begin with, and how many digits are after: too much data, too long a label, and too long a line.
 const LONG_LINES: [(&[u8], usize); 4] = [
     (b"write 0 0 0 0 ", 1026),
     (b"setlabel 0 0 ", 66),
@@ -114,12 +114,12 @@ fn lines_that_are_too_long_are_answered(rt: HostRuntime) -> Result<(), Fail> {
     Ok(())
 }
 
-/// A device that was formatted, with other bytes at some places; lines, and a point after so many records; and then the area
+/// A device that was formatted, with other bytes at some places; lines, and after how many records a point; and then the area
 /// that is named, and how many volumes, files and blocks there are. Opening names area 1, and each point the other one.
 const LEAVES: [(&[(usize, u8)], &[u8], u64, usize, [u32; 3]); 5] = [
     (&[], b"", 0, 0, [0, 0, 0]),
     (&[], THREE_CHANGES, 0, 0, [1, 1, 1]),
-    // A point is due with the second record, not behind it.
+    // A point is due with the second record, not after it.
     (&[], TWO_CHANGES, 2, 1, [1, 1, 0]),
     // Images of version 1, the second with a volume.
     (&[(4424, 1)], b"", 0, 0, [0, 0, 0]),
@@ -130,7 +130,7 @@ const TWO_CHANGES: &[u8] = b"makevol 0 0\ncreate 0 0 0\n";
 
 const THREE_CHANGES: &[u8] = b"makevol 0 0\ncreate 0 0 0\nwrite 0 0 0 0 61\n";
 
-/// Where lines were served to their end, this area is named, and there is so much in it, and no record behind it.
+/// Where lines were served to their end, this area is named, and there is so much in it, and no record after it.
 pub(crate) fn leaves(
     rt: &impl Abort,
     alloc: Global,

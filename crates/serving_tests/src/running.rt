@@ -21,7 +21,7 @@ use workers::{Gate, OpenGate};
 /// Neighboring blocks of a file lie in different stripes.
 pub(crate) const SMALL: [u16; 8] = [1, 1, 2, 1, 2, 4, 2, 4];
 
-/// How a server is run: with so many workers and slots, and a point after so many records.
+/// How a server is run: its workers and slots, and after how many records there is a point.
 #[derive(Clone, Copy)]
 pub(crate) struct Way {
     pub(crate) workers: usize,

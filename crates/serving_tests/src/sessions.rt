@@ -32,7 +32,7 @@ const WAYS: [[(usize, usize, u64); 2]; 4] = [
     [(8, 64, 100), (2, 2, 2)],
 ];
 
-/// A server on this device answers so many random lines as the serial server does.
+/// A server on this device answers random lines as the serial server does.
 fn same_as_serial<T: Threads + Wait + Sync + Abort, D: Disk + Drop>(
     rt: &T,
     alloc: Global,

@@ -16,7 +16,7 @@ use workers::Gate;
 /// How often a worker looks whether it may go on, before it gives up.
 const MOST_TRIES: u32 = 1_000_000;
 
-/// Holds job 1 until the output is written to: by then the dispatcher has let go out what may go out behind message 0.
+/// Holds job 1 until the output is written to: by then the dispatcher has let go out what may go out after message 0.
 #[derive(Drop)]
 struct Held<'a> {
     notes: &'a Notes,
@@ -113,7 +113,7 @@ fn meet<T: Threads + Wait + Sync + Abort>(
 #[test]
 fn nothing_goes_out_while_a_point_is_due(rt: HostRuntime) -> Result<(), Fail> {
     let lines = b"write 0 0 0 0 61\nwrite 0 0 0 1 62\nwrite 0 0 0 0 63\n";
-    // Behind message 0 message 2 may go, where no point is due.
+    // After message 0 message 2 may go, where no point is due.
     for (every, is_early) in [(0, true), (1, false)] {
         let met = meet(&rt, rt.alloc(), every, lines, 0)?;
         ends(&rt, met.end, End::Whole);
