@@ -121,7 +121,7 @@ impl<D: Disk> Journal<D> {
         requires logged { AreLogged self.old.geometry messages.now }
         requires carried_out { D.keeps → (x : State) → settled self.old ≡ Some x → AreCarriedOut self.old.geometry x messages.now }
 
-        // A crash at any moment of the call leaves a device that stands for what was settled, with the first so many of
+        // A crash at any moment of the call leaves a device that stands for what was settled, with the first m of
         // the messages run on it.
         ensures any_moment { D.keeps → (x : State) → settled self.old ≡ Some x →
             LeavesOnly self.old.medium self.new.medium (HoldsSome self.old.geometry x messages.now) }
@@ -182,7 +182,7 @@ impl<D: Disk> Journal<D> {
     }
 
     /// Begins a point: what is settled, which a whole tree holds, is kept as the state of the cut, and records go to the
-    /// other half from now on, behind those in force. As many pieces are left to write as are marked in the other image.
+    /// other half from now on, after those in force. As many pieces are left to write as are marked in the other image.
     pub fn cut(&mut self, tree: &Tree) -> Result<(), LogFault>
         requires sound { self.old.failed ≡ false }
         requires alone { self.old.left ≡ None }

@@ -23,7 +23,7 @@ pub(crate) fn count_marked(marks: &[bool]) -> usize
     count
 }
 
-/// The first one that is marked, where none before the number `from` is: those aren't looked at.
+/// The first marked piece, where none before `from` is marked: those aren't looked at.
 pub(crate) fn first_marked(marks: &[bool], from: usize) -> Option<usize>
     requires inside { from ≤ length marks.now }
     requires clear { AreClearBefore from marks.now }

@@ -101,7 +101,7 @@ fn settle<D: Disk>(disk: &mut D) -> Result<(), OpenFault>
 }
 
 /// Finishes a cut that was in progress: its state, which the tree holds, is written into the other area, which is named then.
-/// That is what the named area holds by itself, with none of the records behind it.
+/// That is what the named area holds by itself, with none of the records after it.
 fn finish_cut<D: Disk>(
     halves: &mut Halves,
     disk: &mut D,
@@ -136,7 +136,7 @@ fn finish_cut<D: Disk>(
     finish_on(halves, disk, frozen, marks)
 }
 
-/// Finishes a cut that was in progress, and then runs the records behind it on the tree, which holds the state of the
+/// Finishes a cut that was in progress, and then runs the records after it on the tree, which holds the state of the
 /// cut. The other area is named then, and holds the state of the device by itself.
 fn replay_behind<D: Disk>(
     halves: &mut Halves,
@@ -332,7 +332,7 @@ fn open_on<D: Disk>(alloc: Global, disk: &mut D) -> Result<Parts, OpenFault>
 ///
 /// It is refused exactly where its bytes are, with the first fault in the order of the tests: length, marks, geometry,
 /// length for that geometry, memory, the head of the named image, its pieces, the chain bytes, the records of the named
-/// half, those of the other one. A refusal comes before anything is written; but where a record of the half behind the
+/// half, those of the other one. A refusal comes before anything is written; but where a record of the half after the
 /// named one is bad, the cut was finished before: the area of that half is named then, with nothing loose, and the next
 /// call gives the same fault. A device without a header, or too short for its parts, is left as it is also where it fails
 /// meanwhile. `Device` exactly where the device failed.

@@ -56,7 +56,7 @@ pub(crate) fn point_on<D: Disk>(
     Ok(())
 }
 
-/// Begins a cut: the other half is cleared, and put in force behind the named one.
+/// Begins a cut: the other half is cleared, and put in force after the named one.
 pub(crate) fn cut_on<D: Disk>(halves: &mut Halves, disk: &mut D) -> Result<(), LogFault>
     requires sound { halves.old.failed ≡ false }
     requires whole { HasParts halves.old (D.medium disk.old) }
@@ -107,7 +107,7 @@ pub(crate) fn flip_on<D: Disk>(
 }
 
 /// Finishes a cut that was in progress when the device was left: this image of what the named area holds by itself is
-/// written into the other one, which is then named. The records of its half were in force behind those of the named one,
+/// written into the other one, which is then named. The records of its half were in force after those of the named one,
 /// and are in force still.
 pub(crate) fn finish_on<D: Disk>(
     halves: &mut Halves,

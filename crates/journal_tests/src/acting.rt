@@ -35,7 +35,7 @@ pub(crate) struct Script {
     pub(crate) acts: &'static [Act],
 }
 
-/// A script with what may be found on its device: after its first so many changes, the server tells that.
+/// A script with what may be found on its device: after so many of its changes, the server answers that.
 #[derive(Drop)]
 pub(crate) struct Play<'a> {
     script: &'a Script,

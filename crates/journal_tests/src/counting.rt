@@ -8,7 +8,7 @@ use std::alloc::Global;
 use std::process::Abort;
 use std::test::Fail;
 
-/// What is done, and then the writes, the syncs and the bytes that it takes. A half has four gates behind 64 bytes, and an
+/// What is done, and then the writes, the syncs and the bytes that it takes. A half has four gates after 64 bytes, and an
 /// image 2,208 bytes: a head of 64, a volume's piece of 64 and two stripes' of 1,040.
 const ACTS: [(Act, [u64; 3]); 18] = [
     (Act::Log(&[]), [0, 0, 0]),
@@ -43,7 +43,7 @@ const ACTS: [(Act, [u64; 3]); 18] = [
     (Act::End, [1, 2, 1]),
 ];
 
-/// The calls that opening a new device and the first so many of the acts make.
+/// The calls that opening a new device and the first m of the acts make.
 fn counts_of(alloc: Global, acts: usize) -> Result<Counts, Wrong> {
     let Ok(mut server) = Server::open(alloc, device_with(alloc, SMALL, &[])?) else {
         return Err(Wrong::Unfit);
@@ -57,7 +57,7 @@ fn counts_of(alloc: Global, acts: usize) -> Result<Counts, Wrong> {
     Ok(server.into_device().1)
 }
 
-/// So many reads more, and so many writes, syncs and bytes.
+/// There are `reads` more reads, and `more` writes, syncs and bytes.
 fn are_more(rt: &impl Abort, before: &Counts, after: &Counts, reads: u64, more: [u64; 3]) {
     let [writes, syncs, written] = more;
     counts(rt, after.reads, before.reads.saturating_add(reads));
@@ -130,7 +130,7 @@ fn calls_of_opening(alloc: Global) -> Result<u64, Wrong> {
     }
 }
 
-/// Whether so many messages are logged in one batch on a device that stops at the n-th call of that, and the device.
+/// Whether `count` messages are logged in one batch on a device that stops at the n-th call of that, and the device.
 fn logged_until(alloc: Global, count: usize, n: u64) -> Result<(bool, MemDisk), Wrong> {
     let mut device = device_with(alloc, LONG, &[])?;
     device.stop_at(calls_of_opening(alloc)?.saturating_add(n.max(1)));
@@ -145,7 +145,7 @@ fn logged_until(alloc: Global, count: usize, n: u64) -> Result<(bool, MemDisk), 
     Ok((logged.is_ok(), server.into_device().0))
 }
 
-/// Where the device stops at the n-th call of a log of so many messages, so many of them are in force behind a crash of
+/// Where the device stops at the n-th call of a log of these messages, this many of them are in force after a crash of
 /// this kind.
 fn leaves(
     rt: &impl Abort,

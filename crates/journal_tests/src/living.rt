@@ -5,8 +5,8 @@ use std::alloc::Global;
 use std::process::Abort;
 use std::test::Fail;
 
-/// Whatever call of the device fails, the changes that were answered are there, and of those behind them the first so
-/// many. There are so many calls.
+/// Whatever call of the device fails, the changes that were answered are there, and some of the next,
+/// the first ones. There are `calls` calls.
 fn survives(rt: &impl Abort, alloc: Global, script: &Script, calls: u64) -> Result<(), Wrong> {
     let play = Play::new(alloc, script)?;
     counts(rt, sweep(alloc, &play)?, calls);
@@ -79,7 +79,7 @@ fn cuts_survive(rt: HostRuntime) -> Result<(), Fail> {
 }
 
 /// A device whose named image, of version 1, has a volume, and that a cut was in progress on: half 0 has file 0 of it,
-/// and half 1 behind it a block of that file.
+/// and half 1 after it a block of that file.
 const INTERRUPTED: Script = Script {
     numbers: SMALL,
     changes: &[

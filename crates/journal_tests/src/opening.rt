@@ -35,12 +35,12 @@ const REFUSED: [(&[(usize, u8)], OpenFault); 21] = [
         &[(192, 1), (193, 1), (196, 1), (716, 1)],
         OpenFault::BadRecord(0, 1),
     ),
-    // The first fault in the order of the tests is told.
+    // The first fault in the order of the tests is reported.
     (&[(4488, 2), (128, 1), (2276, 1)], OpenFault::BadPiece(0)),
     (&[(128, 1), (2276, 1), (192, 1)], OpenFault::BadChain),
 ];
 
-/// It is refused for this, and told of so too, and it stays as it was.
+/// It is refused for this, and reported so too, and it stays as it was.
 fn is_refused(
     rt: &impl Abort,
     alloc: Global,
@@ -83,7 +83,7 @@ fn a_short_device_is_refused(rt: HostRuntime) -> Result<(), Fail> {
     Ok(())
 }
 
-/// The length of a device of zeros, the call of it that fails, and what is told. The sync comes before anything is looked
+/// The length of a device of zeros, the call of it that fails, and what is reported. The sync comes before anything is looked
 /// at, and then one read shows that there are no marks.
 const SYNCED_FIRST: [(u64, u64, OpenFault); 4] = [
     (127, 1, OpenFault::Device),
@@ -106,7 +106,7 @@ fn the_sync_comes_first(rt: HostRuntime) -> Result<(), Fail> {
 }
 
 /// Where a device isn't as it was formatted, what leads to the state that it stands for, and the area that is named once
-/// it is opened: the one that wasn't before, but behind a cut the same.
+/// it is opened: the one that wasn't before, but after a cut the same.
 const OPENED: [(&[(usize, u8)], &[&str], usize); 11] = [
     (&[], &[], 1),
     (&[(64, 7)], &[], 1),
@@ -120,7 +120,7 @@ const OPENED: [(&[(usize, u8)], &[&str], usize); 11] = [
     (&[(192, 1), (196, 1)], &["makevol 0 0"], 1),
     // A gate that isn't open ends the front.
     (&[(192, 77), (193, 1), (196, 1), (716, 1)], &[], 1),
-    // The other half counts behind a chain alone.
+    // The other half counts after a chain alone.
     (&[(2340, 1), (2344, 1)], &[], 1),
     (&[(128, 1), (2340, 1), (2344, 1)], &["makevol 0 0"], 0),
     (&[(128, 1)], &[], 0),
@@ -180,7 +180,7 @@ fn what_a_device_stands_for_is_opened(rt: HostRuntime) -> Result<(), Fail> {
     Ok(())
 }
 
-/// A cut was in progress, and the record behind it is none.
+/// A cut was in progress, and the record after it is none.
 const BAD_BEHIND: [(usize, u8); 2] = [(128, 1), (2340, 1)];
 
 /// The opening of that device.

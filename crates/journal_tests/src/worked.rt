@@ -31,7 +31,7 @@ fn act_all(alloc: Global, server: &mut Server<MemDisk>, acts: &[Act]) -> Result<
     Ok(())
 }
 
-/// The device that these acts leave of a new one, behind a crash that leaves what was synced.
+/// The device that these acts leave of a new one, after a crash that leaves what was synced.
 fn left_by(alloc: Global, numbers: [u16; 8], acts: &[Act]) -> Result<MemDisk, Wrong> {
     let mut server = opened(alloc, device_with(alloc, numbers, &[])?)?;
     act_all(alloc, &mut server, acts)?;
@@ -39,7 +39,7 @@ fn left_by(alloc: Global, numbers: [u16; 8], acts: &[Act]) -> Result<MemDisk, Wr
     Ok(device.crash(torn(alloc, OLD)?))
 }
 
-/// What is told of a device: the area, how many records are in force, and how many volumes, files and blocks there are.
+/// What is reported of a device: the area, how many records are in force, and how many volumes, files and blocks there are.
 fn is_shown(rt: &impl Abort, shown: &Shown, area: usize, records: usize, summary: [u32; 3]) {
     let [volumes, files, blocks] = summary;
     holds(rt, shown.area == area && shown.records == records);
@@ -79,7 +79,7 @@ fn shown_of(alloc: Global, device: MemDisk) -> Result<(Shown, MemDisk), Wrong> {
     }
 }
 
-/// A record behind a cut, which goes to the other half.
+/// A record after a cut, which goes to the other half.
 const BEHIND: [Act; 3] = [
     Act::Log(&["makevol 0 0"]),
     Act::Cut,
@@ -94,7 +94,7 @@ const ENDED: [Act; 4] = [
     Act::End,
 ];
 
-/// What a crash behind these acts leaves is shown so, with one volume and one file; both are there once it is opened, and
+/// What a crash after these acts leaves is shown so, with one volume and one file; both are there once it is opened, and
 /// that area is named.
 fn behind_a_cut(
     rt: &impl Abort,
@@ -169,14 +169,14 @@ fn a_torn_batch_leaves_its_beginning(rt: HostRuntime) -> Result<(), Fail> {
     ];
     act_all(alloc, &mut server, &more)?;
     let (device, _) = server.into_device();
-    // What lies behind the gates of the first life is not in force.
+    // What lies after the gates of the first life is not in force.
     let device = device.crash(torn(alloc, OLD)?);
     let lines = ["makevol 0 0", "create 0 0 0", "write 0 0 0 3 64"];
     is_found(&rt, alloc, FLAT, device, &lines)?;
     Ok(())
 }
 
-/// Cuts, and how many pieces are left behind each act, where one is in progress.
+/// Cuts, and how many pieces are left after each act, where one is in progress.
 const PIECES: [(Act, Option<usize>); 20] = [
     // Into area 0, of which nothing is known.
     (Act::Cut, Some(3)),

@@ -107,7 +107,7 @@ impl Half {
         Ok(())
     }
 
-    /// Adds these messages behind the records in use, as many at a time as the buffer holds.
+    /// Adds these messages after the records in use, as many at a time as the buffer holds.
     pub(crate) fn append<D: Disk>(
         self,
         disk: &mut D,

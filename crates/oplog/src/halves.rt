@@ -132,7 +132,7 @@ impl Halves {
         requires whole { HasParts self.old (D.medium disk.old) }
         requires ready { D.keeps → IsReadyFor self.old (D.medium disk.old) }
 
-        // A crash at any moment of the call leaves the front with the first so many of the messages.
+        // A crash at any moment of the call leaves the front with the first m of the messages.
         ensures any_moment { D.keeps →
             Grows self.old messages.now (D.medium disk.old) (D.medium disk.new) }
         ensures added { OnOk result (D.keeps →
@@ -185,7 +185,7 @@ impl Halves {
         Ok(())
     }
 
-    /// Puts the records of the other half in force behind those of the named one, by the chain byte of the named half.
+    /// Puts the records of the other half in force after those of the named one, by the chain byte of the named half.
     /// The other half becomes current, with room for all records. It was cleared since it was last named or current.
     pub fn open_chain<D: Disk>(&mut self, disk: &mut D) -> Result<(), LogFault>
         requires sound { self.old.failed ≡ false }

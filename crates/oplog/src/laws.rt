@@ -13,8 +13,8 @@ ghost use Rattle.oplog.specs.Layout.{Layout};
 ghost use Rattle.oplog.specs.Logged.{NoRecordSaysNone, RecordsAreBytes};
 ghost use Rattle.oplog.specs.Stands.{Meaning};
 
-/// While records are appended to the current half, a crash leaves a device that stands for the first
-/// so many of them, run on what it stood for; once `append` is done, for all of them.
+/// While records are appended to the current half, a crash leaves a device that stands for the first m
+/// of them, run on what it stood for; once `append` is done, for all of them.
 pub fn appended_records_stand<S>()
     ensures some { (means : Meaning S) → AppendStands means }
     ensures all { (means : Meaning S) → AllByArea means }

@@ -7,7 +7,7 @@ ghost use Rattle.oplog.specs.Store.{Stored, Touched};
 use disk::{Disk, DiskFault};
 
 /// Writes these bytes from the byte `at` on. Until a sync succeeds, a crash may leave any bytes there.
-/// `Device` exactly where the device failed, and then what a read gives there is open too.
+/// `Device` exactly where the device failed, and then what a read gives there is unspecified.
 pub fn write<D: Disk>(disk: &mut D, at: u64, bytes: &[u8]) -> Result<(), DiskFault>
     requires { at + length bytes.now ≤ length (D.medium disk.old).now }
     ensures any_moment { D.keeps →
@@ -25,7 +25,7 @@ pub fn write<D: Disk>(disk: &mut D, at: u64, bytes: &[u8]) -> Result<(), DiskFau
 }
 
 /// Writes these bytes from the byte `at` on, and syncs: then nothing on the device is loose. `Device`
-/// exactly where the device failed, and then what a read gives there is open too.
+/// exactly where the device failed, and then what a read gives there is unspecified.
 pub fn store<D: Disk>(disk: &mut D, at: u64, bytes: &[u8]) -> Result<(), DiskFault>
     requires { at + length bytes.now ≤ length (D.medium disk.old).now }
     ensures any_moment { D.keeps →

@@ -75,7 +75,7 @@ fn appends<D: Disk>(disk: &mut D, log: &mut Halves, messages: &[Msg]) -> bool
     are_logged(&g, messages) && messages.len() <= log.room() && log.append(disk, messages).is_ok()
 }
 
-/// Which half the messages go to: the other one once it is named, or the other one behind a chain.
+/// Which half the messages go to: the other one once it is named, or the other one after a chain.
 #[derive(Clone, Copy, Drop)]
 pub(crate) enum Way {
     Named,
@@ -108,7 +108,7 @@ pub(crate) struct Server {
 }
 
 impl Server {
-    /// With so many records in a half, and a device of zeros.
+    /// With `half` records in a half, and a device of zeros.
     pub(crate) fn new(alloc: Global, half: u16) -> Result<Server, Fail> {
         let g = Geometry::new([1, 1, 2, 1, 2, 4, 2, half])?;
         let disk = MemDisk::new(alloc, device_len(&g))?;
@@ -116,7 +116,7 @@ impl Server {
         Ok(Server { disk, log })
     }
 
-    /// Behind one of the kinds of crash, with a log of which nothing is known.
+    /// After one of the kinds of crash, with a log of which nothing is known.
     pub(crate) fn crashed(self, alloc: Global, kind: usize) -> Result<Server, AllocError> {
         let Server { disk, log } = self;
         let g = log.geometry();

@@ -8,7 +8,7 @@ use std::test::Fail;
 const MESSAGES: [Msg; 3] = [Msg::MakeVol(0, 0), Msg::Seal(0, 0), Msg::Unseal(0, 0)];
 
 /// Whether a server for a half of four records took the messages, of whose calls the n-th fails, and all later ones too
-/// if it stops there; and the server behind a crash of this kind.
+/// if it stops there; and the server after a crash of this kind.
 fn crashed_at(
     alloc: Global,
     way: Way,
@@ -22,7 +22,7 @@ fn crashed_at(
     Ok((went_well, server.crashed(alloc, kind)?))
 }
 
-/// Of these messages the first so many were read, behind a fault at the n-th call and a crash of this kind.
+/// Of these messages the first m were read, after a fault at the n-th call and a crash of this kind.
 fn is_beginning(rt: &impl Abort, read: &[Msg], n: u64, kind: usize) {
     let count = read.len();
     holds(rt, count <= MESSAGES.len());
@@ -34,7 +34,7 @@ fn is_beginning(rt: &impl Abort, read: &[Msg], n: u64, kind: usize) {
     holds(rt, n != 7 || kind != 5 || count == 1);
 }
 
-/// Taken in by a half of 128 records, these messages take so many calls of the device.
+/// Taken in by a half of 128 records, these messages take `calls` calls of the device.
 fn takes_calls(rt: &impl Abort, alloc: Global, messages: &[Msg], calls: u64) -> Result<(), Fail> {
     let mut server = Server::new(alloc, 128)?;
     holds(rt, server.takes(Way::Named, messages));
@@ -96,7 +96,7 @@ fn each_crash_of_a_chain_leaves_one_too(rt: HostRuntime) -> Result<(), Fail> {
                 holds(&rt, server.byte(64) == 0);
                 holds(&rt, n > 2 || chain == 0);
                 holds(&rt, n < 5 || chain == 1);
-                // Behind a chain that isn't there, the other half counts for nothing.
+                // After a chain that isn't there, the other half counts for nothing.
                 let last = usize::from(chain == 1);
                 let read = server.messages(rt.alloc(), last)?;
                 is_beginning(&rt, &read, n, kind);

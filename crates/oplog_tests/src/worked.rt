@@ -16,7 +16,7 @@ fn stands(rt: &impl Abort, server: &Server, want: [u64; 4]) {
     counts(rt, server.log.current() as u64, current);
 }
 
-/// Makes these calls, and looks at the server behind each.
+/// Makes these calls, and looks at the server after each.
 fn goes(rt: &impl Abort, server: &mut Server, rows: &[(Step, [u64; 4])]) {
     for (step, want) in rows {
         answers(rt, server.does(*step), Ok(()));
