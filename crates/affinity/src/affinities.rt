@@ -57,7 +57,7 @@ impl Affinity {
         self.number
     }
 
-    /// The first number behind those of the affinities below this one.
+    /// The first number after those of the affinities below this one.
     pub fn end(&self) -> u16
         ensures { result ≡ self.now.end }
     {

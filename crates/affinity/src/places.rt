@@ -35,7 +35,7 @@ pub fn group_of(g: &Geometry, f: u16, b: u16) -> u16
 }
 
 /// The affinity of a message of this kind with these numbers: aggregate, volume, file and block.
-/// There is none where one of those that the kind has is out of range. The others are not looked
+/// There is none where a number that the kind has is out of range. The others are not looked
 /// at.
 pub fn place_of(g: &Geometry, k: Kind, n: [u16; 4]) -> Option<Affinity>
     ensures in_range { is_some result ≡ is_in_range g.now k n }

@@ -180,7 +180,7 @@ impl<T> Arena<T> {
         }
     }
 
-    /// The slot behind this one on its chain: none where it is the last, and where it is on no
+    /// The slot after this one on its chain: none where it is the last, and where it is on no
     /// chain.
     pub fn next(&self, i: usize) -> Option<usize>
         ensures parted { IsParted self.now }

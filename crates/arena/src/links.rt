@@ -34,7 +34,7 @@ impl Model for Links {
         × IsLinked a.slots (length a.next.items) (λ x. slice_index a.next.items x) (λ x. slice_index a.previous.items x) };
 }
 
-// The node behind a node at the start.
+// The node after a node at the start.
 fn next_at_start(slots: usize, node: usize) -> usize
     requires { slots < usize.MAX }
     ensures { result ≡ next_at_start slots node }
@@ -62,7 +62,7 @@ fn previous_at_start(slots: usize, node: usize) -> usize
 }
 
 impl Links {
-    /// All slots in order on the first list, and so many other lists, which are empty.
+    /// All slots in order on the first list, and `others` more lists, which are empty.
     pub(crate) fn new(alloc: Global, slots: usize, others: usize) -> Result<Links, AllocError>
         requires { slots + others < usize.MAX }
         ensures lists { IfOk result (λ links. links ≡ record { slots = slots; lists = numbers_from 0 slots ∷ replicate others [] }) }
@@ -103,7 +103,7 @@ impl Links {
         }
     }
 
-    /// The slot behind this one on its list.
+    /// The slot after this one on its list.
     pub(crate) fn behind(&self, slot: usize) -> Option<usize>
         requires { slot < self.now.slots }
         ensures { result ≡ behind_in slot self.now.lists }

@@ -37,7 +37,7 @@ pub enum OpenFault {
     /// The device failed during the call.
     #[error("device fault")]
     Device,
-    /// The device is shorter than its header and root zone, or than the parts that its header tells of.
+    /// The device is shorter than its header and root zone, or than the parts that its header gives.
     #[error("device too short")]
     TooShort,
     /// The device doesn't begin with the marks of a formatted one.
@@ -58,7 +58,7 @@ pub enum OpenFault {
     /// The chain bytes of both halves are 1.
     #[error("bad chain")]
     BadChain,
-    /// This record, told by its half and its number there, is in force and can't stand there.
+    /// This record, named by its half and its number there, is in force and can't stand there.
     #[error("bad record {0} {1}")]
     BadRecord(usize, usize),
 }

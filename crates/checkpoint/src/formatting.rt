@@ -1,6 +1,6 @@
 //! How a device is made.
 //!
-//! The gate of its header is shut first and opened last, each with a sync of its own before and behind it. So a crash
+//! The gate of its header is shut first and opened last, each with a sync of its own before and after it. So a crash
 //! leaves the old device, or one whose gate is shut, or the whole new one.
 ghost use Rattle.std.specs.Prelude.{◌≡◌, ◌⊎◌, ◌↔◌, ◌+◌, ◌-◌, ◌<◌, ◌≤◌, Some, length, replicate, OnOk, IfOk, IfErr, MatchResult, IsErrOf};
 ghost use Rattle.affinity.specs.declared.geometry.Geometry.{Geometry};
@@ -37,7 +37,7 @@ fn zeros(alloc: Global, count: usize) -> Result<Vec<u8>, AllocError>
     vec![in alloc; 0u8; count]
 }
 
-/// Writes so many zeros from the byte `at` on, as many at a time as there are in `zeros`.
+/// Writes `count` zeros from the byte `at` on, as many at a time as there are in `zeros`.
 fn write_zeros<D: Disk>(disk: &mut D, zeros: &[u8], at: u64, count: usize) -> Result<(), DiskFault>
     requires zeros { zeros.now ≡ replicate (length zeros.now) 0 }
     requires some { 0 < length zeros.now }
@@ -140,7 +140,7 @@ fn format_on<D: Disk>(disk: &mut D, zeros: &[u8], g: &Geometry) -> Result<(), Di
 
 /// Makes a device of this geometry that stands for the empty state, and hands it back with nothing
 /// loose. A crash at any moment of the call leaves what a crash before it could leave, or a device
-/// that isn't formatted, or that one.
+/// that isn't formatted, or the new device.
 ///
 /// `TooShort` exactly where the device is shorter than `device_len`, and `OutOfMemory` where there is
 /// no memory: then no call of the device was made. `Device` exactly where the device failed.

@@ -28,7 +28,7 @@ pub struct Shown {
     pub version: u8,
 }
 
-/// Tells of what was loaded.
+/// Reports what was loaded.
 fn show(loaded: Loaded) -> Shown
     requires { IsWholeTree loaded.tree }
     ensures { ShowsLoaded loaded result }

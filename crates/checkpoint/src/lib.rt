@@ -2,7 +2,7 @@
 //!
 //! A device holds the state of its named image with the records in force run on it; `specs/Recovery.antt` says so of
 //! its bytes, and `specs/Refusals.antt` says which devices are refused and why. `format` makes a device that stands
-//! for the empty state, and a crash at any moment of it leaves the old device, one that isn't formatted, or that one.
+//! for the empty state, and a crash at any moment of it leaves the old device, one that isn't formatted, or the new one.
 //! `inspect` tells what a device holds, or why it is refused, and only reads it. `step` is the serial step of a whole
 //! tree, by which the records in force are run.
 #![tactic(auto)]

@@ -123,7 +123,7 @@ pub struct Named {
     pub version: u8,
     /// How many records the front of its half has.
     pub records: usize,
-    /// Whether the records of the other half are in force behind these.
+    /// Whether the records of the other half are in force after these.
     pub chained: bool,
 }
 

@@ -1,4 +1,4 @@
-//! One message on a tree of which nothing is out.
+//! Runs one message on a whole tree.
 ghost use Rattle.std.specs.Prelude.{◌≡◌, true};
 ghost use Rattle.message.specs.Messages.{is_in_range};
 ghost use Rattle.parcel.specs.Tree.{IsWholeTree, state_in};

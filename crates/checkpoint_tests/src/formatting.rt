@@ -15,13 +15,13 @@ pub(crate) const SMALL: [u16; 8] = [1, 1, 2, 1, 2, 4, 2, 4];
 /// The length of its device.
 pub(crate) const LEN: usize = 8840;
 
-/// The header of its device, but for the zeros behind.
+/// The header of its device, but for the zeros after.
 const HEADER: [u8; 24] = [
     1, 0x57, 0x41, 0x46, 0x46, 0x53, 0x52, 0x56, 1, 0, 1, 0, 2, 0, 1, 0, 2, 0, 4, 0, 2, 0, 4, 0,
 ];
 
 /// The old devices, and how many calls the making of a new one takes there: a sync, a read of the gate and, where it is
-/// open, a write and a sync; three writes of zeros; the version, the header behind its gate, and the gate, each a write
+/// open, a write and a sync; three writes of zeros; the version, the header after its gate, and the gate, each a write
 /// and a sync.
 const CALLS: [(usize, u64); 3] = [(0, 11), (1, 13), (2, 11)];
 
@@ -119,7 +119,7 @@ fn a_short_device_stays(rt: HostRuntime) -> Result<(), Fail> {
     Ok(())
 }
 
-/// What is left on the device where the n-th call fails, and all later ones too if it stops there, and behind a crash
+/// What is left on the device where the n-th call fails, and all later ones too if it stops there, and after a crash
 /// of this kind; and why it wasn't made.
 fn left(
     alloc: Global,
@@ -153,7 +153,7 @@ fn is_one_of(rt: &impl Abort, bytes: &[u8], old: &[u8], new: &[u8], made: bool) 
     holds(rt, bytes == new || !made && (bytes == old || shut));
 }
 
-/// Where the n-th call fails, that is told exactly if there are so many, and the device is one of those.
+/// Where the n-th call fails, that is answered exactly if there are as many calls, and the device is one of those.
 fn may_fail(
     rt: &impl Abort,
     alloc: Global,

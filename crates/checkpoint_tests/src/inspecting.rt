@@ -1,4 +1,4 @@
-//! What is told of devices, and why damaged ones are refused.
+//! What is reported of devices, and why damaged ones are refused.
 use crate::formatting::{LEN, SMALL, holds, new_bytes, put};
 use affinity::Geometry;
 use checkpoint::{OpenFault, Shown, format, inspect};
@@ -8,7 +8,7 @@ use std::alloc::{AllocError, Global};
 use std::process::Abort;
 use std::test::Fail;
 
-/// How many calls of the device it takes to tell of an empty one: its header, the area, the head of an image, three
+/// How many calls of the device it takes to inspect an empty one: its header, the area, the head of an image, three
 /// pieces, a chain byte and the gates.
 const CALLS: u64 = 8;
 
@@ -21,7 +21,7 @@ fn device(alloc: Global, changes: &[(usize, u8)]) -> Result<MemDisk, AllocError>
     MemDisk::of_bytes(alloc, bytes)
 }
 
-/// What is told where so many volumes and files are there, and no blocks.
+/// What is reported if there are this many volumes and files, and no blocks.
 fn shown(records: usize, volumes: u32, files: u32, version: u8) -> Result<Shown, Fail> {
     Ok(Shown {
         geometry: Geometry::new(SMALL)?,
@@ -62,7 +62,7 @@ fn expect_fault(
     Ok(())
 }
 
-/// The device is told to be empty, by few calls of it.
+/// The device is reported as empty, by few calls of it.
 fn expect_empty(rt: &impl Abort, alloc: Global, disk: MemDisk) -> Result<(), Fail> {
     let calls = disk.calls();
     let want = shown(0, 0, 0, 2)?;

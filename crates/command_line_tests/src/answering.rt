@@ -174,7 +174,7 @@ fn the_ends_of_the_ranges_are_taken(rt: HostRuntime) -> Result<(), Fail> {
     expect_rows(&rt, &ENDS)
 }
 
-/// That a line of so many bytes, with one behind it, is answered by one line.
+/// That a line of `length` bytes, with one after it, is answered by one line.
 fn expect_long<T: System>(rt: &T, length: usize) -> Result<(), Fail> {
     let mut input = vec![in rt.alloc(); b'a'; length]?;
     input.extend_from_slice(b"\nmakevol 0 0\n")?;

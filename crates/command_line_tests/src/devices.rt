@@ -14,12 +14,12 @@ pub(crate) const SMALL: &str =
 /// The length of its device.
 pub(crate) const LEN: usize = 8840;
 
-/// The header of its device, but for the zeros behind.
+/// The header of its device, but for the zeros after.
 const HEADER: [u8; 24] = [
     1, 0x57, 0x41, 0x46, 0x46, 0x53, 0x52, 0x56, 1, 0, 1, 0, 2, 0, 1, 0, 2, 0, 4, 0, 2, 0, 4, 0,
 ];
 
-/// What `show` tells of a device that was just made.
+/// What `show` prints of a device that was just made.
 const MADE: &str = "geometry 1 1 2 1 2 4 2 4\narea 0\nrecords 0\nsummary 0 0 0\nimage 2\n";
 
 const DEVICE_FAULT: &str = "waffd: device fault\n";
@@ -81,7 +81,7 @@ fn expect_made<T: System>(rt: &T, path: &str) -> Result<(), Fail> {
     expect_file(rt, path, made_bytes(rt.alloc(), LEN)?.as_slice())
 }
 
-/// That this is told of the device in this file, and that the file stays.
+/// That this is printed of the device in this file, and that the file stays.
 pub(crate) fn expect_shown<T: System>(
     rt: &T,
     path: &str,
@@ -114,7 +114,7 @@ fn a_device_is_made_and_shown(rt: HostRuntime) -> Result<(), Fail> {
     Ok(())
 }
 
-/// That this is told of the device in this file where it is cut or made longer, to each of these lengths in turn.
+/// That this is printed of the device in this file where it is cut or made longer, to each of these lengths in turn.
 fn expect_lengths<T: System>(
     rt: &T,
     path: &str,
@@ -147,7 +147,7 @@ fn a_device_may_be_longer_and_not_shorter(rt: HostRuntime) -> Result<(), Fail> {
 /// Bytes that are set in a device that was just made, and how `show` then ends.
 type Row<'a> = (&'a [(usize, u8)], u8, &'a str, &'a str);
 
-/// That this is told of the small device with these bytes set.
+/// That this is printed of the small device with these bytes set.
 fn expect_changed<T: System>(rt: &T, path: &str, row: &Row<'_>) -> Result<(), Fail> {
     let (changes, status, output, faults) = *row;
     let mut bytes = made_bytes(rt.alloc(), LEN)?;
@@ -158,7 +158,7 @@ fn expect_changed<T: System>(rt: &T, path: &str, row: &Row<'_>) -> Result<(), Fa
     expect_shown(rt, path, status, output, faults)
 }
 
-/// That each of these devices is told so.
+/// That each of these devices is reported so.
 fn expect_rows<T: System>(rt: &T, path: &str, rows: &[Row<'_>]) -> Result<(), Fail> {
     for row in rows {
         expect_changed(rt, path, row)?;

@@ -101,7 +101,7 @@ fn a_refusal_leaves_the_file_so(rt: HostRuntime) -> Result<(), Fail> {
     expect_refused(&rt, new_path(&rt, "refused_service")?.as_str(), &REFUSED)
 }
 
-/// What `show` tells of the small device.
+/// What `show` prints of the small device.
 fn shown(alloc: Global, area: u8, records: u8, summary: &str) -> Result<String, AllocError> {
     format!(in alloc;
         "geometry 1 1 2 1 2 4 2 4\narea {area}\nrecords {records}\nsummary {summary}\nimage 2\n"
@@ -139,7 +139,7 @@ const THREE_DONE: &str = "done\ndone\ndone\n";
 
 const TWO_WRITES: &str = "makevol 0 0\ncreate 0 0 0\nwrite 0 0 0 0 61\nwrite 0 0 0 1 62\n";
 
-/// Behind the plain ones: a torn gate in the log, behind which no record counts; a point that was cut short, whose other half
+/// After the plain ones: a torn gate in the log, after which no record counts; a point that was cut short, whose other half
 /// has a record of its own; and an image of the first version with a volume.
 const LIVES: [Life<'static>; 9] = [
     (&[], "", "", "", 0, "0 0 0"),

@@ -1,4 +1,4 @@
-//! A service on a device that stops at one of its calls and is crashed: what was told is there when it is served again.
+//! A service on a device that stops at one of its calls and is crashed: what was answered is there when it is served again.
 ghost use Rattle.std.specs.Prelude.{◌<◌};
 ghost use Rattle.disk.specs.Torn.{HasBytes};
 
@@ -10,7 +10,7 @@ use std::test::Fail;
 
 const CHANGES: &str = "makevol 0 0\ncreate 0 0 0\nwrite 0 0 0 0 61\n";
 
-/// What is told of none of them, of the first, of two and of all, and what a summary says then.
+/// What is answered to none of them, of the first, of two and of all, and what a summary says then.
 const STAGES: [(&str, &str); 4] = [
     ("", "summary 0 0 0\n"),
     ("done\n", "summary 1 0 0\n"),
@@ -31,7 +31,7 @@ fn kind(at: u8) -> Torn
     }
 }
 
-/// What is left of a device that stops at its n-th call while these lines are served, what was told, and whether the service
+/// What is left of a device that stops at its n-th call while these lines are served, what was answered, and whether the service
 /// ended without fault.
 fn served<T: System>(
     rt: &T,
@@ -59,7 +59,7 @@ fn served<T: System>(
     (disk, told, end.is_ok())
 }
 
-/// That a service which stops at the n-th call of its device has told some of the changes, that as many or more of them are
+/// That a service which stops at the n-th call of its device has answered some of the changes, that as many or more of them are
 /// there afterwards, and all where it ended without fault; and whether it did.
 fn stops<T: System>(rt: &T, n: u64, torn: Torn) -> Result<bool, Fail>
     requires call { 0 < n }
@@ -90,7 +90,7 @@ fn what_was_told_is_there_wherever_the_device_stops(rt: HostRuntime) -> Result<(
             }
         }
     }
-    // It stops at the first calls, and behind the last one it does not.
+    // It stops at the first calls, and after the last one it does not.
     assert!(rt; 0 < well && well < 120);
     Ok(())
 }

@@ -43,7 +43,7 @@ pub enum Fault {
 }
 
 impl Fault {
-    /// The exit status that tells of the fault.
+    /// The exit status of the fault.
     pub fn status(self) -> u8
         ensures { result ≡ status_of self }
     {

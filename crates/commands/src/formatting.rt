@@ -23,7 +23,7 @@ fn told(alloc: Global, geometry: &Geometry) -> Result<Vec<u8>, AllocError>
 }
 
 /// Makes a device of this geometry in the file of this path, instead of a file that is there, and
-/// tells its length on `w`. At a fault but that of a write nothing is told. What the file then holds
+/// prints its length on `w`. At a fault other than a write's nothing is. What the file then holds
 /// no contract sees, since none knows whether a file keeps its bytes.
 pub fn format_device<T: Files<File = File>, W: Write>(
     rt: &T,

@@ -1,4 +1,4 @@
-//! What each command does: it serves, makes a device or tells of one; and what is told of a fault, with its exit status.
+//! What each command does: it serves, makes a device or shows one; and what is printed of a fault, with its exit status.
 //!
 //! Nothing here knows the words of a call: a command takes what it works on as values.
 #![tactic(auto)]

@@ -1,4 +1,4 @@
-//! The lines that commands print: a word, and numbers behind it.
+//! The lines that commands print: a word, and numbers after it.
 ghost use Rattle.std.specs.Prelude.{◌≡◌, ◌++◌, IfErr, OnOk};
 ghost use Rattle.std.specs.Io.KnownBytes.{Appends};
 ghost use Rattle.std.specs.List.{flat_map};

@@ -1,4 +1,4 @@
-//! What is told of a fault, and the exit status.
+//! What is printed of a fault, and the exit status.
 ghost use Rattle.std.specs.Prelude.{◌≡◌};
 ghost use Rattle.std.specs.IoError.{error_kind};
 ghost use Rattle.commands.specs.Faults.{status_of, status_without_words};

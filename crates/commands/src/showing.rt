@@ -45,7 +45,7 @@ fn told(alloc: Global, shown: &Shown) -> Result<Vec<u8>, AllocError>
     Ok(lines)
 }
 
-/// Tells on `w` what a device holds. At a fault but that of a write nothing is told.
+/// Prints on `w` what a device holds. At a fault other than a write's nothing is printed.
 fn show<D: Disk + Drop, W: Write>(alloc: Global, disk: D, w: &mut W) -> Result<(), Fault>
     ensures ends { EndsShowing result (W.contents w.old) (W.contents w.new) }
     ensures told { D.keeps →
@@ -59,8 +59,8 @@ fn show<D: Disk + Drop, W: Write>(alloc: Global, disk: D, w: &mut W) -> Result<(
     write_lines(&lines, w)
 }
 
-/// Tells on `w` what the device in the file of this path holds, and leaves it as it is. At a fault but
-/// that of a write nothing is told.
+/// Prints on `w` what the device in the file of this path holds, and leaves it as it is. At a fault but
+/// that of a write nothing is printed.
 pub fn show_device<T: Files<File = File>, W: Write>(
     rt: &T,
     alloc: Global,

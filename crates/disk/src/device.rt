@@ -19,7 +19,7 @@ pub trait Disk {
     fn len(&self) -> u64
         ensures { result ≡ length (medium self.now).now };
 
-    /// Reads the bytes from `at` on. After `Device` the bytes of `out` are open.
+    /// Reads the bytes from `at` on. After `Device` the bytes of `out` are unspecified.
     fn read_at(&mut self, at: u64, out: &mut [u8]) -> Result<(), DiskFault>
         ensures outside { IsErrOf result OutOfRange ↔ length (medium self.old).now < at + length out.old }
         ensures untouched { IsErrOf result OutOfRange → self.new ≡ self.old }

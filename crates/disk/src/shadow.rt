@@ -6,10 +6,10 @@ ghost use Rattle.disk.specs.Shadow.{medium_after};
 
 use std::marker::{Model, PhantomData};
 
-/// What a device tells of a call.
+/// What a device reports of a call.
 #[derive(Clone, Copy, Debug)]
 pub(crate) enum Call {
-    /// It was made, with the bytes that are told.
+    /// It was made, with the given bytes.
     Begun,
     /// The bytes were written from this offset on.
     Wrote(u64),
@@ -18,7 +18,7 @@ pub(crate) enum Call {
     Synced,
     /// A read or a sync failed.
     Failed,
-    /// It was made, with so many zeros.
+    /// It was made, with this number of zeros.
     Zeroed(u64),
 }
 

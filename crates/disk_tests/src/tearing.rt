@@ -77,7 +77,7 @@ fn device_of(alloc: Global, row: &Row) -> Result<MemDisk, AllocError> {
     Ok(disk)
 }
 
-/// What a crash of this kind leaves of the device, and a second one behind it, where nothing is loose.
+/// What a crash of this kind leaves of the device, and a second one after it, where nothing is loose.
 fn leaves(
     rt: &impl Abort,
     alloc: Global,

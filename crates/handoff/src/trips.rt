@@ -104,7 +104,7 @@ fn round(bench: &Bench, desk: &mut DispatchSeat, g: &Geometry, places: usize) ->
     ended
 }
 
-// Waits for results and offers their jobs again until there were so many round trips, or some more.
+// Waits for results and offers their jobs again until there were enough round trips, or some more.
 fn go_round<R: Wait>(
     rt: &R,
     bench: &Bench,
@@ -127,7 +127,7 @@ fn go_round<R: Wait>(
     }
 }
 
-/// Makes so many round trips, by as many workers as places. False where there can't be as many.
+/// Makes `trips` round trips, by as many workers as places. False where there can't be as many.
 pub fn make_trips<R: Threads + Wait + Sync>(
     rt: &R,
     alloc: Global,

@@ -1,4 +1,4 @@
-//! All that a server tells of what it holds, and what it should tell.
+//! All that a server answers of what it holds, and what it should answer.
 ghost use Rattle.std.specs.Prelude.{◌≡◌};
 ghost use Rattle.parcel.specs.Tree.{IsWholeTree};
 

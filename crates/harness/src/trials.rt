@@ -53,11 +53,11 @@ pub trait Trial {
     /// Does it on this device, until it ends or a call says that the device has failed.
     fn run(&self, alloc: Global, device: MemDisk) -> Result<Ended, Wrong>;
 
-    /// Whether this may be found after a trial that came so far and a crash.
+    /// Whether a crash after this much progress may leave this.
     fn allows(&self, progress: &Progress, found: &Found) -> bool;
 }
 
-/// A fault of a device and the crash behind it.
+/// A fault of a device and the crash after it.
 #[derive(Clone, Copy, Debug, PartialEq, Eq)]
 pub struct Crash {
     /// The number of the call that failed, from 1 on, with all later ones.
@@ -73,19 +73,19 @@ pub enum Wrong {
     /// There was no memory.
     OutOfMemory,
 
-    /// It asks for something that no such server does, as its rows don't fit.
+    /// The trial's rows do not fit this server.
     Unfit,
 
     /// It doesn't end.
     Endless,
 
-    /// A fault of the device wasn't told, or one that wasn't there.
+    /// A device fault was not reported, or one was reported that did not happen.
     Untold(Crash),
 
     /// After the crash something was found that isn't allowed.
     Found(Crash),
 
-    /// After the crash a device that isn't opened yet is told of otherwise than one that is.
+    /// After the crash `inspect` and `open` disagree.
     Shown(Crash),
 
     /// After the first crash, opening met the second one, and then something else was found than without it.
@@ -125,14 +125,14 @@ fn device_of(alloc: Global, bytes: &[u8]) -> Result<MemDisk, AllocError> {
     MemDisk::of_bytes(alloc, bytes.to_vec(alloc)?)
 }
 
-/// What is told of a device that isn't opened agrees with what is found once it is.
+/// Whether what `inspect` reports agrees with what an opened server answers.
 fn agrees(shown: &Shown, told: &[u8]) -> bool {
     let mut line = [0; LONGEST_REPLY];
     let size = write_reply(&shown.summary, &mut line);
     told.starts_with(&line[..size])
 }
 
-/// Whether a device of these bytes is told of, before it is opened and afterwards, as what is found on it says.
+/// Whether `inspect` agrees with `open` on a device of these bytes, before and after opening.
 fn is_shown(alloc: Global, bytes: &[u8], opened: &[u8], found: &Found) -> Result<bool, Wrong> {
     let before = inspect(alloc, device_of(alloc, bytes)?);
     match (before, found) {
@@ -157,7 +157,7 @@ fn same_again(is_same: bool, is_opened: bool, first: Crash, second: Crash) -> Re
     }
 }
 
-/// Opens a device of these bytes that stops at its n-th call, and opens it again behind a crash of each kind: the same is
+/// Opens a device of these bytes that stops at its n-th call, and opens it again after a crash of each kind: the same is
 /// found each time. Whether it was opened, or refused, before that call.
 fn reopen_at(
     alloc: Global,
@@ -250,7 +250,7 @@ impl<T: Trial> Stops<'_, T> {
         }
     }
 
-    /// Makes the trial on a device of which this call fails, and tells of a fault that isn't answered.
+    /// Makes the trial on a device of which this call fails, and reports a fault that isn't answered.
     fn make(&self, first: Crash) -> Result<Ended, Wrong>
         requires { 0 < first.call }
     {
@@ -268,7 +268,7 @@ impl<T: Trial> Stops<'_, T> {
         }
     }
 
-    /// Makes the trial on a device that stops at this call, with a crash of each kind behind it. Whether it ended before
+    /// Makes the trial on a device that stops at this call, with a crash of each kind after it. Whether it ended before
     /// that call.
     fn stop(&mut self, call: u64) -> Result<bool, Wrong>
         requires { 0 < call }
@@ -300,8 +300,8 @@ impl<T: Trial> Stops<'_, T> {
     }
 }
 
-/// Makes a trial once for each call of the device, which fails alone or stops it there, and each kind of crash behind
-/// such a stop. What is left is opened, also stopped at each call and behind each kind of crash again. Gives how many
+/// Makes a trial once for each call of the device, which fails alone or stops it there, and each kind of crash after
+/// such a stop. What is left is opened, also stopped at each call and after each kind of crash again. Gives how many
 /// calls the trial makes with no fault.
 pub fn sweep<T: Trial>(alloc: Global, trial: &T) -> Result<u64, Wrong> {
     let mut stops = Stops {

@@ -60,7 +60,7 @@ pub fn entries_of_a_stripe_are_spelled()
         → ((f b : ℕ) → content_at es f b ≡ (if group g f b == s then x.blocks (a, v, f, b) else None)) → es ≡ stripe_entries g x a v s }
 {}
 
-/// A piece that a message doesn't touch is the same before it and behind it.
+/// A piece that a message doesn't touch is the same before it and after it.
 pub fn an_untouched_piece_stays()
     ensures { (version : ℕ) (g : Geometry) (x : State) (m : Msg) (n : ℕ) → IsState g x → touches g m n ≡ false
         → piece_of version g (next_state g x m) n ≡ piece_of version g x n }

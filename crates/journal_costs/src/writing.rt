@@ -60,7 +60,7 @@ pub(crate) fn opening(alloc: Global) -> Result<Counts, Wrong> {
     Ok(opened(alloc, device(alloc)?)?.into_device().1)
 }
 
-/// Makes so many changes, logs so many of them at a time, and makes a point whenever a half is full, and at the end.
+/// Makes `count` changes, logs `batch` of them at a time, and makes a point whenever a half is full, and at the end.
 fn change(
     alloc: Global,
     server: &mut Server<MemDisk>,

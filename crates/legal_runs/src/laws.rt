@@ -36,7 +36,7 @@ pub fn held_messages_are_unrelated()
 {}
 
 /// The messages that a run logs are replied what the serial server replies to them, one after the
-/// other in log order; and they are answered so, in that order, behind those that were logged before.
+/// other in log order; and they are answered so, in that order, after the ones logged before.
 pub fn replies_are_in_log_order()
     ensures replied { (g : Geometry) (old : Hands) (events : List Event) → IsLegal g old events → IsSound g old.core
         → said (went old events) ≡ told g old.core.settled (entries (went old events)) }
@@ -100,8 +100,8 @@ pub fn messages_are_neither_lost_nor_doubled()
         → Contains (arrived events) e → Contains (arrived events) d → e.0 ≡ d.0 → e ≡ d }
 {}
 
-/// Where nothing waited and nothing was held in the beginning, what a run logs, with the first so many of those
-/// that ran behind it, is a serial log of what arrived. Each message of a serial log arrived; where tickets ascend
+/// Where nothing waited and nothing was held in the beginning, what a run logs, with the first m of those
+/// that ran after it, is a serial log of what arrived. Each message of a serial log arrived; where tickets ascend
 /// as messages arrive, no two of them have one, and it stays a serial log where more arrive.
 pub fn what_ran_is_a_serial_log()
     ensures run { (g : Geometry) (old : Hands) (events : List Event) (j : ℕ) → IsLegal g old events → IsIdle old.core
@@ -124,7 +124,7 @@ pub fn only_answers_clear()
 {}
 
 /// A step tells that the device failed exactly where it failed during the step, and then it has failed for
-/// good: messages that are out still come back, and those that are logged are answered, but nothing else comes.
+/// good: messages that are out still come back, and logged ones are answered, but nothing else comes.
 pub fn failures_are_told_and_last()
     ensures told { (g : Geometry) (old : Hands) (event : Event) → IsAllowed g old event → event.rose ≡ tells_of_failure event.outcome }
     ensures failed { (g : Geometry) (old : Hands) (event : Event) → IsAllowed g old event → event.rose ≡ true
@@ -139,7 +139,7 @@ pub fn only_a_failure_leaves_doubt()
         → DoubtsOnlyFailed event.world.core }
 {}
 
-/// What is in doubt are the changes among the first so many of those that ran, and so are the first of them.
+/// What is in doubt are the changes among the first m of those that ran, and so are the first of them.
 pub fn what_is_in_doubt_ran()
     ensures event { (g : Geometry) (old : Hands) (event : Event) → IsAllowed g old event → DoubtsOnlyFailed old.core
         → DoubtsWhatRan old.core → DoubtsWhatRan event.world.core }
@@ -150,8 +150,8 @@ pub fn what_is_in_doubt_ran()
 {}
 
 /// What a crash may leave, if it comes when k events or more have ended, is where all that these appended
-/// leads, with more behind it. If it comes before the next one has ended, it is the state that was settled
-/// then, with the first so many of the messages in doubt.
+/// leads, with more after it. If it comes before the next one has ended, it is the state that was settled
+/// then, with the first m of the messages in doubt.
 pub fn a_crash_leaves_what_was_appended()
     ensures begins { (g : Geometry) (old : Hands) (events : List Event) (k : ℕ) (x : State) → IsLeftSince g old events k x
         → (rest : List Msg) × (x ≡ fold g old.core.settled (journal old (take k events) ++ rest)) }
@@ -161,7 +161,7 @@ pub fn a_crash_leaves_what_was_appended()
 {}
 
 /// A crash of two runs, one after the other, may come in either. What it may leave in the log of the first, it may leave of both; and
-/// what it may leave in the log of the second, it may leave of both, behind all that the first appended. So it is with the state that
+/// what it may leave in the log of the second, it may leave of both, after all that the first appended. So it is with the state that
 /// it may leave: with that of the second if the first is legal and began in a sound world.
 pub fn a_crash_may_come_in_either_run()
     ensures log_first { (old : Hands) (events more : List Event) (k : ℕ) (ms : List Msg) → k ≤ length events
@@ -188,9 +188,9 @@ pub fn answered_changes_are_in_the_log()
 {}
 
 /// Where nothing waited, was held or was in doubt in the beginning, whatever a crash leaves in the log when k events
-/// have ended are the changes of a serial log of what had arrived: of all that was logged by then, with the first so
-/// many of those that ran behind it. What was logged begins with all that was answered by then, or before. And the
-/// first so many of those that are in doubt in the end are the changes among the first of those that ran.
+/// have ended are the changes of a serial log of what had arrived: of all that was logged by then, with the first m
+/// of those that ran after it. What was logged begins with all that was answered by then, or before. And the
+/// first of those in doubt in the end, however many, are the changes among the first of those that ran.
 pub fn a_crash_leaves_a_serial_log()
     ensures left { (g : Geometry) (old : Hands) (events : List Event) (k : ℕ) (ms : List Msg) → IsLegal g old events → IsIdle old.core
         → old.core.doubt ≡ [] → IsLogAfter old events k ms

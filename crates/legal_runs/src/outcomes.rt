@@ -2,7 +2,7 @@
 
 use message::{Msg, Reply};
 
-/// What a machine is to do. Hands are told by their number, from 0 on.
+/// What a machine is to do. Hands are named by their number, from 0 on.
 #[derive(Clone, Copy, Debug, PartialEq, Eq)]
 pub enum Step {
     /// A message arrives.
@@ -13,7 +13,7 @@ pub enum Step {
     Run(usize),
     /// The result in this hand is given back.
     Back(usize),
-    /// So many of the messages that ran are logged, or all where fewer did.
+    /// This many of the messages that ran are logged, or all if fewer did.
     Log(usize),
     /// The message that was logged first is answered.
     Answer,
@@ -46,7 +46,7 @@ pub enum Outcome {
     Ran,
     /// The message with this ticket was given back.
     Back(u64),
-    /// So many messages were logged.
+    /// This many messages were logged.
     Logged(usize),
     /// No message was logged.
     LogFault(CoreFault),
@@ -56,7 +56,7 @@ pub enum Outcome {
     Pointed,
     /// A consistency point has begun.
     Cut,
-    /// So many pieces are left to write.
+    /// This many pieces are left to write.
     Left(usize),
     /// The consistency point has ended.
     Flipped,

@@ -34,7 +34,7 @@ pub fn lives_leave_what_was_answered()
         → HasHeader g c × (refused g c ≡ None) }
 {}
 
-/// A run has ended. Whatever a crash leaves of its device now stands for where the log of the run leads, with the first so many of
+/// A run has ended. Whatever a crash leaves of its device now stands for where the log of the run leads, with the first m of
 /// the messages in doubt. Where no message was in the core at its start, that log begins with every change that was answered.
 pub fn a_crash_behind_a_run_leaves_what_was_answered()
     ensures run { (start : Handed) (events : List Event) (new : Kept) (c : List ℕ) → IsSound start.core.geometry (world_of start.core)

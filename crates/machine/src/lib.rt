@@ -1,6 +1,6 @@
 //! A machine: the core of a server with a row of hands for the jobs that are out, that makes lists of steps.
 //!
-//! The steps and their outcomes are those of `legal_runs`, and what any list of them does is told over its definitions.
+//! The steps and their outcomes are those of `legal_runs`, and what any list of them does is stated over its definitions.
 //! `laws` has what follows for a device over many lives.
 #![tactic(auto)]
 

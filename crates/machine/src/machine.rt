@@ -38,7 +38,7 @@ impl<D: Disk> Model for Machine<D> {
 }
 
 impl<D: Disk> Machine<D> {
-    /// A machine with so many empty hands.
+    /// A machine with `hands` empty hands.
     pub fn new(alloc: Global, core: Core<D>, hands: usize) -> Result<Machine<D>, MachineError<D>>
         ensures made { IfOk result (λ m. machine_of m ≡ record { core = world_of core; hands = replicate hands Empty }) }
         ensures kept { IfOk result (λ m. m.core ≡ core) }

@@ -29,7 +29,7 @@ impl Drawing {
         (self.state >> 33) % most.max(1)
     }
 
-    /// One of the first so many numbers, so that messages meet, and now and then one that is out of range.
+    /// One of the first m numbers, so that messages meet, and now and then one that is out of range.
     fn number(&mut self, limit: u16, most: u16) -> u16 {
         if self.below(128) == 0 {
             return limit;
@@ -96,7 +96,7 @@ impl Drawing {
         }
     }
 
-    /// A step of a machine with so many hands. Two of three go on with the last one.
+    /// A step of a machine with `hands` hands. Two of three go on with the last one.
     pub(crate) fn step(&mut self, g: &Geometry, hands: usize) -> Step {
         let step = if self.below(3) == 0 {
             self.any_step(g, hands)

@@ -26,7 +26,7 @@ pub(crate) enum Row {
     Serves(&'static str, &'static str),
 }
 
-/// All that is done with one message behind its arrival.
+/// All that is done with one message after its arrival.
 pub(crate) const WHOLE: [Step; 5] = [
     Step::Grant,
     Step::Run(0),
@@ -39,7 +39,7 @@ pub(crate) fn holds(rt: &impl Abort, fact: bool) {
     assert!(rt; fact);
 }
 
-/// A machine with so many slots and hands on this device; where it is refused, the device and why.
+/// A machine with these numbers of slots and hands on this device; where it is refused, the device and why.
 pub(crate) fn open_machine(
     alloc: Global,
     device: MemDisk,

@@ -38,7 +38,7 @@ fn steps_wanted<R: Env + Alloc>(rt: &R) -> u32 {
     }
 }
 
-/// So many steps from this seed come out as they have to.
+/// Random steps from this seed come out as they have to.
 fn random_steps(
     rt: &impl Abort,
     alloc: Global,

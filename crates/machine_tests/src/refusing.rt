@@ -11,7 +11,7 @@ use std::test::Fail;
 const REFUSED: [(&[(usize, u8)], OpenFault); 12] = [
     (&[(0, 0)], OpenFault::NotFormatted),
     (&[(1, 0)], OpenFault::NotFormatted),
-    // No number is that great, and nothing stands behind the numbers.
+    // No number is that great, and nothing stands after the numbers.
     (&[(9, 255)], OpenFault::BadGeometry),
     (&[(24, 1)], OpenFault::BadGeometry),
     // Five records in a half need a longer device.
@@ -25,7 +25,7 @@ const REFUSED: [(&[(usize, u8)], OpenFault); 12] = [
         &[(192, 1), (193, 1), (196, 1), (716, 1)],
         OpenFault::BadRecord(0, 1),
     ),
-    // Of the half behind the named one.
+    // Of the half after the named one.
     (&[(128, 1), (2340, 1)], OpenFault::BadRecord(1, 0)),
 ];
 

@@ -30,7 +30,7 @@ struct Lives {
 enum Fuse {
     /// This call alone.
     FailAt(u64),
-    /// This call and all behind it.
+    /// This call and all after it.
     StopAt(u64),
 }
 
@@ -41,7 +41,7 @@ fn lived(rt: &impl Abort, alloc: Global, device: MemDisk, life: &Life) -> Result
     Ok(machine.into_core().into_disk())
 }
 
-/// The device behind all lives.
+/// The device after all lives.
 fn left_by(rt: &impl Abort, alloc: Global, lives: &Lives) -> Result<MemDisk, Wrong> {
     let mut device = device_with(alloc, lives.numbers, &[])?;
     for life in lives.lives {
@@ -50,7 +50,7 @@ fn left_by(rt: &impl Abort, alloc: Global, lives: &Lives) -> Result<MemDisk, Wro
     Ok(device)
 }
 
-/// How many calls a new device meets in the first so many rows of a life.
+/// How many calls a new device meets in the first m rows of a life.
 fn calls_of(
     rt: &impl Abort,
     alloc: Global,
@@ -68,7 +68,7 @@ fn calls_of(
     Ok(lived(rt, alloc, device, &beginning)?.calls())
 }
 
-/// The device behind a life on a new one, where this fuse is set behind the first so many rows.
+/// The device after a life on a new one, where this fuse is set after the first m rows.
 fn left_with(
     rt: &impl Abort,
     alloc: Global,
@@ -86,7 +86,7 @@ fn left_with(
     lived(rt, alloc, device, life)
 }
 
-/// What is told of a device: the area that is named, how many records are in force, and how many volumes, files and
+/// What is reported of a device: the named area, how many records are in force, and how many volumes, files and
 /// blocks there are. Gives the device.
 fn is_shown(
     rt: &impl Abort,
@@ -211,7 +211,7 @@ const THREE_SLOTS: Lives = Lives {
     ],
 };
 
-/// A label and a block go side by side, and the seal behind them waits for both.
+/// A label and a block go side by side, and the seal after them waits for both.
 const LABEL: Lives = Lives {
     numbers: SMALL,
     lives: &[
@@ -402,7 +402,7 @@ const FIRST_BLOCK: Life = Life {
     ],
 };
 
-/// What lay behind the shut gate is gone.
+/// What lay after the shut gate is gone.
 const LAST_BLOCK: Life = Life {
     slots: 1,
     hands: 1,
@@ -425,7 +425,7 @@ fn torn_gates_leave_a_beginning(rt: HostRuntime) -> Result<(), Fail> {
     Ok(())
 }
 
-/// A change before a cut, and one behind it.
+/// A change before a cut, and one after it.
 const BEHIND_A_CUT: Lives = Lives {
     numbers: SMALL,
     lives: &[Life {
@@ -464,7 +464,7 @@ const BOTH: Life = Life {
     rows: &[Serves("list 0 0", "files 0")],
 };
 
-/// What a crash behind these lives leaves is shown so. Both changes are there once it is opened, and area 1 is named.
+/// What a crash after these lives leaves is shown so. Both changes are there once it is opened, and area 1 is named.
 fn has_both(
     rt: &impl Abort,
     alloc: Global,

@@ -25,7 +25,7 @@ enum Act {
     Serve(&'static str),
 }
 
-/// A new device, and a machine of so many slots and hands that makes these steps on it.
+/// A new device, and a machine with numbers of slots and hands that makes these steps on it.
 #[derive(Drop)]
 struct List {
     geometry: Geometry,
@@ -34,7 +34,7 @@ struct List {
     steps: Vec<Step>,
 }
 
-/// A list with what may be found on its device: after its first so many changes, a server tells that.
+/// A list with what may be found on its device: after so many of its changes, a server answers that.
 #[derive(Drop)]
 struct Play {
     list: List,
@@ -80,7 +80,7 @@ impl List {
         }
     }
 
-    /// The same with random steps behind.
+    /// The same with random steps after.
     fn and_random(self, seed: u64) -> Result<List, Wrong> {
         let mut list = self;
         let g = list.geometry;
@@ -96,7 +96,7 @@ impl List {
         device_with(alloc, self.geometry.numbers(), &[])
     }
 
-    /// Makes the steps, also those behind a fault, and tells what has to come of them.
+    /// Makes the steps, also those after a fault, and tells what has to come of them.
     fn make(&self, alloc: Global, machine: &mut Machine<MemDisk>) -> Result<World, Wrong> {
         let mut world = World::new(alloc, self.geometry, self.slots, self.hands)?;
         for step in self.steps.as_slice() {

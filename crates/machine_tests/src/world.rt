@@ -53,7 +53,7 @@ pub(crate) struct World {
     room: usize,
     failed: bool,
 
-    /// The changes that were logged, and behind them those of a log in which the device failed.
+    /// The changes that were logged, and after them those of a log in which the device failed.
     pub(crate) changes: Vec<Msg>,
 
     /// How many of them were logged.
@@ -93,7 +93,7 @@ impl World {
         })
     }
 
-    /// What may be there behind a crash now.
+    /// What may be there after a crash now.
     pub(crate) fn progress(&self) -> Progress {
         Progress {
             answered: self.settled,
@@ -177,7 +177,7 @@ impl World {
         None
     }
 
-    /// Whether the log has room for one change more than those that are out or ran.
+    /// Whether the log has room for one change more than are out or ran.
     fn has_room(&self) -> bool {
         let out = self.hands.iter().filter_map(|hand| hand.taken());
         let out = out.filter(|taken| is_changing(taken)).count();
@@ -235,7 +235,7 @@ impl World {
         }
     }
 
-    /// Answers the first so many that ran, and tells how many changes are among them.
+    /// Answers the first m that ran, and tells how many changes are among them.
     fn carry_out(&mut self, count: usize) -> Result<Vec<(Taken, Reply)>, AllocError> {
         let mut told = Vec::new(self.alloc);
         for taken in self.ran.iter().take(count) {

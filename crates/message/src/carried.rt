@@ -1,4 +1,4 @@
-//! What a message carries, told to proofs: its block has 512 bytes, its label 32.
+//! What a message carries, made known to proofs: its block has 512 bytes, its label 32.
 
 ghost use Rattle.message.specs.Messages.{AreBytes, IsBlock, IsMessage};
 

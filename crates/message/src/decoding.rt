@@ -26,7 +26,7 @@ fn digit_value(digit: u8) -> u8
 }
 
 /// Decodes pairs of digits into as many bytes, and gives the greatest of their values. Where that
-/// is no digit's, it is open what the bytes are.
+/// is no digit's, the bytes are unspecified.
 fn decode_all(digits: &[u8], out: &mut [u8]) -> u8
     requires { length digits.now ≡ 2 * length out.old }
     ensures digits { result < 16 → decode_pairs 0 digits.now ≡ Ok out.new }
@@ -44,7 +44,7 @@ fn decode_all(digits: &[u8], out: &mut [u8]) -> u8
 
 /// Decodes digits into bytes, two into each. It takes the same time whatever the digits are, so
 /// there is one test of them, at the end. Where they are not just twice as many as the bytes,
-/// these stay; where one is no digit, it is open what they are.
+/// these stay; where one is no digit, they are unspecified.
 pub(crate) fn decode_to_slice(digits: &[u8], out: &mut [u8]) -> Option<()>
     ensures value { MatchResult (decode_sized digits.now (length out.old))
         (λ bytes. (result ≡ Some tt) × (out.new ≡ bytes))

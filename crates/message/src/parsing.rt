@@ -58,7 +58,7 @@ fn kind_spelled(word: &str) -> Option<Kind>
     }
 }
 
-/// The message of a kind and what stands behind the space after its keyword.
+/// The message of a kind and what stands after the space after its keyword.
 fn of_kind(kind: Kind, line: &[u8]) -> Option<Msg>
     ensures { result ≡ of_kind kind (words line.now) }
 {
@@ -106,7 +106,7 @@ fn block_numbers(line: &[u8]) -> Option<(u16, u16, u16, u16)>
     Some((aggregate, volume, file, block))
 }
 
-/// The message of what stands behind `write`.
+/// The message of what stands after `write`.
 fn write_message(line: &[u8]) -> Option<Msg>
     ensures { result ≡ of_data write (words line.now) }
 {
@@ -123,7 +123,7 @@ fn write_message(line: &[u8]) -> Option<Msg>
     ))
 }
 
-/// The message of what stands behind `setlabel`.
+/// The message of what stands after `setlabel`.
 fn label_message(line: &[u8]) -> Option<Msg>
     ensures { result ≡ of_label set_label (words line.now) }
 {
@@ -132,7 +132,7 @@ fn label_message(line: &[u8]) -> Option<Msg>
     Some(Msg::SetLabel(aggregate, volume, bytes_in_word(behind)?))
 }
 
-/// The number that stands before the first space of a line, and what stands behind that.
+/// The number that stands before the first space of a line, and what stands after that.
 fn number_before_space(line: &[u8]) -> Option<(u16, &[u8])>
     ensures { first_number (words line.now) ≡ option_map (λ p. (p.0, words p.1.now)) result }
 {
@@ -140,7 +140,7 @@ fn number_before_space(line: &[u8]) -> Option<(u16, &[u8])>
     Some((number(word)?, behind))
 }
 
-/// The first word of a line and what stands behind the space after it, where there is a space.
+/// The first word of a line and what stands after the space after it, where there is a space.
 fn split_at_space(line: &[u8]) -> Option<(&[u8], &[u8])>
     ensures { MatchOption result (words line.now ≡ line.now ∷ []) (λ p. words line.now ≡ p.0.now ∷ words p.1.now) }
 {
@@ -178,7 +178,7 @@ fn number(word: &[u8]) -> Option<u16>
     u16::try_from(value).ok()
 }
 
-/// The bytes that a word says in hexadecimal digits, and zeros behind them.
+/// The bytes that a word says in hexadecimal digits, and zeros after them.
 fn bytes_in_word<const N: usize>(digits: &[u8]) -> Option<[u8; N]>
     ensures { result ≡ bytes_in_word N digits.now }
 {

@@ -10,7 +10,7 @@ use crate::{Block, Refusal, Reply};
 use itoa::Buffer;
 
 /// Writes the line of a reply, its newline included, into the front of `out`, and gives the
-/// line's length in bytes. What lies behind the line stays as it was.
+/// line's length in bytes. What lies after the line stays as it was.
 pub fn write_reply(reply: &Reply, out: &mut [u8; 1031]) -> usize
     ensures length { result ≡ length (reply_line reply.now) }
     ensures line { take result out.new ≡ reply_line reply.now }
@@ -130,7 +130,7 @@ fn write_summary(volumes: u32, files: u32, blocks: u32, out: &mut [u8; 1031]) ->
     append_number(blocks, out, end)
 }
 
-/// Writes a text behind the first `at` bytes, and gives where it ends.
+/// Writes a text after the first `at` bytes, and gives where it ends.
 fn append(text: &[u8], out: &mut [u8; 1031], at: usize) -> usize
     requires { at + length text.now ≤ 1031 }
     ensures { Appends out.old out.new at result text.now }
@@ -140,7 +140,7 @@ fn append(text: &[u8], out: &mut [u8; 1031], at: usize) -> usize
     end
 }
 
-/// Writes a space and a number behind the first `at` bytes, and gives where they end.
+/// Writes a space and a number after the first `at` bytes, and gives where they end.
 fn append_number(n: u32, out: &mut [u8; 1031], at: usize) -> usize
     requires { at + 11 ≤ 1031 }
     ensures text { Appends out.old out.new at result (spaced n) }
@@ -151,7 +151,7 @@ fn append_number(n: u32, out: &mut [u8; 1031], at: usize) -> usize
     append(digits.format(n).as_bytes(), out, end)
 }
 
-/// Writes the digits that show some bytes behind the first `at` bytes, and gives where they end.
+/// Writes the digits that show some bytes after the first `at` bytes, and gives where they end.
 fn append_shown(bytes: &[u8], out: &mut [u8; 1031], at: usize) -> usize
     requires some { 1 ≤ length bytes.now }
     requires room { at + 2 * length bytes.now ≤ 1030 }

@@ -11,7 +11,7 @@ use std::io::Read;
 pub enum Found {
     /// A line of at most 1,100 bytes.
     Line,
-    /// A line of more than 1,100 bytes. It was passed over, and nothing behind it is lost.
+    /// A line of more than 1,100 bytes. It was passed over, and nothing after it is lost.
     TooLong,
     /// The end of the input.
     End,
@@ -180,7 +180,7 @@ impl Held {
         self.start = 0;
     }
 
-    /// Reads once, behind what is held, and answers how many bytes came.
+    /// Reads once, after what is held, and answers how many bytes came.
     fn read_behind<R: Read>(&mut self, reader: &mut R) -> Result<usize, ReadFault>
         requires line { held_line self.old ≡ [] }
         requires no_newline { self.old.newline ≡ self.old.end }
@@ -203,7 +203,7 @@ impl Held {
         Ok(count)
     }
 
-    /// Reads once, as much as there is room for behind what is held, and answers how many bytes came.
+    /// Reads once, as much as there is room for after what is held, and answers how many bytes came.
     fn fill<R: Read>(&mut self, reader: &mut R) -> Result<usize, ReadFault>
         requires line { held_line self.old ≡ [] }
         requires within_line { IsWithinLine (held_bytes self.old) }
@@ -230,7 +230,7 @@ pub struct LineReader<R> {
     reader: R,
     held: Held,
 
-    /// A read has told the end. No other follows.
+    /// A read has reported the end. No other follows.
     ended: bool,
 
     /// A read has failed. No other follows, and nothing is held any more.
@@ -304,7 +304,7 @@ impl<R: Read> LineReader<R> {
         ensures at_once { HoldsLine self.old → source self.new ≡ source self.old }
         ensures ready { HoldsLine self.old → IsFalse (has_failed self.old) → IsOk result }
 
-        // Once a read has told the end, no other follows.
+        // Once a read has reported the end, no other follows.
         ensures end { result ≡ Ok Found.End → IsTrue (has_ended self.new) }
         ensures told { IsTrue (has_ended self.old) → source self.new ≡ source self.old }
         ensures at_end { KnowsEnd R.remaining self.old → KnowsEnd R.remaining self.new }
@@ -388,7 +388,7 @@ impl<R: Read> LineReader<R> {
         Ok(())
     }
 
-    /// Reads and lets go of it until a newline is held or the end was told.
+    /// Reads and lets go of it until a newline is held or the end was reported.
     fn skip(&mut self) -> Result<(), ReadFault>
         requires line { line_of self.old ≡ [] }
         requires sound { IsFalse (has_failed self.old) }

@@ -38,7 +38,7 @@ pub fn decode(bytes: &[u8; 520], g: &Geometry) -> Option<Msg>
     }
 }
 
-/// Whether what stands behind the head is the data of a message that the fields say.
+/// Whether what stands after the head is the data of a message that the fields say.
 fn has_data_of(bytes: &[u8; 520], m: &Msg) -> bool
     requires { Some m.now ≡ message_in_fields bytes.now }
     ensures { IsTrue result ↔ (drop 8 bytes.now ≡ data_of m.now) }

@@ -200,7 +200,7 @@ impl ReplyBuffer {
         }
     }
 
-    /// Adds the line of a reply to those that wait. Where the longest reply has no room beside
+    /// Adds the line of a reply to the waiting ones. Where the longest reply has no room beside
     /// them, they are sent first.
     ///
     /// # Errors
@@ -218,7 +218,7 @@ impl ReplyBuffer {
         Ok(())
     }
 
-    /// The same with the reply that a block is, from where the block lies: it is not copied.
+    /// Adds a block's reply without copying the block.
     ///
     /// # Errors
     ///

@@ -3,7 +3,7 @@
 use message::{Block, Msg, Reply, parse_line, write_reply};
 use std::process::Abort;
 
-// Bytes that begin with these, with zeros behind them.
+// Bytes that begin with these, with zeros after them.
 pub(crate) fn padded<const N: usize>(front: &[u8]) -> [u8; N] {
     let mut bytes = [0; N];
     for (byte, given) in bytes.iter_mut().zip(front) {
@@ -20,7 +20,7 @@ pub(crate) fn says(rt: &impl Abort, line: &[u8], message: Option<Msg>) {
     assert_eq!(rt; parse_line(line), message, "at {line:?}");
 }
 
-// The line of a reply, and nothing behind it.
+// The line of a reply, and nothing after it.
 pub(crate) fn spells(rt: &impl Abort, reply: &Reply, line: &[u8]) {
     let mut out = [7; 1031];
     let size = write_reply(reply, &mut out);

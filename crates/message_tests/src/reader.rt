@@ -107,7 +107,7 @@ fn lines_however_the_reads_are_cut(rt: HostRuntime) -> Result<(), Fail> {
     Ok(())
 }
 
-// A line of this many bytes, and another behind it.
+// A line of this many bytes, and another after it.
 fn long_then_short(alloc: Global, size: usize) -> Result<Vec<u8>, AllocError> {
     let mut bytes = vec![in alloc; b'x'; size]?;
     bytes.extend_from_slice(b"\nshort\n")?;

@@ -41,7 +41,7 @@ const REPLIES: [(Reply, &str); 14] = [
     ),
 ];
 
-/// What blocks begin with, with zeros behind it, and their lines.
+/// What blocks begin with, with zeros after it, and their lines.
 const BLOCKS: [(&[u8], &str); 5] = [
     (b"ab", "block 6162\n"),
     (b"", "block 00\n"),

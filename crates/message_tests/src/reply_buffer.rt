@@ -60,7 +60,7 @@ fn has(rt: &impl Abort, w: &Counting, bytes: usize, flushes: usize) {
     assert_eq!(rt; (w.bytes, w.flushes, w.is_flushed), (bytes, flushes, true));
 }
 
-// Adds the longest reply so many times, until one fails.
+// Adds the longest reply `count` times, until one fails.
 fn add_blocks(out: &mut ReplyBuffer, w: &mut Counting, count: usize) -> Result<(), WriteFault> {
     let full = Reply::Block(Block([0xff; 512]));
     for _ in 0..count {

@@ -1,5 +1,5 @@
 //! Lines to a tree, one message at a time: what a message asks for is lent to it, and restored after it. The serial
-//! server is told the same lines.
+//! server gives the same lines.
 use crate::SMALL;
 use affinity::{Geometry, place_of};
 use message::{Msg, Refusal, Reply, no_message_line, parse_line, write_reply};

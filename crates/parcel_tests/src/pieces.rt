@@ -1,4 +1,4 @@
-//! Pieces of an image are taken into a new tree, told by messages and written again.
+//! Pieces of an image are taken into a new tree, asked by messages and written again.
 ghost use Rattle.std.specs.Prelude.{◌≡◌, length, IfOk, OnOk};
 ghost use Rattle.parcel_tests.specs.Pieces.{IsNewTree, IsSmallTree};
 

@@ -45,7 +45,7 @@ enum Step {
     Holds(u16, u16, u8),
     Lacks(u16, u16),
 
-    /// There are so many blocks.
+    /// There are this many blocks.
     Len(usize),
 }
 
@@ -75,7 +75,7 @@ fn goes(stripe: &mut StripeParcel, quota: usize, step: &Step) -> bool
     }
 }
 
-// A new stripe with room for so many blocks goes through these steps.
+// A new stripe with room for `quota` blocks goes through these steps.
 fn expect(rt: &impl Abort, alloc: Global, quota: usize, steps: &[Step]) -> Result<(), AllocError>
     requires { quota ≤ 64 }
 {

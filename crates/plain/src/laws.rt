@@ -43,8 +43,8 @@ pub fn unrelated_steps_commute()
     ensures { (g : Geometry) (x : State) (m n : Msg) → are_related (place g m) (place g n) ≡ false → Commute g x m n }
 {}
 
-/// Where messages at related places run in the order of their tickets, each message is told what it
-/// is told where all run in that order, and the state in the end is the same.
+/// Where messages at related places run in the order of their tickets, each message gets the reply
+/// that it gets if all run in that order, and the state in the end is the same.
 pub fn order_by_ticket()
     ensures in_order { (es : List (ℕ × Msg)) → AreInOrder (by_ticket es) }
     ensures same_messages { (es : List (ℕ × Msg)) → IsPermutation es (by_ticket es) }

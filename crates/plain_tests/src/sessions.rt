@@ -7,7 +7,7 @@ use std::io;
 use std::io::{ErrorKind, Read, Write};
 use std::test::Fail;
 
-/// Gives a piece of the input at each read, and nothing behind the last. Beside each piece stands
+/// Gives a piece of the input at each read, and nothing after the last. Beside each piece stands
 /// how many bytes the client should have got by then.
 #[derive(Drop)]
 struct Client<'a> {

@@ -258,7 +258,7 @@ impl<D: Disk> Core<D> {
         self.ran += 1;
     }
 
-    /// Logs the first `n` of those that ran, in the order in which they were given back, or all where fewer ran, and
+    /// Logs the first `n` messages that ran, in the order in which they were given back, or all where fewer ran, and
     /// tells how many these were. The changes among them that were carried out are appended to the log in one go. With
     /// none of these the device isn't touched.
     pub fn log(&mut self, n: usize) -> Result<usize, CoreFault>
@@ -266,7 +266,7 @@ impl<D: Disk> Core<D> {
         ensures geometry { self.new.geometry ≡ self.old.geometry }
         ensures counts { Counts (log_rose result) self.old.medium.faults self.new.medium.faults }
 
-        // A crash at any moment of the call leaves what was settled, with the first so many of what is appended.
+        // A crash at any moment of the call leaves what was settled, with the first m of what is appended.
         ensures any_moment { D.keeps → StandsThroughout (batch (world_of self.old) n) self.old self.new }
         ensures untouched { touches_device (world_of self.old) (steps.Log n) ≡ false → self.new.medium ≡ self.old.medium }
     {

@@ -24,7 +24,7 @@ pub(crate) struct Memory {
     pub(crate) batch: Vec<Msg>,
 }
 
-/// Room for so many messages, of which there is none yet. Which geometry they will have isn't known yet, so there is room
+/// Room for `slots` messages, of which there is none yet. Which geometry they will have isn't known yet, so there is room
 /// for any. `AllocError` where there is no memory.
 pub(crate) fn take_memory(alloc: Global, slots: usize) -> Result<Memory, AllocError>
     ensures row { IfOk result (λ m. m.slots ≡ empty_row slots 4) }

@@ -1,4 +1,4 @@
-//! Those that ran: what is to be logged of them, and how they become those that are logged.
+//! The messages that ran: what is to be logged of them, and how they become those that are logged.
 ghost use Rattle.std.specs.Prelude.{◌≡◌, ◌≤◌, ◌<◌, ◌+◌, [], ◌∷◌, ◌++◌, length, take, vec_capacity};
 ghost use Rattle.arena.specs.Row.{capacity_of, chain_at};
 ghost use Rattle.legal_runs.specs.Events.{loggable};
@@ -62,7 +62,7 @@ pub(crate) fn gather(
     found
 }
 
-// The first of those that ran is logged, behind all others that are.
+// The first message that ran is logged, after all logged ones.
 fn move_first(slots: &mut Arena<Slot>)
     requires chains { HasChains slots.old }
     requires some { 0 < length (chain_at slots.old 2) }
@@ -74,7 +74,7 @@ fn move_first(slots: &mut Arena<Slot>)
     slots.move_to(slot, LOGGED);
 }
 
-/// The first `count` of those that ran are logged, behind all others that are.
+/// The first `count` messages that ran are logged, after all logged ones.
 pub(crate) fn move_ran(slots: &mut Arena<Slot>, count: usize)
     requires chains { HasChains slots.old }
     requires count { count ≤ length (chain_at slots.old 2) }

@@ -6,16 +6,16 @@ use message::Msg;
 /// How many chains there are.
 pub(crate) const CHAINS: usize = 4;
 
-/// The chain of those that wait.
+/// The chain of waiting messages.
 pub(crate) const WAITING: usize = 0;
 
-/// The chain of those that are out.
+/// The chain of messages that are out.
 pub(crate) const OUT: usize = 1;
 
-/// The chain of those that ran.
+/// The chain of messages that ran.
 pub(crate) const RAN: usize = 2;
 
-/// The chain of those that are logged.
+/// The chain of logged messages.
 pub(crate) const LOGGED: usize = 3;
 
 /// A message that was taken in: its ticket, and where it belongs.

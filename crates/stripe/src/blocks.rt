@@ -34,7 +34,7 @@ impl Model for StripeParcel {
 }
 
 impl StripeParcel {
-    /// An empty stripe that can hold so many blocks.
+    /// An empty stripe that can hold `quota` blocks.
     pub fn new(alloc: Global, quota: usize) -> Result<StripeParcel, AllocError>
         requires most { quota ≤ 64 }
         ensures { IfOk result (λ s. s ≡ record { quota = quota; entries = [] }) }

@@ -1,4 +1,4 @@
-//! Who goes first of those that are clear.
+//! Who goes first of the clear ones.
 ghost use Rattle.std.specs.Prelude.{◌≡◌, ◌*◌, ◌≤◌, option_copied};
 ghost use Rattle.turns.specs.Turns.{has_room};
 ghost use Rattle.turns.specs.Order.{is_earlier, earlier};
@@ -39,7 +39,7 @@ fn better(room: bool, marks: &Marks, best: usize, number: usize) -> usize
     }
 }
 
-/// The number of the earliest of those that are marked: the best so far, and those in a block for which there is room.
+/// The number of the earliest marked one: the best so far, and those in a block for which there is room.
 pub(crate) fn best_in(room: bool, marks: &Marks, best: usize, block: usize) -> usize
     requires { block ≤ 4096 }
     ensures { mark_at marks.now result ≡ earliest_from (has_room room) marks.now (16 * block) 16 (mark_at marks.now best) }

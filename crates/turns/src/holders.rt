@@ -1,4 +1,4 @@
-//! Those that are held, each at the number of its affinity.
+//! The held messages, each at the number of its affinity.
 ghost use Rattle.std.specs.Prelude.{◌≡◌, ◌<◌, [], IfOk, None};
 ghost use Rattle.std.specs.List.{find};
 ghost use Rattle.turns.specs.Turns.{has_number, without_number};
@@ -7,7 +7,7 @@ use crate::Turn;
 use std::alloc::{AllocError, Global};
 use std::marker::Model;
 
-/// Those that are held, at most one for each number of an affinity.
+/// The held messages, at most one for each number of an affinity.
 ///
 /// All memory is taken by `new`.
 #[derive(Drop)]
@@ -29,7 +29,7 @@ impl Model for Holders {
 impl Holders {
     ghost use Rattle.turns.specs.Queues.{IsBetween};
 
-    /// So many numbers, at which no one is held. `AllocError` where there is no memory.
+    /// `numbers` numbers, at which no message is held. `AllocError` where there is no memory.
     pub(crate) fn new(alloc: Global, numbers: usize) -> Result<Holders, AllocError>
         ensures { IfOk result (λ h. h ≡ record { numbers = numbers; turns = [] }) }
     {
@@ -40,7 +40,7 @@ impl Holders {
         Ok(Holders { places })
     }
 
-    /// The one that is held at a number.
+    /// The message held at a number.
     pub(crate) fn at(&self, number: usize) -> Option<Turn>
         ensures { result ≡ find (has_number number) self.now.turns }
     {

@@ -1,4 +1,4 @@
-//! How the marks follow those that wait and those that are held.
+//! How the marks follow waiting and held messages.
 ghost use Rattle.std.specs.Prelude.{◌≡◌, ◌≤◌, ◌==◌, ℕ, true, length};
 ghost use Rattle.std.specs.List.{list_any, AllByRecursion};
 ghost use Rattle.affinity.specs.Interval.{IsAffinity, contains, server_size};

@@ -1,4 +1,4 @@
-//! Marks at numbers: which of those that are first in their queues are clear.
+//! Marks at numbers: which of the first in their queues are clear.
 ghost use Rattle.std.specs.Prelude.{◌≡◌, ◌+◌, ◌*◌, ◌<◌, ◌≤◌, ℕ, get_or, length, min, replicate, slice_set, option_copied, IfOk, None};
 ghost use Rattle.turns.specs.Marks.{last_rank, mark_at, rank_of};
 
@@ -12,9 +12,9 @@ pub(crate) const BLOCK: usize = 16;
 /// The last rank that one who waits may have. The greatest `u64` says that no one is marked.
 const LAST_RANK: u64 = u64::MAX - 1;
 
-/// A mark for each number of an affinity, which is there where one that waits is clear.
+/// A mark for each number of an affinity, which is there if a waiting message is clear.
 ///
-/// A server looks for the one that came first among them again and again. So each has a rank, which is its ticket, and the least
+/// `next` is called often and looks for the earliest clear one. So each has a rank, which is its ticket, and the least
 /// rank of each block of numbers is kept: most blocks are passed by it alone.
 ///
 /// All memory is taken by `new`.
@@ -39,7 +39,7 @@ impl Model for Marks {
 }
 
 impl Marks {
-    /// No mark at so many numbers. `AllocError` where there is no memory.
+    /// `numbers` empty marks. `AllocError` where there is no memory.
     pub(crate) fn new(alloc: Global, numbers: usize) -> Result<Marks, AllocError>
         requires { numbers ≤ 65536 }
         ensures { IfOk result (λ marks. marks ≡ replicate numbers None) }
@@ -72,14 +72,14 @@ impl Marks {
         self.least.len()
     }
 
-    /// The one that is clear at a number.
+    /// The clear message at a number.
     pub(crate) fn at(&self, number: usize) -> Option<&Turn>
         ensures { option_copied result ≡ mark_at self.now number }
     {
         self.clear.get(number)?.as_ref()
     }
 
-    /// The rank of the one that is clear at a number, or the greatest `u64` where none is.
+    /// The rank of the clear message at a number, or the greatest `u64` if there is none.
     pub(crate) fn rank(&self, number: usize) -> u64
         ensures { result ≡ rank_of (mark_at self.now number) }
     {
@@ -89,7 +89,7 @@ impl Marks {
         }
     }
 
-    /// The greatest rank that one which came before the one that is clear at a number may have. Where none is clear there, the
+    /// An upper bound for the rank of any turn earlier than the clear one at `number`. Where none is clear there, the
     /// last rank.
     pub(crate) fn bound(&self, number: usize) -> u64
         ensures { result ≡ min (rank_of (mark_at self.now number)) last_rank }
@@ -107,7 +107,7 @@ impl Marks {
         }
     }
 
-    /// Marks this one at a number, or no one.
+    /// Sets or clears the mark at `number`.
     pub(crate) fn set(&mut self, number: usize, clear: Option<Turn>)
         requires { number < length self.old }
         ensures { self.new ≡ slice_set self.old number clear }

@@ -1,4 +1,4 @@
-//! Those that wait, in a queue for each number of an affinity.
+//! The waiting messages, in a queue for each number of an affinity.
 ghost use Rattle.std.specs.Prelude.{◌≡◌, ℕ, ◌<◌, ◌≤◌, ◌++◌, ◌∷◌, [], length, IfOk};
 ghost use Rattle.std.specs.List.{find};
 ghost use Rattle.turns.specs.Turns.{has_number, CameBefore};
@@ -10,7 +10,7 @@ use arena::Arena;
 use std::alloc::{AllocError, Global};
 use std::marker::Model;
 
-/// Those that wait, each in the queue of its affinity's number.
+/// The waiting messages, each in the queue of its affinity's number.
 ///
 /// All memory is taken by `new`.
 #[derive(Drop)]
@@ -36,7 +36,7 @@ impl Model for Queues {
 impl Queues {
     ghost use Rattle.turns.specs.Queues.{IsFirstGone};
 
-    /// So many empty queues, with seats for so many in all. `AllocError` where there is no memory.
+    /// `numbers` empty queues that hold `seats` turns together. `AllocError` where there is no memory.
     pub(crate) fn new(alloc: Global, numbers: usize, seats: usize) -> Result<Queues, AllocError>
         ensures { IfOk result (λ q. q ≡ record { numbers = numbers; seats = seats; turns = [] }) }
     {
@@ -70,7 +70,7 @@ impl Queues {
         }
     }
 
-    /// The first one at a number waits no longer. Those that wait have slots of their own.
+    /// The first one at a number waits no longer. Waiting messages have slots of their own.
     pub(crate) fn pop(&mut self, number: usize)
         requires once { (slot : ℕ) → times slot self.old.turns ≤ 1 }
         ensures { IsFirstGone number self.old self.new }

@@ -1,4 +1,4 @@
-//! Those that wait and those that are held, and whose turn it is among them.
+//! Waiting and held messages, and whose turn it is among them.
 ghost use Rattle.std.specs.Prelude.{◌≡◌, ◌+◌, ◌<◌, ◌++◌, ◌∷◌, true, false, [], length, IfOk, IfSome, IfNone};
 ghost use Rattle.std.specs.List.{list_any};
 ghost use Rattle.affinity.specs.Interval.{IsAffinity};
@@ -17,7 +17,7 @@ use std::marker::Model;
 /// How many affinities the greatest geometry has.
 const MOST_AFFINITIES: usize = 357;
 
-/// The messages that wait for their turn and those that are held, each with a slot of its own.
+/// The waiting and the held messages, each with a slot of its own.
 ///
 /// All memory is taken by `new`.
 #[derive(Drop)]
@@ -49,7 +49,7 @@ impl Model for Turns {
 impl Turns {
     ghost use Rattle.turns.specs.Turns.{at_start, CameBefore, IsNext, HasJoined};
 
-    /// No one waits and no one is held. Those that arrive will be at affinities of the geometry, in
+    /// No one waits and no one is held. Arrivals will be at affinities of the geometry, in
     /// slots below `slots`, which is below the greatest `usize`. There is room for any geometry.
     /// `AllocError` where there is no memory.
     pub fn new(alloc: Global, geometry: &Geometry, slots: usize) -> Result<Turns, AllocError>
@@ -77,7 +77,7 @@ impl Turns {
         self.geometry = *geometry;
     }
 
-    /// The first of those that wait that may go: no one at a related affinity is held, or came
+    /// The first waiting message that may go: no one at a related affinity is held, or came
     /// earlier and still waits, and there is `room` where it may change something. None where no one
     /// may go.
     pub fn next(&self, room: bool) -> Option<Turn>
@@ -93,7 +93,7 @@ impl Turns {
         self.marks.at(best).copied()
     }
 
-    /// The slot of the one that is held at an affinity. None where no one is held there.
+    /// The slot of the message held at an affinity. None if there is none.
     pub fn holder(&self, a: Affinity) -> Option<usize>
         ensures some { IfSome result (λ slot. list_any (holds_at a.number slot) self.now.held ≡ true) }
         ensures none { IfNone result (list_any (has_number a.number) self.now.held ≡ false) }
@@ -102,7 +102,7 @@ impl Turns {
         Some(turn.slot)
     }
 
-    /// One more waits, behind all others. Its ticket is above theirs, and no one has its slot.
+    /// One more waits, after all others. Its ticket is above theirs, and no one has its slot.
     pub fn arrive(&mut self, turn: Turn)
         requires placed { IsAffinity self.old.geometry turn.affinity }
         requires later { CameBefore turn.ticket self.old.waiting }
@@ -124,7 +124,7 @@ impl Turns {
         }
     }
 
-    /// The one that `next` gave goes: it waits no longer, and is held. All others stay.
+    /// The message that `next` gave goes: it waits no longer, and is held. All others stay.
     pub fn go(&mut self, turn: Turn)
         requires { IsNext self.old turn }
         ensures waiting { self.new ≡

@@ -26,7 +26,7 @@ impl Model for Desk {
 }
 
 impl Desk {
-    /// A desk of so many slots, whose turns were made for the default geometry. Where memory is refused once, the same
+    /// A desk of `slots` slots, whose turns were made for the default geometry. Where memory is refused once, the same
     /// call gives it.
     pub fn new(alloc: Global, g: &Geometry, slots: usize) -> Result<Desk, AllocError> {
         if slots == usize::MAX {

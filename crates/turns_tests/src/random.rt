@@ -1,4 +1,4 @@
-//! Random calls, and the same by a plain row of those that wait.
+//! Random calls, and the same by a plain row of waiting messages.
 use crate::desk::Desk;
 use affinity::{Geometry, Kind, related};
 use std::alloc::{AllocError, Global};
@@ -23,7 +23,7 @@ const KINDS: [Kind; 14] = [
     Kind::Label,
 ];
 
-// Those that wait in the order in which they came, those that are held, and how many were granted.
+// The waiting messages in the order in which they came, the held ones, and how many were granted.
 #[derive(Drop)]
 struct Plain {
     waiting: Vec<Turn>,
@@ -109,7 +109,7 @@ fn arrive(
     Ok(())
 }
 
-// One that is held is freed in both.
+// A held message is freed in both.
 fn free(rt: &impl Abort, desk: &mut Desk, plain: &mut Plain, state: &mut u64) {
     let i = drawn(state, plain.held.len() as u64) as usize;
     if i < plain.held.len() {
@@ -167,7 +167,7 @@ fn checks_steps(
     for _ in 0..steps {
         step(rt, &mut desk, &mut plain, &g, &mut state)?;
     }
-    // Three steps of eight ask for a grant, so a desk that takes no one in, or lets no one go, is told.
+    // Three steps of eight ask for a grant, so a desk that takes no one in, or lets no one go, is noticed.
     assert!(rt; plain.granted > steps / 8);
     Ok(())
 }

@@ -36,7 +36,7 @@ impl Model for Bench {
 }
 
 impl Bench {
-    /// A bench with so many places, the dispatcher's seat and a seat for each worker. Nothing is lent.
+    /// A bench with `places` places, the dispatcher's seat and a seat for each worker. Nothing is lent.
     /// It takes all memory that the bench will need.
     pub fn open(
         alloc: Global,
@@ -122,7 +122,7 @@ fn lay(
     }
 }
 
-// So many empty trays.
+// `places` empty trays.
 fn empty_trays(alloc: Global, places: usize) -> Result<Vec<Tray>, AllocError>
     ensures { IfOk result (λ trays. trays.items ≡ replicate places None) }
 {

@@ -110,7 +110,7 @@ pub fn turn_to(seat: &mut Seat, lent: &[bool], from: usize, to: usize)
     }
 }
 
-// Brings the slot of place k behind the others, if the seat has it.
+// Brings the slot of place k after the others, if the seat has it.
 fn turn_past(seat: &mut Seat, is_lent: bool, k: usize)
     requires place { k < length (lent_of seat.old.me.0) }
     requires flag { is_lent ≡ is_some (lent_at (lent_of seat.old.me.0) k) }

@@ -21,7 +21,7 @@ use parcel::{Done, Job};
 /// The shared part of the table.
 pub type Words = Shared<Tray, View, usize, Handoff>;
 
-/// The rule of the table. It is told the number of places when it is made.
+/// The rule of the table. It gets the number of places when it is made.
 pub struct Handoff;
 
 impl TableRule<Tray, View, usize> for Handoff {

@@ -14,7 +14,7 @@ use std::thread::yield_now;
 /// How often a worker looks at the bell of the offers in a row.
 const LOOKS: usize = 64;
 
-/// How many such rows of looks it makes before it sleeps, and lets other threads go first behind each: for
+/// How many such rows of looks it makes before it sleeps, and lets other threads go first after each: for
 /// about as long as it takes to put a thread to sleep and to wake it.
 const ROUNDS: usize = 16;
 

@@ -5,7 +5,7 @@ ghost use Rattle.std.specs.Prelude.{◌≡◌, ◌<◌, ◌≤◌, ◌%◌, ◌^
 pub const STOP: usize = 0;
 
 /// The bell of the offers, on which workers sleep. Its low half counts the rings, and wraps; the quarter
-/// above it counts the workers that sleep or are about to, and the highest one those that look on.
+/// above it counts the workers that sleep or are about to, and the highest one the workers that look on.
 pub const OFFERS: usize = 1;
 
 /// The bell of the deliveries, on which the dispatcher sleeps: quiet, rung or slept on.
@@ -44,7 +44,7 @@ pub const LOOKER: u64 = 1 << 48;
 /// What is added to it by a worker that looks on no more.
 pub const LOOKED: u64 = u64::MAX - LOOKER + 1;
 
-/// What is added to it by a worker that goes to sleep behind its looks.
+/// What is added to it by a worker that goes to sleep after its looks.
 pub const TIRED: u64 = LOOKED + SLEEPER;
 
 /// The bell of the deliveries: nothing was delivered since the last wait returned.

@@ -90,7 +90,7 @@ impl Bench {
     }
 }
 
-// Wakes another worker where a place behind k has a job too. An offer wakes none while one looks on, and that
+// Wakes another worker where a place after k has a job too. An offer wakes none while one looks on, and that
 // one may be held up by the job that it has claimed.
 fn call_another(words: &Words, k: usize, places: usize)
     requires bench { IsBench words.now.table_id }

@@ -223,7 +223,7 @@ fn a_wait_ends_with_the_delivery(rt: HostRuntime) -> Result<(), Fail> {
     Ok(())
 }
 
-// Holds the job of each even ticket until the ticket behind it was answered.
+// Holds the job of each even ticket until the ticket after it was answered.
 #[derive(Drop)]
 struct Holding {
     answered: AtomicU64,
@@ -258,7 +258,7 @@ impl Gate for Holding {
     }
 }
 
-// The job behind an even ticket is answered while that of the ticket is held.
+// The job after an even ticket is answered while that of the ticket is held.
 fn two_jobs(
     bench: &Bench,
     desk: &mut DispatchSeat,
@@ -410,7 +410,7 @@ fn offer_round(
     Ok(true)
 }
 
-// Collects the last job of each place, behind which nothing is left. Says whether all was so.
+// Collects the last job of each place, after which nothing is left. Says whether all was so.
 fn collect_round(
     bench: &Bench,
     desk: &mut DispatchSeat,
@@ -430,7 +430,7 @@ fn collect_round(
     true
 }
 
-// Hands so many jobs over at each place, with a ticket of its own each. Says whether each came back
+// Hands jobs over at each place, with a ticket of its own each. Says whether each came back
 // once, with the reply that its message gets alone.
 fn all_jobs(
     bench: &Bench,
@@ -451,7 +451,7 @@ fn all_jobs(
     Ok(collect_round(bench, desk, places, rounds, &alone))
 }
 
-// Whether all jobs come back at a bench with so many places and as many workers.
+// Whether all jobs come back at a bench with as many places as workers.
 fn hands_off_all<R: Threads + Wait + Sync>(
     rt: &R,
     alloc: Global,

@@ -12,7 +12,7 @@ use byteorder::{ByteOrder, LittleEndian};
 /// How many bytes a volume's piece has.
 const VOLUME_PIECE_SIZE: usize = 64;
 
-/// Where the files and the label stand in a volume's piece, and the zeros behind them.
+/// Where the files and the label stand in a volume's piece, and the zeros after them.
 const FILES_AT: usize = 8;
 
 const LABEL_AT: usize = 16;

@@ -31,7 +31,7 @@ impl Server {
         files as u32
     }
 
-    /// How many blocks a volume has: those that are noted for its stripes. It walks these notes
+    /// How many blocks a volume has: the numbers noted for its stripes. It walks these notes
     /// alone.
     fn blocks_of(&self, g: &Geometry, a: u16, v: u16) -> u32
         requires sound { IsConsistent g.now self.now }

@@ -1,5 +1,5 @@
 //! A stripe as the bytes of its piece in an image: an entry of 520 bytes for each block, and zeros
-//! behind them.
+//! after them.
 ghost use Rattle.std.specs.Prelude.{◌≡◌, ◌↔◌, ◌*◌, ◌<◌, ◌==◌, ◌++◌, ◌∷◌, [], IsTrue, IsFalse, get_or, length, take, drop, replicate, slice_index_or};
 ghost use Rattle.std.specs.List.{list_all, AllByRecursion};
 ghost use Rattle.message.specs.Replies.{has_file};
@@ -57,7 +57,7 @@ fn put_entry(row: &mut [u8], file: u16, block: u16, content: &Block)
 }
 
 impl StripeParcel {
-    /// Writes the blocks into `out` in their order, and zeros behind them.
+    /// Writes the blocks into `out` in their order, and zeros after them.
     pub fn write_piece(&self, out: &mut [u8])
         requires size { length out.old ≡ self.now.quota * 520 }
         requires files { AllByRecursion (λ e. e.file < 256) self.now.entries }
@@ -86,7 +86,7 @@ impl StripeParcel {
     }
 
     /// Takes in the blocks of a piece of stripe `s` of a volume with these files, none being there
-    /// before: whether the bytes are such a piece. Where they aren't, it is open which blocks are
+    /// before: whether the bytes are such a piece. Where they aren't, no clause says which blocks are
     /// there.
     pub fn read_piece(&mut self, g: &Geometry, files: u64, s: u16, bytes: &[u8]) -> bool
         requires empty { self.old.entries ≡ [] }
@@ -109,7 +109,7 @@ impl StripeParcel {
         true
     }
 
-    /// Takes in an entry behind all that are there, if it is one and can stand there: whether it
+    /// Takes in an entry after all that are there, if it is one and can stand there: whether it
     /// was.
     fn push(&mut self, g: &Geometry, files: u64, s: u16, row: &[u8]) -> bool
         requires row { length row.now ≡ 520 }
