@@ -139,7 +139,7 @@ const THREE_DONE: &str = "done\ndone\ndone\n";
 
 const TWO_WRITES: &str = "makevol 0 0\ncreate 0 0 0\nwrite 0 0 0 0 61\nwrite 0 0 0 1 62\n";
 
-/// After the plain ones: a torn gate in the log, after which no record counts; a point that was cut short, whose other half
+/// Behind the plain ones: a torn gate in the log, behind which no record counts; a point that was cut short, whose other half
 /// has a record of its own; and an image of the first version with a volume.
 const LIVES: [Life<'static>; 9] = [
     (&[], "", "", "", 0, "0 0 0"),

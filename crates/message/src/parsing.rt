@@ -132,7 +132,7 @@ fn label_message(line: &[u8]) -> Option<Msg>
     Some(Msg::SetLabel(aggregate, volume, bytes_in_word(behind)?))
 }
 
-/// The number that stands before the first space of a line, and what stands after that.
+/// The number that stands before the first space of a line, and what stands behind that.
 fn number_before_space(line: &[u8]) -> Option<(u16, &[u8])>
     ensures { first_number (words line.now) ≡ option_map (λ p. (p.0, words p.1.now)) result }
 {
@@ -140,7 +140,7 @@ fn number_before_space(line: &[u8]) -> Option<(u16, &[u8])>
     Some((number(word)?, behind))
 }
 
-/// The first word of a line and what stands after the space after it, where there is a space.
+/// The first word of a line and what stands behind the space after it, where there is a space.
 fn split_at_space(line: &[u8]) -> Option<(&[u8], &[u8])>
     ensures { MatchOption result (words line.now ≡ line.now ∷ []) (λ p. words line.now ≡ p.0.now ∷ words p.1.now) }
 {

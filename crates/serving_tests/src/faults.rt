@@ -104,7 +104,7 @@ impl Play {
         Ok(play)
     }
 
-    /// Whether this may be found if this many lines were written.
+    /// Whether this may be found where so many lines were written.
     fn allows(&self, answered: usize, found: &Found) -> bool {
         let Found::Tells(told) = found else {
             return false;
@@ -185,15 +185,15 @@ fn has_said(notes: &Notes, way: Way) -> bool {
 struct Met {
     /// It ended before that.
     is_whole: bool,
-    /// Lines were written, and records are in the half after the named one.
+    /// Lines were written, and records are in the half behind the one that is named.
     is_chained: bool,
     /// How many lines were written.
     answered: usize,
-    /// The device after the crash.
+    /// The device behind the crash.
     left: MemDisk,
 }
 
-/// Whether half 1 is open to half 0 after it, and that has a record.
+/// Whether half 1 is open to half 0 behind it, and that has a record.
 fn is_chained(bytes: &[u8]) -> bool {
     bytes.get(2276) == Some(&1) && bytes.get(192) == Some(&1)
 }
@@ -221,7 +221,7 @@ struct Seen {
 /// Of how many calls of an opening one is stopped, with each of the devices that are opened another.
 const SPREAD: usize = 4;
 
-/// Stops the opening of a device of these bytes at some of its calls, from the first or a later one on, with a crash after that:
+/// Stops the opening of a device of these bytes at some of its calls, from the first or a later one on, with a crash behind that:
 /// the same is found again.
 fn reopen(
     alloc: Global,
@@ -284,7 +284,7 @@ impl Openings {
         Ok(place)
     }
 
-    /// Whether this may be found if this many lines were written.
+    /// Whether this may be found where so many lines were written.
     fn allows(
         &mut self,
         alloc: Global,
@@ -298,7 +298,7 @@ impl Openings {
     }
 }
 
-/// Lets a session meet a fault at each call of the device, and a crash after it: at each call one in so many of the kinds, and
+/// Lets a session meet a fault at each call of the device, and a crash behind it: at each call one in so many of the kinds, and
 /// of none, where the call fails alone. At some of them records are in both halves.
 fn survives<T: Threads + Wait + Sync>(
     rt: &T,

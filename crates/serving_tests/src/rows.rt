@@ -87,7 +87,7 @@ fn rows_are_answered(rt: HostRuntime) -> Result<(), Fail> {
     Ok(())
 }
 
-/// This line with `digits` digits after it, and its end.
+/// This line with so many digits behind it, and its end.
 fn long_line(alloc: Global, line: &[u8], digits: usize) -> Result<Vec<u8>, AllocError> {
     let mut long = line.to_vec(alloc)?;
     for _ in 0..digits {
@@ -97,7 +97,7 @@ fn long_line(alloc: Global, line: &[u8], digits: usize) -> Result<Vec<u8>, Alloc
     Ok(long)
 }
 
-/// What lines begin with, and how many digits are after: too much data, too long a label, and too long a line.
+/// What lines begin with, and how many digits are behind: too much data, too long a label, and too long a line.
 const LONG_LINES: [(&[u8], usize); 4] = [
     (b"write 0 0 0 0 ", 1026),
     (b"setlabel 0 0 ", 66),
