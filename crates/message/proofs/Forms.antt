@@ -1,5 +1,6 @@
 -- The forms of messages, a word at a time.
 use Rattle.std.proofs.Common.{◌≡◌, ℕ, List, [], ◌∷◌, Option, Some, None, refl, ap, sym, ◌∙◌}
+use Rattle.std.specs.Option.{option_map}
 use Rattle.message.specs.declared.Block.{Block}
 use Rattle.message.specs.declared.Msg.{Msg}
 use Rattle.message.specs.Lines.{words, number, block, label, bytes_in_word}
@@ -163,6 +164,10 @@ of_number-none make line h = let e = only-number line ∙ sym h in rw e refl
 
 only-label : (line : List ℕ) → only label (words line) ≡ label line
 only-label line = only-words label line (label_no_space line)
+
+-- what is left of a `write` whose digits are not yet read
+pub of_digits-told : (make : Block → Msg) (line : List ℕ) → of_digits make (words line) ≡ option_map make (block line)
+of_digits-told make line = rw (only-block line) (elim (block line) as (λ o. (o >>= (λ content. Some (make content))) ≡ option_map make o) [ None ↦ refl | Some content ↦ refl ])
 
 pub of_digits-read : (make : Block → Msg) (line bytes : List ℕ) → Some bytes ≡ bytes_in_word 512 line → of_digits make (words line) ≡ Some (make (record { 0 = bytes }))
 of_digits-read make line bytes h = let e = only-block line ∙ bytes_block line (record { 0 = bytes }) (sym h) in rw e refl

@@ -4,6 +4,7 @@
 mod carried;
 mod decoding;
 mod encoding;
+mod heads;
 mod kinds;
 mod lent_reader;
 mod parsing;
@@ -13,6 +14,7 @@ mod records;
 mod reply_buffer;
 
 pub use carried::know_message;
+pub use heads::{Head, head_of_line, read_block};
 pub use lent_reader::{LentReader, Loan};
 pub use parsing::parse_line;
 pub use printing::{no_message_line, write_reply};

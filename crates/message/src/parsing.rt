@@ -30,7 +30,7 @@ pub fn parse_line(line: &[u8]) -> Option<Msg>
 }
 
 /// The kind that a word names. No word that isn't text names one.
-fn kind_named(word: &[u8]) -> Option<Kind>
+pub(crate) fn kind_named(word: &[u8]) -> Option<Kind>
     ensures { result ≡ kind_named word.now }
 {
     kind_spelled(str::from_utf8(word).ok()?)
@@ -81,7 +81,7 @@ fn of_kind(kind: Kind, line: &[u8]) -> Option<Msg>
 }
 
 /// The numbers of an aggregate and a volume.
-fn volume_numbers(line: &[u8]) -> Option<(u16, u16)>
+pub(crate) fn volume_numbers(line: &[u8]) -> Option<(u16, u16)>
     ensures { (make : ℕ → ℕ → Msg) → of_volume make (words line.now) ≡ option_map (λ p. make p.0 p.1) result }
 {
     let (aggregate, behind) = number_before_space(line)?;
@@ -89,7 +89,7 @@ fn volume_numbers(line: &[u8]) -> Option<(u16, u16)>
 }
 
 /// The numbers of an aggregate, a volume and a file.
-fn file_numbers(line: &[u8]) -> Option<(u16, u16, u16)>
+pub(crate) fn file_numbers(line: &[u8]) -> Option<(u16, u16, u16)>
     ensures { (make : ℕ → ℕ → ℕ → Msg) → of_file make (words line.now) ≡ option_map (λ p. make p.0 p.1 p.2) result }
 {
     let (aggregate, behind) = number_before_space(line)?;
@@ -98,7 +98,7 @@ fn file_numbers(line: &[u8]) -> Option<(u16, u16, u16)>
 }
 
 /// The numbers of an aggregate, a volume, a file and a block.
-fn block_numbers(line: &[u8]) -> Option<(u16, u16, u16, u16)>
+pub(crate) fn block_numbers(line: &[u8]) -> Option<(u16, u16, u16, u16)>
     ensures { (make : ℕ → ℕ → ℕ → ℕ → Msg) → of_block make (words line.now) ≡ option_map (λ p. make p.0 p.1 p.2 p.3) result }
 {
     let (aggregate, behind) = number_before_space(line)?;
@@ -133,7 +133,7 @@ fn label_message(line: &[u8]) -> Option<Msg>
 }
 
 /// The number that stands before the first space of a line, and what stands behind that.
-fn number_before_space(line: &[u8]) -> Option<(u16, &[u8])>
+pub(crate) fn number_before_space(line: &[u8]) -> Option<(u16, &[u8])>
     ensures { first_number (words line.now) ≡ option_map (λ p. (p.0, words p.1.now)) result }
 {
     let (word, behind) = split_at_space(line)?;
@@ -141,7 +141,7 @@ fn number_before_space(line: &[u8]) -> Option<(u16, &[u8])>
 }
 
 /// The first word of a line and what stands behind the space after it, where there is a space.
-fn split_at_space(line: &[u8]) -> Option<(&[u8], &[u8])>
+pub(crate) fn split_at_space(line: &[u8]) -> Option<(&[u8], &[u8])>
     ensures { MatchOption result (words line.now ≡ line.now ∷ []) (λ p. words line.now ≡ p.0.now ∷ words p.1.now) }
 {
     let end = memchr(b' ', line)?;

@@ -1,0 +1,6 @@
+use Rattle.message.specs.declared.Msg.TheVariants.{Summary}
+use Rattle.message.proofs.Forms.{nothing_behind}
+use Rattle.message.proofs.heads.head_of_kind.Goals as goal
+
+pub returns-in-Summary : goal.returns-in-Summary
+returns-in-Summary c = rw c.in-Summary.is (nothing_behind Summary c.args.line.now)

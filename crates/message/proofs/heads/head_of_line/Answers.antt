@@ -1,0 +1,28 @@
+use Rattle.std.proofs.Common.{[], sym, subst}
+use Rattle.message.specs.Lines.{words}
+use Rattle.message.specs.Heads.{IsHead}
+use Rattle.message.proofs.Keywords.{too_long, with_kind, without_kind}
+use Rattle.message.proofs.heads.head_of_line.Goals as goal
+
+pub returns-then-line-gt-LONGEST_LINE : goal.returns-then-line-gt-LONGEST_LINE
+returns-then-line-gt-LONGEST_LINE c = sym (too_long c.args.line.now c.if-line-gt-LONGEST_LINE.true)
+
+pub returns-in-Some-kind_named : goal.returns-in-Some-kind_named
+returns-in-Some-kind_named c =
+    let s = c.in-Some in
+    let k = c.in-Some-kind_named in
+    subst (IsHead c.head_of_kind.result) (sym (with_kind c.args.line.now s.word.now (words s.arguments.now) k.kind c.if-line-gt-LONGEST_LINE.false s.ensures k.ensures)) c.head_of_kind.ensures
+
+pub returns-in-None-kind_named : goal.returns-in-None-kind_named
+returns-in-None-kind_named c =
+    let s = c.in-Some in
+    without_kind c.args.line.now s.word.now (words s.arguments.now) c.if-line-gt-LONGEST_LINE.false s.ensures c.in-None-kind_named.ensures
+
+pub returns-in-Some-kind_named-2 : goal.returns-in-Some-kind_named-2
+returns-in-Some-kind_named-2 c =
+    let k = c.in-Some-kind_named-2 in
+    subst (IsHead c.head_of_word.result) (sym (with_kind c.args.line.now c.args.line.now [] k.kind c.if-line-gt-LONGEST_LINE.false c.in-None.ensures k.ensures)) c.head_of_word.ensures
+
+pub returns-in-None-kind_named-2 : goal.returns-in-None-kind_named-2
+returns-in-None-kind_named-2 c =
+    without_kind c.args.line.now c.args.line.now [] c.if-line-gt-LONGEST_LINE.false c.in-None.ensures c.in-None-kind_named-2.ensures

@@ -1,0 +1,40 @@
+-- The head of a message: its kind and its numbers, without its data.
+use Rattle.std.specs.Prelude.{◌≡◌, ℕ, Bool, true, false, List, [], slice_index, Option, Some, None, option_map}
+use Rattle.affinity.specs.declared.kinds.Kind.{Kind}
+use Rattle.affinity.specs.declared.kinds.Kind.TheVariants as kinds
+use Rattle.message.specs.declared.Block.{Block}
+use Rattle.message.specs.declared.Msg.{Msg}
+use Rattle.message.specs.declared.Msg.TheVariants.{Write}
+use Rattle.message.specs.Lines.{block}
+use Rattle.message.specs.declared.heads.Head.{Head}
+use Rattle.message.specs.declared.heads.Head.TheVariants.{NoMessage, Asks, Writes, SetsLabel}
+use Rattle.message.specs.Messages.{kind, four_numbers}
+use Rattle.message.specs.Records.{assembled}
+
+-- whether messages of a kind have data: a block or a label
+abbrev pub has_data : Kind → Bool
+has_data kinds.Write = true
+has_data kinds.SetLabel = true
+has_data _ = false
+
+-- the message of a kind and four numbers, where it has no data
+abbrev pub asking : Kind → List ℕ → Msg
+asking k ns = assembled k (slice_index ns 0) (slice_index ns 1) (slice_index ns 2) (slice_index ns 3) []
+
+-- the `write` of four numbers and a block
+abbrev pub writing : List ℕ → Block → Msg
+writing ns content = Write (slice_index ns 0) (slice_index ns 1) (slice_index ns 2) (slice_index ns 3) content
+
+-- The message is the one of this kind and these numbers, with 0 for each number that it doesn't have.
+pub record IsAsked (k : Kind) (ns : List ℕ) (m : Option Msg) : Type 0 where
+  pub said : m ≡ Some (asking k ns)
+  pub kind_is : kind (asking k ns) ≡ k
+  pub numbers_are : four_numbers (asking k ns) ≡ ns
+  pub without_data : has_data k ≡ false
+
+-- What a head tells of the message that a line spells. Of a `setlabel` it tells nothing.
+abbrev pub IsHead : Head → Option Msg → Type 0
+IsHead NoMessage m = m ≡ None
+IsHead (Asks k ns) m = IsAsked k ns m
+IsHead (Writes ns digits) m = m ≡ option_map (writing ns) (block digits.now)
+IsHead SetsLabel m = Unit {0}

@@ -1,0 +1,174 @@
+//! What a line says of a message, as far as that can be told without its data.
+
+ghost use Rattle.std.specs.Prelude.{◌≡◌, ℕ, [], ◌∷◌, slice_index, option_map, IfSome, MatchOption, Some, None};
+ghost use Rattle.message.specs.declared.Msg.{Msg};
+ghost use Rattle.message.specs.declared.Msg.TheVariants.{Write as write};
+ghost use Rattle.message.specs.Lines.{words, block, bytes_in_word};
+ghost use Rattle.message.specs.Grammar.{message_of, of_kind, of_volume, of_file, of_block, of_data};
+ghost use Rattle.message.specs.Messages.{filled};
+ghost use Rattle.message.specs.Heads.{IsHead, writing};
+ghost use Rattle.message.specs.declared.heads.Head.TheVariants.{NoMessage, Asks};
+
+use crate::decoding::decode_to_slice;
+use crate::parsing::{
+    block_numbers, file_numbers, kind_named, number_before_space, split_at_space, volume_numbers,
+};
+use crate::{Block, LONGEST_LINE};
+use affinity::Kind;
+
+/// What a line says, its data not looked at. It takes a few bytes, where a message has room for a
+/// block.
+#[derive(Clone, Copy)]
+pub enum Head<'a> {
+    /// The line is no message.
+    NoMessage,
+    /// The line is a message without data, of this kind and with these numbers. Each that it
+    /// doesn't have is 0.
+    Asks(Kind, [u16; 4]),
+    /// The line is a `write` with these numbers, if these bytes are the digits of a block.
+    Writes([u16; 4], &'a [u8]),
+    /// The line begins as a `setlabel`: `parse_line` tells whether it is one.
+    SetsLabel,
+}
+
+/// The head of the message that a line spells, the line given without its newline.
+pub fn head_of_line(line: &[u8]) -> Head<'_>
+    ensures { IsHead result (message_of line.now) }
+{
+    if line.len() > LONGEST_LINE {
+        return Head::NoMessage;
+    }
+    match split_at_space(line) {
+        Some((word, arguments)) => match kind_named(word) {
+            Some(kind) => head_of_kind(kind, arguments),
+            None => Head::NoMessage,
+        },
+        None => match kind_named(line) {
+            Some(kind) => head_of_word(kind),
+            None => Head::NoMessage,
+        },
+    }
+}
+
+/// The head of the message of a kind, where nothing stands behind its keyword.
+fn head_of_word(kind: Kind) -> Head<'static>
+    ensures { IsHead result (of_kind kind []) }
+{
+    match kind {
+        Kind::Summary => Head::Asks(Kind::Summary, [0, 0, 0, 0]),
+        _ => Head::NoMessage,
+    }
+}
+
+/// The head of the message of a kind and what stands behind the space after its keyword.
+fn head_of_kind(kind: Kind, line: &[u8]) -> Head<'_>
+    ensures { IsHead result (of_kind kind (words line.now)) }
+{
+    match kind {
+        Kind::MakeVol => asked(Kind::MakeVol, volume_asked(line)),
+        Kind::DropVol => asked(Kind::DropVol, volume_asked(line)),
+        Kind::Create => asked(Kind::Create, file_asked(line)),
+        Kind::Delete => asked(Kind::Delete, file_asked(line)),
+        Kind::Seal => asked(Kind::Seal, volume_asked(line)),
+        Kind::Unseal => asked(Kind::Unseal, volume_asked(line)),
+        Kind::Write => write_asked(line),
+        Kind::Punch => asked(Kind::Punch, block_asked(line)),
+        Kind::Read => asked(Kind::Read, block_asked(line)),
+        Kind::List => asked(Kind::List, volume_asked(line)),
+        Kind::Usage => asked(Kind::Usage, volume_asked(line)),
+        Kind::Summary => Head::NoMessage,
+        Kind::SetLabel => Head::SetsLabel,
+        Kind::Label => asked(Kind::Label, volume_asked(line)),
+    }
+}
+
+/// The head with these numbers, where there are any.
+fn asked(kind: Kind, numbers: Option<[u16; 4]>) -> Head<'static>
+    ensures { MatchOption numbers (result ≡ NoMessage) (λ ns. result ≡ Asks kind ns) }
+{
+    match numbers {
+        Some(numbers) => Head::Asks(kind, numbers),
+        None => Head::NoMessage,
+    }
+}
+
+/// The numbers of an aggregate and a volume, and zeros.
+fn volume_asked(line: &[u8]) -> Option<[u16; 4]>
+    ensures value { (make : ℕ → ℕ → Msg) → of_volume make (words line.now)
+        ≡ option_map (λ ns. make (slice_index ns 0) (slice_index ns 1)) result }
+    ensures zeros { IfSome result (λ ns. filled (slice_index ns 0 ∷ slice_index ns 1 ∷ []) ≡ ns) }
+{
+    let (aggregate, volume) = volume_numbers(line)?;
+    Some([aggregate, volume, 0, 0])
+}
+
+/// The numbers of an aggregate, a volume and a file, and a zero.
+fn file_asked(line: &[u8]) -> Option<[u16; 4]>
+    ensures value { (make : ℕ → ℕ → ℕ → Msg) → of_file make (words line.now)
+        ≡ option_map (λ ns. make (slice_index ns 0) (slice_index ns 1) (slice_index ns 2)) result }
+    ensures zeros { IfSome result (λ ns.
+        filled (slice_index ns 0 ∷ slice_index ns 1 ∷ slice_index ns 2 ∷ []) ≡ ns) }
+{
+    let (aggregate, volume, file) = file_numbers(line)?;
+    Some([aggregate, volume, file, 0])
+}
+
+/// The numbers of an aggregate, a volume, a file and a block.
+fn block_asked(line: &[u8]) -> Option<[u16; 4]>
+    ensures value { (make : ℕ → ℕ → ℕ → ℕ → Msg) → of_block make (words line.now)
+        ≡ option_map (λ ns. make (slice_index ns 0) (slice_index ns 1) (slice_index ns 2)
+        (slice_index ns 3)) result }
+    ensures whole { IfSome result (λ ns. filled (slice_index ns 0 ∷ slice_index ns 1
+        ∷ slice_index ns 2 ∷ slice_index ns 3 ∷ []) ≡ ns) }
+{
+    let (aggregate, volume, file, block) = block_numbers(line)?;
+    Some([aggregate, volume, file, block])
+}
+
+/// The head of a `write`.
+fn write_asked(line: &[u8]) -> Head<'_>
+    ensures { IsHead result (of_data write (words line.now)) }
+{
+    match write_parts(line) {
+        Some(parts) => {
+            let numbers = parts.0;
+            Head::Writes(numbers, parts.1)
+        }
+        None => Head::NoMessage,
+    }
+}
+
+/// The numbers of a `write`, and what stands where its digits are to be.
+fn write_parts(line: &[u8]) -> Option<([u16; 4], &[u8])>
+    ensures { MatchOption result (of_data write (words line.now) ≡ None)
+        (λ p. of_data write (words line.now) ≡ option_map (writing p.0) (block p.1.now)) }
+{
+    let (aggregate, behind) = number_before_space(line)?;
+    let (volume, behind) = number_before_space(behind)?;
+    let (file, behind) = number_before_space(behind)?;
+    let (block, behind) = number_before_space(behind)?;
+    Some(([aggregate, volume, file, block], behind))
+}
+
+/// Puts the bytes that some digits say where there is room for a block, and zeros behind them.
+fn read_bytes(digits: &[u8], out: &mut [u8; 512]) -> Option<()>
+    ensures { MatchOption result (bytes_in_word 512 digits.now ≡ None)
+        (λ _. bytes_in_word 512 digits.now ≡ Some out.new) }
+{
+    let size = digits.len() / 2;
+    if size == 0 || size > 512 {
+        return None;
+    }
+    *out = [0; 512];
+    decode_to_slice(digits, &mut out[..size])?;
+    Some(())
+}
+
+/// Puts the block that some digits say where there is room for one: no other bytes are moved. Where
+/// they say none, it is open what lies there then.
+pub fn read_block(digits: &[u8], content: &mut Block) -> Option<()>
+    ensures { MatchOption result (block digits.now ≡ None)
+        (λ _. block digits.now ≡ Some content.new) }
+{
+    read_bytes(digits, &mut content.0)
+}
