@@ -4,8 +4,8 @@ ghost use Rattle.message.specs.Messages.{AreBytes, IsBlock, IsMessage};
 
 use crate::{Block, Msg};
 
-/// A block has 512 bytes.
-fn know_block(content: &Block)
+/// Does nothing: it tells a proof that a block has 512 bytes.
+pub fn know_block(content: &Block)
     ensures { IsBlock content.now }
 {
     let bytes = content.0.as_slice();

@@ -13,7 +13,7 @@ mod reading;
 mod records;
 mod reply_buffer;
 
-pub use carried::know_message;
+pub use carried::{know_block, know_message};
 pub use heads::{Head, head_of_line, read_block};
 pub use lent_reader::{LentReader, Loan};
 pub use parsing::parse_line;

@@ -5,11 +5,11 @@ ghost use Rattle.std.specs.Io.KnownBytes.{Appends};
 ghost use Rattle.message.specs.Reader.{HoldsLine};
 ghost use Rattle.message.specs.Replies.{no_message, reply_line};
 ghost use Rattle.message.specs.Waiting.{so_far};
-ghost use Rattle.message.specs.declared.Reply.TheVariants.{Block as block_reply};
+ghost use Rattle.message.specs.declared.Reply.TheVariants.{Done, Refused, Block as block_reply};
 
 use crate::printing::write_block;
 use crate::reading::LineReader;
-use crate::{Block, LONGEST_REPLY, Reply, no_message_line, write_reply};
+use crate::{Block, LONGEST_REPLY, Refusal, Reply, no_message_line, write_reply};
 use std::alloc::{AllocError, Global};
 use std::io::{Read, Write};
 use std::marker::Model;
@@ -31,6 +31,21 @@ fn put_line(line: &[u8], bytes: &mut Vec<u8>, at: usize) -> usize
     let end = at + line.len();
     bytes.as_mut_slice()[at..end].copy_from_slice(line);
     end
+}
+
+/// The line of a refusal, its newline included.
+fn refusal_line(why: Refusal) -> &'static [u8]
+    ensures line { result.now ≡ reply_line (Refused why) }
+    ensures bound { length result.now ≤ LONGEST_REPLY }
+{
+    match why {
+        Refusal::Range => b"error range\n",
+        Refusal::Volume => b"error volume\n",
+        Refusal::Exists => b"error exists\n",
+        Refusal::Sealed => b"error sealed\n",
+        Refusal::File => b"error file\n",
+        Refusal::Space => b"error space\n",
+    }
 }
 
 /// Writes the line of a reply to the front of `room`, and gives its length.
@@ -233,6 +248,50 @@ impl ReplyBuffer {
         self.make_room(w)?;
         self.len = put_block(content, &mut self.bytes, self.len);
         Ok(())
+    }
+
+    /// Adds a line that is not longer than the longest reply.
+    fn add_line<W: Write>(&mut self, line: &[u8], w: &mut W) -> Result<(), WriteFault>
+        requires { length line.now ≤ LONGEST_REPLY }
+        ensures added { OnOk result (Appends (so_far (W.contents w.old) self.old)
+            (so_far (W.contents w.new) self.new) line.now) }
+        ensures idle { length self.old + LONGEST_REPLY ≤ REPLY_BUFFER_SIZE →
+            IsOk result × (w.new ≡ w.old) }
+        ensures unchanged { OnErr result (self.new ≡ self.old) }
+    {
+        self.make_room(w)?;
+        self.len = put_line(line, &mut self.bytes, self.len);
+        Ok(())
+    }
+
+    /// The same with the reply that a message was carried out: no reply is made for it.
+    ///
+    /// # Errors
+    ///
+    /// Those of `send`. The reply is not added then.
+    pub fn add_done<W: Write>(&mut self, w: &mut W) -> Result<(), WriteFault>
+        ensures added { OnOk result (Appends (so_far (W.contents w.old) self.old)
+            (so_far (W.contents w.new) self.new) (reply_line Done)) }
+        ensures idle { length self.old + LONGEST_REPLY ≤ REPLY_BUFFER_SIZE →
+            IsOk result × (w.new ≡ w.old) }
+        ensures unchanged { OnErr result (self.new ≡ self.old) }
+    {
+        self.add_line(b"done\n", w)
+    }
+
+    /// The same with a refusal.
+    ///
+    /// # Errors
+    ///
+    /// Those of `send`. The reply is not added then.
+    pub fn add_refusal<W: Write>(&mut self, why: Refusal, w: &mut W) -> Result<(), WriteFault>
+        ensures added { OnOk result (Appends (so_far (W.contents w.old) self.old)
+            (so_far (W.contents w.new) self.new) (reply_line (Refused why))) }
+        ensures idle { length self.old + LONGEST_REPLY ≤ REPLY_BUFFER_SIZE →
+            IsOk result × (w.new ≡ w.old) }
+        ensures unchanged { OnErr result (self.new ≡ self.old) }
+    {
+        self.add_line(refusal_line(why), w)
     }
 
     /// The same with the line that answers a line that is no message.
