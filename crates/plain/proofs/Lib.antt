@@ -16,6 +16,7 @@ pub mod ByTicket
 pub mod Unchanged
 pub mod Examples
 pub mod Keys
+pub mod ByKind
 pub mod ServerCounts
 pub mod Writes
 pub mod Lengths

@@ -4,6 +4,7 @@ pub mod Shares
 pub mod Order
 pub mod Laws
 pub mod Server
+pub mod ByKind
 pub mod Removals
 pub mod Output
 pub mod Progress

@@ -1,10 +1,14 @@
 //! A session of the serial server: line after line is answered.
 
-ghost use Rattle.std.specs.Prelude.{◌≡◌, ◌≤◌, ℕ, List, Option, false, IfOk, OnOk, IsErrOf, IsFalse, MatchBool, vec_len};
+ghost use Rattle.std.specs.Prelude.{◌≡◌, ◌≤◌, ℕ, List, Option, Some, true, false, option_map, IfOk, OnOk, IsErrOf, IsFalse, MatchBool, vec_len};
 ghost use Rattle.std.specs.Io.KnownBytes.{Appends, IsAtEnd};
 ghost use Rattle.message.specs.Grammar.{message_of};
 ghost use Rattle.message.specs.Reader.{unread, is_drained, source, KnowsEnd};
 ghost use Rattle.message.specs.Waiting.{so_far};
+ghost use Rattle.message.specs.Lines.{block};
+ghost use Rattle.message.specs.Heads.{IsAsked, asking, writing};
+ghost use Rattle.affinity.specs.Kind.{is_changing};
+ghost use Rattle.plain.specs.ByKind.{reply_when};
 ghost use Rattle.plain.specs.State.{State, empty};
 ghost use Rattle.plain.specs.Server.{server_state, IsConsistent};
 ghost use Rattle.message.specs.Replies.{reply_line};
@@ -14,8 +18,11 @@ ghost use Rattle.plain.specs.Output.{serial_out, answer_line, state_after_line, 
 
 use crate::PlainFault;
 use crate::server::Server;
-use affinity::Geometry;
-use message::{Found, LentReader, LineReader, Loan, Msg, ReplyBuffer, parse_line};
+use affinity::{Geometry, Kind, changing};
+use message::{
+    Block, Found, Head, LentReader, LineReader, Loan, Msg, Refusal, ReplyBuffer, WriteFault,
+    head_of_line, parse_line, read_block,
+};
 use std::alloc::Global;
 use std::io::{Read, Write};
 use std::marker::PhantomData;
@@ -52,8 +59,116 @@ fn answer_message<W: Write>(
     }
 }
 
-/// Answers one line.
-fn answer_line<W: Write>(
+/// Answers a message that changes something and has no data.
+fn answer_change<W: Write>(
+    g: &Geometry,
+    kind: Kind,
+    numbers: [u16; 4],
+    server: &mut Server,
+    out: &mut ReplyBuffer,
+    w: &mut W,
+) -> Result<(), PlainFault>
+    requires asked { IsAsked kind numbers (Some (asking kind numbers)) }
+    requires changes { is_changing kind ≡ true }
+    requires sound { IsConsistent g.now server.old }
+    ensures sound { IsConsistent g.now server.new }
+    ensures state { OnOk result (server_state server.new
+        ≡ next_state g.now (server_state server.old) (asking kind numbers)) }
+    ensures added { OnOk result (Appends (so_far (W.contents w.old) out.old)
+        (so_far (W.contents w.new) out.new)
+        (reply_line (reply_to g.now (server_state server.old) (asking kind numbers)))) }
+    ensures out_of_memory { IsErrOf result PlainFault.OutOfMemory →
+        (out.new ≡ out.old) × (w.new ≡ w.old) }
+    ensures no_read { IsErrOf result PlainFault.Read → ⊥ }
+{
+    match server.carry_out(g, kind, numbers) {
+        Ok(why) => {
+            add_outcome(why, out, w)?;
+            Ok(())
+        }
+        Err(_) => Err(PlainFault::OutOfMemory),
+    }
+}
+
+/// Adds what a message is told that changes something.
+fn add_outcome<W: Write>(
+    why: Option<Refusal>,
+    out: &mut ReplyBuffer,
+    w: &mut W,
+) -> Result<(), WriteFault>
+    ensures added { OnOk result (Appends (so_far (W.contents w.old) out.old)
+        (so_far (W.contents w.new) out.new) (reply_line (reply_when why))) }
+{
+    match why {
+        Some(why) => out.add_refusal(why, w),
+        None => out.add_done(w),
+    }
+}
+
+/// Answers a message that changes nothing.
+fn answer_question<W: Write>(
+    g: &Geometry,
+    kind: Kind,
+    numbers: [u16; 4],
+    server: &Server,
+    out: &mut ReplyBuffer,
+    w: &mut W,
+) -> Result<(), WriteFault>
+    requires asked { IsAsked kind numbers (Some (asking kind numbers)) }
+    requires asks { is_changing kind ≡ false }
+    requires sound { IsConsistent g.now server.now }
+    ensures state { server_state server.now
+        ≡ next_state g.now (server_state server.now) (asking kind numbers) }
+    ensures added { OnOk result (Appends (so_far (W.contents w.old) out.old)
+        (so_far (W.contents w.new) out.new)
+        (reply_line (reply_to g.now (server_state server.now) (asking kind numbers)))) }
+{
+    if let Some(content) = server.block_by(g, kind, numbers) {
+        return out.add_block(content, w);
+    }
+    match server.refusal_by(g, kind, numbers) {
+        Some(why) => out.add_refusal(why, w),
+        None => out.add_reply(&server.reply_by(g, kind, numbers), w),
+    }
+}
+
+/// Answers a `write` with these numbers, of which these may be the digits.
+fn answer_write<W: Write>(
+    g: &Geometry,
+    numbers: [u16; 4],
+    digits: &[u8],
+    server: &mut Server,
+    out: &mut ReplyBuffer,
+    w: &mut W,
+) -> Result<(), PlainFault>
+    requires { IsConsistent g.now server.old }
+    ensures sound { IsConsistent g.now server.new }
+    ensures state { OnOk result (server_state server.new ≡ state_after_line g.now
+        (server_state server.old) (option_map (writing numbers) (block digits.now))) }
+    ensures added { OnOk result (Appends (so_far (W.contents w.old) out.old)
+        (so_far (W.contents w.new) out.new) (answer_line g.now (server_state server.old)
+        (option_map (writing numbers) (block digits.now)))) }
+    ensures out_of_memory { IsErrOf result PlainFault.OutOfMemory →
+        (out.new ≡ out.old) × (w.new ≡ w.old) }
+    ensures no_read { IsErrOf result PlainFault.Read → ⊥ }
+{
+    let mut content = Block([0; 512]);
+    if read_block(digits, &mut content).is_none() {
+        out.add_no_message(w)?;
+        return Ok(());
+    }
+    match server.write(g, numbers, &content) {
+        Ok(why) => {
+            add_outcome(why, out, w)?;
+            Ok(())
+        }
+        Err(_) => Err(PlainFault::OutOfMemory),
+    }
+}
+
+/// Answers a line by the message that it spells, whatever that is.
+#[inline(never)]
+fn answer_spelled<W: Write>(
     g: &Geometry,
     line: &[u8],
     server: &mut Server,
@@ -77,6 +192,65 @@ fn answer_line<W: Write>(
             out.add_no_message(w)?;
             Ok(())
         }
+    }
+}
+
+/// Answers a message without data.
+fn answer_asked<W: Write>(
+    g: &Geometry,
+    kind: Kind,
+    numbers: [u16; 4],
+    server: &mut Server,
+    out: &mut ReplyBuffer,
+    w: &mut W,
+) -> Result<(), PlainFault>
+    requires asked { IsAsked kind numbers (Some (asking kind numbers)) }
+    requires sound { IsConsistent g.now server.old }
+    ensures sound { IsConsistent g.now server.new }
+    ensures state { OnOk result (server_state server.new
+        ≡ next_state g.now (server_state server.old) (asking kind numbers)) }
+    ensures added { OnOk result (Appends (so_far (W.contents w.old) out.old)
+        (so_far (W.contents w.new) out.new)
+        (reply_line (reply_to g.now (server_state server.old) (asking kind numbers)))) }
+    ensures out_of_memory { IsErrOf result PlainFault.OutOfMemory →
+        (out.new ≡ out.old) × (w.new ≡ w.old) }
+    ensures no_read { IsErrOf result PlainFault.Read → ⊥ }
+{
+    if changing(kind) {
+        answer_change(g, kind, numbers, server, out, w)
+    } else {
+        answer_question(g, kind, numbers, server, out, w)?;
+        Ok(())
+    }
+}
+
+/// Answers one line.
+fn answer_line<W: Write>(
+    g: &Geometry,
+    line: &[u8],
+    server: &mut Server,
+    out: &mut ReplyBuffer,
+    w: &mut W,
+) -> Result<(), PlainFault>
+    requires { IsConsistent g.now server.old }
+    ensures sound { IsConsistent g.now server.new }
+    ensures state { OnOk result (server_state server.new
+        ≡ state_after_line g.now (server_state server.old) (message_of line.now)) }
+    ensures added { OnOk result (Appends (so_far (W.contents w.old) out.old)
+        (so_far (W.contents w.new) out.new)
+        (answer_line g.now (server_state server.old) (message_of line.now))) }
+    ensures out_of_memory { IsErrOf result PlainFault.OutOfMemory →
+        (out.new ≡ out.old) × (w.new ≡ w.old) }
+    ensures no_read { IsErrOf result PlainFault.Read → ⊥ }
+{
+    match head_of_line(line) {
+        Head::NoMessage => {
+            out.add_no_message(w)?;
+            Ok(())
+        }
+        Head::Asks(kind, numbers) => answer_asked(g, kind, numbers, server, out, w),
+        Head::Writes(numbers, digits) => answer_write(g, numbers, digits, server, out, w),
+        Head::SetsLabel => answer_spelled(g, line, server, out, w),
     }
 }
 

@@ -1,13 +1,16 @@
 //! The state of a serial server, and what one message does to it.
 
-ghost use Rattle.std.specs.Prelude.{◌≡◌, IfOk, OnOk, OnErr};
+ghost use Rattle.std.specs.Prelude.{◌≡◌, true, Some, IfOk, OnOk, OnErr};
+ghost use Rattle.affinity.specs.Kind.{is_changing};
+ghost use Rattle.message.specs.Heads.{IsAsked, asking, writing};
+ghost use Rattle.plain.specs.ByKind.{reply_when};
 ghost use Rattle.affinity.specs.declared.geometry.Geometry.{Geometry};
 ghost use Rattle.plain.specs.State.{empty};
 ghost use Rattle.plain.specs.Serial.{reply_to, next_state};
 ghost use Rattle.plain.specs.Server.{server_state, IsConsistent};
 
-use affinity::Geometry;
-use message::{Block, Msg, Reply, know_message};
+use affinity::{Geometry, Kind};
+use message::{Block, Msg, Refusal, Reply, know_block, know_message};
 use std::alloc::{AllocError, Global};
 use std::collections::{BTreeMap, BTreeSet};
 
@@ -73,5 +76,53 @@ impl Server {
         let reply = self.reply(g, m);
         self.apply(g, m)?;
         Ok(reply)
+    }
+
+    /// Carries out a message that changes something and has no data, by its kind and its numbers,
+    /// and tells why it is refused, if it is. Where there is no memory, nothing changes.
+    pub(crate) fn carry_out(
+        &mut self,
+        g: &Geometry,
+        kind: Kind,
+        numbers: [u16; 4],
+    ) -> Result<Option<Refusal>, AllocError>
+        requires asked { IsAsked kind numbers (Some (asking kind numbers)) }
+        requires changes { is_changing kind ≡ true }
+        requires sound { IsConsistent g.now self.old }
+        ensures reply { IfOk result (λ why. reply_to g.now (server_state self.old) (asking kind numbers) ≡ reply_when why) }
+        ensures state { OnOk result (server_state self.new ≡ next_state g.now (server_state self.old) (asking kind numbers)) }
+        ensures sound { IsConsistent g.now self.new }
+    {
+        match self.refusal_by(g, kind, numbers) {
+            Some(why) => Ok(Some(why)),
+            None => {
+                self.apply_by(g, kind, numbers)?;
+                Ok(None)
+            }
+        }
+    }
+
+    /// Writes a block, and tells why that is refused, if it is. Where there is no memory, nothing
+    /// changes.
+    pub(crate) fn write(
+        &mut self,
+        g: &Geometry,
+        numbers: [u16; 4],
+        content: &Block,
+    ) -> Result<Option<Refusal>, AllocError>
+        requires sound { IsConsistent g.now self.old }
+        ensures reply { IfOk result (λ why. reply_to g.now (server_state self.old) (writing numbers content.now) ≡ reply_when why) }
+        ensures state { OnOk result (server_state self.new ≡ next_state g.now (server_state self.old) (writing numbers content.now)) }
+        ensures sound { IsConsistent g.now self.new }
+    {
+        let [a, v, f, b] = numbers;
+        match self.refusal_by(g, Kind::Write, [a, v, f, b]) {
+            Some(why) => Ok(Some(why)),
+            None => {
+                know_block(content);
+                self.put_block(g, a, v, f, b, content)?;
+                Ok(None)
+            }
+        }
     }
 }

@@ -2,7 +2,9 @@
 
 ghost use Rattle.std.specs.Prelude.{◌≡◌};
 ghost use Rattle.plain.specs.Serial.{tests};
+ghost use Rattle.plain.specs.ByKind.{tests_by};
 
+use affinity::Kind;
 use message::Refusal::{Exists, File, Range, Sealed, Space, Volume};
 use message::{Msg, Refusal};
 
@@ -11,16 +13,21 @@ use message::{Msg, Refusal};
 pub fn tests_of(m: &Msg) -> &'static [Refusal]
     ensures { result.now ≡ tests m.now }
 {
-    match m {
-        Msg::Summary => &[],
-        Msg::MakeVol(..) => &[Range, Exists],
-        Msg::DropVol(..) | Msg::SetLabel(..) => &[Range, Volume, Sealed],
-        Msg::Create(..) => &[Range, Volume, Sealed, Exists],
-        Msg::Delete(..) | Msg::Punch(..) => &[Range, Volume, Sealed, File],
-        Msg::Write(..) => &[Range, Volume, Sealed, File, Space],
-        Msg::Read(..) => &[Range, Volume, File],
-        Msg::Seal(..) | Msg::Unseal(..) | Msg::List(..) | Msg::Usage(..) | Msg::Label(..) => {
-            &[Range, Volume]
-        }
+    tests_by(m.kind())
+}
+
+/// The tests of the messages of a kind, in order.
+pub(crate) fn tests_by(kind: Kind) -> &'static [Refusal]
+    ensures { result.now ≡ tests_by kind }
+{
+    match kind {
+        Kind::Summary => &[],
+        Kind::MakeVol => &[Range, Exists],
+        Kind::DropVol | Kind::SetLabel => &[Range, Volume, Sealed],
+        Kind::Create => &[Range, Volume, Sealed, Exists],
+        Kind::Delete | Kind::Punch => &[Range, Volume, Sealed, File],
+        Kind::Write => &[Range, Volume, Sealed, File, Space],
+        Kind::Read => &[Range, Volume, File],
+        Kind::Seal | Kind::Unseal | Kind::List | Kind::Usage | Kind::Label => &[Range, Volume],
     }
 }

@@ -3,11 +3,12 @@
 ghost use Rattle.std.specs.Prelude.{◌≡◌, OnOk, OnErr, None, false};
 ghost use Rattle.affinity.specs.declared.geometry.Geometry.{Geometry};
 ghost use Rattle.message.specs.declared.Msg.{Msg};
+ghost use Rattle.message.specs.Heads.{asking, has_data};
 ghost use Rattle.plain.specs.Serial.{refusal, effect};
 ghost use Rattle.plain.specs.Server.{server_state, IsCounted, IsConsistent};
 
 use super::Server;
-use affinity::Geometry;
+use affinity::{Geometry, Kind};
 use message::Msg;
 use std::alloc::AllocError;
 
@@ -86,6 +87,40 @@ impl Server {
             Msg::Punch(a, v, f, b) => self.remove_block(g, *a, *v, *f, *b),
             Msg::SetLabel(a, v, bytes) => self.set_label(*a, *v, bytes)?,
             Msg::Read(..) | Msg::List(..) | Msg::Usage(..) | Msg::Summary | Msg::Label(..) => {}
+        }
+        Ok(())
+    }
+
+    /// The same for a message without data, by its kind and its numbers.
+    pub(super) fn apply_by(
+        &mut self,
+        g: &Geometry,
+        kind: Kind,
+        numbers: [u16; 4],
+    ) -> Result<(), AllocError>
+        requires without_data { has_data kind ≡ false }
+        requires passed { refusal g.now (server_state self.old) (asking kind numbers) ≡ None }
+        requires sound { IsConsistent g.now self.old }
+        ensures state { OnOk result (server_state self.new ≡ effect (server_state self.old) (asking kind numbers)) }
+        ensures unchanged { OnErr result (server_state self.new ≡ server_state self.old) }
+        ensures counted { IsCounted g.now self.new }
+    {
+        let [a, v, f, b] = numbers;
+        match kind {
+            Kind::MakeVol => self.insert_volume(a, v)?,
+            Kind::DropVol => self.remove_volume(g, a, v),
+            Kind::Create => self.insert_file(a, v, f)?,
+            Kind::Delete => self.remove_file(g, a, v, f),
+            Kind::Seal => self.seal_volume(a, v)?,
+            Kind::Unseal => self.unseal_volume(a, v),
+            Kind::Punch => self.remove_block(g, a, v, f, b),
+            Kind::Write => unreachable!(),
+            Kind::SetLabel => unreachable!(),
+            Kind::Read => {}
+            Kind::List => {}
+            Kind::Usage => {}
+            Kind::Summary => {}
+            Kind::Label => {}
         }
         Ok(())
     }

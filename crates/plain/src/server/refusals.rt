@@ -2,31 +2,25 @@
 
 ghost use Rattle.std.specs.Prelude.{◌≡◌, ◌||◌, is_some, nat_lt};
 ghost use Rattle.affinity.specs.Geometry.{group};
-ghost use Rattle.message.specs.Messages.{is_in_range};
 ghost use Rattle.plain.specs.State.{group_count};
-ghost use Rattle.plain.specs.Serial.{exists, passes, refusal};
+ghost use Rattle.plain.specs.Serial.{refusal};
+ghost use Rattle.plain.specs.ByKind.{exists_by, passes_by, refusal_by};
 ghost use Rattle.plain.specs.Server.{server_state, IsCounted};
 
 use super::Server;
-use crate::tests_of;
-use affinity::{Geometry, group_of, place_of};
+use crate::table::tests_by;
+use affinity::{Geometry, Kind, group_of, place_of};
 use message::{Msg, Refusal};
-
-/// Whether each number of the message is below its limit.
-fn is_in_range(g: &Geometry, m: &Msg) -> bool
-    ensures { result ≡ is_in_range g.now m.now }
-{
-    place_of(g, m.kind(), m.numbers()).is_some()
-}
 
 impl Server {
     /// Whether what the message makes is there already.
-    fn exists(&self, m: &Msg) -> bool
-        ensures { result ≡ exists (server_state self.now) m.now }
+    fn exists(&self, kind: Kind, numbers: [u16; 4]) -> bool
+        ensures { result ≡ exists_by (server_state self.now) kind numbers }
     {
-        match m {
-            Msg::MakeVol(a, v) => self.has_volume(*a, *v),
-            Msg::Create(a, v, f) => self.has_file(*a, *v, *f),
+        let [a, v, f, _] = numbers;
+        match kind {
+            Kind::MakeVol => self.has_volume(a, v),
+            Kind::Create => self.has_file(a, v, f),
             _ => false,
         }
     }
@@ -40,20 +34,29 @@ impl Server {
         self.has_block(a, v, f, b) || self.blocks_in(a, v, group_of(g, f, b)) < g.quota
     }
 
-    /// Whether the message passes a test.
-    fn passes(&self, g: &Geometry, m: &Msg, test: Refusal) -> bool
+    /// Whether a message of a kind, with these numbers, passes a test.
+    fn passes(&self, g: &Geometry, kind: Kind, numbers: [u16; 4], test: Refusal) -> bool
         requires counted { IsCounted g.now self.now }
-        ensures { result ≡ passes g.now (server_state self.now) m.now test }
+        ensures { result ≡ passes_by g.now (server_state self.now) kind numbers test }
     {
-        let [a, v, f, b] = m.numbers();
+        let [a, v, f, b] = numbers;
         match test {
-            Refusal::Range => is_in_range(g, m),
+            Refusal::Range => place_of(g, kind, numbers).is_some(),
             Refusal::Volume => self.has_volume(a, v),
-            Refusal::Exists => !self.exists(m),
+            Refusal::Exists => !self.exists(kind, numbers),
             Refusal::Sealed => !self.is_sealed(a, v),
             Refusal::File => self.has_file(a, v, f),
             Refusal::Space => self.has_room(g, a, v, f, b),
         }
+    }
+
+    /// The first test that a message of a kind, with these numbers, fails.
+    pub(crate) fn refusal_by(&self, g: &Geometry, kind: Kind, numbers: [u16; 4]) -> Option<Refusal>
+        requires counted { IsCounted g.now self.now }
+        ensures { result ≡ refusal_by g.now (server_state self.now) kind numbers }
+    {
+        let mut tests = tests_by(kind).iter().copied();
+        tests.find(|test| !self.passes(g, kind, numbers, *test))
     }
 
     /// The first test that a message fails.
@@ -61,7 +64,6 @@ impl Server {
         requires counted { IsCounted g.now self.now }
         ensures { result ≡ refusal g.now (server_state self.now) m.now }
     {
-        let mut tests = tests_of(m).iter().copied();
-        tests.find(|test| !self.passes(g, m, *test))
+        self.refusal_by(g, m.kind(), m.numbers())
     }
 }

@@ -1,14 +1,16 @@
 //! The reply to a message that passes its tests.
 
-ghost use Rattle.std.specs.Prelude.{◌≡◌, None, IfSome};
+ghost use Rattle.std.specs.Prelude.{◌≡◌, None, false, IfSome};
 ghost use Rattle.affinity.specs.declared.geometry.Geometry.{Geometry};
 ghost use Rattle.message.specs.declared.Msg.{Msg};
 ghost use Rattle.message.specs.declared.Reply.TheVariants.{Block as shows};
+ghost use Rattle.affinity.specs.Kind.{is_changing};
+ghost use Rattle.message.specs.Heads.{asking};
 ghost use Rattle.plain.specs.Serial.{refusal, accepted_reply, step};
 ghost use Rattle.plain.specs.Server.{server_state, IsConsistent};
 
 use super::Server;
-use affinity::Geometry;
+use affinity::{Geometry, Kind};
 use message::{Block, Msg, Reply};
 
 impl Server {
@@ -69,6 +71,37 @@ impl Server {
             | Msg::Write(..)
             | Msg::Punch(..)
             | Msg::SetLabel(..) => Reply::Done,
+        }
+    }
+
+    /// The same for a message that changes nothing, by its kind and its numbers.
+    pub(crate) fn reply_by(&self, g: &Geometry, kind: Kind, numbers: [u16; 4]) -> Reply
+        requires asks { is_changing kind ≡ false }
+        requires sound { IsConsistent g.now self.now }
+        ensures { result ≡ accepted_reply g.now (server_state self.now) (asking kind numbers) }
+    {
+        let [a, v, f, b] = numbers;
+        match kind {
+            Kind::Read => self.read_block(a, v, f, b),
+            Kind::List => self.list_files(g, a, v),
+            Kind::Usage => self.usage_of(g, a, v),
+            Kind::Summary => self.summary_of(g),
+            Kind::Label => self.label_of(a, v),
+            _ => unreachable!(),
+        }
+    }
+
+    /// The block that answers a `read`, where it lies: a block that is there has a file and a
+    /// volume, so that one look finds it.
+    pub(crate) fn block_by(&self, g: &Geometry, kind: Kind, numbers: [u16; 4]) -> Option<&Block>
+        requires sound { IsConsistent g.now self.now }
+        ensures { IfSome result (λ content.
+            step g.now (server_state self.now) (asking kind numbers) ≡ (shows content.now, server_state self.now)) }
+    {
+        let [a, v, f, b] = numbers;
+        match kind {
+            Kind::Read => self.blocks.get(&(a, v, f, b)),
+            _ => None,
         }
     }
 }

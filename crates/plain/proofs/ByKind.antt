@@ -1,0 +1,129 @@
+-- What the tests, the effect and the reply of a message are by its kind and its numbers.
+use Rattle.std.proofs.Common.{◌≡◌, ℕ, true, false, Bool, List, [], ◌∷◌, None, Some, Option, refl, ap, sym, ◌∙◌, subst}
+use Rattle.std.specs.Prelude.{not, find, is_some}
+use Rattle.std.specs.List.{AllByRecursion}
+use Rattle.std.proofs.lemmas.Bool.{and_from, lt-ltb}
+use Rattle.affinity.specs.declared.geometry.Geometry.{Geometry}
+use Rattle.affinity.specs.declared.kinds.Kind.{Kind}
+use Rattle.affinity.specs.declared.kinds.Kind.TheVariants as kinds
+use Rattle.affinity.specs.Kind.{is_changing}
+use Rattle.message.specs.declared.Msg.{Msg}
+use Rattle.message.specs.declared.Msg.TheVariants.{MakeVol, DropVol, Create, Delete, Seal, Unseal, Write, Punch, Read, List as ListFiles, Usage, Summary, SetLabel, Label}
+use Rattle.message.specs.declared.Block.{Block}
+use Rattle.message.specs.declared.Refusal.{Refusal}
+use Rattle.message.specs.declared.Refusal.TheVariants.{Range, Volume}
+use Rattle.message.specs.declared.Reply.TheVariants.{Done, Block as shows}
+use Rattle.message.specs.Messages.{kind, four_numbers, IsMessage}
+use Rattle.message.specs.Heads.{asking, has_data, IsAsked}
+use Rattle.plain.specs.State.{State, IsState}
+use Rattle.plain.specs.Serial.{tests, passes, refusal, effect, accepted_reply, block_reply, outcome, step}
+use Rattle.plain.specs.ByKind.{tests_by, refusal_by}
+
+pub tests_by_kind : (m : Msg) → tests_by (kind m) ≡ tests m
+tests_by_kind (MakeVol a v) = refl
+tests_by_kind (DropVol a v) = refl
+tests_by_kind (Create a v f) = refl
+tests_by_kind (Delete a v f) = refl
+tests_by_kind (Seal a v) = refl
+tests_by_kind (Unseal a v) = refl
+tests_by_kind (Write a v f b content) = refl
+tests_by_kind (Punch a v f b) = refl
+tests_by_kind (Read a v f b) = refl
+tests_by_kind (ListFiles a v) = refl
+tests_by_kind (Usage a v) = refl
+tests_by_kind Summary = refl
+tests_by_kind (SetLabel a v bytes) = refl
+tests_by_kind (Label a v) = refl
+
+pub refusal_by_kind : (g : Geometry) (x : State) (m : Msg) → refusal_by g x (kind m) (four_numbers m) ≡ refusal g x m
+refusal_by_kind g x (MakeVol a v) = refl
+refusal_by_kind g x (DropVol a v) = refl
+refusal_by_kind g x (Create a v f) = refl
+refusal_by_kind g x (Delete a v f) = refl
+refusal_by_kind g x (Seal a v) = refl
+refusal_by_kind g x (Unseal a v) = refl
+refusal_by_kind g x (Write a v f b content) = refl
+refusal_by_kind g x (Punch a v f b) = refl
+refusal_by_kind g x (Read a v f b) = refl
+refusal_by_kind g x (ListFiles a v) = refl
+refusal_by_kind g x (Usage a v) = refl
+refusal_by_kind g x Summary = refl
+refusal_by_kind g x (SetLabel a v bytes) = refl
+refusal_by_kind g x (Label a v) = refl
+
+-- a message without data has no bytes to be right
+pub asking_is_message : (k : Kind) (ns : List ℕ) → has_data k ≡ false → IsMessage (asking k ns)
+asking_is_message kinds.MakeVol ns h = tt
+asking_is_message kinds.DropVol ns h = tt
+asking_is_message kinds.Create ns h = tt
+asking_is_message kinds.Delete ns h = tt
+asking_is_message kinds.Seal ns h = tt
+asking_is_message kinds.Unseal ns h = tt
+asking_is_message kinds.Write ns h = cc h
+asking_is_message kinds.Punch ns h = tt
+asking_is_message kinds.Read ns h = tt
+asking_is_message kinds.List ns h = tt
+asking_is_message kinds.Usage ns h = tt
+asking_is_message kinds.Summary ns h = tt
+asking_is_message kinds.SetLabel ns h = cc h
+asking_is_message kinds.Label ns h = tt
+
+-- what changes something is told that it was done
+pub done_by : (g : Geometry) (x : State) (k : Kind) (ns : List ℕ) → is_changing k ≡ true → accepted_reply g x (asking k ns) ≡ Done
+done_by g x kinds.MakeVol ns h = refl
+done_by g x kinds.DropVol ns h = refl
+done_by g x kinds.Create ns h = refl
+done_by g x kinds.Delete ns h = refl
+done_by g x kinds.Seal ns h = refl
+done_by g x kinds.Unseal ns h = refl
+done_by g x kinds.Write ns h = refl
+done_by g x kinds.Punch ns h = refl
+done_by g x kinds.Read ns h = cc h
+done_by g x kinds.List ns h = cc h
+done_by g x kinds.Usage ns h = cc h
+done_by g x kinds.Summary ns h = cc h
+done_by g x kinds.SetLabel ns h = refl
+done_by g x kinds.Label ns h = cc h
+
+-- what changes nothing leaves the state
+pub unchanged_by : (x : State) (k : Kind) (ns : List ℕ) → is_changing k ≡ false → effect x (asking k ns) ≡ x
+unchanged_by x kinds.MakeVol ns h = cc h
+unchanged_by x kinds.DropVol ns h = cc h
+unchanged_by x kinds.Create ns h = cc h
+unchanged_by x kinds.Delete ns h = cc h
+unchanged_by x kinds.Seal ns h = cc h
+unchanged_by x kinds.Unseal ns h = cc h
+unchanged_by x kinds.Write ns h = cc h
+unchanged_by x kinds.Punch ns h = cc h
+unchanged_by x kinds.Read ns h = refl
+unchanged_by x kinds.List ns h = refl
+unchanged_by x kinds.Usage ns h = refl
+unchanged_by x kinds.Summary ns h = refl
+unchanged_by x kinds.SetLabel ns h = cc h
+unchanged_by x kinds.Label ns h = refl
+
+pub refusal_asked : (g : Geometry) (x : State) (k : Kind) (ns : List ℕ) → IsAsked k ns (Some (asking k ns)) → refusal_by g x k ns ≡ refusal g x (asking k ns)
+refusal_asked g x k ns h =
+    ap (λ j. refusal_by g x j ns) (sym h.kind_is)
+    ∙ ap (λ ms. refusal_by g x (kind (asking k ns)) ms) (sym h.numbers_are)
+    ∙ refusal_by_kind g x (asking k ns)
+
+-- no test fails where all are passed
+none_fails : (p : Refusal → Bool) (ts : List Refusal) → AllByRecursion (λ t. p t ≡ true) ts → find (λ t. not (p t)) ts ≡ None
+none_fails p [] h = refl
+none_fails p (t ∷ ts) h = rw h.0 (none_fails p ts h.1)
+
+-- a block that is there has a file and a volume, and its numbers are in range
+pub read_passes : (g : Geometry) (x : State) → IsState g x → (a v f b : ℕ) → is_some (x.blocks (a, v, f, b)) ≡ true → refusal g x (Read a v f b) ≡ None
+read_passes g x s a v f b there =
+    let block = s.blocks (a, v, f, b) there in
+    let file = s.files (a, v, f) block.1 in
+    let made = s.made (a, v) file.1 in
+    let range : passes g x (Read a v f b) Range ≡ true = and_from _ _ (lt-ltb a g.aggregates made.0) (and_from _ _ (lt-ltb v g.volumes made.1) (and_from _ _ (lt-ltb f g.files file.0) (and_from _ _ (lt-ltb b g.blocks block.0) refl))) in
+    none_fails (passes g x (Read a v f b)) (tests (Read a v f b)) (range, (file.1, (block.1, tt)))
+
+-- a block that is there answers a read
+pub read_told : (g : Geometry) (x : State) → IsState g x → (a v f b : ℕ) (content : Block) → x.blocks (a, v, f, b) ≡ Some content → step g x (Read a v f b) ≡ (shows content, x)
+read_told g x s a v f b content found =
+    ap (λ r. outcome r (block_reply (x.blocks (a, v, f, b))) x x) (read_passes g x s a v f b (ap is_some found))
+    ∙ ap (λ o. (block_reply o, x)) found

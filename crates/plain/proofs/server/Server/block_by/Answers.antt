@@ -1,0 +1,23 @@
+use Rattle.std.proofs.Common.{◌≡◌, ℕ, None, Some, Option, Bor, ap, sym, ◌∙◌, subst, slice_index}
+use Rattle.std.specs.Prelude.{IfSome}
+use Rattle.std.specs.Option.{option_copied}
+use Rattle.affinity.specs.declared.geometry.Geometry.{Geometry}
+use Rattle.affinity.specs.declared.kinds.Kind.{Kind}
+use Rattle.message.specs.declared.Block.{Block}
+use Rattle.message.specs.declared.Msg.TheVariants.{Read}
+use Rattle.message.specs.declared.Reply.TheVariants.{Block as shows}
+use Rattle.message.specs.Heads.{asking}
+use Rattle.plain.specs.State.{State, IsState}
+use Rattle.plain.specs.Serial.{step}
+use Rattle.plain.specs.Server.{server_state}
+use Rattle.plain.proofs.ByKind.{read_told}
+use Rattle.plain.proofs.server.Server.block_by.Goals as goal
+
+looked_up : (g : Geometry) (x : State) → IsState g x → (a v f b : ℕ) (r : Option (Bor Block)) → option_copied r ≡ x.blocks (a, v, f, b) → IfSome r (λ content. step g x (Read a v f b) ≡ (shows content.now, x))
+looked_up g x s a v f b (Some content) h = read_told g x s a v f b content.now (sym h)
+looked_up g x s a v f b None h = tt
+
+pub returns-in-Read : goal.returns-in-Read
+returns-in-Read c =
+    let ns = c.args.numbers in
+    rw c.in-Read.is (looked_up c.args.g.now (server_state c.args.self.now) c.requires.sound.state (slice_index ns 0) (slice_index ns 1) (slice_index ns 2) (slice_index ns 3) c.get.result c.get.ensures.value)

@@ -1,0 +1,20 @@
+use Rattle.std.proofs.Common.{◌≡◌, None, ap, sym, ◌∙◌, subst}
+use Rattle.message.specs.Heads.{asking}
+use Rattle.plain.specs.State.{IsState}
+use Rattle.plain.specs.Serial.{refusal, accepted_reply, effect, outcome}
+use Rattle.plain.specs.Server.{server_state}
+use Rattle.plain.proofs.ByKind.{refusal_asked, asking_is_message}
+use Rattle.plain.proofs.Kept.{step_kept}
+use Rattle.plain.proofs.server.Server.carry_out.Goals as goal
+
+pub returns-in_ok-apply_by-in-None-clause-sound : goal.returns-in_ok-apply_by-in-None-clause-sound
+returns-in_ok-apply_by-in-None-clause-sound c =
+    let g = c.args.g.now in
+    let m = asking c.args.kind c.args.numbers in
+    let x = server_state c.args.self.now in
+    let passed : refusal g x m ≡ None = sym (c.in-None.ensures ∙ refusal_asked g x c.args.kind c.args.numbers c.requires.asked) in
+    record {
+      state = subst (IsState g) (sym (c.in_ok-apply_by-in-None.ensures.state ∙ ap (λ r. (outcome r (accepted_reply g x m) (effect x m) x).1) (sym passed)))
+          (step_kept g x m c.requires.sound.state (asking_is_message c.args.kind c.args.numbers c.requires.asked.without_data));
+      counted = c.apply_by.ensures.counted;
+    }
