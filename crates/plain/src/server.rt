@@ -103,8 +103,32 @@ impl Server {
     }
 
     /// Writes a block, and tells why that is refused, if it is. Where there is no memory, nothing
-    /// changes.
+    /// changes. Where a block is there already, its file and its volume are too, and its stripe has
+    /// room, so that one look tells all but the seal.
     pub(crate) fn write(
+        &mut self,
+        g: &Geometry,
+        numbers: [u16; 4],
+        content: &Block,
+    ) -> Result<Option<Refusal>, AllocError>
+        requires sound { IsConsistent g.now self.old }
+        ensures reply { IfOk result (λ why. reply_to g.now (server_state self.old) (writing numbers content.now) ≡ reply_when why) }
+        ensures state { OnOk result (server_state self.new ≡ next_state g.now (server_state self.old) (writing numbers content.now)) }
+        ensures sound { IsConsistent g.now self.new }
+    {
+        let [a, v, f, b] = numbers;
+        if self.is_sealed(a, v) {
+            return self.write_tested(g, numbers, content);
+        }
+        know_block(content);
+        if self.overwrite(a, v, f, b, content) {
+            return Ok(None);
+        }
+        self.write_tested(g, numbers, content)
+    }
+
+    /// The same, by each test in turn.
+    fn write_tested(
         &mut self,
         g: &Geometry,
         numbers: [u16; 4],

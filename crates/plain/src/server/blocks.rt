@@ -1,6 +1,6 @@
 //! A block is put into a file, and its stripe has one more.
 
-ghost use Rattle.std.specs.Prelude.{◌≡◌, ◌+◌, ◌<◌, IfOk, OnOk, OnErr, is_some, true, not};
+ghost use Rattle.std.specs.Prelude.{◌≡◌, ◌+◌, ◌<◌, IfOk, OnOk, OnErr, is_some, true, not, IsTrue, IsFalse};
 ghost use Rattle.message.specs.declared.Msg.{Msg};
 ghost use Rattle.message.specs.declared.Refusal.{Refusal};
 ghost use Rattle.plain.specs.State.{one_if};
@@ -28,6 +28,23 @@ impl Server {
         ensures used { self.new.used ≡ self.old.used }
     {
         Ok(self.blocks.insert((a, v, f, b), *content)?.is_none())
+    }
+
+    /// Puts a block where there is one already, and says whether there is. It is found once, and
+    /// nothing else is moved.
+    pub(super) fn overwrite(&mut self, a: u16, v: u16, f: u16, b: u16, content: &Block) -> bool
+        ensures there { result ≡ is_some ((server_state self.old).blocks (a, v, f, b)) }
+        ensures state { IsTrue result → server_state self.new ≡ effect (server_state self.old) (Msg.Write a v f b content.now) }
+        ensures unchanged { IsFalse result → self.new ≡ self.old }
+        ensures used { self.new.used ≡ self.old.used }
+    {
+        match self.blocks.get_mut(&(a, v, f, b)) {
+            Some(place) => {
+                *place = *content;
+                true
+            }
+            None => false,
+        }
     }
 
     /// Takes a block out of its file, and says whether there was one.

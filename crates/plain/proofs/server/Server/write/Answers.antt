@@ -1,20 +1,41 @@
-use Rattle.std.proofs.Common.{◌≡◌, None, ap, sym, ◌∙◌, subst}
+use Rattle.std.proofs.Common.{◌≡◌, None, true, false, ap, sym, ◌∙◌, subst}
+use Rattle.std.specs.Prelude.{is_some, unwrap_or, not}
+use Rattle.std.specs.BTreeMap as map
 use Rattle.message.specs.Heads.{writing}
 use Rattle.plain.specs.State.{IsState}
-use Rattle.plain.specs.Serial.{refusal, accepted_reply, effect, outcome}
-use Rattle.plain.specs.Server.{server_state}
-use Rattle.plain.proofs.ByKind.{refusal_by_kind}
+use Rattle.plain.specs.Serial.{refusal, accepted_reply, effect, outcome, step}
+use Rattle.plain.specs.Server.{server_state, noted, by_file}
+use Rattle.plain.proofs.ByKind.{write_passes}
 use Rattle.plain.proofs.Kept.{step_kept}
+use Rattle.plain.proofs.Writes.{AreCounts, replaced_counts}
 use Rattle.plain.proofs.server.Server.write.Goals as goal
 
-pub returns-in_ok-put_block-in-None-clause-sound : goal.returns-in_ok-put_block-in-None-clause-sound
-returns-in_ok-put_block-in-None-clause-sound c =
+passed : (c : goal.Then-overwrite) → refusal c.args.g.now (server_state c.args.self.now) (writing c.args.numbers c.args.content.now) ≡ None
+passed c = write_passes c.args.g.now (server_state c.args.self.now) c.requires.sound.state _ _ _ _ c.args.content.now
+    (sym c.is_sealed.ensures ∙ c.if-is_sealed.false) (sym c.overwrite.ensures.there ∙ c.if-overwrite.true)
+
+pub returns-then-overwrite-clause-reply : goal.returns-then-overwrite-clause-reply
+returns-then-overwrite-clause-reply c =
     let g = c.args.g.now in
     let m = writing c.args.numbers c.args.content.now in
     let x = server_state c.args.self.now in
-    let passed : refusal g x m ≡ None = sym (c.in-None.ensures ∙ refusal_by_kind g x m) in
+    ap (λ r. (outcome r (accepted_reply g x m) (effect x m) x).0) (passed c)
+
+pub returns-then-overwrite-clause-state : goal.returns-then-overwrite-clause-state
+returns-then-overwrite-clause-state c =
+    let g = c.args.g.now in
+    let m = writing c.args.numbers c.args.content.now in
+    let x = server_state c.args.self.now in
+    c.overwrite.ensures.state c.if-overwrite.true ∙ ap (λ r. (outcome r (accepted_reply g x m) (effect x m) x).1) (sym (passed c))
+
+pub returns-then-overwrite-clause-sound : goal.returns-then-overwrite-clause-sound
+returns-then-overwrite-clause-sound c =
+    let g = c.args.g.now in
+    let m = writing c.args.numbers c.args.content.now in
+    let x = server_state c.args.self.now in
     record {
-      state = subst (IsState g) (sym (c.in_ok-put_block-in-None.ensures.state ∙ ap (λ r. (outcome r (accepted_reply g x m) (effect x m) x).1) (sym passed)))
-          (step_kept g x m c.requires.sound.state c.know_block.ensures);
-      counted = c.put_block.ensures.counted;
+      state = subst (IsState g) (sym (returns-then-overwrite-clause-state c)) (step_kept g x m c.requires.sound.state c.know_block.ensures);
+      counted = subst (AreCounts g (noted c.overwrite.new.self)) (sym (c.overwrite.ensures.state c.if-overwrite.true))
+          (replaced_counts x _ _ _ _ c.args.content.now g (noted c.args.self.now) (noted c.overwrite.new.self) c.requires.sound.counted (sym c.overwrite.ensures.there ∙ c.if-overwrite.true)
+          (λ k. ap (λ used. unwrap_or (map.get by_file used k) 0) c.overwrite.ensures.used));
     }
