@@ -11,6 +11,7 @@ use itoa::Buffer;
 
 /// Writes the line of a reply, its newline included, into the front of `out`, and gives the
 /// line's length in bytes. What lies after the line stays as it was.
+#[inline(always)]
 pub fn write_reply(reply: &Reply, out: &mut [u8; 1031]) -> usize
     ensures length { result ≡ length (reply_line reply.now) }
     ensures line { take result out.new ≡ reply_line reply.now }
@@ -40,6 +41,7 @@ pub fn no_message_line() -> &'static [u8]
 }
 
 /// Writes what a reply says into the front of `out`, and gives its length.
+#[inline(always)]
 fn write_text(reply: &Reply, out: &mut [u8; 1031]) -> usize
     ensures text { Appends out.old out.new 0 result (reply_text reply.now) }
     ensures bound { result ≤ 1030 }

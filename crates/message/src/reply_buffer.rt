@@ -49,6 +49,7 @@ fn refusal_line(why: Refusal) -> &'static [u8]
 }
 
 /// Writes the line of a reply to the front of `room`, and gives its length.
+#[inline(always)]
 fn write_to_front(reply: &Reply, room: &mut [u8]) -> usize
     requires { length room.old ≡ LONGEST_REPLY }
     ensures line { take result room.new ≡ reply_line reply.now }
@@ -61,6 +62,7 @@ fn write_to_front(reply: &Reply, room: &mut [u8]) -> usize
 }
 
 /// Writes the line of a reply over the bytes from `at` on, and gives where it ends.
+#[inline(always)]
 fn put_reply_at(reply: &Reply, bytes: &mut [u8], at: usize) -> usize
     requires { at + LONGEST_REPLY ≤ length bytes.old }
     ensures line { take result bytes.new ≡ take at bytes.old ++ reply_line reply.now }
@@ -70,6 +72,7 @@ fn put_reply_at(reply: &Reply, bytes: &mut [u8], at: usize) -> usize
 }
 
 /// The same, in a vector.
+#[inline(always)]
 fn put_reply(reply: &Reply, bytes: &mut Vec<u8>, at: usize) -> usize
     requires { at + LONGEST_REPLY ≤ vec_len bytes.old }
     ensures line { take result bytes.new.items ≡ take at bytes.old.items ++ reply_line reply.now }
@@ -221,6 +224,7 @@ impl ReplyBuffer {
     /// # Errors
     ///
     /// Those of `send`. The reply is not added then.
+    #[inline(always)]
     pub fn add_reply<W: Write>(&mut self, reply: &Reply, w: &mut W) -> Result<(), WriteFault>
         ensures added { OnOk result (Appends (so_far (W.contents w.old) self.old)
             (so_far (W.contents w.new) self.new) (reply_line reply.now)) }

@@ -106,6 +106,7 @@ fn add_outcome<W: Write>(
 }
 
 /// Answers a message that changes nothing.
+#[inline(never)]
 fn answer_question<W: Write>(
     g: &Geometry,
     kind: Kind,
@@ -126,13 +127,19 @@ fn answer_question<W: Write>(
     if let Some(content) = server.block_by(g, kind, numbers) {
         return out.add_block(content, w);
     }
-    match server.refusal_by(g, kind, numbers) {
-        Some(why) => out.add_refusal(why, w),
-        None => out.add_reply(&server.reply_by(g, kind, numbers), w),
+    if let Some(why) = server.refusal_by(g, kind, numbers) {
+        return out.add_refusal(why, w);
+    }
+    let [a, v, _, _] = numbers;
+    match kind {
+        Kind::List => out.add_reply(&server.list_files(g, a, v), w),
+        Kind::Usage => out.add_reply(&server.usage_of(g, a, v), w),
+        _ => out.add_reply(&server.reply_by(g, kind, numbers), w),
     }
 }
 
 /// Answers a `write` with these numbers, of which these may be the digits.
+#[inline(never)]
 fn answer_write<W: Write>(
     g: &Geometry,
     numbers: [u16; 4],

@@ -13,7 +13,8 @@ use message::{Msg, Reply};
 
 impl Server {
     /// Which files a volume has: file `f` is bit `f` of the number. It walks these files alone.
-    pub(super) fn list_files(&self, g: &Geometry, a: u16, v: u16) -> Reply
+    #[inline(always)]
+    pub(crate) fn list_files(&self, g: &Geometry, a: u16, v: u16) -> Reply
         ensures { result ≡ accepted_reply g.now (server_state self.now) (Msg.List a v) }
     {
         let mut bits = 0;
@@ -45,7 +46,8 @@ impl Server {
     }
 
     /// How much a volume holds, and whether it is sealed.
-    pub(super) fn usage_of(&self, g: &Geometry, a: u16, v: u16) -> Reply
+    #[inline(always)]
+    pub(crate) fn usage_of(&self, g: &Geometry, a: u16, v: u16) -> Reply
         requires sound { IsConsistent g.now self.now }
         ensures { result ≡ accepted_reply g.now (server_state self.now) (Msg.Usage a v) }
     {
