@@ -14,5 +14,5 @@ mod trials;
 pub use counting::{Counting, Counts};
 pub use crashes::{KINDS, MIXED, NEW, OLD, torn};
 pub use server::{Act, Halt, Server, device_with};
-pub use telling::{Questions, expected, messages_of, told};
-pub use trials::{Crash, Ended, Found, Progress, Trial, Wrong, find, sweep};
+pub use telling::{Questions, answers_and_told, expected, messages_of, told};
+pub use trials::{Crash, Ended, Found, Progress, Seen, Trial, Wrong, find, reopen, sweep};

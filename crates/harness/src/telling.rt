@@ -116,6 +116,42 @@ pub fn told(alloc: Global, tree: &mut Tree, questions: &Questions) -> Result<Vec
     Ok(told)
 }
 
+/// Where the first so many lines end.
+fn end_of(output: &[u8], count: usize) -> usize {
+    let mut ends = output
+        .iter()
+        .enumerate()
+        .filter(|(_, byte)| **byte == b'\n');
+    let last = count.checked_sub(1).and_then(|before| ends.nth(before));
+    match last {
+        Some((at, _)) => at.saturating_add(1),
+        None => 0,
+    }
+}
+
+/// What the serial server answers to these lines, from the empty state on, and what it tells to these questions then.
+pub fn answers_and_told(
+    alloc: Global,
+    g: &Geometry,
+    lines: &[&str],
+    questions: &Questions,
+) -> Result<(Vec<u8>, Vec<u8>), Wrong> {
+    let mut input = Vec::new(alloc);
+    for line in lines {
+        input.extend_from_slice(line.as_bytes())?;
+        input.push(b'\n')?;
+    }
+    input.extend_from_slice(questions.lines.as_slice())?;
+    let mut output = Vec::new(alloc);
+    if serve_plain(alloc, g, input.as_slice(), &mut output).is_err() {
+        return Err(Wrong::OutOfMemory);
+    }
+    let end = end_of(output.as_slice(), lines.len());
+    let answers = output.as_slice().get(..end).unwrap_or_default();
+    let told = output.as_slice().get(end..).unwrap_or_default();
+    Ok((answers.to_vec(alloc)?, told.to_vec(alloc)?))
+}
+
 /// What the serial server tells to these questions once it has carried out these lines, from the empty state on. `Unfit`
 /// where one of them isn't done.
 pub fn expected(
@@ -124,20 +160,14 @@ pub fn expected(
     lines: &[&str],
     questions: &Questions,
 ) -> Result<Vec<u8>, Wrong> {
-    let mut input = Vec::new(alloc);
+    let (answers, told) = answers_and_told(alloc, g, lines, questions)?;
     let mut done = Vec::new(alloc);
-    for line in lines {
-        input.extend_from_slice(line.as_bytes())?;
-        input.push(b'\n')?;
+    for _ in 0..lines.len() {
         done.extend_from_slice(b"done\n")?;
     }
-    input.extend_from_slice(questions.lines.as_slice())?;
-    let mut output = Vec::new(alloc);
-    if serve_plain(alloc, g, input.as_slice(), &mut output).is_err() {
-        return Err(Wrong::OutOfMemory);
-    }
-    match output.as_slice().strip_prefix(done.as_slice()) {
-        Some(told) => Ok(told.to_vec(alloc)?),
-        None => Err(Wrong::Unfit),
+    if answers == done {
+        Ok(told)
+    } else {
+        Err(Wrong::Unfit)
     }
 }

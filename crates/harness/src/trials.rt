@@ -196,8 +196,14 @@ fn reopen_at(
     Ok(false)
 }
 
-/// Opens a device of these bytes stopped at each of its calls.
-fn reopen(alloc: Global, questions: &Questions, first: Crash, seen: &Seen) -> Result<(), Wrong> {
+/// Opens a device of the bytes that the first crash left, stopped at each of its calls, and opens it again behind a crash of each
+/// kind: what was seen of it is found each time.
+pub fn reopen(
+    alloc: Global,
+    questions: &Questions,
+    first: Crash,
+    seen: &Seen,
+) -> Result<(), Wrong> {
     for n in 1..MOST_CALLS {
         if reopen_at(alloc, questions, first, seen, n)? {
             return Ok(());
@@ -208,9 +214,9 @@ fn reopen(alloc: Global, questions: &Questions, first: Crash, seen: &Seen) -> Re
 
 /// The bytes that a crash left, and what is found on them.
 #[derive(Drop)]
-struct Seen {
-    bytes: Vec<u8>,
-    found: Found,
+pub struct Seen {
+    pub bytes: Vec<u8>,
+    pub found: Found,
 }
 
 /// A trial and what was found in it so far.

@@ -4,7 +4,9 @@ use crate::running::{End, Ended, SMALL, Way, serve_on};
 use affinity::Geometry;
 use checkpoint::OpenFault;
 use disk::MemDisk;
-use harness::{Crash, Found, KINDS, Questions, Wrong, device_with, expected, find, torn};
+use harness::{
+    Crash, Found, KINDS, Questions, Seen, Wrong, device_with, expected, find, reopen, torn,
+};
 use serving::ServeFault;
 use std::alloc::Global;
 use std::sync::Wait;
@@ -13,7 +15,7 @@ use std::thread::Threads;
 use workers::OpenGate;
 
 /// Changes that are done. Those at 2 and 3, and at 5 and 6, are unrelated; any others are related.
-const CHANGES: [&str; 10] = [
+pub(crate) const CHANGES: [&str; 10] = [
     "makevol 0 0",
     "create 0 0 0",
     "write 0 0 0 0 61",
@@ -34,19 +36,31 @@ const ORDERS: [[usize; 10]; 2] = [
 
 /// Some changes, and what a server tells after them.
 #[derive(Drop)]
-struct Known {
+pub(crate) struct Known {
     /// The sum of 2 to the power of each one's place.
     changes: u32,
     told: Vec<u8>,
 }
 
-/// A device on which all changes are served, and what may be found on it.
+impl Known {
+    /// Whether that is found.
+    pub(crate) fn is_told(&self, found: &Found) -> bool {
+        match found {
+            Found::Tells(told) => self.told == *told,
+            Found::Refuses(_) => false,
+        }
+    }
+}
+
+/// A device that stands for the first so many changes and on which the others are served, and what may be found on it.
 #[derive(Drop)]
-struct Play {
+pub(crate) struct Play {
+    there: usize,
     lines: Vec<u8>,
     blank: Vec<u8>,
-    questions: Questions,
-    known: Vec<Known>,
+    pub(crate) questions: Questions,
+    /// The first of these are behind the changes in their own order.
+    pub(crate) known: Vec<Known>,
 }
 
 /// What is known after the first m changes in this order.
@@ -79,18 +93,19 @@ fn first(count: usize) -> u32 {
 }
 
 impl Play {
-    /// One on a device that was formatted, with other bytes at some places.
-    fn new(alloc: Global, changes: &[(usize, u8)]) -> Result<Play, Wrong> {
+    /// One on a device that was formatted, with other bytes at some places, so that it stands for the first so many changes.
+    pub(crate) fn new(alloc: Global, changes: &[(usize, u8)], there: usize) -> Result<Play, Wrong> {
         let Ok(g) = Geometry::new(SMALL) else {
             return Err(Wrong::Unfit);
         };
         let mut play = Play {
+            there,
             lines: Vec::new(alloc),
             blank: device_with(alloc, SMALL, changes)?.bytes().to_vec(alloc)?,
             questions: Questions::new(alloc, &g)?,
             known: Vec::new(alloc),
         };
-        for line in CHANGES {
+        for line in CHANGES.iter().skip(there) {
             play.lines.extend_from_slice(line.as_bytes())?;
             play.lines.push(b'\n')?;
         }
@@ -105,17 +120,17 @@ impl Play {
     }
 
     /// Whether this may be found where so many lines were written.
-    fn allows(&self, answered: usize, found: &Found) -> bool {
+    pub(crate) fn allows(&self, answered: usize, found: &Found) -> bool {
         let Found::Tells(told) = found else {
             return false;
         };
-        let answered = first(answered);
+        let answered = first(self.there.saturating_add(answered));
         let mut known = self.known.iter();
         known.any(|known| known.changes & answered == answered && known.told == *told)
     }
 
     /// Serves on a device that fails at this call, and gives what a crash leaves.
-    fn meet<T: Threads + Wait + Sync>(
+    pub(crate) fn meet<T: Threads + Wait + Sync>(
         &self,
         rt: &T,
         alloc: Global,
@@ -163,7 +178,7 @@ impl Play {
 }
 
 /// Lets the call of this crash fail, or stop the device for good: which call that is.
-fn set_fuse(device: &mut MemDisk, crash: Crash) -> u64 {
+pub(crate) fn set_fuse(device: &mut MemDisk, crash: Crash) -> u64 {
     let n = crash.call.max(1);
     if crash.kind < KINDS {
         device.stop_at(n);
@@ -182,24 +197,28 @@ fn has_said(notes: &Notes, way: Way) -> bool {
 
 /// What came of a session whose device was to fail.
 #[derive(Drop)]
-struct Met {
+pub(crate) struct Met {
     /// It ended before that.
-    is_whole: bool,
+    pub(crate) is_whole: bool,
     /// Lines were written, and records are in the half behind the one that is named.
     is_chained: bool,
     /// How many lines were written.
-    answered: usize,
+    pub(crate) answered: usize,
     /// The device behind the crash.
-    left: MemDisk,
+    pub(crate) left: MemDisk,
 }
 
-/// Whether half 1 is open to half 0 behind it, and that has a record.
+/// Where the chain byte of a half lies, and the first gate of the other one.
+const CHAINED: [(usize, usize); 2] = [(128, 2340), (2276, 192)];
+
+/// Whether a half is open to the other one behind it, and that has a record.
 fn is_chained(bytes: &[u8]) -> bool {
-    bytes.get(2276) == Some(&1) && bytes.get(192) == Some(&1)
+    CHAINED.iter().any(|(chain, gate)| bytes.get(*chain) == Some(&1)
+        && bytes.get(*gate) == Some(&1))
 }
 
 /// Whether a server ends so where its device has not failed, or has.
-fn is_told(end: End, is_whole: bool) -> bool {
+pub(crate) fn is_told(end: End, is_whole: bool) -> bool {
     match end {
         End::Whole => is_whole,
         End::Unopened(why) => !is_whole && why == OpenFault::Device,
@@ -209,46 +228,7 @@ fn is_told(end: End, is_whole: bool) -> bool {
 }
 
 /// More calls than a session has.
-const MOST_CALLS: u64 = 1000;
-
-/// The bytes of a device that a crash left, and what was found on it.
-#[derive(Drop)]
-struct Seen {
-    bytes: Vec<u8>,
-    found: Found,
-}
-
-/// Of how many calls of an opening one is stopped, with each of the devices that are opened another.
-const SPREAD: usize = 4;
-
-/// Stops the opening of a device of these bytes at some of its calls, from the first or a later one on, with a crash behind that:
-/// the same is found again.
-fn reopen(
-    alloc: Global,
-    questions: &Questions,
-    crash: Crash,
-    seen: &Seen,
-    first: usize,
-) -> Result<(), Wrong> {
-    for call in (1..MOST_CALLS).skip(first % SPREAD).step_by(SPREAD) {
-        let kind = first.saturating_add(call as usize) % KINDS;
-        let second = Crash { call, kind };
-        let mut device = MemDisk::of_bytes(alloc, seen.bytes.to_vec(alloc)?)?;
-        device.stop_at(call.max(1));
-        let (mut found, device) = find(alloc, device, questions)?;
-        let is_opened = device.calls() < call;
-        if !is_opened {
-            (found, _) = find(alloc, device.crash(torn(alloc, kind)?), questions)?;
-        }
-        if found != seen.found {
-            return Err(Wrong::Reopened(crash, second));
-        }
-        if is_opened {
-            return Ok(());
-        }
-    }
-    Err(Wrong::Endless)
-}
+pub(crate) const MOST_CALLS: u64 = 1000;
 
 /// Devices that were opened, of which those with the same bytes are opened once.
 #[derive(Drop)]
@@ -264,7 +244,7 @@ impl Openings {
             .position(|seen| seen.bytes.as_slice() == bytes)
     }
 
-    /// Opens the device that a crash left, also stopped at some of its calls, and tells where it stands.
+    /// Opens the device that a crash left, also stopped at each of its calls and torn again, and tells where it stands.
     fn open(
         &mut self,
         alloc: Global,
@@ -279,7 +259,7 @@ impl Openings {
         let (found, _) = find(alloc, left, &play.questions)?;
         let seen = Seen { bytes, found };
         let place = self.seen.len();
-        reopen(alloc, &play.questions, crash, &seen, place)?;
+        reopen(alloc, &play.questions, crash, &seen)?;
         self.seen.push(seen)?;
         Ok(place)
     }
@@ -298,14 +278,13 @@ impl Openings {
     }
 }
 
-/// Lets a session meet a fault at each call of the device, and a crash behind it: at each call one in so many of the kinds, and
-/// of none, where the call fails alone. At some of them records are in both halves.
+/// Lets a session meet a fault at each call of the device, with a crash of each kind behind it, and with none, where the call fails
+/// alone. At some of them records are in both halves.
 fn survives<T: Threads + Wait + Sync>(
     rt: &T,
     alloc: Global,
     way: Way,
     play: &Play,
-    one_in: usize,
 ) -> Result<(), Wrong> {
     let mut openings = Openings {
         seen: Vec::new(alloc),
@@ -314,9 +293,6 @@ fn survives<T: Threads + Wait + Sync>(
     for call in 1..MOST_CALLS {
         let mut is_whole = false;
         for kind in 0..=KINDS {
-            if (call as usize).saturating_add(kind) % one_in.max(1) != 0 {
-                continue;
-            }
             let crash = Crash { call, kind };
             let met = play.meet(rt, alloc, way, crash)?;
             is_whole = met.is_whole;
@@ -337,7 +313,7 @@ fn survives<T: Threads + Wait + Sync>(
 }
 
 /// A way with four slots.
-fn way(workers: usize, every: u64) -> Way {
+pub(crate) fn way(workers: usize, every: u64) -> Way {
     Way {
         workers,
         slots: 4,
@@ -347,29 +323,46 @@ fn way(workers: usize, every: u64) -> Way {
 
 #[test]
 fn answers_of_one_worker_survive(rt: HostRuntime) -> Result<(), Fail> {
-    let play = Play::new(rt.alloc(), &[])?;
-    survives(&rt, rt.alloc(), way(1, 0), &play, 1)?;
-    Ok(())
-}
-
-/// The image of the device is of version 1 at first.
-#[test]
-fn answers_of_one_worker_between_points_survive(rt: HostRuntime) -> Result<(), Fail> {
-    let play = Play::new(rt.alloc(), &[(4424, 1)])?;
-    survives(&rt, rt.alloc(), way(1, 1), &play, 4)?;
+    let play = Play::new(rt.alloc(), &[], 0)?;
+    for (workers, every) in [(1, 0), (1, 1)] {
+        survives(&rt, rt.alloc(), way(workers, every), &play)?;
+    }
     Ok(())
 }
 
 #[test]
 fn answers_of_two_workers_survive(rt: HostRuntime) -> Result<(), Fail> {
-    let play = Play::new(rt.alloc(), &[])?;
-    survives(&rt, rt.alloc(), way(2, 0), &play, 4)?;
+    let play = Play::new(rt.alloc(), &[], 0)?;
+    for (workers, every) in [(2, 0), (2, 1)] {
+        survives(&rt, rt.alloc(), way(workers, every), &play)?;
+    }
     Ok(())
 }
 
+/// Images of version 1 and how many changes the devices stand for: none; and three of them, where a cut was in progress: the image has
+/// the volume, half 0 the file, and half 1 behind it the block.
+const OLD_IMAGES: [(&[(usize, u8)], usize); 2] = [
+    (&[(4424, 1)], 0),
+    (
+        &[
+            (4424, 1),
+            (4488, 1),
+            (128, 1),
+            (192, 1),
+            (196, 3),
+            (2340, 1),
+            (2344, 7),
+            (2352, 0x61),
+        ],
+        3,
+    ),
+];
+
 #[test]
-fn answers_of_two_workers_between_points_survive(rt: HostRuntime) -> Result<(), Fail> {
-    let play = Play::new(rt.alloc(), &[])?;
-    survives(&rt, rt.alloc(), way(2, 1), &play, 1)?;
+fn answers_behind_an_old_image_survive(rt: HostRuntime) -> Result<(), Fail> {
+    for (changes, there) in OLD_IMAGES {
+        let play = Play::new(rt.alloc(), changes, there)?;
+        survives(&rt, rt.alloc(), way(1, 1), &play)?;
+    }
     Ok(())
 }

@@ -8,6 +8,8 @@ mod drawing;
 #[cfg(test)]
 mod faults;
 #[cfg(test)]
+mod lives;
+#[cfg(test)]
 mod noting;
 #[cfg(test)]
 mod overlap;
