@@ -1,4 +1,4 @@
-//! A second call of a server, on the core that the first one gave back.
+//! A second call of a server, on the core that the first one gave back; and one behind a call for which memory was refused.
 ghost use Rattle.std.specs.Prelude.{◌≡◌, false, IfOk, IsTrue};
 ghost use Rattle.legal_runs.specs.Laws.{IsIdle};
 ghost use Rattle.scheduler.specs.Kept.{world_of};
@@ -132,5 +132,45 @@ fn a_core_that_came_back_is_served_on(rt: HostRuntime) -> Result<(), Fail> {
             leaves(&rt, rt.alloc(), device, area, [1, 1, 2])?;
         }
     }
+    Ok(())
+}
+
+/// Serves the first input. Where memory is refused nothing was read or written, and the core that comes back is served on.
+fn serve_at_next_try<T: Threads + Wait + Sync>(
+    rt: &T,
+    alloc: Global,
+    core: Core<MemDisk>,
+    output: &mut Vec<u8>,
+) -> Result<Core<MemDisk>, Wrong>
+    requires idle { IsIdle (world_of core) }
+    requires works { core.failed ≡ false }
+{
+    let mut input = FIRST;
+    let core = match serve(alloc, rt, core, &mut input, output, 3, 0, &OpenGate) {
+        Ok(core) => return Ok(core),
+        Err(
+            ServeError {
+                core,
+                fault: ServeFault::OutOfMemory,
+            },
+        ) => core,
+        Err(_) => return Err(Wrong::Unfit),
+    };
+    if input.len() != FIRST.len() || !output.is_empty() {
+        return Err(Wrong::Unfit);
+    }
+    serve(alloc, rt, core, &mut input, output, 3, 0, &OpenGate).map_err(|_| Wrong::OutOfMemory)
+}
+
+#[test]
+fn lines_are_served_at_the_next_try(rt: HostRuntime) -> Result<(), Fail> {
+    let device = device_with(rt.alloc(), SMALL, &[])?;
+    let mut output = Vec::with_capacity(rt.alloc(), 4096)?;
+    let Ok(core) = Core::open(rt.alloc(), device, 4) else {
+        return Err(Wrong::OutOfMemory.into());
+    };
+    let core = serve_at_next_try(&rt, rt.alloc(), core, &mut output)?;
+    writes(&rt, output.as_slice(), b"done\ndone\ndone\n");
+    leaves(&rt, rt.alloc(), core.into_disk(), 0, [1, 1, 1])?;
     Ok(())
 }

@@ -11,7 +11,7 @@ use std::test::Fail;
 use std::thread::Threads;
 
 /// Lines on a new device, and what they are answered.
-const ROWS: [(&[u8], &[u8]); 13] = [
+const ROWS: [(&[u8], &[u8]); 14] = [
     (b"", b""),
     (
         b"makevol 0 0\ncreate 0 0 0\nwrite 0 0 0 0 6162\nread 0 0 0 0\nread 0 0 0 3\nread 0 0 1 0\nwrite 0 0 0 4 61\nmakevol 0 1\n",
@@ -52,6 +52,11 @@ const ROWS: [(&[u8], &[u8]); 13] = [
         b"makevol 0 0\nlabel 0 0\nsetlabel 0 0 6162\nlabel 0 0\nseal 0 0\nsetlabel 0 0 63\nlabel 0 0\n",
         b"done\nlabel 00\ndone\nlabel 6162\ndone\nerror sealed\nlabel 6162\n",
     ),
+    // None of these is a message.
+    (
+        b"READ 0 0 0 0\nsummary 0\nwrite 0 0 0 0 6\nwrite 0 0 0 0 6g\nwrite 0 0 0 0\nread 0 0 0 -1\nread\t0\t0\t0\t0\n\0\n\xff\n",
+        b"error line\nerror line\nerror line\nerror line\nerror line\nerror line\nerror line\nerror line\nerror line\n",
+    ),
     // The last line has no end.
     (b"makevol 0 0\nsummary", b"done\nsummary 1 0 0\n"),
 ];
@@ -87,28 +92,30 @@ fn rows_are_answered(rt: HostRuntime) -> Result<(), Fail> {
     Ok(())
 }
 
-/// This line with so many digits behind it, and its end.
-fn long_line(alloc: Global, line: &[u8], digits: usize) -> Result<Vec<u8>, AllocError> {
+/// This line with so many bytes of this kind behind it.
+fn long_line(alloc: Global, line: &[u8], byte: u8, count: usize) -> Result<Vec<u8>, AllocError> {
     let mut long = line.to_vec(alloc)?;
-    for _ in 0..digits {
-        long.push(b'6')?;
+    for _ in 0..count {
+        long.push(byte)?;
     }
-    long.push(b'\n')?;
     Ok(long)
 }
 
-/// What lines begin with, and how many digits are behind: too much data, too long a label, and too long a line.
-const LONG_LINES: [(&[u8], usize); 4] = [
-    (b"write 0 0 0 0 ", 1026),
-    (b"setlabel 0 0 ", 66),
-    (b"", 1101),
-    (b"write 0 0 0 0 ", 70_000),
+/// What lines begin with, what is behind and how often, and where they end: too much data, too long a label, a line as long as may be
+/// and a longer one, and a last line without an end that is longer by far.
+const LONG_LINES: [(&[u8], u8, usize, &[u8]); 5] = [
+    (b"write 0 0 0 0 ", b'6', 1026, b"\n"),
+    (b"setlabel 0 0 ", b'6', 66, b"\n"),
+    (b"", b'a', 1100, b"\n"),
+    (b"", b'a', 1101, b"\n"),
+    (b"", b'a', 1_000_000, b""),
 ];
 
 #[test]
 fn lines_that_are_too_long_are_answered(rt: HostRuntime) -> Result<(), Fail> {
-    for (line, digits) in LONG_LINES {
-        let lines = long_line(rt.alloc(), line, digits)?;
+    for (line, byte, count, end) in LONG_LINES {
+        let mut lines = long_line(rt.alloc(), line, byte, count)?;
+        lines.extend_from_slice(end)?;
         answers(&rt, rt.alloc(), lines.as_slice(), b"error line\n")?;
     }
     Ok(())
