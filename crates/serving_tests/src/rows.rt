@@ -1,6 +1,6 @@
 //! Lines with what each is answered, at several numbers of workers and slots.
 use crate::running::{SMALL, Way, holds, serial, serve_lines, writes};
-use checkpoint::inspect;
+use checkpoint::{OpenFault, inspect};
 use disk::MemDisk;
 use harness::{Wrong, device_with};
 use message::Reply;
@@ -145,8 +145,15 @@ pub(crate) fn leaves(
     area: usize,
     counts: [u32; 3],
 ) -> Result<(), Wrong> {
-    let Ok((shown, _)) = inspect(alloc, device) else {
-        return Err(Wrong::Unfit);
+    let shown = match inspect(alloc, device) {
+        Ok((shown, _)) => shown,
+        Err(e) => {
+            return Err(if e.fault == OpenFault::OutOfMemory {
+                Wrong::OutOfMemory
+            } else {
+                Wrong::Unfit
+            });
+        }
     };
     let [volumes, files, blocks] = counts;
     let summary = Reply::Summary {
