@@ -70,10 +70,6 @@ module _ (keeps : Type 0) (start : Handed) (p q : Place) (input behind before : 
       → Advances {A = A} keeps p q (Err why) → HasEnded keeps start q input behind before (Err why)
   goes_halts A why left ended h k = (left, ended, as_unit A left ended why (k.comes start input left ended before h))
 
-pub failed_halts : (keeps : Type 0) (start : Handed) (p : Place) (input behind before : Option (List ℕ))
-    → HasStopped keeps start p input behind before stops.Failed → HasEnded keeps start p input behind before (Err halts.Device)
-failed_halts keeps start p input behind before h = (h.left, h.ended, (h.goes, h.why))
-
 pub idle_at : (keeps : Type 0) (p q : Place) (slots : ℕ) (left : Option (List ℕ)) (ended : Bool) → IsUnderWay keeps p slots left ended
     → Advances {A = Unit {0}} keeps p q (Ok tt) → q.row ≡ [] → IsIdle (world_of q.machine.core)
 idle_at keeps p q slots left ended u k none =

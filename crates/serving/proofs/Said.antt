@@ -7,10 +7,6 @@ use Rattle.plain.specs.Output.{joined}
 use Rattle.serving.specs.Lines.{Line, is_answered, text}
 use Rattle.serving.specs.Rows.{Says}
 
--- none was written yet
-pub says_nothing : (row : List Line) (before : Option (List ℕ)) → Says row row before before
-says_nothing row before = record { said = []; were = refl; are_answered = tt; output = Appends-nil before }
-
 all_and_one : (said : List Line) (line : Line) → AllByRecursion (λ l. is_answered l ≡ true) said → is_answered line ≡ true
     → AllByRecursion (λ l. is_answered l ≡ true) (said ++ line ∷ [])
 all_and_one [] line all one = (one, tt)

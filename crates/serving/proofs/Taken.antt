@@ -117,10 +117,6 @@ no_message (Some m) not = absurd (not m refl)
 
 -- ---- some lines
 
-pub reads_nothing : (keeps : Type 0) (now : Handed) (row : List Line) (left : Option (List ℕ)) (ended : Bool) → Holds now
-    → ReadsOn keeps now row left ended now row left ended
-reads_nothing keeps now row left ended h = record { holds = h; goes = λ start input before written s. s }
-
 pub reads_then : (keeps : Type 0) (old mid new : Handed) (row mid_row new_row : List Line) (left mid_left now_left : Option (List ℕ))
     (ended mid_ended now_ended : Bool) → ReadsOn keeps old row left ended mid mid_row mid_left mid_ended
     → ReadsOn keeps mid mid_row mid_left mid_ended new new_row now_left now_ended → ReadsOn keeps old row left ended new new_row now_left now_ended

@@ -1,5 +1,4 @@
-//! How a session ends where something has failed: the lines that were read before are answered; or, where they can't be, jobs
-//! that are out come back, and what can still be done is done.
+//! How a session ends where the device or the output has failed: jobs that are out come back, and what can still be done is done.
 
 ghost use Rattle.std.specs.Prelude.{◌≡◌, ℕ, Bool, false, List, [], Option, None, Ok, Err, OnOk, IsErr, length};
 ghost use Rattle.legal_runs.specs.Laws.{IsIdle};
@@ -36,29 +35,6 @@ impl<D: Disk> Session<D> {
         ensures home { IsHome self.new.desk.lent }
     {
         bring_home(rt, &mut self.core, bench, &mut self.desk);
-    }
-
-    /// Where a read has failed: the lines that were read before are answered, and all that waits is sent.
-    pub(crate) fn end_at_fault<T: Wait, W: Write, G: Gate>(
-        &mut self,
-        rt: &T,
-        w: &mut W,
-        bench: &Bench,
-        gate: &G,
-    ) -> Result<(), Halt>
-        requires bench { self.old.desk.bench ≡ bench.now }
-        requires places { length self.old.desk.lent ≡ bench.now.slots }
-        requires holds { Holds (with_lent self.old.core self.old.desk.lent) }
-        ensures kept { Advances D.keeps
-            (place_of self.old.core self.old.desk.lent self.old.row.lines (so_far (W.contents w.old) self.old.out))
-            (place_of self.new.core self.new.desk.lent self.new.row.lines (so_far (W.contents w.new) self.new.out)) result }
-        ensures holds { Holds (with_lent self.new.core self.new.desk.lent) }
-        ensures bench { self.new.desk.bench ≡ self.old.desk.bench }
-        ensures row { OnOk result (self.new.row.lines ≡ []) }
-        ensures none_waits { OnOk result (self.new.out ≡ []) }
-        ensures works { OnOk result (self.new.core.failed ≡ false) }
-    {
-        self.answer_the_rest(rt, w, bench, gate)
     }
 
     /// Where the device has failed: nothing more is logged. Jobs that are out come back, and the lines next in order are still

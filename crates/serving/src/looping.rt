@@ -154,7 +154,7 @@ impl<D: Disk> Session<D> {
                 Ok(()) => Ok(Stop::End),
                 Err(why) => Err(why),
             },
-            Stop::Fault => match self.end_at_fault(rt, w, bench, gate) {
+            Stop::Fault => match self.answer_the_rest(rt, w, bench, gate) {
                 Ok(()) => Ok(Stop::Fault),
                 Err(why) => Err(why),
             },
@@ -198,8 +198,14 @@ impl<D: Disk> Session<D> {
         }
     }
 
-    /// Serves line after line until the input ends, or something has failed.
-    fn serve_so<T: Wait, R: Read, W: Write, G: Gate>(
+    /// Serves line after line until the input ends, with a consistency point where one is due, and one at the end. All that was
+    /// answered is written when it returns, unless the output failed.
+    ///
+    /// # Errors
+    ///
+    /// `ServeFault::Read`, `ServeFault::Exhausted`, `ServeFault::Device` and `ServeFault::Write`, as they say. Where several befall
+    /// one call, a fault of the output goes before one of the device, and that before the others.
+    pub(crate) fn serve_all<T: Wait, R: Read, W: Write, G: Gate>(
         &mut self,
         rt: &T,
         lines: &mut LineReader<R>,
@@ -229,42 +235,5 @@ impl<D: Disk> Session<D> {
             Ok(Stop::Failed) => unreachable!(),
             Err(why) => self.end_early(why, rt, w, bench, gate),
         }
-    }
-
-    /// Serves line after line until the input ends, with a consistency point where one is due, and one at the end. All that was
-    /// answered is written when it returns, unless the output failed.
-    ///
-    /// # Errors
-    ///
-    /// `ServeFault::Read`, `ServeFault::Exhausted`, `ServeFault::Device` and `ServeFault::Write`, as they say. Where several befall
-    /// one call, a fault of the output goes before one of the device, and that before the others.
-    pub(crate) fn serve_all<T: Wait, R: Read, W: Write, G: Gate>(
-        &mut self,
-        rt: &T,
-        lines: &mut LineReader<R>,
-        w: &mut W,
-        bench: &Bench,
-        gate: &G,
-    ) -> Result<(), ServeFault>
-        requires bench { self.old.desk.bench ≡ bench.now }
-        requires lent { self.old.desk.lent ≡ replicate bench.now.slots None }
-        requires idle { IsIdle (world_of self.old.core) }
-        requires works { self.old.core.failed ≡ false }
-        requires row { (self.old.row.lines ≡ []) × (self.old.row.slots ≤ self.old.core.slots) }
-        requires none_waits { self.old.out ≡ [] }
-        requires begun { is_drained lines.old ≡ false }
-        requires knows { KnowsEnd R.remaining lines.old }
-        ensures run { HasRunSo D.keeps (with_lent self.old.core self.old.desk.lent) self.new.core (unread R.remaining lines.old)
-            (so_far (W.contents w.old) self.old.out) (so_far (W.contents w.new) self.new.out) result }
-        ensures ends { EndsSo self.old.core self.new.core (unread R.remaining lines.old) (R.remaining (source lines.new))
-            (so_far (W.contents w.old) self.old.out) (so_far (W.contents w.new) self.new.out) result }
-        ensures sent { AllSent self.new.out result }
-        ensures emptied { OnOk result (D.keeps → HasEmptyLog self.new.core) }
-        ensures begun { HasBegun result }
-        ensures bench { self.new.desk.bench ≡ self.old.desk.bench }
-    {
-        let ended = self.serve_so(rt, lines, w, bench, gate);
-        self.core.stands();
-        ended
     }
 }

@@ -86,6 +86,7 @@ fn serve_lent<'a, T: Wait, R: Read, W: Write, D: Disk, G: Gate, L: Loan>(
 {
     let mut lines = LineReader::new(LentReader { reader, of }, input);
     let ended = session.serve_all(rt, &mut lines, w, bench, gate);
+    session.core.stands();
     let LentReader { reader, of: _ } = lines.into_inner();
     (ended, reader)
 }

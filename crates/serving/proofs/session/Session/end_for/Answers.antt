@@ -10,14 +10,14 @@ returns-in-Err-clause-kept g c start input behind before h =
     let a : Place = place_of c.end_whole.new.self.core c.end_whole.new.self.desk.lent c.end_whole.new.self.row.lines (so_far (g.W.Write.contents c.end_whole.new.w) c.end_whole.new.self.out) in
     stopped_halts g.D.Disk.keeps start o a input behind before _ c.args.stop c.in-Err.why h c.in-Err.ensures.kept
 
-pub returns-in-Err-end_at_fault-clause-kept : goal.returns-in-Err-end_at_fault-clause-kept
-returns-in-Err-end_at_fault-clause-kept g c start input behind before h =
-    let o : Place = place_of c.args.self.now.core c.args.self.now.desk.lent c.args.self.now.row.lines (so_far (g.W.Write.contents c.args.w.now) c.args.self.now.out) in
-    let a : Place = place_of c.end_at_fault.new.self.core c.end_at_fault.new.self.desk.lent c.end_at_fault.new.self.row.lines (so_far (g.W.Write.contents c.end_at_fault.new.w) c.end_at_fault.new.self.out) in
-    stopped_halts g.D.Disk.keeps start o a input behind before _ c.args.stop c.in-Err-end_at_fault.why h c.in-Err-end_at_fault.ensures.kept
-
 pub returns-in-Err-answer_the_rest-clause-kept : goal.returns-in-Err-answer_the_rest-clause-kept
 returns-in-Err-answer_the_rest-clause-kept g c start input behind before h =
     let o : Place = place_of c.args.self.now.core c.args.self.now.desk.lent c.args.self.now.row.lines (so_far (g.W.Write.contents c.args.w.now) c.args.self.now.out) in
     let a : Place = place_of c.answer_the_rest.new.self.core c.answer_the_rest.new.self.desk.lent c.answer_the_rest.new.self.row.lines (so_far (g.W.Write.contents c.answer_the_rest.new.w) c.answer_the_rest.new.self.out) in
     stopped_halts g.D.Disk.keeps start o a input behind before _ c.args.stop c.in-Err-answer_the_rest.why h c.in-Err-answer_the_rest.ensures.kept
+
+pub returns-in-Err-answer_the_rest-2-clause-kept : goal.returns-in-Err-answer_the_rest-2-clause-kept
+returns-in-Err-answer_the_rest-2-clause-kept g c start input behind before h =
+    let o : Place = place_of c.args.self.now.core c.args.self.now.desk.lent c.args.self.now.row.lines (so_far (g.W.Write.contents c.args.w.now) c.args.self.now.out) in
+    let a : Place = place_of c.answer_the_rest-in-Exhausted.new.self.core c.answer_the_rest-in-Exhausted.new.self.desk.lent c.answer_the_rest-in-Exhausted.new.self.row.lines (so_far (g.W.Write.contents c.answer_the_rest-in-Exhausted.new.w) c.answer_the_rest-in-Exhausted.new.self.out) in
+    stopped_halts g.D.Disk.keeps start o a input behind before _ c.args.stop c.in-Err-answer_the_rest-2.why h c.in-Err-answer_the_rest-2.ensures.kept
