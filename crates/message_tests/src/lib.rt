@@ -4,6 +4,8 @@
 #[cfg(test)]
 mod common;
 #[cfg(test)]
+mod heads;
+#[cfg(test)]
 mod lending;
 #[cfg(test)]
 mod messages;
