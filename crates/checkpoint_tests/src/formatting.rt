@@ -105,6 +105,26 @@ fn an_empty_device_is_made(rt: HostRuntime) -> Result<(), Fail> {
     Ok(())
 }
 
+/// Where a request of `format` for memory is refused, not a call of the device was made, and the same call makes it.
+#[test]
+fn a_device_is_made_at_the_next_try(rt: HostRuntime) -> Result<(), Fail> {
+    let alloc = rt.alloc();
+    let g = Geometry::new(SMALL)?;
+    let old = old_bytes(alloc, LEN, 1)?;
+    let want = new_bytes(alloc, LEN, 1)?;
+    let disk = MemDisk::of_bytes(alloc, old.to_vec(alloc)?)?;
+    let made = match format(alloc, disk, g) {
+        Ok(made) => made,
+        Err(e) => {
+            let is_as_given = e.disk.calls() == 0 && e.disk.bytes() == old.as_slice();
+            holds(&rt, e.fault == FormatFault::OutOfMemory && is_as_given);
+            format(alloc, e.disk, g).map_err(|e| e.fault)?
+        }
+    };
+    holds(&rt, made.bytes() == want.as_slice());
+    Ok(())
+}
+
 #[test]
 fn a_short_device_stays(rt: HostRuntime) -> Result<(), Fail> {
     let g = Geometry::new(SMALL)?;

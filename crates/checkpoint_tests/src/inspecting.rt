@@ -103,6 +103,25 @@ fn records_and_images_are_told(rt: HostRuntime) -> Result<(), Fail> {
     expect_shown(&rt, alloc, &unchained, shown(1, 1, 0, 2)?)
 }
 
+/// Where a request of `inspect` for memory is refused, the device had one call, a read of its header, and the same call tells.
+#[test]
+fn a_device_is_inspected_at_the_next_try(rt: HostRuntime) -> Result<(), Fail> {
+    let alloc = rt.alloc();
+    let disk = device(alloc, &[(192, 1), (196, 1)])?;
+    let bytes = disk.bytes().to_vec(alloc)?;
+    let (told, disk) = match inspect(alloc, disk) {
+        Ok(told) => told,
+        Err(e) => {
+            let is_read = e.disk.calls() == 1 && e.disk.bytes() == bytes.as_slice();
+            holds(&rt, e.fault == OpenFault::OutOfMemory && is_read);
+            inspect(alloc, e.disk).map_err(|e| e.fault)?
+        }
+    };
+    holds(&rt, told == shown(1, 1, 0, 2)?);
+    holds(&rt, disk.bytes() == bytes.as_slice());
+    Ok(())
+}
+
 #[test]
 fn headers_are_refused(rt: HostRuntime) -> Result<(), Fail> {
     let alloc = rt.alloc();
