@@ -13,8 +13,8 @@ use Rattle.serving.proofs.Told.{holds_all, written_are_kept}
 use Rattle.serving.specs.Ends.{HasServed, settled}
 use Rattle.serving.specs.Lines.{asked, text, ticketed}
 use Rattle.serving.specs.Told.{AreKept, HoldsLog}
-use Rattle.serving.specs.declared.fault.ServeFault.{ServeFault}
-use Rattle.serving.specs.declared.fault.ServeFault.TheVariants as faults
+use Rattle.serving.specs.declared.server.ServeFault.{ServeFault}
+use Rattle.serving.specs.declared.server.ServeFault.TheVariants as faults
 use Rattle.commands.proofs.OnDevice.{is_idle}
 use Rattle.commands.specs.Faults.{as_told}
 use Rattle.commands.specs.Kept.{HoldsWhatWasTold, KeepsWhatWasTold, UnlessUntold}

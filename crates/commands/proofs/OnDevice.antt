@@ -16,8 +16,8 @@ use Rattle.message.specs.declared.Msg.{Msg}
 use Rattle.scheduler.specs.Kept.{IsJustOpened, Kept, StandsNow, world_of}
 use Rattle.serving.specs.Ends.{EndsSo, HasRun, settled}
 use Rattle.serving.specs.Serve.{HasEmptyLog, HasRunSo, RefusesNone}
-use Rattle.serving.specs.declared.fault.ServeFault.{ServeFault}
-use Rattle.serving.specs.declared.fault.ServeFault.TheVariants as faults
+use Rattle.serving.specs.declared.server.ServeFault.{ServeFault}
+use Rattle.serving.specs.declared.server.ServeFault.TheVariants as faults
 use Rattle.commands.specs.Faults.{as_told}
 use Rattle.commands.specs.Serving.{EndsOnDevice, HasLived, HasNoRecords, HasServedBy, HasServedNothing, IsLife, StandsFor, StoodFor, Went, at_start, run_behind}
 use Rattle.commands.specs.declared.service.Service.{Service}

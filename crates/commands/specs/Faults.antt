@@ -8,8 +8,8 @@ use Rattle.checkpoint.specs.declared.fault.FormatFault.TheVariants as formatting
 use Rattle.checkpoint.specs.declared.fault.OpenFault.TheVariants as opening
 use Rattle.plain.specs.declared.fault.PlainFault.{PlainFault}
 use Rattle.plain.specs.declared.fault.PlainFault.TheVariants as plain
-use Rattle.serving.specs.declared.fault.ServeFault.{ServeFault}
-use Rattle.serving.specs.declared.fault.ServeFault.TheVariants as serving
+use Rattle.serving.specs.declared.server.ServeFault.{ServeFault}
+use Rattle.serving.specs.declared.server.ServeFault.TheVariants as serving
 use Rattle.commands.specs.declared.faults.Fault.{Fault}
 use Rattle.commands.specs.declared.faults.Fault.TheVariants.{Read, Write, GeometryOutOfRange, OutOfMemory, Device, NoWorkers, NoTicketLeft, Format, Open}
 

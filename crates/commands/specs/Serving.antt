@@ -23,8 +23,8 @@ use Rattle.scheduler.specs.Kept.{IsJustOpened, Kept, StandsNow}
 use Rattle.serving.specs.Ends.{AreServed, EndsSo, HasRun, ServesLinesBefore, ServesWholeLines, settled}
 use Rattle.serving.specs.Runs.{with_lent}
 use Rattle.serving.specs.Serve.{HasRunSo}
-use Rattle.serving.specs.declared.fault.ServeFault.{ServeFault}
-use Rattle.serving.specs.declared.fault.ServeFault.TheVariants as serve_faults
+use Rattle.serving.specs.declared.server.ServeFault.{ServeFault}
+use Rattle.serving.specs.declared.server.ServeFault.TheVariants as serve_faults
 use Rattle.commands.specs.Faults.{as_told, of_file}
 use Rattle.commands.specs.declared.faults.Fault.{Fault}
 use Rattle.commands.specs.declared.faults.Fault.TheVariants.{Read, Write, OutOfMemory, Device, NoWorkers, NoTicketLeft, Open}

@@ -1,5 +1,5 @@
 -- A message that is answered, and its line in the row.
-use Rattle.std.proofs.Common.{◌≡◌, ℕ, true, false, List, [], ◌∷◌, ◌++◌, Option, Some, None, refl, ap, sym, ◌∙◌, subst, map, inl, append-nil, length, suc}
+use Rattle.std.proofs.Common.{◌≡◌, ℕ, true, false, List, [], ◌∷◌, ◌++◌, Option, Some, None, refl, ap, sym, ◌∙◌, subst, map, inl, append-nil, length, suc, Bool}
 use Rattle.std.specs.Prelude.{if◌then◌else◌, ◌==◌}
 use Rattle.std.specs.List.{Contains}
 use Rattle.std.proofs.lemmas.Bool.{eqb-true}
@@ -21,11 +21,10 @@ use Rattle.message.specs.declared.Reply.{Reply}
 use Rattle.scheduler.specs.Calls.{answered}
 use Rattle.scheduler.specs.Kept.{Kept}
 use Rattle.serving.specs.Lines.{Answered, AreKnown, IsKnown, Line, NoMessage, OutOfRange, Unanswered, answer_one, asked, asked_in, next_ticket, ticketed}
-use Rattle.serving.specs.Runs.{Passes}
 use Rattle.serving.specs.Going.{Goes}
-use Rattle.serving.specs.Steps.{AnswersOn, GoesOn, Holds, ServesOn}
+use Rattle.serving.specs.Runs.{Holds, IsQuiet, Passes}
 use Rattle.serving.proofs.Chain.{passes_on}
-use Rattle.serving.proofs.Stretches.{core_keeps_on, step_passes}
+use Rattle.serving.proofs.Stretches.{core_is_quiet, step_passes}
 
 module _ (g : Geometry) (told : List (ℕ × Reply)) (ticket : ℕ) (reply : Reply) where
   abbrev more : List (ℕ × Reply)
@@ -74,8 +73,11 @@ module _ (g : Geometry) (told : List (ℕ × Reply)) (ticket : ℕ) (reply : Rep
   lines_answered n (l ∷ ls) (known ∷ said) row k =
       (known_still n (message_of l) known k.0, lines_answered (next_ticket n (asked_in g (message_of l))) ls said row k.1)
 
-answered_goes_on : (keeps : Type 0) (old new : Handed) (ticket : ℕ) (reply : Reply) → Passes keeps old new [] ((ticket, reply) ∷ [])
-    → (row : List Line) → GoesOn keeps old row new (map (answer_one ticket reply) row)
+-- A message was answered, and so is its line in the row.
+pub answered_goes_on : (keeps : Type 0) (old new : Handed) (ticket : ℕ) (reply : Reply) → Passes keeps old new [] ((ticket, reply) ∷ [])
+    → (row : List Line) (start : Handed) (input left : Option (List ℕ)) (ended : Bool) (before written : Option (List ℕ))
+    → Goes keeps start old row input left ended before written
+    → Goes keeps start new (map (answer_one ticket reply) row) input left ended before written
 answered_goes_on keeps old new ticket reply p row start input left ended before written h =
     let g = start.core.geometry in
     let come = ticketed start.core.next (asked g h.taken) in
@@ -95,16 +97,21 @@ answered_goes_on keeps old new ticket reply p row start input left ended before 
       output = h.output;
     }
 
-pub answer_keeps_on : (keeps : Type 0) (old new : Kept) (r : Option (ℕ × Reply)) → IsCoreStep keeps old new steps.Answer (answered r)
+-- A message was answered with this reply, or none was.
+abbrev pub IsAnswered : Type 0 → Handed → Handed → Option (ℕ × Reply) → Type 0
+IsAnswered keeps old new None = IsQuiet keeps old new
+IsAnswered keeps old new (Some told) = Holds new × Passes keeps old new [] (told ∷ [])
+
+pub is_answered_so : (keeps : Type 0) (old new : Kept) (r : Option (ℕ × Reply)) → IsCoreStep keeps old new steps.Answer (answered r)
     → (hands : List Hand) → Holds (record { core = old; hands = hands })
-    → AnswersOn keeps (record { core = old; hands = hands }) (record { core = new; hands = hands }) r
-answer_keeps_on keeps old new None k hands h = core_keeps_on keeps old new steps.Answer outcomes.Idle k refl refl refl hands h
-answer_keeps_on keeps old new (Some a) k hands h =
+    → IsAnswered keeps (record { core = old; hands = hands }) (record { core = new; hands = hands }) r
+is_answered_so keeps old new None k hands h = core_is_quiet keeps old new steps.Answer outcomes.Idle k refl refl refl hands h
+is_answered_so keeps old new (Some a) k hands h =
     let was : Handed = record { core = old; hands = hands } in
     let now : Handed = record { core = new; hands = hands } in
     let outcome = outcomes.Answered a.0 a.1 in (
       core_holds keeps old new hands steps.Answer outcome h k refl,
-      answered_goes_on keeps was now a.0 a.1 (step_passes keeps was now steps.Answer outcome (core_step keeps old new hands steps.Answer outcome h k)),
+      step_passes keeps was now steps.Answer outcome (core_step keeps old new hands steps.Answer outcome h k),
     )
 
 -- Where none is answered, none was logged.
@@ -128,27 +135,8 @@ one_answered w new (a ∷ as') told e =
       ap (λ (l : List Replied). suc (length l)) (sym rest),
     )
 
--- ---- one after the other
-
-module _ (keeps : Type 0) (old new : Handed) (row : List Line) where
-  pub serves_none : (r : Option (ℕ × Reply)) → ((told : ℕ × Reply) → r ≡ Some told → ⊥) → AnswersOn keeps old new r
-      → ServesOn keeps old row new row
-  serves_none (Some told) not a = absurd (not told refl)
-  serves_none None not a = record { holds = a.holds; goes = a.goes row }
-
-  pub serves_one : (new_row : List Line) (ticket : ℕ) (reply : Reply) → AnswersOn keeps old new (Some (ticket, reply))
-      → new_row ≡ map (answer_one ticket reply) row → ServesOn keeps old row new new_row
-  serves_one new_row ticket reply a is = record {
-    holds = a.0;
-    goes = λ start input left ended before written h.
-        subst (λ (l : List Line). Goes keeps start new l input left ended before written) (sym is)
-        (a.1 row start input left ended before written h);
-  }
-
-pub serves_then : (keeps : Type 0) (old mid new : Handed) (row mid_row new_row : List Line) → ServesOn keeps old row mid mid_row
-    → ServesOn keeps mid mid_row new new_row → ServesOn keeps old row new new_row
-serves_then keeps old mid new row mid_row new_row s t = record {
-  holds = t.holds;
-  goes = λ start input left ended before written h.
-      t.goes start input left ended before written (s.goes start input left ended before written h);
-}
+-- where none was
+pub none_answered : (keeps : Type 0) (old new : Handed) (r : Option (ℕ × Reply)) → ((told : ℕ × Reply) → r ≡ Some told → ⊥)
+    → IsAnswered keeps old new r → IsQuiet keeps old new
+none_answered keeps old new (Some told) not a = absurd (not told refl)
+none_answered keeps old new None not a = a

@@ -1,5 +1,5 @@
 -- A line that is read, and its message that arrives.
-use Rattle.std.proofs.Common.{◌≡◌, ℕ, ◌+◌, true, false, List, [], ◌∷◌, ◌++◌, Option, refl, ap, sym, ◌∙◌, subst, append_assoc, append-nil}
+use Rattle.std.proofs.Common.{◌≡◌, ◌≢◌, ℕ, ◌+◌, true, false, List, [], ◌∷◌, ◌++◌, Option, refl, ap, sym, ◌∙◌, subst, append_assoc, append-nil, arith, Some, None}
 use Rattle.std.specs.Prelude.{Bool, Result, Ok, Err, if◌then◌else◌, not, nat_le, ◌==◌, ◌^◌, ◌-◌, length}
 use Rattle.affinity.specs.declared.geometry.Geometry.{Geometry}
 use Rattle.legal_runs.specs.Events.{Hands, arrive}
@@ -22,12 +22,12 @@ use Rattle.message.specs.declared.Msg.{Msg}
 use Rattle.message.specs.declared.Reply.{Reply}
 use Rattle.plain.specs.Order.{messages}
 use Rattle.serving.specs.Going.{IsServing}
-use Rattle.serving.specs.Lines.{AreKnown, IsKnown, Line, OutOfRange, Unanswered, asked, asked_in, next_ticket, ticketed}
-use Rattle.serving.specs.Runs.{Passes}
-use Rattle.serving.specs.Steps.{Holds, KeepsOn, TakesIn, TakesLine}
+use Rattle.serving.specs.Lines.{AreKnown, IsKnown, Line, OutOfRange, Unanswered, asked, asked_in, next_ticket, ticketed, Answered, NoMessage}
+use Rattle.serving.specs.Reads.{IsRefused, IsTaken, TakesMessage}
+use Rattle.serving.specs.Runs.{Holds, Passes}
 use Rattle.serving.proofs.Chain.{passes_on}
 use Rattle.serving.proofs.Serial.{asked-append, messages-ticketed}
-use Rattle.serving.proofs.Stretches.{core_keeps_on, step_passes}
+use Rattle.serving.proofs.Stretches.{core_is_quiet, step_passes}
 use Rattle.serving.proofs.Tickets.{next-append, run_next, ticketed-append}
 
 -- ---- one line more
@@ -50,13 +50,13 @@ module _ (keeps : Type 0) (start old : Handed) (taken : List (List ℕ)) (said r
   g = start.core.geometry
 
   -- the ticket that the core gives next
-  next_is : old.core.next ≡ next_ticket start.core.next (asked g taken)
+  pub next_is : old.core.next ≡ next_ticket start.core.next (asked g taken)
   next_is = ap (λ (w : Hands). w.core.next) (sym s.passes.ends) ∙ run_next g _ (events_of s.passes.stages) s.passes.legal
       ∙ ap (λ (es : List Entry). next_ticket start.core.next (messages es)) s.passes.come_are
       ∙ ap (next_ticket start.core.next) (messages-ticketed start.core.next (asked g taken))
 
   -- A line was read, and its message has arrived, if it takes a ticket.
-  pub takes_in : (new : Handed) (line : List ℕ) (known : Line) → Passes keeps old new (ticketed old.core.next (asked_in g (message_of line))) []
+  takes_in : (new : Handed) (line : List ℕ) (known : Line) → Passes keeps old new (ticketed old.core.next (asked_in g (message_of line))) []
       → IsKnown g s.told old.core.next (message_of line) known → IsServing keeps start new (taken ++ line ∷ []) said (row ++ known ∷ [])
   takes_in new line known p k =
       let come = ticketed start.core.next (asked g taken) in
@@ -76,6 +76,28 @@ module _ (keeps : Type 0) (start old : Handed) (taken : List (List ℕ)) (said r
         answered = s.answered;
       }
 
+-- What is known where nothing is answered is known whatever is.
+known_anyway : (g : Geometry) (told : List (ℕ × Reply)) (n : ℕ) (o : Option Msg) (known : Line) → IsKnown g [] n o known → IsKnown g told n o known
+known_anyway g told n None NoMessage k = k
+known_anyway g told n None OutOfRange k = absurd k
+known_anyway g told n None (Unanswered t) k = absurd k
+known_anyway g told n None (Answered t r) k = absurd k
+known_anyway g told n (Some m) NoMessage k = absurd k
+known_anyway g told n (Some m) OutOfRange k = k
+known_anyway g told n (Some m) (Unanswered t) k = k
+known_anyway g told n (Some m) (Answered t r) k = let none = k.2.1 in absurd (omega (arith, none))
+
+-- A line is taken.
+pub serves_taken : (keeps : Type 0) (start old new : Handed) (taken : List (List ℕ)) (said row : List Line) (line : List ℕ) (known : Line)
+    → IsTaken keeps old new (message_of line) known → IsServing keeps start old taken said row
+    → IsServing keeps start new (taken ++ line ∷ []) said (row ++ known ∷ [])
+serves_taken keeps start old new taken said row line known t s =
+    let o = message_of line in
+    takes_in keeps start old taken said row s new line known
+    (subst (λ (y : Geometry). Passes keeps old new (ticketed old.core.next (asked_in y o)) []) s.passes.geometry t.passes)
+    (known_anyway start.core.geometry s.told old.core.next o known
+    (subst (λ (y : Geometry). IsKnown y [] old.core.next o known) s.passes.geometry t.is_known))
+
 -- ---- what a ticket and a refusal tell
 
 module _ (k : ℕ) (w x : World) where
@@ -91,7 +113,7 @@ module _ (k : ℕ) (w x : World) where
   ticket_of (outcomes.Ticket t) d = t
   ticket_of _ d = d
 
-  gives_ticket : (failed fits none full : Bool) (t : ℕ) (new : World) → (outcomes.Ticket t, new) ≡ result failed fits none full
+  pub gives_ticket : (failed fits none full : Bool) (t : ℕ) (new : World) → (outcomes.Ticket t, new) ≡ result failed fits none full
       → (fits ≡ true) × (t ≡ k)
   gives_ticket true fits none full t new e = let o : outcomes.Ticket t ≡ outcomes.ArriveRefused arrivals.Failed = ap (λ (z : Outcome × World). z.0) e in cc
   gives_ticket false false none full t new e = let o : outcomes.Ticket t ≡ outcomes.ArriveRefused arrivals.Range = ap (λ (z : Outcome × World). z.0) e in cc
@@ -114,50 +136,60 @@ module _ (keeps : Type 0) (old new : Kept) (m : Msg) (hands : List Hand) (h : Ho
   now = record { core = new; hands = hands }
 
   with_ticket : (t : ℕ) → IsCoreStep keeps old new (steps.Arrive m) (outcomes.Ticket t) → is_in_range old.geometry m ≡ true → t ≡ old.next
-      → TakesLine keeps was now m (Unanswered t)
-  with_ticket t step fits is_next = record {
-    holds = core_holds keeps old new hands (steps.Arrive m) (outcomes.Ticket t) h step refl;
-    serving = λ start taken said row line is s.
-        let range : is_in_range start.core.geometry m ≡ true = ap (λ (y : Geometry). is_in_range y m) (sym s.passes.geometry) ∙ fits in
-        let one : asked_in start.core.geometry (message_of line) ≡ m ∷ [] =
-        ap (asked_in start.core.geometry) is ∙ ap (λ (b : Bool). if b then m ∷ [] else []) range in
-        let come : ◌≡◌ {A = List Entry} ((t, m) ∷ []) (ticketed old.next (asked_in start.core.geometry (message_of line))) =
-        (λ i. (is_next i, m) ∷ []) ∙ ap (ticketed old.next) (sym one) in
-        takes_in keeps start was taken said row s now line (Unanswered t)
-        (subst (λ (es : List Entry). Passes keeps was now es []) come
-        (step_passes keeps was now (steps.Arrive m) (outcomes.Ticket t) (core_step keeps old new hands (steps.Arrive m) (outcomes.Ticket t) h step)))
-        (subst (λ (o : Option Msg). IsKnown start.core.geometry s.told old.next o (Unanswered t)) (sym is) (range, is_next));
-  }
+      → IsTaken keeps was now (Some m) (Unanswered t)
+  with_ticket t step fits is_next =
+      let one : asked_in old.geometry (Some m) ≡ m ∷ [] = ap (λ (b : Bool). if b then m ∷ [] else []) fits in
+      let come : ◌≡◌ {A = List Entry} ((t, m) ∷ []) (ticketed old.next (asked_in old.geometry (Some m))) =
+      (λ i. (is_next i, m) ∷ []) ∙ ap (ticketed old.next) (sym one) in
+      record {
+        holds = core_holds keeps old new hands (steps.Arrive m) (outcomes.Ticket t) h step refl;
+        passes = subst (λ (es : List Entry). Passes keeps was now es []) come
+            (step_passes keeps was now (steps.Arrive m) (outcomes.Ticket t)
+            (core_step keeps old new hands (steps.Arrive m) (outcomes.Ticket t) h step));
+        is_known = (fits, is_next);
+      }
 
   out_of_range : IsCoreStep keeps old new (steps.Arrive m) (outcomes.ArriveRefused arrivals.Range) → is_in_range old.geometry m ≡ false
-      → TakesLine keeps was now m OutOfRange
-  out_of_range step out = record {
-    holds = core_holds keeps old new hands (steps.Arrive m) (outcomes.ArriveRefused arrivals.Range) h step refl;
-    serving = λ start taken said row line is s.
-        let range : is_in_range start.core.geometry m ≡ false = ap (λ (y : Geometry). is_in_range y m) (sym s.passes.geometry) ∙ out in
-        let none : asked_in start.core.geometry (message_of line) ≡ [] =
-        ap (asked_in start.core.geometry) is ∙ ap (λ (b : Bool). if b then m ∷ [] else []) range in
-        takes_in keeps start was taken said row s now line OutOfRange
-        (subst (λ (es : List Entry). Passes keeps was now es []) (ap (ticketed old.next) (sym none))
-        (step_passes keeps was now (steps.Arrive m) (outcomes.ArriveRefused arrivals.Range)
-        (core_step keeps old new hands (steps.Arrive m) (outcomes.ArriveRefused arrivals.Range) h step)))
-        (subst (λ (o : Option Msg). IsKnown start.core.geometry s.told old.next o OutOfRange) (sym is) range);
+      → IsTaken keeps was now (Some m) OutOfRange
+  out_of_range step out =
+      let outcome = outcomes.ArriveRefused arrivals.Range in
+      let none : asked_in old.geometry (Some m) ≡ [] = ap (λ (b : Bool). if b then m ∷ [] else []) out in
+      record {
+        holds = core_holds keeps old new hands (steps.Arrive m) outcome h step refl;
+        passes = subst (λ (es : List Entry). Passes keeps was now es []) (ap (ticketed old.next) (sym none))
+            (step_passes keeps was now (steps.Arrive m) outcome (core_step keeps old new hands (steps.Arrive m) outcome h step));
+        is_known = out;
+      }
+
+  refused : (why : ArriveRefusal) → why ≢ arrivals.Range → IsCoreStep keeps old new (steps.Arrive m) (outcomes.ArriveRefused why)
+      → (outcomes.ArriveRefused why, world_of new) ≡ arrive old.geometry (world_of old) m → IsRefused keeps was now m why
+  refused why not_range step e = record {
+    quiet = core_is_quiet keeps old new (steps.Arrive m) (outcomes.ArriveRefused why) step refl refl refl hands h;
+    refused = sym (ap (λ (x : Outcome × World). x.0) e);
+    not_range = not_range;
   }
 
-  refused : (why : ArriveRefusal) → IsCoreStep keeps old new (steps.Arrive m) (outcomes.ArriveRefused why) → KeepsOn keeps was now
-  refused why step = core_keeps_on keeps old new (steps.Arrive m) (outcomes.ArriveRefused why) step refl refl refl hands h
+  -- what is known of its line then
+  abbrev pub line_of : Result ℕ ArriveRefusal → Result Line ArriveRefusal
+  line_of (Ok t) = Ok (Unanswered t)
+  line_of (Err arrivals.Range) = Ok OutOfRange
+  line_of (Err why) = Err why
 
-  pub arrives_on : (r : Result ℕ ArriveRefusal) → IsCoreStep keeps old new (steps.Arrive m) (arrived_so r)
-      → (arrived_so r, world_of new) ≡ arrive old.geometry (world_of old) m → TakesIn keeps was now m r
-  arrives_on (Ok t) step e =
+  pub arrives_so : (r : Result ℕ ArriveRefusal) → IsCoreStep keeps old new (steps.Arrive m) (arrived_so r)
+      → (arrived_so r, world_of new) ≡ arrive old.geometry (world_of old) m → TakesMessage keeps was now m (line_of r)
+  arrives_so (Ok t) step e =
       let w = world_of old in
       let k = gives_ticket w.next w (record w { waiting = w.waiting ++ (w.next, m) ∷ []; next = w.next + 1 }) w.failed (is_in_range old.geometry m)
       (w.next == 2 ^ 64 - 1) (nat_le w.slots (length w.waiting + length (held w))) t (world_of new) e in
       with_ticket t step k.0 k.1
-  arrives_on (Err arrivals.Range) step e =
+  arrives_so (Err arrivals.Range) step e =
       let w = world_of old in
       out_of_range step (is_refused w.next w (record w { waiting = w.waiting ++ (w.next, m) ∷ []; next = w.next + 1 }) w.failed (is_in_range old.geometry m)
       (w.next == 2 ^ 64 - 1) (nat_le w.slots (length w.waiting + length (held w))) (world_of new) e)
-  arrives_on (Err arrivals.Full) step e = refused arrivals.Full step
-  arrives_on (Err arrivals.Exhausted) step e = refused arrivals.Exhausted step
-  arrives_on (Err arrivals.Failed) step e = refused arrivals.Failed step
+  arrives_so (Err arrivals.Full) step e = refused arrivals.Full (λ same. let o : arrivals.Full ≡ arrivals.Range = same in cc) step e
+  arrives_so (Err arrivals.Exhausted) step e = refused arrivals.Exhausted (λ same. let o : arrivals.Exhausted ≡ arrivals.Range = same in cc) step e
+  arrives_so (Err arrivals.Failed) step e = refused arrivals.Failed (λ same. let o : arrivals.Failed ≡ arrivals.Range = same in cc) step e
+
+pub ticket_is_next : (g : Geometry) (w new : World) (m : Msg) (t : ℕ) → (outcomes.Ticket t, new) ≡ arrive g w m → t ≡ w.next
+ticket_is_next g w new m t e = (gives_ticket w.next w (record w { waiting = w.waiting ++ (w.next, m) ∷ []; next = w.next + 1 }) w.failed
+    (is_in_range g m) (w.next == 2 ^ 64 - 1) (nat_le w.slots (length w.waiting + length (held w))) t new e).1

@@ -2,14 +2,15 @@
 pub mod Chain
 pub mod Tickets
 pub mod Stretches
-pub mod Keeping
 pub mod Returning
 pub mod Sending
 pub mod Answering
+pub mod Starting
 pub mod Arriving
 pub mod Pointing
 pub mod Places
 pub mod Taken
+pub mod Following
 pub mod Serial
 pub mod Counting
 pub mod Inside
@@ -20,7 +21,7 @@ pub mod Order
 pub mod Said
 pub mod Advancing
 pub mod Stopping
-pub mod Starting
+pub mod Under
 pub mod Promises
 pub mod Closing
 pub mod Told

@@ -1,6 +1,6 @@
 -- Lines whose tickets go up by one: each has its place, and an answer leaves the others as they are. And lines that are looked at one
 -- after the other, and answered where they are those of a ticket.
-use Rattle.std.proofs.Common.{◌≡◌, ℕ, ◌+◌, ◌<◌, ◌≤◌, Bool, true, false, zero, suc, List, [], ◌∷◌, ◌++◌, ◌⊎◌, inl, inr}
+use Rattle.std.proofs.Common.{◌≡◌, ℕ, ◌+◌, ◌<◌, ◌≤◌, Bool, true, false, zero, suc, List, [], ◌∷◌, ◌⊎◌, inl, inr}
 use Rattle.std.proofs.Common.{if◌then◌else◌, ◌==◌, drop, take, length, map, set, get_or, refl, ap, sym, ◌∙◌, subst, arith}
 use Rattle.std.proofs.lemmas.Bool.{ne_eqb}
 use Rattle.message.specs.declared.Reply.{Reply}
@@ -8,24 +8,10 @@ use Rattle.serving.specs.Lines.{Answered, Line, NoMessage, OutOfRange, Unanswere
 use Rattle.serving.specs.Rows.{AreFrom, AreInOrder, IsOf}
 
 -- a line that has a ticket is that ticket's
-pub is_of : (pushed line : Line) (ticket : ℕ) → pushed ≡ line
-    → (line ≡ Unanswered ticket) ⊎ ((reply : Reply) × (line ≡ Answered ticket reply)) → IsOf ticket pushed
-is_of pushed line ticket same (inl is) = subst (λ (l : Line). IsOf ticket l) (sym (same ∙ is)) refl
-is_of pushed line ticket same (inr (reply, is)) = subst (λ (l : Line). IsOf ticket l) (sym (same ∙ is)) refl
-
--- one more at their end
-from-append : (n : ℕ) (ticketed : List Line) (line : Line) (ticket : ℕ) → ticket ≡ n + length ticketed → IsOf ticket line
-    → AreFrom n ticketed → AreFrom n (ticketed ++ line ∷ [])
-from-append n [] line ticket is of from = (subst (λ (t : ℕ). IsOf t line) (omega (arith, is)) of, tt)
-from-append n (first ∷ ticketed) line ticket is of from =
-    (from.0, from-append (n + 1) ticketed line ticket (omega (arith, is)) of from.1)
-
-pub alone_in_order : (line : Line) (ticket : ℕ) → IsOf ticket line → AreInOrder (line ∷ [])
-alone_in_order line ticket of = (ticket, (of, tt))
-
-pub goes_on_in_order : (ticketed : List Line) (ticket : ℕ) → ((n : ℕ) → AreFrom n ticketed → ticket ≡ n + length ticketed) → (line : Line)
-    → IsOf ticket line → AreInOrder ticketed → AreInOrder (ticketed ++ line ∷ [])
-goes_on_in_order ticketed ticket is line of order = (order.0, from-append order.0 ticketed line ticket (is order.0 order.1) of order.1)
+pub ticket_in : (line : Line) → ((ticket : ℕ) × (line ≡ Unanswered ticket)) ⊎ ((ticket : ℕ) × (reply : Reply) × (line ≡ Answered ticket reply))
+    → (ticket : ℕ) × IsOf ticket line
+ticket_in line (inl (ticket, is)) = (ticket, subst (λ (l : Line). IsOf ticket l) (sym is) refl)
+ticket_in line (inr (ticket, reply, is)) = (ticket, subst (λ (l : Line). IsOf ticket l) (sym is) refl)
 
 one_more : (k : ℕ) → suc k ≡ k + 1
 one_more k = omega arith

@@ -1,33 +1,12 @@
--- Pieces of a consistency point: what they leave as it is, and that they fail only where the device does.
-use Rattle.std.proofs.Common.{◌≡◌, ℕ, ◌-◌, true, false, length, Option, Some, None, Result, Ok, Err, refl, ap, sym, ◌∙◌, subst}
+-- Steps of a consistency point: what is left of it, and that they fail only where the device does.
+use Rattle.std.proofs.Common.{◌≡◌, ◌≢◌, ℕ, ◌-◌, true, false, List, [], length, Option, Some, None, Result, Ok, Err, refl, ap, sym, ◌∙◌}
 use Rattle.std.specs.Prelude.{Bool, if◌then◌else◌, is_none, is_some, nat_lt, OnErr, OnOk}
-use Rattle.std.proofs.lemmas.Option.{none-some}
-use Rattle.legal_runs.specs.Events.{fewer, piece_refusal, point_refusal}
-use Rattle.legal_runs.specs.World.{World, held}
+use Rattle.std.proofs.lemmas.Option.{none-some, same_Some}
+use Rattle.legal_runs.specs.Events.{fewer, flip_refusal, not_ended, piece_refusal, point_refusal}
+use Rattle.legal_runs.specs.World.{Entry, World, held}
 use Rattle.legal_runs.specs.declared.outcomes.PointRefusal.{PointRefusal}
 use Rattle.legal_runs.specs.declared.outcomes.PointRefusal.TheVariants as points
 use Rattle.scheduler.specs.Calls.{IsPieceStep, IsPointStep}
-use Rattle.serving.specs.Pointing.{IsUnmoved}
-
--- ---- nothing has moved
-
-pub unmoved_then : (old mid new : World) → IsUnmoved old mid → IsUnmoved mid new → IsUnmoved old new
-unmoved_then old mid new h k = record {
-  waiting = k.waiting ∙ h.waiting;
-  out = k.out ∙ h.out;
-  ran = k.ran ∙ h.ran;
-  logged = k.logged ∙ h.logged;
-  settled = k.settled ∙ h.settled;
-  next = k.next ∙ h.next;
-  slots = k.slots ∙ h.slots;
-}
-
--- where no more than these three have changed
-pub unmoved : (w : World) (room : ℕ) (left : Option ℕ) (failed : Bool) → IsUnmoved w (record w { room = room; left = left; failed = failed })
-unmoved w room left failed = record { waiting = refl; out = refl; ran = refl; logged = refl; settled = refl; next = refl; slots = refl }
-
-pub unmoved_so : (old new made : World) → IsUnmoved old made → new ≡ made → IsUnmoved old new
-unmoved_so old new made h e = subst (IsUnmoved old) (sym e) h
 
 -- ---- why a step is refused
 
@@ -40,6 +19,61 @@ works_so : (b : Bool) (o : Option PointRefusal) → (if b then Some points.Faile
 works_so true o e = absurd (none-some points.Failed (sym e))
 works_so false o e = refl
 
+-- A step is refused where the device fails, or for its reason.
+refused_so : (old new : World) (why : Option PointRefusal) (made : Type 0) (refusal : PointRefusal) → IsPointStep old new why made (Err refusal)
+    → (why ≡ Some refusal → old.failed ≡ true) → new.failed ≡ true
+refused_so old new why made points.Device h failed = ap (λ (w : World). w.failed) h.1
+refused_so old new why made points.Failed h failed = ap (λ (w : World). w.failed) h.1 ∙ failed h.0
+refused_so old new why made points.Held h failed = ap (λ (w : World). w.failed) h.1 ∙ failed h.0
+refused_so old new why made points.Running h failed = ap (λ (w : World). w.failed) h.1 ∙ failed h.0
+refused_so old new why made points.NotRunning h failed = ap (λ (w : World). w.failed) h.1 ∙ failed h.0
+refused_so old new why made points.Unfinished h failed = ap (λ (w : World). w.failed) h.1 ∙ failed h.0
+
+-- Where all pieces are written, the end is refused only by a device that has failed.
+pub flip_fails : (old new : World) (made : Type 0) (refusal : PointRefusal) → old.left ≡ Some 0
+    → IsPointStep old new (flip_refusal old) made (Err refusal) → new.failed ≡ true
+flip_fails old new made refusal left h = refused_so old new (flip_refusal old) made refusal h
+    (λ e. failed_so old.failed (not_ended old.left) refusal e (λ d. absurd (none-some refusal (ap not_ended (sym left) ∙ d))))
+
+-- ---- where a point is to begin and none is in progress
+
+module _ (old : World) (left : old.left ≡ None) where
+  abbrev if_held : Bool → Option PointRefusal
+  if_held b = if b then Some points.Held else None
+
+  abbrev rest : Option PointRefusal
+  rest = if is_some old.left then Some points.Running else if_held (nat_lt 0 (length (held old)))
+
+  no_other : if_held (nat_lt 0 (length (held old))) ≡ rest
+  no_other = ap (λ (o : Option ℕ). if is_some o then Some points.Running else if_held (nat_lt 0 (length (held old)))) (sym left)
+
+  held_only : (b : Bool) (refusal : PointRefusal) → if_held b ≡ Some refusal → refusal ≡ points.Held
+  held_only true refusal e = sym (same_Some points.Held refusal e)
+  held_only false refusal e = absurd (none-some refusal e)
+
+  -- It is refused for a message that is held, or by a device that has failed.
+  pub begin_fails : (new : World) (made : Type 0) (refusal : PointRefusal) → refusal ≢ points.Held
+      → IsPointStep old new (point_refusal old) made (Err refusal) → new.failed ≡ true
+  begin_fails new made refusal not_held h = refused_so old new (point_refusal old) made refusal h
+      (λ e. failed_so old.failed rest refusal e (λ d. absurd (not_held (held_only (nat_lt 0 (length (held old))) refusal (no_other ∙ d)))))
+
+  module _ (none_held : held old ≡ []) where
+    none_rests : None ≡ rest
+    none_rests = ap (λ (l : List Entry). if_held (nat_lt 0 (length l))) (sym none_held) ∙ no_other
+
+    -- Where none is held, only by the device.
+    pub point_fails : (new : World) (made : Type 0) (refusal : PointRefusal) → IsPointStep old new (point_refusal old) made (Err refusal)
+        → new.failed ≡ true
+    point_fails new made refusal h = refused_so old new (point_refusal old) made refusal h
+        (λ e. failed_so old.failed rest refusal e (λ d. absurd (none-some refusal (none_rests ∙ d))))
+
+    not_so : (failed : Bool) → (if failed then Some points.Failed else rest) ≡ Some points.Held → ⊥
+    not_so true e = let same : points.Failed ≡ points.Held = same_Some points.Failed points.Held e in cc
+    not_so false e = none-some points.Held (none_rests ∙ e)
+
+    pub isnt_held : (new : World) (made : Type 0) → IsPointStep old new (point_refusal old) made (Err points.Held) → ⊥
+    isnt_held new made h = not_so old.failed h.0
+
 -- ---- a point at once
 
 pub point_works : (old new : World) (room : ℕ) (r : Result (Unit {0}) PointRefusal)
@@ -49,15 +83,6 @@ point_works old new room (Ok x) h = ap (λ (w : World). w.failed) h.1
 point_works old new room (Err why) h = tt
 
 -- ---- a piece
-
-pub piece_unmoved : (old new : World) (r : Result ℕ PointRefusal) → IsPieceStep old new r → IsUnmoved old new
-piece_unmoved old new (Ok n) h = unmoved_so old new _ (unmoved old old.room (Some n) old.failed) h.2
-piece_unmoved old new (Err points.Device) h = unmoved_so old new _ (unmoved old old.room old.left true) h.2
-piece_unmoved old new (Err points.Failed) h = unmoved_so old new _ (unmoved old old.room old.left old.failed) h.1
-piece_unmoved old new (Err points.Running) h = unmoved_so old new _ (unmoved old old.room old.left old.failed) h.1
-piece_unmoved old new (Err points.NotRunning) h = unmoved_so old new _ (unmoved old old.room old.left old.failed) h.1
-piece_unmoved old new (Err points.Held) h = unmoved_so old new _ (unmoved old old.room old.left old.failed) h.1
-piece_unmoved old new (Err points.Unfinished) h = unmoved_so old new _ (unmoved old old.room old.left old.failed) h.1
 
 -- one less is left
 pub piece_left : (old new : World) (r : Result ℕ PointRefusal) (n : ℕ) → IsPieceStep old new r → old.left ≡ Some n

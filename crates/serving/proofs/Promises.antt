@@ -14,7 +14,7 @@ use Rattle.serving.specs.Lines.{Line}
 use Rattle.serving.specs.Rows.{comes_next}
 use Rattle.serving.specs.Runs.{with_lent}
 use Rattle.serving.specs.Serve.{AreAll, HasRunSo}
-use Rattle.serving.specs.declared.fault.ServeFault.TheVariants as faults
+use Rattle.serving.specs.declared.server.ServeFault.TheVariants as faults
 use Rattle.serving.proofs.Served.{has_served}
 use Rattle.serving.proofs.Starting.{starts}
 

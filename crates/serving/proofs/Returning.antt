@@ -16,10 +16,9 @@ use Rattle.parcel.specs.Run.{Asked, IsRun}
 use Rattle.parcel.specs.declared.job.Done.{Done}
 use Rattle.scheduler.specs.Jobs.{IsResultOf}
 use Rattle.scheduler.specs.Kept.{Kept, StandsNow, world_of}
-use Rattle.serving.specs.Runs.{Passes, hand_of, with_lent}
-use Rattle.serving.specs.Steps.{Holds, KeepsOn}
+use Rattle.serving.specs.Runs.{Holds, IsQuiet, Passes, hand_of, with_lent}
 use Rattle.serving.proofs.Chain.{passes_on}
-use Rattle.serving.proofs.Stretches.{quiet_keeps_on, step_passes}
+use Rattle.serving.proofs.Stretches.{step_passes}
 use Rattle.workers.specs.Rule.{lent_at}
 
 -- ---- hands and places
@@ -88,7 +87,8 @@ module _ (keeps : Type 0) (core : Kept) (lent : List (Option Asked)) (none : cor
         (step_passes keeps (at ran core) (at (set ran k has.Empty) new) (steps.Back k) (outcomes.Back done.ticket)
         (back_step keeps core ran none stands moved.1 k done result_there new geometry same found one_out told world))
 
-    pub gives_back : KeepsOn keeps (with_lent core lent) (with_lent new (set lent k None))
-    gives_back = subst (λ (l : List Hand). KeepsOn keeps (at hands core) (at l new)) emptied
-        (quiet_keeps_on keeps (at hands core) (at (set ran k has.Empty) new)
-        (back_holds keeps core ran none stands moved.1 k done result_there new geometry same found one_out told world) passes)
+    pub gives_back : IsQuiet keeps (with_lent core lent) (with_lent new (set lent k None))
+    gives_back = subst (λ (l : List Hand). IsQuiet keeps (at hands core) (at l new)) emptied (record {
+      holds = back_holds keeps core ran none stands moved.1 k done result_there new geometry same found one_out told world;
+      passes = passes;
+    })

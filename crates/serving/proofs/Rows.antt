@@ -1,8 +1,8 @@
 -- A row whose lines with tickets lie beside the kinds of all: its lines, as it grows, shrinks and is answered.
 use Rattle.std.proofs.Common.{◌≡◌, ℕ, ◌+◌, ◌<◌, ◌≤◌, suc, List, [], ◌∷◌, ◌++◌, drop, length, map, refl, ap, sym, ◌∙◌, append-nil, arith}
 use Rattle.message.specs.declared.Reply.{Reply}
-use Rattle.serving.specs.Lines.{Line, NoMessage, OutOfRange, answer_one}
-use Rattle.serving.specs.Rows.{Ticketed, LineKind, Outside, RowView, Stray, ticketed_among, lines_of}
+use Rattle.serving.specs.Lines.{Answered, Line, NoMessage, OutOfRange, Unanswered, answer_one}
+use Rattle.serving.specs.Rows.{AreFrom, IsOf, Ticketed, LineKind, Outside, RowView, Stray, ticketed_among, lines_of, with_tickets}
 
 -- one line fewer, and one more that was taken off
 pub one_fewer : (n : ℕ) (old row now : List Line) (line : Line) → row ≡ line ∷ drop 1 row → now ≡ drop 1 row → n + length row ≡ length old
@@ -63,6 +63,25 @@ pub lines_of-plain : (kinds more : List LineKind) (ticketed : List Line) → tic
     → lines_of (kinds ++ more) ticketed ≡ lines_of kinds ticketed ++ lines_of more []
 lines_of-plain kinds more ticketed many =
     ap (λ (l : List Line). lines_of (kinds ++ more) l) (sym (append-nil ticketed)) ∙ lines_of-append kinds more ticketed [] many
+
+-- ---- those with tickets
+
+one_with_ticket : (n : ℕ) (line : Line) (row : List Line) → IsOf n line → with_tickets (line ∷ row) ≡ line ∷ with_tickets row
+one_with_ticket n NoMessage row of = absurd of
+one_with_ticket n OutOfRange row of = absurd of
+one_with_ticket n (Unanswered t) row of = refl
+one_with_ticket n (Answered t reply) row of = refl
+
+pub tickets_of_lines : (kinds : List LineKind) (ticketed : List Line) (n : ℕ) → ticketed_among kinds ≡ length ticketed → AreFrom n ticketed
+    → with_tickets (lines_of kinds ticketed) ≡ ticketed
+tickets_of_lines [] [] n many from = refl
+tickets_of_lines [] (line ∷ ticketed) n many from = absurd (omega (arith, many))
+tickets_of_lines (Stray ∷ kinds) ticketed n many from = tickets_of_lines kinds ticketed n many from
+tickets_of_lines (Outside ∷ kinds) ticketed n many from = tickets_of_lines kinds ticketed n many from
+tickets_of_lines (Ticketed ∷ kinds) [] n many from = absurd (omega (arith, many))
+tickets_of_lines (Ticketed ∷ kinds) (line ∷ ticketed) n many from =
+    one_with_ticket n line (lines_of kinds ticketed) from.0
+    ∙ ap (λ (l : List Line). line ∷ l) (tickets_of_lines kinds ticketed (n + 1) (omega (arith, many)) from.1)
 
 -- ---- every line answered where it is the ticket's
 

@@ -1,28 +1,32 @@
--- Lines at the front of the row that are written.
-use Rattle.std.proofs.Common.{◌≡◌, ℕ, true, List, [], ◌∷◌, ◌++◌, Option, map, ap, sym, ◌∙◌, refl, subst, append_assoc, append-nil}
+-- What the line at the front of the row says.
+use Rattle.std.proofs.Common.{◌≡◌, ◌+◌, ℕ, true, false, List, [], ◌∷◌, Option, drop, length, refl, ap, sym, subst, append-nil, arith}
 use Rattle.std.specs.Io.KnownBytes.{Appends}
-use Rattle.std.specs.List.{AllByRecursion}
-use Rattle.std.proofs.KnownBytes.{Appends-nil, Appends-trans}
-use Rattle.plain.specs.Output.{joined}
-use Rattle.serving.specs.Lines.{Line, is_answered, text}
-use Rattle.serving.specs.Rows.{Says}
+use Rattle.std.proofs.lemmas.Bool.{true≢false}
+use Rattle.serving.specs.Lines.{Answered, Line, NoMessage, OutOfRange, Unanswered, is_answered, text}
+use Rattle.serving.specs.Rows.{Says, comes_next, next_text}
 
-all_and_one : (said : List Line) (line : Line) → AllByRecursion (λ l. is_answered l ≡ true) said → is_answered line ≡ true
-    → AllByRecursion (λ l. is_answered l ≡ true) (said ++ line ∷ [])
-all_and_one [] line all one = (one, tt)
-all_and_one (x ∷ said) line all one = (all.0, all_and_one said line all.1 one)
-
-texts_and_one : (said : List Line) (line : Line) → joined (map text said) ++ text line ≡ joined (map text (said ++ line ∷ []))
-texts_and_one [] line = sym (append-nil (text line))
-texts_and_one (x ∷ said) line = append_assoc (text x) (joined (map text said)) (text line) ∙ ap (λ z. text x ++ z) (texts_and_one said line)
-
--- the next was written
-pub says_one_more : (old : List Line) (line : Line) (row : List Line) (before written now : Option (List ℕ)) → Says old (line ∷ row) before written
-    → is_answered line ≡ true → Appends written now (text line) → Says old row before now
-says_one_more old line row before written now s answered appended = record {
-  said = s.said ++ line ∷ [];
-  were = s.were ∙ sym (append_assoc s.said (line ∷ []) row);
-  are_answered = all_and_one s.said line s.are_answered answered;
-  output = subst (λ (z : List ℕ). Appends before now z) (texts_and_one s.said line)
-      (Appends-trans before written now (joined (map text s.said)) (text line) s.output appended);
+-- It was written, and has left the row.
+pub says_front : (row rest : List Line) (old now : Option (List ℕ)) → rest ≡ drop 1 row → comes_next row ≡ true
+    → Appends old now (next_text row) → Says row rest old now
+says_front [] rest old now is next appended = absurd (true≢false (sym next))
+says_front (line ∷ row) rest old now is next appended = record {
+  said = line ∷ [];
+  were = ap (λ (l : List Line). line ∷ l) (sym is);
+  are_answered = (next, tt);
+  output = subst (λ (z : List ℕ). Appends old now z) (sym (append-nil (text line))) appended;
 }
+
+pub one_less : (row rest : List Line) → rest ≡ drop 1 row → comes_next row ≡ true → length rest + 1 ≡ length row
+one_less [] rest is next = absurd (true≢false (sym next))
+one_less (line ∷ row) rest is next = let same = ap (λ (l : List Line). length l) is in omega (arith, same)
+
+silent_line : (line : Line) → is_answered line ≡ false → text line ≡ []
+silent_line NoMessage not = absurd (true≢false not)
+silent_line OutOfRange not = absurd (true≢false not)
+silent_line (Unanswered ticket) not = refl
+silent_line (Answered ticket reply) not = absurd (true≢false not)
+
+-- Nothing is written where it isn't answered.
+pub silent : (row : List Line) → comes_next row ≡ false → next_text row ≡ []
+silent [] not = refl
+silent (line ∷ row) not = silent_line line not

@@ -19,10 +19,9 @@ use Rattle.message.specs.declared.Reply.{Reply}
 use Rattle.parcel.specs.Run.{Asked}
 use Rattle.scheduler.specs.Calls.{IsGrantOf, IsNoGrant}
 use Rattle.scheduler.specs.Kept.{Kept, StandsNow, world_of}
-use Rattle.serving.specs.Runs.{Passes, hand_of, with_lent}
-use Rattle.serving.specs.Steps.{Holds, KeepsOn}
+use Rattle.serving.specs.Runs.{Holds, IsQuiet, Passes, hand_of, with_lent}
 use Rattle.serving.proofs.Returning.{hands-set}
-use Rattle.serving.proofs.Stretches.{quiet_keeps_on, step_passes}
+use Rattle.serving.proofs.Stretches.{step_passes}
 use Rattle.workers.specs.Rule.{lent_at}
 
 -- ---- the first place where nothing is lent is the least empty hand
@@ -69,25 +68,27 @@ module _ (keeps : Type 0) (old new : Kept) (lent : List (Option Asked)) (none : 
   -- a step that answers nothing
   quiet : (after : List Hand) (outcome : Outcome) → answers outcome ≡ [] → Holds (record { core = new; hands = after })
       → IsStep keeps (record { core = old; hands = hands }) (record { core = new; hands = after }) steps.Grant outcome
-      → KeepsOn keeps (with_lent old lent) (record { core = new; hands = after })
+      → IsQuiet keeps (with_lent old lent) (record { core = new; hands = after })
   quiet after outcome none_told holds step =
       let was : Handed = record { core = old; hands = hands } in
       let now : Handed = record { core = new; hands = after } in
-      quiet_keeps_on keeps was now holds
-      (subst (λ (l : List (ℕ × Reply)). Passes keeps was now [] l) none_told (step_passes keeps was now steps.Grant outcome step))
+      record {
+        holds = holds;
+        passes = subst (λ (l : List (ℕ × Reply)). Passes keeps was now [] l) none_told (step_passes keeps was now steps.Grant outcome step);
+      }
 
   pub goes_out : (job : Asked) → IsGrantOf old.geometry (world_of old) (world_of new) job
-      → KeepsOn keeps (with_lent old lent) (with_lent new (set lent k (Some job)))
-  goes_out job g = subst (λ (l : List Hand). KeepsOn keeps (with_lent old lent) (record { core = new; hands = l })) (sym (hands-set lent k (Some job)))
+      → IsQuiet keeps (with_lent old lent) (with_lent new (set lent k (Some job)))
+  goes_out job g = subst (λ (l : List Hand). IsQuiet keeps (with_lent old lent) (record { core = new; hands = l })) (sym (hands-set lent k (Some job)))
       (quiet (set hands k (has.Job job)) (outcomes.Granted k job.ticket) refl
       (grant_holds keeps old new hands none stands geometry same k least job g h (position_within hands k least))
       (grant_step keeps old new hands none stands geometry same k least job g))
 
   pub none_goes : (why : Outcome) → answers why ≡ [] → IsNoGrant old.geometry (world_of old) (world_of new) why
-      → KeepsOn keeps (with_lent old lent) (with_lent new lent)
+      → IsQuiet keeps (with_lent old lent) (with_lent new lent)
   none_goes why none_told g = quiet hands why none_told (still_holds keeps old new hands none stands geometry same h g.same)
       (no_grant_step keeps old new hands none stands geometry same k why least g)
 
-  pub none_goes_any_more : old.failed ≡ true → world_of new ≡ world_of old → KeepsOn keeps (with_lent old lent) (with_lent new lent)
+  pub none_goes_any_more : old.failed ≡ true → world_of new ≡ world_of old → IsQuiet keeps (with_lent old lent) (with_lent new lent)
   none_goes_any_more failed still = quiet hands outcomes.Failed refl (still_holds keeps old new hands none stands geometry same h still)
       (failed_step keeps old new hands none stands geometry same k least failed still)

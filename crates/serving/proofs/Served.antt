@@ -32,7 +32,7 @@ use Rattle.serving.specs.Going.{Goes, IsServing}
 use Rattle.serving.specs.Lines.{AreKnown, Line, asked, text, ticketed}
 use Rattle.machine.specs.Machine.{Handed, machine_of}
 use Rattle.machine.specs.Stages.{events_of}
-use Rattle.serving.specs.declared.fault.ServeFault.TheVariants as faults
+use Rattle.serving.specs.declared.server.ServeFault.TheVariants as faults
 use Rattle.serving.proofs.Inside.{idle_again}
 use Rattle.serving.proofs.Serial.{AreTold, all_said, asked_leads_there, messages-ticketed, said_is_serial}
 

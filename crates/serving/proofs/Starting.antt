@@ -8,8 +8,7 @@ use Rattle.machine.specs.declared.hands.Hand.TheVariants as has
 use Rattle.plain.specs.Progress.{Takes}
 use Rattle.scheduler.specs.Kept.{Kept, world_of}
 use Rattle.serving.specs.Going.{Goes}
-use Rattle.serving.specs.Runs.{Passes, hand_of, with_lent}
-use Rattle.serving.specs.Steps.{Holds}
+use Rattle.serving.specs.Runs.{Holds, Passes, hand_of, with_lent}
 
 -- ---- nothing is lent
 
@@ -29,7 +28,7 @@ adds_none None = tt
 adds_none (Some bytes) = sym (append-nil bytes)
 
 module _ (keeps : Type 0) (start : Handed) where
-  stays : Passes keeps start start [] []
+  pub stays : Passes keeps start start [] []
   stays = record {
     stages = [];
     legal = tt;

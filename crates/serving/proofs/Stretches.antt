@@ -1,5 +1,5 @@
 -- One step of a run, behind those before it.
-use Rattle.std.proofs.Common.{◌≡◌, ℕ, Bool, List, [], ◌∷◌, ◌++◌, Result, Ok, Err, refl, ap, sym, ◌∙◌, subst, take, append-nil, false, true, ◌≤◌, ◌+◌, add-zero, zero, suc, arith}
+use Rattle.std.proofs.Common.{◌≡◌, ℕ, Bool, List, [], ◌∷◌, ◌++◌, Result, Ok, Err, refl, ap, sym, ◌∙◌, subst, take, append-nil, false, true, ◌≤◌, ◌+◌, add-zero, zero, suc, arith, Option}
 use Rattle.std.specs.Prelude.{OnErr, OnOk, drop, length, if◌then◌else◌}
 use Rattle.affinity.specs.declared.geometry.Geometry.{Geometry}
 use Rattle.legal_runs.proofs.Apart.{length_held}
@@ -23,10 +23,9 @@ use Rattle.message.specs.declared.Reply.{Reply}
 use Rattle.scheduler.specs.Calls.{Counts, IsCalled, IsLogStep, log_rose, logged, point_rose, stepped}
 use Rattle.scheduler.specs.Kept.{Kept, StandsThroughout, world_of}
 use Rattle.serving.specs.Lines.{Line, asked, ticketed}
-use Rattle.serving.specs.Runs.{Passes}
-use Rattle.serving.specs.Steps.{GoesOn, Holds, KeepsOn}
+use Rattle.serving.specs.Going.{Goes}
+use Rattle.serving.specs.Runs.{Holds, IsQuiet, Passes}
 use Rattle.serving.proofs.Chain.{passes_on}
-use Rattle.serving.proofs.Tickets.{quiet_ticket}
 
 counted : (b : Bool) (old new : ℕ) → Counts b old new → new ≡ old + (0 + (if b then 1 else 0))
 counted true old new h = h
@@ -51,7 +50,9 @@ module _ (keeps : Type 0) (old new : Handed) (step : Step) (outcome : Outcome) (
   }
 
 -- A stretch in which nothing arrives and nothing is answered leaves what is known of the lines.
-pub quiet_goes_on : (keeps : Type 0) (old new : Handed) → Passes keeps old new [] [] → (row : List Line) → GoesOn keeps old row new row
+pub quiet_goes_on : (keeps : Type 0) (old new : Handed) → Passes keeps old new [] [] → (row : List Line) (start : Handed)
+    (input left : Option (List ℕ)) (ended : Bool) (before written : Option (List ℕ)) → Goes keeps start old row input left ended before written
+    → Goes keeps start new row input left ended before written
 quiet_goes_on keeps old new p row start input left ended before written h =
     let come = ticketed start.core.next (asked start.core.geometry h.taken) in
     let s = h.serving in
@@ -76,30 +77,24 @@ run_fails : (g : Geometry) (old : Hands) (events : List Event) → IsLegal g old
 run_fails g old [] legal failed = failed
 run_fails g old (event ∷ events) legal failed = run_fails g event.world events legal.1 (failure_lasts g old event legal.0 failed).failed
 
-still_failed : (keeps : Type 0) (old new : Handed) → Passes keeps old new [] [] → old.core.failed ≡ true → new.core.failed ≡ true
-still_failed keeps old new p failed =
+pub still_failed : (keeps : Type 0) (old new : Handed) (come : List Entry) (told : List (ℕ × Reply)) → Passes keeps old new come told
+    → old.core.failed ≡ true → new.core.failed ≡ true
+still_failed keeps old new come told p failed =
     ap (λ (w : Hands). w.core.failed) (sym p.ends) ∙ run_fails old.core.geometry (machine_of old) _ p.legal failed
 
--- It keeps what the machine holds, too, where the new one holds what it should.
-pub quiet_keeps_on : (keeps : Type 0) (old new : Handed) → Holds new → Passes keeps old new [] [] → KeepsOn keeps old new
-quiet_keeps_on keeps old new h p = record {
-  holds = h;
-  next = quiet_ticket keeps old new p;
-  failed = still_failed keeps old new p;
-  goes = quiet_goes_on keeps old new p;
-}
-
 -- A step of the core alone, in which nothing arrives or is answered, and nothing goes out or comes back.
-pub core_keeps_on : (keeps : Type 0) (old new : Kept) (step : Step) (outcome : Outcome) → IsCoreStep keeps old new step outcome
+pub core_is_quiet : (keeps : Type 0) (old new : Kept) (step : Step) (outcome : Outcome) → IsCoreStep keeps old new step outcome
     → moves_what_is_out step ≡ false → arrives step outcome ≡ [] → answers outcome ≡ [] → (hands : List Hand)
-    → Holds (record { core = old; hands = hands }) → KeepsOn keeps (record { core = old; hands = hands }) (record { core = new; hands = hands })
-core_keeps_on keeps old new step outcome k still none_come none_told hands h =
+    → Holds (record { core = old; hands = hands }) → IsQuiet keeps (record { core = old; hands = hands }) (record { core = new; hands = hands })
+core_is_quiet keeps old new step outcome k still none_come none_told hands h =
     let was : Handed = record { core = old; hands = hands } in
     let now : Handed = record { core = new; hands = hands } in
-    quiet_keeps_on keeps was now (core_holds keeps old new hands step outcome h k still)
-    (subst (λ (es : List Entry). Passes keeps was now es []) none_come
-    (subst (λ (l : List (ℕ × Reply)). Passes keeps was now (arrives step outcome) l) none_told
-    (step_passes keeps was now step outcome (core_step keeps old new hands step outcome h k))))
+    record {
+      holds = core_holds keeps old new hands step outcome h k still;
+      passes = subst (λ (es : List Entry). Passes keeps was now es []) none_come
+          (subst (λ (l : List (ℕ × Reply)). Passes keeps was now (arrives step outcome) l) none_told
+          (step_passes keeps was now step outcome (core_step keeps old new hands step outcome h k)));
+    }
 
 -- ---- logs
 
@@ -107,12 +102,12 @@ no_answer_of_log : (r : Result ℕ CoreFault) → answers (logged r) ≡ []
 no_answer_of_log (Ok count) = refl
 no_answer_of_log (Err why) = refl
 
-pub log_keeps_on : (keeps : Type 0) (old new : Kept) (n : ℕ) (r : Result ℕ CoreFault)
+pub log_is_quiet : (keeps : Type 0) (old new : Kept) (n : ℕ) (r : Result ℕ CoreFault)
     → IsCalled old.geometry (world_of old) (world_of new) (steps.Log n) (logged r) (log_rose r) → new.geometry ≡ old.geometry
     → Counts (log_rose r) old.medium.faults new.medium.faults → (keeps → StandsThroughout (batch (world_of old) n) old new)
     → (hands : List Hand) → Holds (record { core = old; hands = hands })
-    → KeepsOn keeps (record { core = old; hands = hands }) (record { core = new; hands = hands })
-log_keeps_on keeps old new n r called geometry counts moments = core_keeps_on keeps old new (steps.Log n) (logged r)
+    → IsQuiet keeps (record { core = old; hands = hands }) (record { core = new; hands = hands })
+log_is_quiet keeps old new n r called geometry counts moments = core_is_quiet keeps old new (steps.Log n) (logged r)
     (record { rose = log_rose r; called = called; geometry = geometry; failures = counts; any_moment = moments }) refl refl (no_answer_of_log r)
 
 none_behind_all : {A : Type 0} (n : ℕ) (xs : List A) → length xs ≤ n → drop n xs ≡ []
@@ -160,24 +155,24 @@ module _ (keeps : Type 0) (old new : Kept) (geometry : new.geometry ≡ old.geom
   abbrev IsStepOf : Step → Outcome → Bool → Type 0
   IsStepOf step outcome rose = IsCalled old.geometry (world_of old) (world_of new) step outcome rose → Counts rose old.medium.faults new.medium.faults
       → (hands : List Hand) → Holds (record { core = old; hands = hands })
-      → KeepsOn keeps (record { core = old; hands = hands }) (record { core = new; hands = hands })
+      → IsQuiet keeps (record { core = old; hands = hands }) (record { core = new; hands = hands })
 
-  pub point_keeps_on : (r : Result (Unit {0}) PointRefusal) → IsStepOf steps.Point (stepped (λ _. outcomes.Pointed) r) (point_rose r)
-  point_keeps_on r called counts = core_keeps_on keeps old new steps.Point (stepped (λ _. outcomes.Pointed) r)
+  pub point_is_quiet : (r : Result (Unit {0}) PointRefusal) → IsStepOf steps.Point (stepped (λ _. outcomes.Pointed) r) (point_rose r)
+  point_is_quiet r called counts = core_is_quiet keeps old new steps.Point (stepped (λ _. outcomes.Pointed) r)
       (record { rose = point_rose r; called = called; geometry = geometry; failures = counts; any_moment = moments }) refl refl
       (no_answer_of_point (λ _. outcomes.Pointed) (λ _. refl) r)
 
-  pub cut_keeps_on : (r : Result (Unit {0}) PointRefusal) → IsStepOf steps.Cut (stepped (λ _. outcomes.Cut) r) (point_rose r)
-  cut_keeps_on r called counts = core_keeps_on keeps old new steps.Cut (stepped (λ _. outcomes.Cut) r)
+  pub cut_is_quiet : (r : Result (Unit {0}) PointRefusal) → IsStepOf steps.Cut (stepped (λ _. outcomes.Cut) r) (point_rose r)
+  cut_is_quiet r called counts = core_is_quiet keeps old new steps.Cut (stepped (λ _. outcomes.Cut) r)
       (record { rose = point_rose r; called = called; geometry = geometry; failures = counts; any_moment = moments }) refl refl
       (no_answer_of_point (λ _. outcomes.Cut) (λ _. refl) r)
 
-  pub piece_keeps_on : (r : Result ℕ PointRefusal) → IsStepOf steps.Piece (stepped outcomes.Left r) (point_rose r)
-  piece_keeps_on r called counts = core_keeps_on keeps old new steps.Piece (stepped outcomes.Left r)
+  pub piece_is_quiet : (r : Result ℕ PointRefusal) → IsStepOf steps.Piece (stepped outcomes.Left r) (point_rose r)
+  piece_is_quiet r called counts = core_is_quiet keeps old new steps.Piece (stepped outcomes.Left r)
       (record { rose = point_rose r; called = called; geometry = geometry; failures = counts; any_moment = moments }) refl refl
       (no_answer_of_point outcomes.Left (λ _. refl) r)
 
-  pub flip_keeps_on : (r : Result (Unit {0}) PointRefusal) → IsStepOf steps.Flip (stepped (λ _. outcomes.Flipped) r) (point_rose r)
-  flip_keeps_on r called counts = core_keeps_on keeps old new steps.Flip (stepped (λ _. outcomes.Flipped) r)
+  pub flip_is_quiet : (r : Result (Unit {0}) PointRefusal) → IsStepOf steps.Flip (stepped (λ _. outcomes.Flipped) r) (point_rose r)
+  flip_is_quiet r called counts = core_is_quiet keeps old new steps.Flip (stepped (λ _. outcomes.Flipped) r)
       (record { rose = point_rose r; called = called; geometry = geometry; failures = counts; any_moment = moments }) refl refl
       (no_answer_of_point (λ _. outcomes.Flipped) (λ _. refl) r)

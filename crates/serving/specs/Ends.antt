@@ -17,8 +17,8 @@ use Rattle.plain.specs.Output.{AnswersWholeLines, IsBeginning, Writes, joined, o
 use Rattle.plain.specs.State.{State}
 use Rattle.scheduler.specs.Kept.{Kept, world_of}
 use Rattle.serving.specs.Lines.{AreKnown, Line, asked, is_answered, text, ticketed}
-use Rattle.serving.specs.declared.fault.ServeFault.{ServeFault}
-use Rattle.serving.specs.declared.fault.ServeFault.TheVariants as faults
+use Rattle.serving.specs.declared.server.ServeFault.{ServeFault}
+use Rattle.serving.specs.declared.server.ServeFault.TheVariants as faults
 
 -- ---- the serial server's output and state, for a server that began in one state and settled another
 

@@ -1,11 +1,20 @@
--- What goes out to the places of a bench, and when all is home.
-use Rattle.std.specs.Prelude.{◌≡◌, ℕ, List, Option, Some, None, is_none, length, position, replicate, slice_set}
+-- What goes out to the places of a bench, why none does, and when all is home.
+use Rattle.std.specs.Prelude.{◌≡◌, ℕ, true, false, List, Option, Some, None, is_none, is_some, length, position, replicate, slice_set}
 use Rattle.affinity.specs.declared.geometry.Geometry.{Geometry}
+use Rattle.legal_runs.specs.Eligible.{next_eligible}
+use Rattle.legal_runs.specs.Events.{no_grant}
 use Rattle.legal_runs.specs.World.{World}
+use Rattle.legal_runs.specs.declared.outcomes.Outcome.TheVariants as outcomes
 use Rattle.parcel.specs.Run.{Asked}
-use Rattle.serving.specs.Steps.{IsSent}
-use Rattle.serving.specs.declared.lending.Sent.{Sent}
-use Rattle.serving.specs.declared.lending.Sent.TheVariants as sent
+use Rattle.serving.specs.declared.turn.Sent.{Sent}
+use Rattle.serving.specs.declared.turn.Sent.TheVariants as sent
+
+-- Why a message went out of this world, or why none did.
+abbrev pub IsSent : Geometry → World → Sent → Type 0
+IsSent g w sent.Job = (w.failed ≡ false) × (is_some (next_eligible g w) ≡ true)
+IsSent g w sent.NoneEligible = (w.failed ≡ false) × (next_eligible g w ≡ None) × (no_grant g w ≡ outcomes.NoneEligible)
+IsSent g w sent.NoRoom = (w.failed ≡ false) × (next_eligible g w ≡ None) × (no_grant g w ≡ outcomes.NoRoom)
+IsSent g w sent.Failed = w.failed ≡ true
 
 -- A message went out as a job to place k. Or none did, and nothing has changed.
 abbrev pub GoesTo : ℕ → World → List (Option Asked) → World → List (Option Asked) → Sent → Type 0

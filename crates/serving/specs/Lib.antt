@@ -3,10 +3,8 @@ pub mod Told
 pub mod Rows
 pub mod Runs
 pub mod Going
-pub mod Steps
-pub mod Pointing
 pub mod Lending
 pub mod Reads
 pub mod Ends
-pub mod Stops
 pub mod Serve
+pub mod Session

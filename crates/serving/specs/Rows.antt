@@ -20,6 +20,11 @@ abbrev pub comes_next : List Line → Bool
 comes_next [] = false
 comes_next (line ∷ row) = is_answered line
 
+-- what is written for it then
+abbrev pub next_text : List Line → List ℕ
+next_text [] = []
+next_text (line ∷ row) = text line
+
 -- The first lines of the old row, each of which is answered, were written behind what was written before, and the new row is left.
 pub record Says (old new : List Line) (before written : Option (List ℕ)) : Type 0 where
   pub said : List Line
@@ -58,6 +63,13 @@ AreFrom ticket (line ∷ ticketed) = IsOf ticket line × AreFrom (ticket + 1) ti
 -- their tickets go up by one
 abbrev pub AreInOrder : List Line → Type 0
 AreInOrder ticketed = (first : ℕ) × AreFrom first ticketed
+
+-- those that are messages with tickets
+abbrev pub with_tickets : List Line → List Line
+with_tickets [] = []
+with_tickets (Unanswered ticket ∷ row) = Unanswered ticket ∷ with_tickets row
+with_tickets (Answered ticket reply ∷ row) = Answered ticket reply ∷ with_tickets row
+with_tickets (_ ∷ row) = with_tickets row
 
 -- a reply to this ticket leaves these lines as they are
 abbrev pub AreLeft : ℕ → List Line → Type 0

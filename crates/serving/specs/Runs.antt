@@ -1,14 +1,14 @@
 -- A stretch of a server's run: its machine, which is the core with what is lent, before and after, and what a crash meanwhile may leave.
-use Rattle.std.specs.Prelude.{◌≡◌, ◌+◌, ℕ, List, map, length, count_by, Option, Some, None}
+use Rattle.std.specs.Prelude.{◌≡◌, ◌+◌, ℕ, List, [], map, length, count_by, Option, Some, None}
 use Rattle.legal_runs.specs.Runs.{IsLegal, answered, arrived, last}
 use Rattle.legal_runs.specs.World.{Entry, World, held}
-use Rattle.machine.specs.Machine.{Handed, machine_of}
+use Rattle.machine.specs.Machine.{Handed, HoldsJobs, machine_of}
 use Rattle.machine.specs.Stages.{AreSafe, Stage, device_after, events_of}
 use Rattle.machine.specs.declared.hands.Hand.{Hand}
 use Rattle.machine.specs.declared.hands.Hand.TheVariants as has
 use Rattle.message.specs.declared.Reply.{Reply}
 use Rattle.parcel.specs.Run.{Asked}
-use Rattle.scheduler.specs.Kept.{Kept}
+use Rattle.scheduler.specs.Kept.{Kept, world_of}
 
 -- ---- the core and the places
 
@@ -40,3 +40,14 @@ pub record Passes (keeps : Type 0) (old new : Handed) (come : List Entry) (told 
   pub failures : new.core.medium.faults ≡ old.core.medium.faults + count_by (λ e. e.rose) (events_of stages)
   -- what a crash leaves at each moment of each event
   pub any_moment : keeps → AreSafe old.core.geometry (machine_of old) old.core.medium stages
+
+-- ---- what the hands have
+
+-- Each hand that isn't empty has the job of a message that is out, or what came of it; each message in one hand.
+abbrev pub Holds : Handed → Type 0
+Holds m = HoldsJobs m.core.geometry (world_of m.core) m.hands
+
+-- A stretch of a run in which no message arrives and none is answered, and at whose end the hands have what they should.
+pub record IsQuiet (keeps : Type 0) (old new : Handed) : Type 0 where
+  pub holds : Holds new
+  pub passes : Passes keeps old new [] []

@@ -5,12 +5,12 @@ use Rattle.machine.specs.Stages.{Stage}
 use Rattle.message.specs.Lines.{lines}
 use Rattle.oplog.specs.Layout.{layout_of}
 use Rattle.oplog.specs.Stands.{in_force, named_area}
-use Rattle.scheduler.specs.Kept.{Kept}
-use Rattle.serving.specs.Ends.{HasRun, HasServed}
+use Rattle.scheduler.specs.Kept.{Kept, StandsNow}
+use Rattle.serving.specs.Ends.{EndsSo, HasRun, HasServed}
 use Rattle.serving.specs.Lines.{Line}
 use Rattle.serving.specs.Rows.{comes_next}
-use Rattle.serving.specs.declared.fault.ServeFault.{ServeFault}
-use Rattle.serving.specs.declared.fault.ServeFault.TheVariants as faults
+use Rattle.serving.specs.declared.server.ServeFault.{ServeFault}
+use Rattle.serving.specs.declared.server.ServeFault.TheVariants as faults
 
 -- the lines are all of the input, where it is known
 abbrev pub AreAll : Option (List ℕ) → List (List ℕ) → Type 0
@@ -32,11 +32,6 @@ HasRunSo keeps start new input before written (Err faults.Write) =
     (taken : List (List ℕ)) × (stages : List Stage) × HasRun keeps start new input taken stages
 HasRunSo keeps start new input before written (Err _) = HasServed keeps start new [] input before written
 
--- None of the answers waits to be written, unless the output failed.
-abbrev pub AllSent : List ℕ → Result (Unit {0}) ServeFault → Type 0
-AllSent waiting (Err faults.Write) = Unit {0}
-AllSent waiting _ = waiting ≡ []
-
 -- It is refused for want of workers just where there are none.
 abbrev pub RefusesNone : ℕ → Result (Unit {0}) ServeFault → Type 0
 RefusesNone workers (Err faults.NoWorkers) = workers ≡ 0
@@ -56,3 +51,10 @@ HasWorkers _ = Unit {0}
 -- no record of the log is in force
 abbrev pub HasEmptyLog : Kept → Type 0
 HasEmptyLog c = in_force (layout_of c.geometry) (named_area (layout_of c.geometry) c.medium.now) c.medium.now ≡ []
+
+-- What a server promises of its whole call, by its answer: of the run behind it, where the core at the end is as it always is, and of
+-- its end.
+pub record PromisesAll (keeps : Type 0) (start : Handed) (new : Kept) (input behind before written : Option (List ℕ))
+    (result : Result (Unit {0}) ServeFault) : Type 0 where
+  pub run : (new.failed ≡ false → new.doubt ≡ []) → (keeps → StandsNow new) → HasRunSo keeps start new input before written result
+  pub ends : EndsSo start.core new input behind before written result

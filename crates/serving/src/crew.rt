@@ -1,4 +1,4 @@
-//! Workers in threads of their own, for as long as a duty at their bench takes.
+//! Who works at a call of a server: threads at a bench, for as long as a duty there takes, and the gate that is told of their jobs.
 
 ghost use Rattle.std.specs.Prelude.{◌≡◌, ◌≤◌, All, None, replicate};
 
@@ -7,6 +7,14 @@ use std::sync::Wait;
 use std::thread;
 use std::thread::Threads;
 use workers::{Bench, DispatchSeat, Gate};
+
+/// What the dispatcher works with: the calls that wait, the bench where jobs are lent, and the gate.
+#[derive(Drop)]
+pub(crate) struct Crew<'c, T: Wait, G: Gate> {
+    pub(crate) rt: &'c T,
+    pub(crate) bench: &'c Bench,
+    pub(crate) gate: &'c G,
+}
 
 /// What the calling thread does at a bench while others work there.
 pub(crate) trait Duty {
@@ -22,17 +30,15 @@ pub(crate) trait Duty {
     ghost gives: { Self → ℕ → Self.Output → Type 0 };
 
     /// Does it, and hands the seat back.
-    fn fulfil<T: Wait, G: Gate>(
+    fn fulfil<'c, T: Wait, G: Gate>(
         self,
-        rt: &T,
-        bench: &Bench,
+        crew: Crew<'c, T, G>,
         desk: DispatchSeat,
-        gate: &G,
     ) -> (Self::Output, DispatchSeat)
         requires can_begin { can_begin self }
-        requires bench { desk.bench ≡ bench.now }
-        requires lent { desk.lent ≡ replicate bench.now.slots None }
-        ensures gives { gives self bench.now.slots result.0 }
+        requires bench { desk.bench ≡ crew.bench.now }
+        requires lent { desk.lent ≡ replicate crew.bench.now.slots None }
+        ensures gives { gives self crew.entry.bench.now.slots result.0 }
         ensures bench { result.1.bench ≡ desk.bench };
 
     /// Leaves it undone, since there is no memory or a worker can't be started.
@@ -71,7 +77,7 @@ pub(crate) fn with_workers<T: Threads + Wait + Sync, G: Gate + Sync, S: Duty<Out
             if bench.start(rt, scope, &mut desk, seats, gate).is_err() {
                 return duty.decline();
             }
-            let (output, mut desk) = duty.fulfil(rt, bench, desk, gate);
+            let (output, mut desk) = duty.fulfil(Crew { rt, bench, gate }, desk);
             bench.stop(&mut desk);
             output
         },

@@ -1,115 +1,174 @@
-//! How a session ends where the device or the output has failed: jobs that are out come back, and what can still be done is done.
+//! The loop of a session: lines are read and worked off, until no more is read and each is answered. Where the device or the output
+//! has failed, jobs that are out come back, and what can still be done is done.
 
-ghost use Rattle.std.specs.Prelude.{◌≡◌, ℕ, Bool, false, List, [], Option, None, Ok, Err, OnOk, IsErr, length};
-ghost use Rattle.legal_runs.specs.Laws.{IsIdle};
-ghost use Rattle.machine.specs.Machine.{Handed};
-ghost use Rattle.message.specs.Waiting.{so_far};
-ghost use Rattle.scheduler.specs.Kept.{world_of};
-ghost use Rattle.serving.specs.Going.{Goes};
+ghost use Rattle.std.specs.Prelude.{◌≡◌, Err, MatchResult, None, OnOk, Some, [], false};
 ghost use Rattle.serving.specs.Lending.{IsHome};
 ghost use Rattle.serving.specs.Rows.{comes_next};
-ghost use Rattle.serving.specs.Runs.{with_lent};
-ghost use Rattle.serving.specs.Steps.{Holds};
-ghost use Rattle.serving.specs.Serve.{AllSent, HasBegun};
-ghost use Rattle.serving.specs.Stops.{Advances, HasEnded, PromisesAll, place_of};
+ghost use Rattle.serving.specs.Serve.{HasEmptyLog};
+ghost use Rattle.serving.specs.Session.{EndsBy, HaltsBy, Moves};
 
-use crate::course::Halt;
-use crate::fault::ServeFault;
-use crate::lending::bring_home;
-use crate::session::Session;
+use crate::server::ServeFault;
+use crate::session::{Beginning, Halt, Session, Stop};
 use disk::Disk;
-use std::io::Write;
+use std::io::{Read, Write};
 use std::sync::Wait;
-use workers::{Bench, Gate};
+use workers::Gate;
 
-impl<D: Disk> Session<D> {
-    /// Waits for the jobs that are out, and takes back what comes of them.
-    fn come_home<T: Wait>(&mut self, rt: &T, bench: &Bench)
-        requires bench { self.old.desk.bench ≡ bench.now }
-        requires holds { Holds (with_lent self.old.core self.old.desk.lent) }
-        ensures holds { Holds (with_lent self.new.core self.new.desk.lent) }
-        ensures kept { (contents : Option (List ℕ)) → Advances D.keeps
-            (place_of self.old.core self.old.desk.lent self.old.row.lines (so_far contents self.old.out))
-            (place_of self.new.core self.new.desk.lent self.new.row.lines (so_far contents self.new.out)) (Ok (tt {0})) }
-        ensures bench { self.new.desk.bench ≡ self.old.desk.bench }
-        ensures home { IsHome self.new.desk.lent }
-    {
-        bring_home(rt, &mut self.core, bench, &mut self.desk);
-    }
-
+impl<'c, 'w, B: Beginning, T: Wait, D: Disk, R: Read, W: Write, G: Gate> Session<
+    'c,
+    'w,
+    B,
+    T,
+    D,
+    R,
+    W,
+    G,
+> {
     /// Where the device has failed: nothing more is logged. Jobs that are out come back, and the lines next in order are still
     /// written.
-    pub(crate) fn end_without_device<T: Wait, W: Write, G: Gate>(
-        &mut self,
-        rt: &T,
-        bench: &Bench,
-        w: &mut W,
-        gate: &G,
-    ) -> Result<(), Halt>
-        requires bench { self.old.desk.bench ≡ bench.now }
-        requires holds { Holds (with_lent self.old.core self.old.desk.lent) }
-        ensures holds { Holds (with_lent self.new.core self.new.desk.lent) }
-        ensures kept { Advances D.keeps
-            (place_of self.old.core self.old.desk.lent self.old.row.lines (so_far (W.contents w.old) self.old.out))
-            (place_of self.new.core self.new.desk.lent self.new.row.lines (so_far (W.contents w.new) self.new.out)) result }
+    fn end_without_device(&mut self) -> Result<(), Halt>
+        ensures moves { Moves self.old self.new result }
+        ensures failed { self.new.core.failed ≡ self.old.core.failed }
         ensures none_waits { OnOk result (self.new.out ≡ []) }
-        ensures bench { self.new.desk.bench ≡ self.old.desk.bench }
         ensures home { IsHome self.new.desk.lent }
         ensures answered { self.new.core.logged ≡ [] }
         ensures last { OnOk result (comes_next self.new.row.lines ≡ false) }
     {
-        self.come_home(rt, bench);
-        self.say_what_is_logged(w, gate)?;
-        self.send(w)
+        self.come_home();
+        self.say_what_is_logged()?;
+        self.send()
     }
 
     /// Where the output has failed: nothing more is read or written. Jobs that are out come back, and are logged and answered.
-    pub(crate) fn end_without_output<T: Wait, G: Gate>(&mut self, rt: &T, bench: &Bench, gate: &G)
-        requires bench { self.old.desk.bench ≡ bench.now }
-        requires holds { Holds (with_lent self.old.core self.old.desk.lent) }
-        ensures holds { Holds (with_lent self.new.core self.new.desk.lent) }
-        ensures kept { (start : Handed) (input left : Option (List ℕ)) (ended : Bool)
-            → Goes D.keeps start (with_lent self.old.core self.old.desk.lent) self.old.row.lines input left ended None None
-            → Goes D.keeps start (with_lent self.new.core self.new.desk.lent) self.new.row.lines input left ended None None }
-        ensures bench { self.new.desk.bench ≡ self.old.desk.bench }
+    fn end_without_output(&mut self)
         ensures home { IsHome self.new.desk.lent }
         ensures answered { self.new.core.logged ≡ [] }
         ensures logged { self.new.core.failed ≡ false → self.new.core.ran ≡ [] }
     {
-        self.come_home(rt, bench);
+        self.come_home();
         // A fault of the device changes nothing any more.
         let _logged = self.log_what_ran();
-        self.answer_what_is_logged(gate);
+        self.answer_what_is_logged();
     }
 
-    /// Ends where something has failed: jobs that are out come back, and what can still be done is done.
-    pub(crate) fn end_early<T: Wait, W: Write, G: Gate>(
-        &mut self,
-        why: Halt,
-        rt: &T,
-        w: &mut W,
-        bench: &Bench,
-        gate: &G,
-    ) -> Result<(), ServeFault>
-        requires bench { self.old.desk.bench ≡ bench.now }
-        requires holds { Holds (with_lent self.old.core self.old.desk.lent) }
-        ensures kept { (start : Handed) (input behind before : Option (List ℕ)) → IsIdle (world_of start.core)
-            → HasEnded D.keeps start (place_of self.old.core self.old.desk.lent self.old.row.lines (so_far (W.contents w.old) self.old.out))
-            input behind before (Err why) → PromisesAll D.keeps start self.new.core input behind before (so_far (W.contents w.new) self.new.out) result }
-        ensures sent { AllSent self.new.out result }
-        ensures halted { IsErr result }
-        ensures begun { HasBegun result }
-        ensures bench { self.new.desk.bench ≡ self.old.desk.bench }
+    /// Ends where something has failed: jobs that are out come back, and what can still be done is done. Why the server ends then.
+    fn end_early(&mut self, why: Halt) -> ServeFault
+        requires halted { HaltsBy why self.old }
+        ensures { EndsBy self.new (Err result) }
     {
         match why {
-            Halt::Device => match self.end_without_device(rt, bench, w, gate) {
-                Ok(()) => Err(ServeFault::Device),
-                Err(_) => Err(ServeFault::Write),
+            Halt::Device => match self.end_without_device() {
+                Ok(()) => ServeFault::Device,
+                Err(_) => ServeFault::Write,
             },
             Halt::Write => {
-                self.end_without_output(rt, bench, gate);
-                Err(ServeFault::Write)
+                self.end_without_output();
+                ServeFault::Write
             }
+        }
+    }
+
+    /// Goes on without reading until each line that was read is answered in the output.
+    fn finish_row(&mut self) -> Result<(), Halt>
+        ensures moves { Moves self.old self.new result }
+        ensures all { OnOk result (self.new.row.lines ≡ []) }
+    {
+        let rt = self.crew.rt;
+        for _ in rt.forever() {
+            if self.row.len() == 0 {
+                return Ok(());
+            }
+            self.advance(false)?;
+        }
+        unreachable!()
+    }
+
+    /// Goes on without reading until each line that was read is answered, and sends all that waits. The device works then: nothing
+    /// is left to log, and a log of nothing tells whether it has failed.
+    fn answer_the_rest(&mut self) -> Result<(), Halt>
+        ensures moves { Moves self.old self.new result }
+        ensures all { OnOk result ((self.new.row.lines ≡ []) × (self.new.out ≡ [])) }
+        ensures works { OnOk result (self.new.core.failed ≡ false) }
+    {
+        self.finish_row()?;
+        self.log_what_ran()?;
+        self.send()
+    }
+
+    /// Answers each line that was read, and makes the last consistency point behind them.
+    fn end_whole(&mut self) -> Result<(), Halt>
+        ensures moves { Moves self.old self.new result }
+        ensures all { OnOk result ((self.new.row.lines ≡ []) × (self.new.out ≡ [])) }
+        ensures works { OnOk result (self.new.core.failed ≡ false) }
+        ensures emptied { OnOk result (D.keeps → HasEmptyLog self.new.core) }
+    {
+        self.answer_the_rest()?;
+        self.make_last_point()
+    }
+
+    /// Ends where no more is read: each line that was read is answered, unless something fails, and at the end of the input the
+    /// last consistency point is made.
+    fn end_for(&mut self, stop: Stop) -> Result<(), ServeFault>
+        requires stopped { self.old.stop ≡ Some stop }
+        requires whole { self.old.broken ≡ false }
+        ensures ends { EndsBy self.new result }
+        ensures emptied { OnOk result (D.keeps → HasEmptyLog self.new.core) }
+    {
+        match stop {
+            Stop::End => match self.end_whole() {
+                Ok(()) => Ok(()),
+                Err(why) => Err(self.end_early(why)),
+            },
+            Stop::Fault => match self.answer_the_rest() {
+                Ok(()) => Err(ServeFault::Read),
+                Err(why) => Err(self.end_early(why)),
+            },
+            Stop::Exhausted => match self.answer_the_rest() {
+                Ok(()) => Err(ServeFault::Exhausted),
+                Err(why) => Err(self.end_early(why)),
+            },
+            Stop::Failed => {
+                // Its type says that the device has failed, and is asked for it by this look.
+                let _ = &self.core;
+                Err(self.end_early(Halt::Device))
+            }
+        }
+    }
+
+    /// Serves line after line until no more is read.
+    fn serve_lines(&mut self) -> Result<Stop, Halt>
+        requires reads { self.old.stop ≡ None }
+        requires whole { self.old.broken ≡ false }
+        ensures { MatchResult result
+            (λ stop. (self.new.stop ≡ Some stop) × (self.new.broken ≡ false)) (λ why. HaltsBy why self.new) }
+    {
+        let mut stuck = false;
+        let rt = self.crew.rt;
+        for _ in rt.forever() {
+            match self.read_more(stuck) {
+                Ok(read) => stuck = self.advance(read)?,
+                Err(stop) => return Ok(stop),
+            }
+        }
+        unreachable!()
+    }
+
+    /// Serves line after line until the input ends, with a consistency point where one is due, and one at the end. All that was
+    /// answered is written when it returns, unless the output failed.
+    ///
+    /// # Errors
+    ///
+    /// `ServeFault::Read`, `ServeFault::Exhausted`, `ServeFault::Device` and `ServeFault::Write`, as they say. Where several befall
+    /// one call, a fault of the output goes before one of the device, and that before the others.
+    pub(crate) fn serve_all(&mut self) -> Result<(), ServeFault>
+        requires reads { self.old.stop ≡ None }
+        requires whole { self.old.broken ≡ false }
+        ensures ends { EndsBy self.new result }
+        ensures emptied { OnOk result (D.keeps → HasEmptyLog self.new.core) }
+    {
+        match self.serve_lines() {
+            Ok(stop) => self.end_for(stop),
+            Err(why) => Err(self.end_early(why)),
         }
     }
 }

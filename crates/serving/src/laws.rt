@@ -30,7 +30,7 @@ ghost use Rattle.serving.specs.Lines.{AreKnown, Line, asked, is_answered, text, 
 ghost use Rattle.machine.specs.Machine.{Handed, machine_of};
 ghost use Rattle.machine.specs.Stages.{Stage, device_after, events_of};
 ghost use Rattle.serving.specs.Runs.{Passes, inside};
-ghost use Rattle.serving.specs.declared.fault.ServeFault.TheVariants as faults;
+ghost use Rattle.serving.specs.declared.server.ServeFault.TheVariants as faults;
 
 use disk::Disk;
 

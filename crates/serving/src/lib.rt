@@ -2,27 +2,21 @@
 //! server writes.
 //!
 //! `serve` is the whole call, with its memory and its threads. The definitions stand in `specs/`, and the laws that they obey are
-//! the contracts of the functions of `laws`, which do nothing. `session` has what a server holds: `intake` reads for it by
-//! `reading`, `turn` works off what came by `lending`, `steps` and `points`, `saying` answers the lines of the `row`, `looping` goes
-//! from line to line, and `ending` ends it where something has failed.
+//! the contracts of the functions of `laws`, which do nothing. `session` has what a server holds while it serves, and what is
+//! always true of it. A line is read in `reading`; one `turn` sends messages out, takes back what came, logs it and answers it, and
+//! `saying` writes the lines of the `row` that are next in order. `points` has the consistency points, and `ending` the loop from line to
+//! line with its ends.
 #![tactic(auto)]
 
-mod course;
 mod crew;
 mod ending;
-mod fault;
-mod intake;
 pub mod laws;
-mod lending;
-mod looping;
 mod points;
 mod reading;
 mod row;
 mod saying;
 mod server;
 mod session;
-mod steps;
 mod turn;
 
-pub use fault::ServeFault;
-pub use server::{ServeError, serve};
+pub use server::{ServeError, ServeFault, serve};

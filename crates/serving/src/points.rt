@@ -1,48 +1,48 @@
-//! Consistency points of a server: the one in progress is carried to its end, and the last one is made.
+//! Consistency points of a session: when one is due, the one in progress, which is carried to its end, and the last one.
 
-ghost use Rattle.std.specs.Prelude.{◌≡◌, ◌≢◌, true, false, List, [], None, Some, IfOk, OnOk, OnErr, MatchBool};
-ghost use Rattle.legal_runs.specs.Laws.{IsIdle};
+ghost use Rattle.std.specs.Prelude.{◌≡◌, ◌≢◌, ◌-◌, ℕ, false, [], None, Some, IfOk, MatchBool, OnOk};
+ghost use Rattle.legal_runs.specs.World.{held};
 ghost use Rattle.legal_runs.specs.declared.outcomes.PointRefusal.TheVariants as refusals;
-ghost use Rattle.machine.specs.declared.hands.Hand.{Hand};
-ghost use Rattle.oplog.specs.Layout.{layout_of};
-ghost use Rattle.oplog.specs.Stands.{in_force, named_area};
 ghost use Rattle.scheduler.specs.Kept.{world_of};
-ghost use Rattle.serving.specs.Pointing.{HasBegun, IsUnmoved};
-ghost use Rattle.serving.specs.Steps.{Holds, KeepsOn};
+ghost use Rattle.serving.specs.Serve.{HasEmptyLog};
+ghost use Rattle.serving.specs.Session.{Moves};
 
-use crate::steps::{begin_cut, end_cut, make_point, write_piece};
+use crate::session::{Beginning, Halt, Session};
 use disk::Disk;
 use legal_runs::PointRefusal;
-use scheduler::Core;
+use std::io::{Read, Write};
+use std::sync::Wait;
+use workers::Gate;
 
-/// Writes the pieces that are left of a consistency point in progress.
-fn write_pieces<D: Disk>(core: &mut Core<D>, left: usize) -> Result<(), PointRefusal>
-    requires { core.old.left ≡ Some left }
-    ensures kept { (hands : List Hand) → Holds (record { core = core.old; hands = hands })
-        → KeepsOn D.keeps (record { core = core.old; hands = hands }) (record { core = core.new; hands = hands }) }
-    ensures unmoved { IsUnmoved (world_of core.old) (world_of core.new) }
-    ensures written { OnOk result (core.new.left ≡ Some 0) }
-    ensures failed { OnErr result (core.new.failed ≡ true) }
-{
-    for _ in 0..left {
-        write_piece(core)?;
-    }
-    Ok(())
+/// When consistency points are due. A wrong count makes them at other times, which no contract forbids.
+#[derive(Clone, Copy, Debug, PartialEq, Eq)]
+pub(crate) struct Course {
+    /// After how many records one is due; 0: only where the log has no room.
+    every: u64,
+    /// How many records were logged since the last one began.
+    since: u64,
 }
 
-/// Carries the consistency point in progress to its end, if there is one. At `Err` the device has failed.
-pub(crate) fn finish_cut<D: Disk>(core: &mut Core<D>) -> Result<(), PointRefusal>
-    ensures kept { (hands : List Hand) → Holds (record { core = core.old; hands = hands })
-        → KeepsOn D.keeps (record { core = core.old; hands = hands }) (record { core = core.new; hands = hands }) }
-    ensures unmoved { IsUnmoved (world_of core.old) (world_of core.new) }
-    ensures ended { OnOk result (core.new.left ≡ None) }
-    ensures failed { OnErr result (core.new.failed ≡ true) }
-{
-    let Some(left) = core.left() else {
-        return Ok(());
-    };
-    write_pieces(core, left)?;
-    end_cut(core)
+impl Course {
+    /// One in which nothing was logged yet.
+    pub(crate) fn new(every: u64) -> Course {
+        Course { every, since: 0 }
+    }
+
+    /// A record was logged, and is answered.
+    pub(crate) fn count(&mut self) {
+        self.since = self.since.saturating_add(1);
+    }
+
+    /// A consistency point has begun.
+    fn begin(&mut self) {
+        self.since = 0;
+    }
+
+    /// Whether one is due by the number of records.
+    fn is_due(&self) -> bool {
+        self.every != 0 && self.since >= self.every
+    }
 }
 
 fn tells_of_held(why: PointRefusal) -> bool
@@ -51,38 +51,133 @@ fn tells_of_held(why: PointRefusal) -> bool
     matches!(why, PointRefusal::Held)
 }
 
-/// Begins the next consistency point after the one in progress: whether it began. It doesn't where a message is held. At `Err`
-/// the device has failed.
-pub(crate) fn next_point<D: Disk>(core: &mut Core<D>) -> Result<bool, PointRefusal>
-    ensures kept { (hands : List Hand) → Holds (record { core = core.old; hands = hands })
-        → KeepsOn D.keeps (record { core = core.old; hands = hands }) (record { core = core.new; hands = hands }) }
-    ensures unmoved { IsUnmoved (world_of core.old) (world_of core.new) }
-    ensures begun { IfOk result (HasBegun (world_of core.old) (world_of core.new)) }
-    ensures failed { OnErr result (core.new.failed ≡ true) }
-{
-    finish_cut(core)?;
-    let Err(why) = begin_cut(core) else {
-        return Ok(true);
-    };
-    if tells_of_held(why) {
-        return Ok(false);
+impl<'c, 'w, B: Beginning, T: Wait, D: Disk, R: Read, W: Write, G: Gate> Session<
+    'c,
+    'w,
+    B,
+    T,
+    D,
+    R,
+    W,
+    G,
+> {
+    /// Whether a consistency point is due by the number of records. None is while one is in progress.
+    pub(crate) fn point_is_due(&self) -> bool {
+        self.core.left().is_none() && self.course.is_due()
     }
-    Err(why)
-}
 
-/// Makes the last consistency point of a server in which nothing waits or is held, after the one in progress: the log is
-/// empty then. At `Err` the device has failed.
-pub(crate) fn last_point<D: Disk>(core: &mut Core<D>) -> Result<(), PointRefusal>
-    requires { IsIdle (world_of core.old) }
-    ensures kept { (hands : List Hand) → Holds (record { core = core.old; hands = hands })
-        → KeepsOn D.keeps (record { core = core.old; hands = hands }) (record { core = core.new; hands = hands }) }
-    ensures unmoved { IsUnmoved (world_of core.old) (world_of core.new) }
-    ensures idle { IsIdle (world_of core.new) }
-    ensures works { OnOk result (core.new.failed ≡ false) }
-    ensures emptied { OnOk result (D.keeps → in_force (layout_of core.new.geometry)
-        (named_area (layout_of core.new.geometry) core.new.medium.now) core.new.medium.now ≡ []) }
-    ensures failed { OnErr result (core.new.failed ≡ true) }
-{
-    finish_cut(core)?;
-    make_point(core)
+    /// Writes the next piece of the consistency point in progress.
+    fn write_piece(&mut self) -> Result<(), Halt>
+        requires progress { (n : ℕ) × (self.old.core.left ≡ Some n) }
+        ensures moves { Moves self.old self.new result }
+        ensures same { (self.new.row ≡ self.old.row) × (self.new.out ≡ self.old.out) }
+        ensures written { OnOk result ((n : ℕ) → self.old.core.left ≡ Some n → self.new.core.left ≡ Some (n - 1)) }
+    {
+        match self.core.piece() {
+            Ok(_) => Ok(()),
+            Err(_) => Err(Halt::Device),
+        }
+    }
+
+    /// Ends the consistency point in progress, of which all pieces are written.
+    fn end_point(&mut self) -> Result<(), Halt>
+        requires whole { self.old.core.left ≡ Some 0 }
+        ensures moves { Moves self.old self.new result }
+        ensures same { (self.new.row ≡ self.old.row) × (self.new.out ≡ self.old.out) }
+        ensures ended { OnOk result (self.new.core.left ≡ None) }
+    {
+        match self.core.flip() {
+            Ok(()) => Ok(()),
+            Err(_) => Err(Halt::Device),
+        }
+    }
+
+    /// Takes the consistency point in progress a step on, if there is one: whether there was.
+    pub(crate) fn move_point_on(&mut self) -> Result<bool, Halt>
+        ensures moves { Moves self.old self.new result }
+    {
+        match self.core.left() {
+            None => return Ok(false),
+            Some(0) => self.end_point()?,
+            Some(_) => self.write_piece()?,
+        }
+        Ok(true)
+    }
+
+    /// Writes the pieces that are left of the consistency point in progress.
+    fn write_pieces(&mut self, left: usize) -> Result<(), Halt>
+        requires progress { self.old.core.left ≡ Some left }
+        ensures moves { Moves self.old self.new result }
+        ensures same { (self.new.row ≡ self.old.row) × (self.new.out ≡ self.old.out) }
+        ensures written { OnOk result (self.new.core.left ≡ Some 0) }
+    {
+        for _ in 0..left {
+            self.write_piece()?;
+        }
+        Ok(())
+    }
+
+    /// Carries the consistency point in progress to its end, if there is one.
+    fn finish_point(&mut self) -> Result<(), Halt>
+        ensures moves { Moves self.old self.new result }
+        ensures same { (self.new.row ≡ self.old.row) × (self.new.out ≡ self.old.out) }
+        ensures ended { OnOk result (self.new.core.left ≡ None) }
+    {
+        let Some(left) = self.core.left() else {
+            return Ok(());
+        };
+        self.write_pieces(left)?;
+        self.end_point()
+    }
+
+    /// Begins a consistency point, where none is in progress: it begins unless a message is held.
+    fn begin_next(&mut self) -> Result<(), Halt>
+        requires none { self.old.core.left ≡ None }
+        ensures moves { Moves self.old self.new result }
+        ensures begun { OnOk result (held (world_of self.old.core) ≡ [] → (n : ℕ) × (self.new.core.left ≡ Some n)) }
+    {
+        let Err(why) = self.core.cut() else {
+            self.course.begin();
+            return Ok(());
+        };
+        if tells_of_held(why) {
+            return Ok(());
+        }
+        Err(Halt::Device)
+    }
+
+    /// Begins the next consistency point, after the one in progress, where nothing is held.
+    pub(crate) fn begin_point(&mut self) -> Result<(), Halt>
+        ensures moves { Moves self.old self.new result }
+    {
+        self.finish_point()?;
+        self.begin_next()
+    }
+
+    /// Makes a whole consistency point at once, where nothing waits or is held and none is in progress: the log is empty then.
+    fn make_point(&mut self) -> Result<(), Halt>
+        requires row { self.old.row.lines ≡ [] }
+        requires none { self.old.core.left ≡ None }
+        ensures moves { Moves self.old self.new result }
+        ensures same { (self.new.row ≡ self.old.row) × (self.new.out ≡ self.old.out) }
+        ensures works { OnOk result (self.new.core.failed ≡ false) }
+        ensures emptied { OnOk result (D.keeps → HasEmptyLog self.new.core) }
+    {
+        let Err(_) = self.core.point() else {
+            return Ok(());
+        };
+        Err(Halt::Device)
+    }
+
+    /// Makes the last consistency point, where each line is answered in the output, after the one in progress.
+    pub(crate) fn make_last_point(&mut self) -> Result<(), Halt>
+        requires row { self.old.row.lines ≡ [] }
+        ensures moves { Moves self.old self.new result }
+        ensures same { (self.new.row ≡ self.old.row) × (self.new.out ≡ self.old.out) }
+        ensures works { OnOk result (self.new.core.failed ≡ false) }
+        ensures emptied { OnOk result (D.keeps → HasEmptyLog self.new.core) }
+    {
+        self.finish_point()?;
+        self.make_point()
+    }
 }

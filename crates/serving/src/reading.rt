@@ -1,36 +1,31 @@
 //! Lines that are read: each is in the row then, and its message in the core.
 
-ghost use Rattle.std.specs.Prelude.{◌≡◌, ◌<◌, List, IsTrue, OnErr, length};
+ghost use Rattle.std.specs.Prelude.{◌≡◌, ◌<◌, ◌++◌, ◌⊎◌, List, [], ◌∷◌, None, IfOk, OnErr, length};
 ghost use Rattle.machine.specs.declared.hands.Hand.{Hand};
-ghost use Rattle.message.specs.Reader.{HoldsLine, KnowsEnd, has_ended, is_drained, source, unread};
-ghost use Rattle.serving.specs.Reads.{OnEnd, OnRefused, ReadsNext, ReadsSome, TakesMessage, TakesTextSo};
-ghost use Rattle.serving.specs.Steps.{Holds};
+ghost use Rattle.serving.specs.Lines.{OutOfRange, Unanswered};
+ghost use Rattle.serving.specs.Reads.{TakesLine, TakesMessage, stop_of};
+ghost use Rattle.serving.specs.Rows.{AreInOrder, with_tickets};
+ghost use Rattle.serving.specs.Runs.{Holds};
+ghost use Rattle.serving.specs.Session.{Reads};
 
 use crate::row::{Line, Row};
-use crate::steps::take_in;
+use crate::session::{Beginning, Session, Stop};
 use disk::Disk;
 use legal_runs::ArriveRefusal;
-use message::{Found, LineReader, Msg, ReadFault, parse_line};
+use message::{Found, Msg, parse_line};
 use scheduler::Core;
-use std::io::Read;
-
-/// What came where the next line was read.
-#[derive(Clone, Copy, Debug, PartialEq, Eq)]
-pub(crate) enum Came {
-    /// A line. It is in the row, and its message in the core, if it takes a ticket.
-    Line,
-    /// The end of the input.
-    End,
-    /// A line whose message the core refused. It is in neither.
-    Refused(ArriveRefusal),
-}
+use std::io::{Read, Write};
+use std::sync::Wait;
+use workers::Gate;
 
 /// Takes a message in: what is known of its line then, or why it isn't taken.
 fn take_message<D: Disk>(core: &mut Core<D>, m: &Msg) -> Result<Line, ArriveRefusal>
-    ensures kept { (hands : List Hand) → Holds (record { core = core.old; hands = hands })
+    ensures ticket { IfOk result (λ known. (known ≡ OutOfRange) ⊎ (known ≡ Unanswered core.old.next)) }
+    ensures takes { (hands : List Hand) → Holds (record { core = core.old; hands = hands })
         → TakesMessage D.keeps (record { core = core.old; hands = hands }) (record { core = core.new; hands = hands }) m.now result }
 {
-    match take_in(core, m) {
+    core.stands();
+    match core.arrive(m) {
         Ok(ticket) => Ok(Line::Unanswered(ticket)),
         Err(ArriveRefusal::Range) => Ok(Line::OutOfRange),
         Err(ArriveRefusal::Full) => Err(ArriveRefusal::Full),
@@ -40,10 +35,11 @@ fn take_message<D: Disk>(core: &mut Core<D>, m: &Msg) -> Result<Line, ArriveRefu
 }
 
 /// Takes a line into the row, and its message into the core; or tells why its message isn't taken.
-fn take_text<D: Disk>(core: &mut Core<D>, row: &mut Row, line: &[u8]) -> Result<(), ArriveRefusal>
+fn take_line<D: Disk>(core: &mut Core<D>, row: &mut Row, line: &[u8]) -> Result<(), ArriveRefusal>
     requires room { length row.old.lines < row.old.slots }
-    ensures kept { (hands : List Hand) → Holds (record { core = core.old; hands = hands })
-        → TakesTextSo D.keeps (record { core = core.old; hands = hands }) row.old.lines
+    requires order { AreInOrder (with_tickets row.old.lines ++ Unanswered core.old.next ∷ []) }
+    ensures takes { (hands : List Hand) → Holds (record { core = core.old; hands = hands })
+        → TakesLine D.keeps (record { core = core.old; hands = hands }) row.old.lines
         (record { core = core.new; hands = hands }) row.new.lines line.now result }
     ensures slots { row.new.slots ≡ row.old.slots }
     ensures same { OnErr result (row.new ≡ row.old) }
@@ -61,78 +57,90 @@ fn take_text<D: Disk>(core: &mut Core<D>, row: &mut Row, line: &[u8]) -> Result<
     }
 }
 
-/// Reads the next line. It is in the row then, and its message in the core.
-///
-/// # Errors
-///
-/// `ReadFault` where the read fails. Nothing is taken then.
-pub(crate) fn read_next<R: Read, D: Disk>(
-    lines: &mut LineReader<R>,
-    core: &mut Core<D>,
-    row: &mut Row,
-) -> Result<Came, ReadFault>
-    requires room { length row.old.lines < row.old.slots }
-    ensures kept { (hands : List Hand) → Holds (record { core = core.old; hands = hands })
-        → ReadsNext D.keeps (record { core = core.old; hands = hands }) row.old.lines (unread R.remaining lines.old) (is_drained lines.old)
-        (record { core = core.new; hands = hands }) row.new.lines (unread R.remaining lines.new) (is_drained lines.new) result }
-    ensures slots { row.new.slots ≡ row.old.slots }
-    ensures lost { OnErr result (unread R.remaining lines.new ≡ R.remaining (source lines.new)) }
-    ensures at_once { HoldsLine lines.old → source lines.new ≡ source lines.old }
-    ensures room { OnRefused result (length row.new.lines < row.new.slots) }
-    ensures end { OnEnd result (IsTrue (has_ended lines.new)) }
-    ensures knows { KnowsEnd R.remaining lines.old → KnowsEnd R.remaining lines.new }
+/// Why no more is read, where a message is refused. A line has its place in the row before it is read, so there is a slot for its
+/// message; and one that is out of range is no refusal, but is known of its line.
+fn stop_for(why: ArriveRefusal) -> Stop
+    ensures { result ≡ stop_of why }
 {
-    if lines.is_drained() {
-        return Ok(Came::End);
-    }
-    match lines.next_line() {
-        Ok(Found::Line) => match take_text(core, row, lines.line()) {
-            Ok(()) => Ok(Came::Line),
-            Err(why) => Ok(Came::Refused(why)),
-        },
-        Ok(Found::TooLong) => {
-            row.push(Line::NoMessage);
-            Ok(Came::Line)
-        }
-        Ok(Found::End) => Ok(Came::End),
-        Err(fault) => Err(fault),
+    match why {
+        ArriveRefusal::Exhausted => Stop::Exhausted,
+        ArriveRefusal::Range | ArriveRefusal::Full | ArriveRefusal::Failed => Stop::Failed,
     }
 }
 
-/// Reads lines that are held, one after the other, with no read of the input, while there is room for them in the row: what
-/// came last.
-///
-/// # Errors
-///
-/// Those of `read_next`.
-pub(crate) fn read_held<R: Read, D: Disk>(
-    lines: &mut LineReader<R>,
-    core: &mut Core<D>,
-    row: &mut Row,
-) -> Result<Came, ReadFault>
-    ensures kept { (hands : List Hand) → Holds (record { core = core.old; hands = hands })
-        → ReadsSome D.keeps (record { core = core.old; hands = hands }) row.old.lines (unread R.remaining lines.old) (is_drained lines.old)
-        (record { core = core.new; hands = hands }) row.new.lines (unread R.remaining lines.new) (is_drained lines.new) result }
-    ensures slots { row.new.slots ≡ row.old.slots }
-    ensures lost { OnErr result (unread R.remaining lines.new ≡ R.remaining (source lines.new)) }
-    ensures at_once { source lines.new ≡ source lines.old }
-    ensures room { OnRefused result (length row.new.lines < row.new.slots) }
-    ensures end { OnEnd result (IsTrue (has_ended lines.new)) }
-    ensures knows { KnowsEnd R.remaining lines.old → KnowsEnd R.remaining lines.new }
-{
-    for _ in row.len()..row.slots() {
-        if !row.has_room() {
-            return Ok(Came::Line);
+impl<'c, 'w, B: Beginning, T: Wait, D: Disk, R: Read, W: Write, G: Gate> Session<
+    'c,
+    'w,
+    B,
+    T,
+    D,
+    R,
+    W,
+    G,
+> {
+    /// Reads the next line, for which there is room; or tells why no more are read.
+    fn read_next(&mut self) -> Result<(), Stop>
+        requires reads { self.old.stop ≡ None }
+        requires room { length self.old.row.lines < self.old.row.slots }
+        ensures { Reads self.old self.new result }
+    {
+        if self.lines.is_drained() {
+            self.stop = Some(Stop::End);
+            return Err(Stop::End);
         }
-        if !lines.holds_line() {
-            return Ok(Came::Line);
-        }
-        match read_next(lines, core, row) {
-            Ok(Came::Line) => {}
-            Ok(Came::End) => return Ok(Came::End),
-            Ok(Came::Refused(why)) => return Ok(Came::Refused(why)),
-            Err(fault) => return Err(fault),
+        match self.lines.next_line() {
+            Ok(Found::Line) => match take_line(&mut self.core, &mut self.row, self.lines.line()) {
+                Ok(()) => Ok(()),
+                Err(why) => {
+                    let stop = stop_for(why);
+                    self.stop = Some(stop);
+                    Err(stop)
+                }
+            },
+            Ok(Found::TooLong) => {
+                self.row.push(Line::NoMessage);
+                Ok(())
+            }
+            Ok(Found::End) => {
+                self.stop = Some(Stop::End);
+                Err(Stop::End)
+            }
+            Err(_) => {
+                self.stop = Some(Stop::Fault);
+                Err(Stop::Fault)
+            }
         }
     }
-    Ok(Came::Line)
+
+    /// Reads lines that are held, one after the other, with no read of the input, while there is room for them in the row.
+    fn read_held(&mut self) -> Result<(), Stop>
+        requires reads { self.old.stop ≡ None }
+        ensures { Reads self.old self.new result }
+    {
+        for _ in self.row.len()..self.row.slots() {
+            if !self.row.has_room() {
+                return Ok(());
+            }
+            if !self.lines.holds_line() {
+                return Ok(());
+            }
+            self.read_next()?;
+        }
+        Ok(())
+    }
+
+    /// Reads lines that are held; or, where it may wait, the next line, if there is room for it. Whether there was one, or why no
+    /// more are read.
+    pub(crate) fn read_more(&mut self, may_wait: bool) -> Result<bool, Stop>
+        requires reads { self.old.stop ≡ None }
+        ensures { Reads self.old self.new result }
+    {
+        let before = self.row.len();
+        if !may_wait {
+            self.read_held()?;
+        } else if self.row.has_room() {
+            self.read_next()?;
+        }
+        Ok(self.row.len() > before)
+    }
 }

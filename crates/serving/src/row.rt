@@ -1,9 +1,9 @@
 //! The row of the lines that were read and are not answered in the output, oldest first.
 
-ghost use Rattle.std.specs.Prelude.{◌≡◌, ◌<◌, ◌≤◌, ◌+◌, ◌↔◌, ◌++◌, ◌∷◌, [], true, IfOk, IsTrue, MatchOption, ℕ, drop, length, map, take};
+ghost use Rattle.std.specs.Prelude.{◌≡◌, ◌<◌, ◌≤◌, ◌+◌, ◌↔◌, ◌++◌, ◌∷◌, [], IfOk, IsTrue, MatchOption, ℕ, drop, length, map, take};
 ghost use Rattle.std.specs.VecDeque.{deque_len};
 ghost use Rattle.serving.specs.Lines.{Line, answer_one};
-ghost use Rattle.serving.specs.Rows.{AreFrom, AreInOrder, AreLeft, IsOf};
+ghost use Rattle.serving.specs.Rows.{AreFrom, AreInOrder, AreLeft, IsOf, with_tickets};
 
 use message::Reply;
 use std::alloc::{AllocError, Global};
@@ -38,20 +38,18 @@ enum LineKind {
 /// The lines that were read and are not answered in the output, oldest first. A contract sees them, and how many there is
 /// room for. Once made it takes no memory.
 ///
-/// A line without a ticket is its kind alone. Those with tickets lie in a queue of their own. While their tickets go up by one, as
-/// they do where lines are read, a ticket tells where its line lies.
+/// A line without a ticket is its kind alone. Those with tickets lie in a queue of their own. Their tickets go up by one, so that a
+/// ticket tells where its line lies.
 #[derive(Drop)]
 pub(crate) struct Row {
     kinds: VecDeque<LineKind>,
     /// The lines with tickets, oldest first.
     ticketed: VecDeque<Line>,
-    /// Only where each of their tickets is one more than the one before.
-    in_order: bool,
     slots: usize,
 }
 
 impl Model for Row {
-    ghost use Rattle.std.specs.Prelude.{◌≡◌, ◌≤◌, ℕ, true, length};
+    ghost use Rattle.std.specs.Prelude.{◌≡◌, ◌≤◌, ℕ, length};
     ghost use Rattle.std.specs.VecDeque.{deque_capacity};
     ghost use Rattle.serving.specs.Rows.{AreInOrder, RowView, ticketed_among, lines_of};
 
@@ -60,7 +58,7 @@ impl Model for Row {
     ghost view = { λ r. record { lines = lines_of r.kinds.items r.ticketed.items; slots = r.slots } };
 
     ghost invariant = { λ r. (r.slots ≤ deque_capacity r.kinds) × (r.slots ≤ deque_capacity r.ticketed) × (length r.kinds.items ≤ r.slots)
-        × (ticketed_among r.kinds.items ≡ length r.ticketed.items) × (r.in_order ≡ true → AreInOrder r.ticketed.items) };
+        × (ticketed_among r.kinds.items ≡ length r.ticketed.items) × AreInOrder r.ticketed.items };
 }
 
 /// Puts the reply to the message with this ticket to a line, where it is that message's and not answered.
@@ -83,27 +81,13 @@ fn first_ticket(ticketed: &VecDeque<Line>) -> Option<u64>
     }
 }
 
-/// Whether the tickets go up by one, where a line with this ticket comes after these.
-fn stays_in_order(ticketed: &VecDeque<Line>, in_order: bool, ticket: u64) -> bool
-    requires { in_order ≡ true → AreInOrder ticketed.now.items }
-    ensures { result ≡ true → (line : Line) → IsOf ticket line → AreInOrder (ticketed.now.items ++ line ∷ []) }
-{
-    match first_ticket(ticketed) {
-        Some(first) => in_order && ticket >= first && ticket - first == ticketed.len() as u64,
-        None => ticketed.is_empty(),
-    }
-}
-
-/// The places of the lines that a reply to this ticket can change: one at most if their tickets go up by one, and else all.
-fn places_of(ticketed: &VecDeque<Line>, in_order: bool, ticket: u64) -> Range<usize>
-    requires { in_order ≡ true → AreInOrder ticketed.now.items }
+/// The place of the line that a reply to this ticket can change, if there is one.
+fn places_of(ticketed: &VecDeque<Line>, ticket: u64) -> Range<usize>
+    requires { AreInOrder ticketed.now.items }
     ensures within { (result.start ≤ result.end) × (result.end ≤ deque_len ticketed.now) }
     ensures before { AreLeft ticket (take result.start ticketed.now.items) }
     ensures behind { AreLeft ticket (drop result.end ticketed.now.items) }
 {
-    if !in_order {
-        return 0..ticketed.len();
-    }
     let Some(first) = first_ticket(ticketed) else {
         return 0..0;
     };
@@ -123,7 +107,6 @@ impl Row {
         Ok(Row {
             kinds: VecDeque::with_capacity(alloc, slots)?,
             ticketed: VecDeque::with_capacity(alloc, slots)?,
-            in_order: true,
             slots,
         })
     }
@@ -161,18 +144,18 @@ impl Row {
         }
     }
 
-    /// Puts a line after the others. It is inlined, so that no line is copied with the room for a reply that it doesn't have.
+    /// Puts a line after the others; its ticket is the one behind theirs, if it has one. It is inlined, so that no line is copied with the room for a reply that it doesn't have.
     #[inline(always)]
     pub(crate) fn push(&mut self, line: Line)
         requires room { length self.old.lines < self.old.slots }
+        requires order { (ticket : ℕ) → IsOf ticket line → AreInOrder (with_tickets self.old.lines ++ line ∷ []) }
         ensures lines { self.new.lines ≡ self.old.lines ++ line ∷ [] }
         ensures slots { self.new.slots ≡ self.old.slots }
     {
         match line {
             Line::NoMessage => self.kinds.push_back_reserved(LineKind::NoMessage),
             Line::OutOfRange => self.kinds.push_back_reserved(LineKind::OutOfRange),
-            Line::Unanswered(ticket) | Line::Answered(ticket, _) => {
-                self.in_order = stays_in_order(&self.ticketed, self.in_order, ticket);
+            Line::Unanswered(_) | Line::Answered(..) => {
                 self.kinds.push_back_reserved(LineKind::Ticketed);
                 self.ticketed.push_back_reserved(line);
             }
@@ -194,7 +177,7 @@ impl Row {
         ensures lines { self.new.lines ≡ map (answer_one ticket reply) self.old.lines }
         ensures slots { self.new.slots ≡ self.old.slots }
     {
-        let places = places_of(&self.ticketed, self.in_order, ticket);
+        let places = places_of(&self.ticketed, ticket);
         for k in places.start..places.end {
             answer_line(&mut self.ticketed[k], ticket, &reply);
         }

@@ -1,17 +1,16 @@
 //! The whole call of a server: its memory, its workers and its end.
 
-ghost use Rattle.std.specs.Prelude.{◌≡◌, ◌≤◌, ℕ, false, List, [], None, Ok, Err, IfOk, MatchResult, OnOk, replicate, vec_len};
+ghost use Rattle.std.specs.Prelude.{◌≡◌, ◌≤◌, ℕ, false, List, [], None, Ok, Err, IfOk, MatchResult, OnOk, Some, replicate, vec_len};
 ghost use Rattle.legal_runs.specs.Laws.{IsIdle};
 ghost use Rattle.scheduler.specs.Kept.{world_of};
 ghost use Rattle.serving.specs.Ends.{EndsSo};
 ghost use Rattle.serving.specs.Runs.{with_lent};
 ghost use Rattle.serving.specs.Serve.{HasBegun, HasEmptyLog, HasRunSo, RefusesNone};
 
-use crate::course::Course;
-use crate::crew::{Duty, with_workers};
-use crate::fault::ServeFault;
+use crate::crew::{Crew, Duty, with_workers};
+use crate::points::Course;
 use crate::row::Row;
-use crate::session::Session;
+use crate::session::{Beginning, Session};
 use disk::Disk;
 use message::{LentReader, LineReader, Loan, ReplyBuffer};
 use scheduler::Core;
@@ -20,11 +19,28 @@ use std::io::{Read, Write};
 use std::marker::{Brand, PhantomData};
 use std::sync::Wait;
 use std::thread::Threads;
-use workers::{Bench, DispatchSeat, Gate};
+use workers::{DispatchSeat, Gate};
 
 /// How many bytes are read at a time: some 240 lines with a full block. A line is taken in only where it is held already or nothing
 /// else can be done, so this bounds how many changes a write of the log finds.
 const READ_SIZE: usize = 262_144;
+
+/// Why a server ended before the end of its input.
+#[derive(Clone, Copy, Debug, PartialEq, Eq)]
+pub enum ServeFault {
+    /// There are no workers. Nothing was read or written.
+    NoWorkers,
+    /// The input could not be read. The whole lines that were read before are answered.
+    Read,
+    /// The output could not be written. What was written of it is unknown.
+    Write,
+    /// The device failed. Whole lines were written, of messages that were logged before.
+    Device,
+    /// There was no memory, or a thread could not be started. Nothing was read or written.
+    OutOfMemory,
+    /// There is no ticket left. The lines before the one that found none are answered.
+    Exhausted,
+}
 
 /// The core of a server that ended before the end of its input, and why it did.
 #[derive(Drop)]
@@ -56,41 +72,6 @@ fn take_buffers(alloc: Global, slots: usize) -> Result<Buffers, AllocError>
     })
 }
 
-// Serves the lines of a reader that is lent, and gives it back.
-fn serve_lent<'a, T: Wait, R: Read, W: Write, D: Disk, G: Gate, L: Loan>(
-    rt: &T,
-    reader: &'a mut R,
-    w: &mut W,
-    input: Vec<u8>,
-    session: &mut Session<D>,
-    bench: &Bench,
-    gate: &G,
-    of: PhantomData<L>,
-) -> (Result<(), ServeFault>, &'a mut R)
-    requires name { reader.ghost_name ≡ L.name }
-    requires room { 1101 ≤ vec_len input }
-    requires row { (session.old.row.lines ≡ []) × (session.old.row.slots ≤ session.old.core.slots) }
-    requires none_waits { session.old.out ≡ [] }
-    requires bench { session.old.desk.bench ≡ bench.now }
-    requires lent { session.old.desk.lent ≡ replicate bench.now.slots None }
-    requires idle { IsIdle (world_of session.old.core) }
-    requires works { session.old.core.failed ≡ false }
-    ensures same { result.1.ghost_name ≡ reader.entry.ghost_name }
-    ensures run { HasRunSo D.keeps (with_lent session.old.core session.old.desk.lent) session.new.core (R.remaining reader.old)
-        (W.contents w.old) (W.contents w.new) result.0 }
-    ensures ends { EndsSo session.old.core session.new.core (R.remaining reader.old) (R.remaining result.1.now)
-        (W.contents w.old) (W.contents w.new) result.0 }
-    ensures emptied { OnOk result.0 (D.keeps → HasEmptyLog session.new.core) }
-    ensures begun { HasBegun result.0 }
-    ensures bench { session.new.desk.bench ≡ session.old.desk.bench }
-{
-    let mut lines = LineReader::new(LentReader { reader, of }, input);
-    let ended = session.serve_all(rt, &mut lines, w, bench, gate);
-    session.core.stands();
-    let LentReader { reader, of: _ } = lines.into_inner();
-    (ended, reader)
-}
-
 // What the calling thread of a server has: it serves with it.
 #[derive(Drop)]
 struct Serving<'a, 'b, D: Disk, R, W> {
@@ -99,6 +80,73 @@ struct Serving<'a, 'b, D: Disk, R, W> {
     writer: &'b mut W,
     buffers: Buffers,
     every: u64,
+}
+
+// Serves the lines of a reader that is lent, and gives it back with the writer.
+fn serve_lent<'a, 'b, 'c, T: Wait, R: Read, W: Write, D: Disk, G: Gate, L: Loan, B: Beginning>(
+    serving: Serving<'a, 'b, D, R, W>,
+    crew: Crew<'c, T, G>,
+    desk: DispatchSeat,
+    of: PhantomData<L>,
+    begun: PhantomData<B>,
+) -> (
+    (Core<D>, Result<(), ServeFault>, &'a mut R, &'b mut W),
+    DispatchSeat,
+)
+    requires reader { serving.reader.ghost_name ≡ L.name }
+    requires writer { serving.writer.ghost_name ≡ B.output }
+    requires start { B.start ≡ Some (record {
+      core = serving.core;
+      desk = desk;
+      input = R.remaining serving.reader.now;
+      before = W.contents serving.writer.now;
+    }) }
+    requires can_begin { (IsIdle (world_of serving.core)) × (serving.core.failed ≡ false) × (1101 ≤ vec_len serving.buffers.input)
+        × (serving.buffers.out ≡ []) × (serving.buffers.row.lines ≡ []) × (serving.buffers.row.slots ≤ serving.core.slots) }
+    requires bench { desk.bench ≡ crew.bench.now }
+    requires lent { desk.lent ≡ replicate crew.bench.now.slots None }
+    ensures same { (result.0.2.ghost_name ≡ serving.entry.reader.ghost_name) × (result.0.3.ghost_name ≡ serving.entry.writer.ghost_name) }
+    ensures run { HasRunSo D.keeps (with_lent serving.entry.core desk.lent) result.0.0 (R.remaining serving.entry.reader.now)
+        (W.contents serving.entry.writer.now) (W.contents result.0.3.now) result.0.1 }
+    ensures ends { EndsSo serving.entry.core result.0.0 (R.remaining serving.entry.reader.now) (R.remaining result.0.2.now)
+        (W.contents serving.entry.writer.now) (W.contents result.0.3.now) result.0.1 }
+    ensures emptied { OnOk result.0.1 (D.keeps → HasEmptyLog result.0.0) }
+    ensures begun { HasBegun result.0.1 }
+    ensures desk { result.1.bench ≡ desk.bench }
+{
+    let Serving {
+        core,
+        reader,
+        writer,
+        buffers,
+        every,
+    } = serving;
+    let Buffers { input, row, out } = buffers;
+    let lines = LineReader::new(LentReader { reader, of }, input);
+    let mut session = Session::<B, T, D, LentReader<R, L>, W, G> {
+        core,
+        desk,
+        row,
+        out,
+        course: Course::new(every),
+        lines,
+        stop: None,
+        w: writer,
+        broken: false,
+        crew,
+        of: begun,
+    };
+    let ended = session.serve_all();
+    session.core.stands();
+    let Session {
+        core,
+        desk,
+        lines,
+        w,
+        ..
+    } = session;
+    let LentReader { reader, of: _ } = lines.into_inner();
+    ((core, ended, reader, w), desk)
 }
 
 impl<'a, 'b, D: Disk, R: Read, W: Write> Duty for Serving<'a, 'b, D, R, W> {
@@ -115,48 +163,21 @@ impl<'a, 'b, D: Disk, R: Read, W: Write> Duty for Serving<'a, 'b, D, R, W> {
         × (s.buffers.row.lines ≡ []) × (s.buffers.row.slots ≤ s.core.slots) };
 
     ghost gives = { λ s places end. (end.2.ghost_name ≡ s.reader.ghost_name) × (end.3.ghost_name ≡ s.writer.ghost_name)
-        × HasRunSo D.keeps (with_lent s.core (replicate places None)) end.0 (R.remaining s.reader.now) (W.contents s.writer.now) (W.contents end.3.now) end.1
+        × HasRunSo D.keeps (with_lent s.core (replicate places None)) end.0 (R.remaining s.reader.now)
+        (W.contents s.writer.now) (W.contents end.3.now) end.1
         × EndsSo s.core end.0 (R.remaining s.reader.now) (R.remaining end.2.now) (W.contents s.writer.now) (W.contents end.3.now) end.1
         × OnOk end.1 (D.keeps → HasEmptyLog end.0)
         × HasWorkers end.1 };
 
-    fn fulfil<T: Wait, G: Gate>(
+    fn fulfil<'c, T: Wait, G: Gate>(
         self,
-        rt: &T,
-        bench: &Bench,
+        crew: Crew<'c, T, G>,
         desk: DispatchSeat,
-        gate: &G,
     ) -> (
         (Core<D>, Result<(), ServeFault>, &'a mut R, &'b mut W),
         DispatchSeat,
     ) {
-        let Serving {
-            core,
-            reader,
-            writer,
-            buffers,
-            every,
-        } = self;
-        let Buffers { input, row, out } = buffers;
-        let mut session = Session {
-            core,
-            desk,
-            row,
-            out,
-            course: Course::new(every),
-        };
-        let (ended, back) = serve_lent::<T, R, W, D, G, Brand>(
-            rt,
-            reader,
-            writer,
-            input,
-            &mut session,
-            bench,
-            gate,
-            PhantomData,
-        );
-        let Session { core, desk, .. } = session;
-        ((core, ended, back, writer), desk)
+        serve_lent::<T, R, W, D, G, Brand, Brand>(self, crew, desk, PhantomData, PhantomData)
     }
 
     fn decline(self) -> (Core<D>, Result<(), ServeFault>, &'a mut R, &'b mut W) {

@@ -1,21 +1,24 @@
 //! One turn of a session: messages go out, and what came back is logged in one go and answered; where nothing else can be done,
 //! it waits or begins a consistency point.
 
-ghost use Rattle.std.specs.Prelude.{◌≡◌, ℕ, List, [], Option, OnOk, length};
-ghost use Rattle.message.specs.Waiting.{so_far};
-ghost use Rattle.serving.specs.Runs.{with_lent};
-ghost use Rattle.serving.specs.Steps.{Holds};
-ghost use Rattle.serving.specs.Stops.{Advances, place_of};
+ghost use Rattle.std.specs.Prelude.{◌≡◌, ◌<◌, OnErr, OnOk, Some, [], false, is_none, length, position, true};
+ghost use Rattle.scheduler.specs.Kept.{world_of};
+ghost use Rattle.serving.specs.Lending.{GoesTo, IsEndOfSending, IsHome, IsSent};
+ghost use Rattle.serving.specs.Session.{IsAsBefore, Moves};
 
-use crate::course::{BATCH, Batch, Halt};
-use crate::lending::{Sent, send_all, take_all_back};
-use crate::session::Session;
+use crate::session::{Beginning, Halt, Session};
 use disk::Disk;
+use message::Reply;
+use scheduler::Granted;
 use std::hint::spin_loop;
-use std::io::Write;
+use std::io::{Read, Write};
 use std::sync::Wait;
 use std::thread::yield_now;
-use workers::{Bench, Gate};
+use workers::Gate;
+
+/// How many messages may come back before what ran is logged: the log writes as many records with one write of their bodies and
+/// one of their gates.
+const BATCH: usize = 64;
 
 /// How often all places are looked at in a row in vain before a batch is logged as it is: some ten times as long as a thread takes to
 /// wake up. Each further message spares the log a write, and no reply waits longer than that for a job that is slow.
@@ -23,6 +26,63 @@ const PATIENCE: usize = 16384;
 
 /// How often they are looked at until other threads may go first, if they wait for a processor.
 const LOOKS: usize = 32;
+
+/// What has come back in one turn, and what kept messages from going out. A wrong count makes a longer or a shorter batch, which
+/// no contract forbids.
+#[derive(Clone, Copy, Debug, PartialEq, Eq)]
+struct Batch {
+    /// How many more messages may come back before what ran is logged.
+    left: usize,
+    /// Whether one of them changed something, so that it has to be written to the log.
+    changed: bool,
+    /// Whether some message lacked room in the log alone, when messages went out last.
+    lacks_room: bool,
+}
+
+impl Batch {
+    /// One in which nothing has come back yet.
+    fn new(lacks_room: bool) -> Batch {
+        Batch {
+            left: BATCH,
+            changed: false,
+            lacks_room,
+        }
+    }
+
+    /// A message has come back, which changed something or didn't.
+    fn add(&mut self, changed: bool) {
+        self.left = self.left.saturating_sub(1);
+        self.changed = self.changed || changed;
+    }
+
+    /// Whether something has come back.
+    fn has_come(&self) -> bool {
+        self.left < BATCH
+    }
+
+    /// Whether what ran is to be logged before more comes back.
+    fn is_full(&self) -> bool {
+        self.left == 0
+    }
+
+    /// Whether it gains nothing by more: it is full, or what has come back is logged without a write.
+    fn is_ripe(&self) -> bool {
+        self.is_full() || self.has_come() && !self.changed
+    }
+}
+
+/// What came of it where a message was to go out.
+#[derive(Clone, Copy, Debug, PartialEq, Eq)]
+enum Sent {
+    /// The message went out, and its job is offered to the workers.
+    Job,
+    /// None is eligible, and none waits only for room in the log.
+    NoneEligible,
+    /// No message is eligible, and some message lacks room in the log alone.
+    NoRoom,
+    /// Nothing goes out, since the device has failed.
+    Failed,
+}
 
 /// Spins once after look `looks`, and yields at every 32nd.
 fn pause(looks: usize) {
@@ -33,40 +93,62 @@ fn pause(looks: usize) {
     }
 }
 
-impl<D: Disk> Session<D> {
-    /// Looks once at each place, and takes back what came of jobs that are out, until the batch is full: whether something did.
-    fn take_what_came(&mut self, bench: &Bench, batch: &mut Batch) -> bool
-        requires bench { self.old.desk.bench ≡ bench.now }
-        requires holds { Holds (with_lent self.old.core self.old.desk.lent) }
-        ensures holds { Holds (with_lent self.new.core self.new.desk.lent) }
-        ensures slots { self.new.row.slots ≡ self.old.row.slots }
-        ensures kept { (contents : Option (List ℕ)) → Advances D.keeps
-            (place_of self.old.core self.old.desk.lent self.old.row.lines (so_far contents self.old.out))
-            (place_of self.new.core self.new.desk.lent self.new.row.lines (so_far contents self.new.out)) (Ok (tt {0})) }
-        ensures bench { self.new.desk.bench ≡ self.old.desk.bench }
-        ensures places { length self.new.desk.lent ≡ length self.old.desk.lent }
+impl<'c, 'w, B: Beginning, T: Wait, D: Disk, R: Read, W: Write, G: Gate> Session<
+    'c,
+    'w,
+    B,
+    T,
+    D,
+    R,
+    W,
+    G,
+> {
+    /// Lets the eligible message with the least ticket go out to place k, the first where nothing is lent.
+    fn send_to(&mut self, k: usize) -> Sent
+        requires first { position is_none self.old.desk.lent ≡ Some k }
+        ensures as_before { IsAsBefore self.old self.new }
+        ensures sent { IsSent self.old.core.geometry (world_of self.old.core) result }
+        ensures geometry { self.new.core.geometry ≡ self.old.core.geometry }
+        ensures goes { GoesTo k (world_of self.old.core) self.old.desk.lent (world_of self.new.core) self.new.desk.lent result }
     {
-        take_all_back(&mut self.core, bench, &mut self.desk, batch)
+        self.core.stands();
+        match self.core.grant() {
+            Granted::Job(job) => {
+                let Ok(()) = self.crew.bench.offer(&mut self.desk, k, job) else {
+                    unreachable!()
+                };
+                Sent::Job
+            }
+            Granted::NoneEligible => Sent::NoneEligible,
+            Granted::NoRoom => Sent::NoRoom,
+            Granted::Failed => Sent::Failed,
+        }
+    }
+
+    /// Lets eligible messages go out, the one with the least ticket first, until something is lent at each place or none goes any
+    /// more: why. `Sent::Job` tells that no place is left.
+    fn send_all(&mut self) -> Sent
+        ensures as_before { IsAsBefore self.old self.new }
+        ensures ended { IsEndOfSending self.new.core.geometry (world_of self.new.core) self.new.desk.lent result }
+    {
+        while let Some(k) = self.desk.first_free() {
+            match self.send_to(k) {
+                Sent::Job => {}
+                why => return why,
+            }
+        }
+        Sent::Job
     }
 
     /// Lets messages go out, unless a consistency point is due by the number of records: whether one lacks room in the log
     /// alone.
-    fn send_out(&mut self, bench: &Bench) -> Result<bool, Halt>
-        requires bench { self.old.desk.bench ≡ bench.now }
-        requires places { length self.old.desk.lent ≡ bench.now.slots }
-        requires holds { Holds (with_lent self.old.core self.old.desk.lent) }
-        ensures holds { Holds (with_lent self.new.core self.new.desk.lent) }
-        ensures slots { self.new.row.slots ≡ self.old.row.slots }
-        ensures kept { (contents : Option (List ℕ)) → Advances D.keeps
-            (place_of self.old.core self.old.desk.lent self.old.row.lines (so_far contents self.old.out))
-            (place_of self.new.core self.new.desk.lent self.new.row.lines (so_far contents self.new.out)) result }
-        ensures bench { self.new.desk.bench ≡ self.old.desk.bench }
-        ensures places { length self.new.desk.lent ≡ length self.old.desk.lent }
+    fn send_out(&mut self) -> Result<bool, Halt>
+        ensures moves { Moves self.old self.new result }
     {
         if self.point_is_due() {
             return Ok(false);
         }
-        match send_all(&mut self.core, bench, &mut self.desk) {
+        match self.send_all() {
             Sent::Job => Ok(false),
             Sent::NoneEligible => Ok(false),
             Sent::NoRoom => Ok(true),
@@ -74,43 +156,73 @@ impl<D: Disk> Session<D> {
         }
     }
 
-    /// Looks once at each place, and lets messages go out where something came back: whether it did.
-    fn look(&mut self, bench: &Bench, batch: &mut Batch) -> Result<bool, Halt>
-        requires bench { self.old.desk.bench ≡ bench.now }
-        requires places { length self.old.desk.lent ≡ bench.now.slots }
-        requires holds { Holds (with_lent self.old.core self.old.desk.lent) }
-        ensures holds { Holds (with_lent self.new.core self.new.desk.lent) }
-        ensures slots { self.new.row.slots ≡ self.old.row.slots }
-        ensures kept { (contents : Option (List ℕ)) → Advances D.keeps
-            (place_of self.old.core self.old.desk.lent self.old.row.lines (so_far contents self.old.out))
-            (place_of self.new.core self.new.desk.lent self.new.row.lines (so_far contents self.new.out)) result }
-        ensures bench { self.new.desk.bench ≡ self.old.desk.bench }
+    /// Takes back what came of the job at place k, if it is there: whether it changed something.
+    fn take_back(&mut self, k: usize) -> Option<bool>
+        requires place { k < length self.old.desk.lent }
+        ensures as_before { IsAsBefore self.old self.new }
         ensures places { length self.new.desk.lent ≡ length self.old.desk.lent }
+        ensures failed { self.new.core.failed ≡ self.old.core.failed }
     {
-        if !self.take_what_came(bench, batch) {
+        self.core.stands();
+        let done = self.crew.bench.collect(&mut self.desk, k)?;
+        let changed = matches!(done.reply(), Reply::Done);
+        self.core.give_back(done);
+        Some(changed)
+    }
+
+    /// Looks once at each place, and takes back what came of jobs that are out, until the batch is full: whether something did.
+    fn take_what_came(&mut self, batch: &mut Batch) -> bool
+        ensures as_before { IsAsBefore self.old self.new }
+        ensures failed { self.new.core.failed ≡ self.old.core.failed }
+    {
+        let mut came = false;
+        for k in 0..self.desk.places() {
+            if batch.is_full() {
+                return came;
+            }
+            if let Some(changed) = self.take_back(k) {
+                batch.add(changed);
+                came = true;
+            }
+        }
+        came
+    }
+
+    /// Waits for the jobs that are out, and takes back what comes of them. Nothing is lent then.
+    pub(crate) fn come_home(&mut self)
+        ensures as_before { IsAsBefore self.old self.new }
+        ensures failed { self.new.core.failed ≡ self.old.core.failed }
+        ensures home { IsHome self.new.desk.lent }
+    {
+        let rt = self.crew.rt;
+        for _ in rt.forever() {
+            self.take_what_came(&mut Batch::new(false));
+            if !self.desk.any_lent() {
+                break;
+            }
+            self.crew.bench.wait(rt, &mut self.desk);
+        }
+    }
+
+    /// Looks once at each place, and lets messages go out where something came back: whether it did.
+    fn look(&mut self, batch: &mut Batch) -> Result<bool, Halt>
+        ensures moves { Moves self.old self.new result }
+    {
+        if !self.take_what_came(batch) {
             return Ok(false);
         }
-        let lacks_room = self.send_out(bench)?;
+        let lacks_room = self.send_out()?;
         batch.lacks_room = lacks_room;
         Ok(true)
     }
 
     /// Looks at the places again and again, until something came back or it has looked often enough: whether something did. It
     /// waits for nobody.
-    fn look_for_some(&mut self, bench: &Bench, batch: &mut Batch) -> Result<bool, Halt>
-        requires bench { self.old.desk.bench ≡ bench.now }
-        requires places { length self.old.desk.lent ≡ bench.now.slots }
-        requires holds { Holds (with_lent self.old.core self.old.desk.lent) }
-        ensures holds { Holds (with_lent self.new.core self.new.desk.lent) }
-        ensures slots { self.new.row.slots ≡ self.old.row.slots }
-        ensures kept { (contents : Option (List ℕ)) → Advances D.keeps
-            (place_of self.old.core self.old.desk.lent self.old.row.lines (so_far contents self.old.out))
-            (place_of self.new.core self.new.desk.lent self.new.row.lines (so_far contents self.new.out)) result }
-        ensures bench { self.new.desk.bench ≡ self.old.desk.bench }
-        ensures places { length self.new.desk.lent ≡ length self.old.desk.lent }
+    fn look_for_some(&mut self, batch: &mut Batch) -> Result<bool, Halt>
+        ensures moves { Moves self.old self.new result }
     {
         for looks in 1..=PATIENCE {
-            let came = self.look(bench, batch)?;
+            let came = self.look(batch)?;
             if came {
                 return Ok(true);
             }
@@ -120,23 +232,14 @@ impl<D: Disk> Session<D> {
     }
 
     /// Lets the batch grow until it is full, nothing is lent any more, or nothing came back in a while.
-    fn look_on(&mut self, bench: &Bench, batch: &mut Batch) -> Result<(), Halt>
-        requires bench { self.old.desk.bench ≡ bench.now }
-        requires places { length self.old.desk.lent ≡ bench.now.slots }
-        requires holds { Holds (with_lent self.old.core self.old.desk.lent) }
-        ensures holds { Holds (with_lent self.new.core self.new.desk.lent) }
-        ensures slots { self.new.row.slots ≡ self.old.row.slots }
-        ensures kept { (contents : Option (List ℕ)) → Advances D.keeps
-            (place_of self.old.core self.old.desk.lent self.old.row.lines (so_far contents self.old.out))
-            (place_of self.new.core self.new.desk.lent self.new.row.lines (so_far contents self.new.out)) result }
-        ensures bench { self.new.desk.bench ≡ self.old.desk.bench }
-        ensures places { length self.new.desk.lent ≡ length self.old.desk.lent }
+    fn look_on(&mut self, batch: &mut Batch) -> Result<(), Halt>
+        ensures moves { Moves self.old self.new result }
     {
         for _ in 0..BATCH {
             if batch.is_ripe() || !self.desk.any_lent() {
                 return Ok(());
             }
-            let came = self.look_for_some(bench, batch)?;
+            let came = self.look_for_some(batch)?;
             if !came {
                 return Ok(());
             }
@@ -146,71 +249,63 @@ impl<D: Disk> Session<D> {
 
     /// Lets messages go out and takes back what comes of them, until it is worth a write of the log. Jobs are out then as far as
     /// may be, so that they run meanwhile.
-    fn gather(&mut self, bench: &Bench) -> Result<Batch, Halt>
-        requires bench { self.old.desk.bench ≡ bench.now }
-        requires places { length self.old.desk.lent ≡ bench.now.slots }
-        requires holds { Holds (with_lent self.old.core self.old.desk.lent) }
-        ensures holds { Holds (with_lent self.new.core self.new.desk.lent) }
-        ensures slots { self.new.row.slots ≡ self.old.row.slots }
-        ensures kept { (contents : Option (List ℕ)) → Advances D.keeps
-            (place_of self.old.core self.old.desk.lent self.old.row.lines (so_far contents self.old.out))
-            (place_of self.new.core self.new.desk.lent self.new.row.lines (so_far contents self.new.out)) result }
-        ensures bench { self.new.desk.bench ≡ self.old.desk.bench }
-        ensures places { length self.new.desk.lent ≡ length self.old.desk.lent }
+    fn gather(&mut self) -> Result<Batch, Halt>
+        ensures moves { Moves self.old self.new result }
     {
-        let lacks_room = self.send_out(bench)?;
+        let lacks_room = self.send_out()?;
         let mut batch = Batch::new(lacks_room);
-        self.look_on(bench, &mut batch)?;
+        self.look_on(&mut batch)?;
         Ok(batch)
     }
 
-    /// Lets messages go out, takes back what comes, logs it in one go, answers it and writes the lines that are next in order. A
-    /// consistency point in progress goes on by one step after each answer.
-    fn work_off<W: Write, G: Gate>(
-        &mut self,
-        bench: &Bench,
-        w: &mut W,
-        gate: &G,
-    ) -> Result<Batch, Halt>
-        requires bench { self.old.desk.bench ≡ bench.now }
-        requires places { length self.old.desk.lent ≡ bench.now.slots }
-        requires holds { Holds (with_lent self.old.core self.old.desk.lent) }
-        ensures holds { Holds (with_lent self.new.core self.new.desk.lent) }
-        ensures slots { self.new.row.slots ≡ self.old.row.slots }
-        ensures kept { Advances D.keeps
-            (place_of self.old.core self.old.desk.lent self.old.row.lines (so_far (W.contents w.old) self.old.out))
-            (place_of self.new.core self.new.desk.lent self.new.row.lines (so_far (W.contents w.new) self.new.out)) result }
-        ensures bench { self.new.desk.bench ≡ self.old.desk.bench }
-        ensures places { length self.new.desk.lent ≡ length self.old.desk.lent }
+    /// Logs all that ran, in one go. Where nothing ran, it tells no more than whether the device works.
+    pub(crate) fn log_what_ran(&mut self) -> Result<(), Halt>
+        ensures moves { Moves self.old self.new result }
+        ensures same { (self.new.row ≡ self.old.row) × (self.new.out ≡ self.old.out) × (self.new.desk ≡ self.old.desk) }
+        ensures works { OnOk result (self.new.core.failed ≡ false) }
+        ensures logged { OnOk result (self.new.core.ran ≡ []) }
+        ensures failed { OnErr result (self.new.core.failed ≡ true) }
     {
-        let batch = self.gather(bench)?;
+        let count = self.core.slots();
+        match self.core.log(count) {
+            Ok(_) => Ok(()),
+            Err(_) => Err(Halt::Device),
+        }
+    }
+
+    /// Answers all that is logged, and takes the consistency point in progress a step on behind each answer.
+    fn answer_and_move_on(&mut self) -> Result<(), Halt>
+        ensures moves { Moves self.old self.new result }
+    {
+        for _ in 0..self.core.slots() {
+            if !self.answer_first() {
+                return Ok(());
+            }
+            self.move_point_on()?;
+        }
+        Ok(())
+    }
+
+    /// Lets messages go out, takes back what comes, logs it in one go, answers it and writes the lines that are next in order. A
+    /// consistency point in progress goes on by one step behind each answer.
+    fn work_off(&mut self) -> Result<Batch, Halt>
+        ensures moves { Moves self.old self.new result }
+    {
+        let batch = self.gather()?;
         self.log_what_ran()?;
-        self.say_and_move_on(w, gate)?;
+        self.answer_and_move_on()?;
+        self.say_what_is_next()?;
         Ok(batch)
     }
 
     /// Sends what waits, and waits for a result where one is to come, or begins a consistency point where one is due or a
     /// message lacks room. Else nothing is to be done: whether it is so.
-    fn rest<T: Wait, W: Write>(
-        &mut self,
-        rt: &T,
-        bench: &Bench,
-        w: &mut W,
-        lacks_room: bool,
-    ) -> Result<bool, Halt>
-        requires bench { self.old.desk.bench ≡ bench.now }
-        requires holds { Holds (with_lent self.old.core self.old.desk.lent) }
-        ensures holds { Holds (with_lent self.new.core self.new.desk.lent) }
-        ensures slots { self.new.row.slots ≡ self.old.row.slots }
-        ensures kept { Advances D.keeps
-            (place_of self.old.core self.old.desk.lent self.old.row.lines (so_far (W.contents w.old) self.old.out))
-            (place_of self.new.core self.new.desk.lent self.new.row.lines (so_far (W.contents w.new) self.new.out)) result }
-        ensures bench { self.new.desk.bench ≡ self.old.desk.bench }
-        ensures places { length self.new.desk.lent ≡ length self.old.desk.lent }
+    fn rest(&mut self, lacks_room: bool) -> Result<bool, Halt>
+        ensures moves { Moves self.old self.new result }
     {
-        self.send(w)?;
+        self.send()?;
         if self.desk.any_lent() {
-            bench.wait(rt, &mut self.desk);
+            self.crew.bench.wait(self.crew.rt, &mut self.desk);
             return Ok(false);
         }
         if !lacks_room && !self.point_is_due() {
@@ -221,26 +316,10 @@ impl<D: Disk> Session<D> {
     }
 
     /// Does what can be done: whether nothing is left to do but to read. Where lines were read just before, it doesn't wait.
-    pub(crate) fn advance<T: Wait, W: Write, G: Gate>(
-        &mut self,
-        rt: &T,
-        bench: &Bench,
-        w: &mut W,
-        gate: &G,
-        read: bool,
-    ) -> Result<bool, Halt>
-        requires bench { self.old.desk.bench ≡ bench.now }
-        requires places { length self.old.desk.lent ≡ bench.now.slots }
-        requires holds { Holds (with_lent self.old.core self.old.desk.lent) }
-        ensures holds { Holds (with_lent self.new.core self.new.desk.lent) }
-        ensures slots { self.new.row.slots ≡ self.old.row.slots }
-        ensures kept { Advances D.keeps
-            (place_of self.old.core self.old.desk.lent self.old.row.lines (so_far (W.contents w.old) self.old.out))
-            (place_of self.new.core self.new.desk.lent self.new.row.lines (so_far (W.contents w.new) self.new.out)) result }
-        ensures bench { self.new.desk.bench ≡ self.old.desk.bench }
-        ensures places { length self.new.desk.lent ≡ length self.old.desk.lent }
+    pub(crate) fn advance(&mut self, read: bool) -> Result<bool, Halt>
+        ensures moves { Moves self.old self.new result }
     {
-        let batch = self.work_off(bench, w, gate)?;
+        let batch = self.work_off()?;
         if read || batch.has_come() {
             return Ok(false);
         }
@@ -248,34 +327,6 @@ impl<D: Disk> Session<D> {
         if pointed {
             return Ok(false);
         }
-        self.rest(rt, bench, w, batch.lacks_room)
-    }
-
-    /// Goes on without reading until each line that was read is answered in the output.
-    pub(crate) fn finish_row<T: Wait, W: Write, G: Gate>(
-        &mut self,
-        rt: &T,
-        bench: &Bench,
-        w: &mut W,
-        gate: &G,
-    ) -> Result<(), Halt>
-        requires bench { self.old.desk.bench ≡ bench.now }
-        requires places { length self.old.desk.lent ≡ bench.now.slots }
-        requires holds { Holds (with_lent self.old.core self.old.desk.lent) }
-        ensures holds { Holds (with_lent self.new.core self.new.desk.lent) }
-        ensures kept { Advances D.keeps
-            (place_of self.old.core self.old.desk.lent self.old.row.lines (so_far (W.contents w.old) self.old.out))
-            (place_of self.new.core self.new.desk.lent self.new.row.lines (so_far (W.contents w.new) self.new.out)) result }
-        ensures bench { self.new.desk.bench ≡ self.old.desk.bench }
-        ensures places { length self.new.desk.lent ≡ length self.old.desk.lent }
-        ensures all { OnOk result (self.new.row.lines ≡ []) }
-    {
-        for _ in rt.forever() {
-            if self.row.len() == 0 {
-                return Ok(());
-            }
-            self.advance(rt, bench, w, gate, false)?;
-        }
-        unreachable!()
+        self.rest(batch.lacks_room)
     }
 }

@@ -4,7 +4,7 @@ use Rattle.std.specs.Prelude.{Result}
 use Rattle.serving.proofs.Promises.{no_memory_ran, no_workers_ran}
 use Rattle.serving.specs.Runs.{with_lent}
 use Rattle.serving.specs.Serve.{HasRunSo, HasServedAll}
-use Rattle.serving.specs.declared.fault.ServeFault.{ServeFault}
+use Rattle.serving.specs.declared.server.ServeFault.{ServeFault}
 use Rattle.serving.proofs.server.serve.Goals as goal
 
 pub returns-then-workers-eq0-clause-run : goal.returns-then-workers-eq0-clause-run

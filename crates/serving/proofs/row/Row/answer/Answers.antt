@@ -14,7 +14,6 @@ loop-k-init c = record {
   many = refl;
   kinds = refl;
   kinds_capacity = refl;
-  in_order = refl;
   slots = refl;
   ticketed_capacity = refl;
 }
@@ -29,8 +28,8 @@ invariant_of-self c =
       omega (arith, was.1, i.ticketed_capacity, i.slots),
       omega (arith, was.2, fewer, i.slots),
       same ∙ was.3 ∙ sym i.many,
-      λ ordered. subst (λ (l : List Line). AreInOrder l) (sym i.ticketed)
-          (looked_in_order c.args.ticket c.args.reply c.loop-k.k c.self.inside.ticketed.items (was.4 (sym i.in_order ∙ ordered))),
+      subst (λ (l : List Line). AreInOrder l) (sym i.ticketed)
+          (looked_in_order c.args.ticket c.args.reply c.loop-k.k c.self.inside.ticketed.items was.4),
     )
 
 pub loop-k-preserved : goal.loop-k-preserved
@@ -51,7 +50,6 @@ loop-k-preserved c =
       many = length-set c.loop-k.self-inside.ticketed.items k c.answer_line.new.line ∙ i.many;
       kinds = i.kinds;
       kinds_capacity = i.kinds_capacity;
-      in_order = i.in_order;
       slots = i.slots;
       ticketed_capacity = i.ticketed_capacity;
     }

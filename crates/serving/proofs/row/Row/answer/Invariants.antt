@@ -10,7 +10,6 @@ invariant-loop-k l = record {
   many : length l.self-inside.ticketed.items ≡ length l.initial.self-inside.ticketed.items;
   kinds : l.self-inside.kinds.items ≡ l.initial.self-inside.kinds.items;
   kinds_capacity : deque_capacity l.self-inside.kinds ≡ deque_capacity l.initial.self-inside.kinds;
-  in_order : l.self-inside.in_order ≡ l.initial.self-inside.in_order;
   slots : l.self-inside.slots ≡ l.initial.self-inside.slots;
   ticketed_capacity : deque_capacity l.self-inside.ticketed ≡ deque_capacity l.initial.self-inside.ticketed;
 }

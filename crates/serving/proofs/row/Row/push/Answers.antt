@@ -2,9 +2,9 @@
 use Rattle.std.proofs.Common.{◌++◌, ◌∷◌, [], List, ap, arith, length, subst, sym, ◌∙◌}
 use Rattle.std.proofs.lemmas.List.{length_push}
 use Rattle.serving.specs.Lines.{Line, NoMessage, OutOfRange}
-use Rattle.serving.specs.Rows.{AreInOrder, Ticketed, LineKind, Outside, RowView, Stray, ticketed_among, lines_of}
-use Rattle.serving.proofs.Order.{is_of}
-use Rattle.serving.proofs.Rows.{ticketed_among-append, fewer_are_ticketed, kinds_have_room, lines_of-append, lines_of-plain}
+use Rattle.serving.specs.Rows.{AreInOrder, Ticketed, LineKind, Outside, RowView, Stray, ticketed_among, lines_of, with_tickets}
+use Rattle.serving.proofs.Order.{ticket_in}
+use Rattle.serving.proofs.Rows.{ticketed_among-append, fewer_are_ticketed, kinds_have_room, lines_of-append, lines_of-plain, tickets_of_lines}
 use Rattle.serving.proofs.row.Row.push.Goals as goal
 
 pub push_back_reserved-requires : goal.push_back_reserved-requires
@@ -49,8 +49,8 @@ invariant_of-self c =
     let ticketed = ap (λ (l : List LineKind). ticketed_among l) pushed.items ∙ ticketed_among-append k.kinds.items (Stray ∷ []) in
     (omega (arith, was.0, pushed.capacity), was.1, omega (arith, more, room), omega (arith, ticketed, was.3), was.4)
 
-pub invariant_of-self-in-OutOfRange-1 : goal.invariant_of-self-in-OutOfRange-1
-invariant_of-self-in-OutOfRange-1 c =
+pub invariant_of-self-in-OutOfRange : goal.invariant_of-self-in-OutOfRange
+invariant_of-self-in-OutOfRange c =
     let k = c.self.inside in
     let was = c.self.invariant in
     let room = kinds_have_room k.kinds.items k.ticketed.items k.slots c.args.self.now c.self.view_is was.3 c.requires.room in
@@ -79,20 +79,21 @@ pub invariant_of-self-in-Unanswered : goal.invariant_of-self-in-Unanswered
 invariant_of-self-in-Unanswered c =
     let k = c.self.inside in
     let was = c.self.invariant in
-    let it = c.in-Unanswered in
     let room = kinds_have_room k.kinds.items k.ticketed.items k.slots c.args.self.now c.self.view_is was.3 c.requires.room in
     let pushed = c.push_back_reserved-in-Unanswered.ensures in
     let beside = c.push_back_reserved-in-Unanswered-2.ensures in
     let more = ap (λ (l : List LineKind). length l) pushed.items ∙ length_push k.kinds.items Ticketed in
     let among = ap (λ (l : List LineKind). ticketed_among l) pushed.items ∙ ticketed_among-append k.kinds.items (Ticketed ∷ []) in
-    let ticketed = ap (λ (l : List Line). length l) beside.items ∙ length_push k.ticketed.items it.line in
-    let of = is_of it.line c.args.line it.ticket it.line-is it.is in (
+    let ticketed = ap (λ (l : List Line). length l) beside.items ∙ length_push k.ticketed.items c.args.line in
+    let of = ticket_in c.args.line c.in-Unanswered.is in (
       omega (arith, was.0, pushed.capacity),
       omega (arith, was.1, beside.capacity),
       omega (arith, more, room),
       omega (arith, among, ticketed, was.3),
-      λ ordered. subst (λ (l : List Line). AreInOrder l) (sym {A = List Line} beside.items)
-          (c.stays_in_order-self-inside.ensures ordered it.line of),
+      subst (λ (l : List Line). AreInOrder l) (sym {A = List Line} beside.items)
+          (subst (λ (l : List Line). AreInOrder (l ++ c.args.line ∷ []))
+          (ap (λ (v : RowView). with_tickets v.lines) (sym c.self.view_is) ∙ tickets_of_lines k.kinds.items k.ticketed.items was.4.0 was.3 was.4.1)
+          (c.requires.order of.0 of.1)),
     )
 
 pub returns-in-Unanswered-clause-lines : goal.returns-in-Unanswered-clause-lines
@@ -101,6 +102,5 @@ returns-in-Unanswered-clause-lines c =
     let beside = c.push_back_reserved-in-Unanswered-2 in
     ap (λ (l : List LineKind). lines_of l beside.new.self.items) c.push_back_reserved-in-Unanswered.ensures.items
     ∙ ap (λ (l : List Line). lines_of (k.kinds.items ++ Ticketed ∷ []) l) beside.ensures.items
-    ∙ lines_of-append k.kinds.items (Ticketed ∷ []) k.ticketed.items (c.in-Unanswered.line ∷ []) c.self.invariant.3
-    ∙ ap (λ (v : RowView). v.lines ++ c.in-Unanswered.line ∷ []) c.self.view_is
-    ∙ ap (λ (l : Line). c.args.self.now.lines ++ l ∷ []) c.in-Unanswered.line-is
+    ∙ lines_of-append k.kinds.items (Ticketed ∷ []) k.ticketed.items (c.args.line ∷ []) c.self.invariant.3
+    ∙ ap (λ (v : RowView). v.lines ++ c.args.line ∷ []) c.self.view_is

@@ -1,18 +1,32 @@
--- The lemmas on places that follow one another.
-use Rattle.std.proofs.Common.{map, ap, ◌∙◌}
-use Rattle.legal_runs.specs.World.{World}
-use Rattle.message.specs.Waiting.{so_far}
-use Rattle.serving.proofs.Advancing.{row_goes}
-use Rattle.serving.specs.Runs.{hand_of, with_lent}
+-- The message is answered, and so is its line; and the session stays under way.
+use Rattle.std.proofs.Common.{ℕ, Option, refl, subst}
+use Rattle.machine.proofs.Events.{answer_step}
+use Rattle.message.specs.declared.Reply.{Reply}
+use Rattle.serving.specs.Runs.{with_lent}
+use Rattle.serving.proofs.Answering.{IsAnswered, is_answered_so, none_answered}
+use Rattle.serving.proofs.Under.{holds_of, on_answer, on_machine}
 use Rattle.serving.proofs.session.Session.answer_first.Goals as goal
 
-pub returns-clause-kept : goal.returns-clause-kept
-returns-clause-kept g c contents =
-    let s = c.args.self.now in
-    let m = with_lent s.core s.desk.lent in
-    let k = c.answer_one.ensures.kept (map hand_of s.desk.lent) c.requires.holds in
-    row_goes g.D.Disk.keeps m (with_lent c.answer_one.new.core s.desk.lent) s.row.lines c.answer_one.new.row.lines (so_far contents s.out) tt
-    k.holds (ap (λ (w : World). w.next) c.answer_one.ensures.world) (λ f. ap (λ (w : World). w.failed) c.answer_one.ensures.world ∙ f) k.goes
+pub invariant_of-self : goal.invariant_of-self
+invariant_of-self g c =
+    let old = c.self.inside.core in
+    let new = c.answer-told.new.self in
+    let so = is_answered_so g.D.Disk.keeps old new c.answer-told.result
+    (answer_step g.D.Disk.keeps old new c.stands.ensures.no_doubt c.stands.ensures.now c.answer-told.ensures.geometry c.answer-told.ensures.untouched
+    c.answer-told.result c.answer-told.ensures.world) _ (holds_of g.D.Disk.keeps _ _ c.self.invariant.0) in (
+      on_machine g.D.Disk.keeps _ _ _ _ c.self.invariant.0 (none_answered g.D.Disk.keeps _ _ c.answer-told.result c.in_default.not-Some so) refl refl,
+      c.self.invariant.1,
+    )
 
-pub returns-clause-holds : goal.returns-clause-holds
-returns-clause-holds g c = (c.answer_one.ensures.kept (map hand_of c.args.self.now.desk.lent) c.requires.holds).holds
+pub invariant_of-self-2 : goal.invariant_of-self-2
+invariant_of-self-2 g c =
+    let old = c.self.inside.core in
+    let new = c.answer-told.new.self in
+    let so = is_answered_so g.D.Disk.keeps old new c.answer-told.result
+    (answer_step g.D.Disk.keeps old new c.stands.ensures.no_doubt c.stands.ensures.now c.answer-told.ensures.geometry c.answer-told.ensures.untouched
+    c.answer-told.result c.answer-told.ensures.world) _ (holds_of g.D.Disk.keeps _ _ c.self.invariant.0) in (
+      on_answer g.D.Disk.keeps _ _ _ _ _ _ c.self.invariant.0
+          (subst (λ (o : Option (ℕ × Reply)). IsAnswered g.D.Disk.keeps (with_lent old c.self.inside.desk.lent) (with_lent new c.self.inside.desk.lent) o)
+          c.in-Some.is so) c.answer.ensures.lines c.answer.ensures.slots,
+      c.self.invariant.1,
+    )

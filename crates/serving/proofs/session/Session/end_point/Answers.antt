@@ -1,24 +1,15 @@
--- The lemmas on places that follow one another.
-use Rattle.std.proofs.Common.{map, true}
-use Rattle.message.specs.Waiting.{so_far}
-use Rattle.serving.proofs.Advancing.{machine_fails, machine_goes}
-use Rattle.serving.specs.Runs.{hand_of, with_lent}
+-- It stays under way.
+use Rattle.std.proofs.Common.{refl}
+use Rattle.scheduler.proofs.Called.{flip_called}
+use Rattle.scheduler.specs.Kept.{world_of}
+use Rattle.serving.proofs.Stretches.{flip_is_quiet}
+use Rattle.serving.proofs.Under.{holds_of, on_machine}
 use Rattle.serving.proofs.session.Session.end_point.Goals as goal
 
-pub returns-in-Ok-clause-kept : goal.returns-in-Ok-clause-kept
-returns-in-Ok-clause-kept g c contents =
-    let s = c.args.self.now in
-    machine_goes g.D.Disk.keeps (with_lent s.core s.desk.lent) (with_lent c.finish_cut.new.core s.desk.lent) s.row.lines (so_far contents s.out)
-    (c.finish_cut.ensures.kept (map hand_of s.desk.lent) c.requires.holds) true
-
-pub returns-in-Err-clause-kept : goal.returns-in-Err-clause-kept
-returns-in-Err-clause-kept g c contents =
-    let s = c.args.self.now in
-    machine_fails g.D.Disk.keeps (with_lent s.core s.desk.lent) (with_lent c.finish_cut.new.core s.desk.lent) s.row.lines (so_far contents s.out)
-    (c.finish_cut.ensures.kept (map hand_of s.desk.lent) c.requires.holds) c.in-Err.ensures.failed
-
-pub returns-in-Ok-clause-holds : goal.returns-in-Ok-clause-holds
-returns-in-Ok-clause-holds g c = (c.finish_cut.ensures.kept (map hand_of c.args.self.now.desk.lent) c.requires.holds).holds
-
-pub returns-in-Err-clause-holds : goal.returns-in-Err-clause-holds
-returns-in-Err-clause-holds g c = (c.finish_cut.ensures.kept (map hand_of c.args.self.now.desk.lent) c.requires.holds).holds
+pub invariant_of-self : goal.invariant_of-self
+invariant_of-self g c =
+    let old = c.self.inside.core in
+    let new = c.flip.new.self in
+    let quiet = flip_is_quiet g.D.Disk.keeps old new c.flip.ensures.geometry c.flip.ensures.any_moment c.flip.result
+    (flip_called old.geometry (world_of old) (world_of new) c.flip.result c.flip.ensures.world) c.flip.ensures.counts in
+    (on_machine g.D.Disk.keeps _ _ _ _ c.self.invariant.0 (quiet _ (holds_of g.D.Disk.keeps _ _ c.self.invariant.0)) refl refl, c.self.invariant.1)

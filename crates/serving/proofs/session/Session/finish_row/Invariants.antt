@@ -1,18 +1,5 @@
-use Rattle.std.proofs.Common.{◌≡◌, Ok, length}
-use Rattle.message.specs.Waiting.{so_far}
-use Rattle.serving.specs.Runs.{with_lent}
-use Rattle.serving.specs.Steps.{Holds}
-use Rattle.serving.specs.Stops.{Advances, place_of}
+use Rattle.serving.specs.Session.{IsAsBefore}
 use Rattle.serving.proofs.session.Session.finish_row.Given as goal
 
 abbrev pub invariant-loop : goal.invariant-loop
-invariant-loop g l =
-    let o = l.initial.self in
-    let s = l.self in
-    record {
-      holds : Holds (with_lent s.core s.desk.lent);
-      kept : Advances g.D.Disk.keeps (place_of o.core o.desk.lent o.row.lines (so_far (g.W.Write.contents l.initial.w) o.out))
-          (place_of s.core s.desk.lent s.row.lines (so_far (g.W.Write.contents l.w) s.out)) (Ok (tt {0}));
-      bench : s.desk.bench ≡ o.desk.bench;
-      places : length s.desk.lent ≡ length o.desk.lent;
-    }
+invariant-loop g l = IsAsBefore l.initial.self l.self

@@ -1,24 +1,17 @@
--- The lemmas on places that follow one another.
-use Rattle.std.proofs.Common.{map}
-use Rattle.message.specs.Waiting.{so_far}
-use Rattle.serving.proofs.Advancing.{machine_fails, machine_goes}
-use Rattle.serving.specs.Runs.{hand_of, with_lent}
+-- It stays under way, and the lemmas on logs.
+use Rattle.std.proofs.Common.{refl}
+use Rattle.scheduler.proofs.Called.{log_called}
+use Rattle.scheduler.specs.Kept.{world_of}
+use Rattle.serving.proofs.Stretches.{log_is_quiet}
+use Rattle.serving.proofs.Under.{holds_of, on_machine}
 use Rattle.serving.proofs.session.Session.log_what_ran.Goals as goal
 
-pub returns-in-Ok-clause-kept : goal.returns-in-Ok-clause-kept
-returns-in-Ok-clause-kept g c contents =
-    let s = c.args.self.now in
-    machine_goes g.D.Disk.keeps (with_lent s.core s.desk.lent) (with_lent c.log_all.new.core s.desk.lent) s.row.lines (so_far contents s.out)
-    (c.log_all.ensures.kept (map hand_of s.desk.lent) c.requires.holds) tt
-
-pub returns-in-Err-clause-kept : goal.returns-in-Err-clause-kept
-returns-in-Err-clause-kept g c contents =
-    let s = c.args.self.now in
-    machine_fails g.D.Disk.keeps (with_lent s.core s.desk.lent) (with_lent c.log_all.new.core s.desk.lent) s.row.lines (so_far contents s.out)
-    (c.log_all.ensures.kept (map hand_of s.desk.lent) c.requires.holds) c.in-Err.ensures.failed
-
-pub returns-in-Ok-clause-holds : goal.returns-in-Ok-clause-holds
-returns-in-Ok-clause-holds g c = (c.log_all.ensures.kept (map hand_of c.args.self.now.desk.lent) c.requires.holds).holds
-
-pub returns-in-Err-clause-holds : goal.returns-in-Err-clause-holds
-returns-in-Err-clause-holds g c = (c.log_all.ensures.kept (map hand_of c.args.self.now.desk.lent) c.requires.holds).holds
+pub invariant_of-self : goal.invariant_of-self
+invariant_of-self g c =
+    let old = c.self.inside.core in
+    let n = c.slots-count.result in
+    let k = log_is_quiet g.D.Disk.keeps old c.log.new.self n c.log.result
+    (log_called old.geometry (world_of old) (world_of c.log.new.self) n c.log.result c.log.ensures.world)
+    c.log.ensures.geometry c.log.ensures.counts c.log.ensures.any_moment in
+    let h = holds_of g.D.Disk.keeps _ _ c.self.invariant.0 in
+    (on_machine g.D.Disk.keeps _ _ _ _ c.self.invariant.0 (k _ h) refl refl, c.self.invariant.1)

@@ -1,0 +1,13 @@
+-- The messages so far were answered.
+use Rattle.std.proofs.Common.{◌≡◌, ◌+◌, length}
+use Rattle.scheduler.specs.Kept.{world_of}
+use Rattle.serving.specs.Session.{IsAsBefore}
+use Rattle.serving.proofs.session.Session.answer_what_is_logged.Given as goal
+
+abbrev pub invariant-loop : goal.invariant-loop
+invariant-loop g l = record {
+  as_before : IsAsBefore l.initial.self l.self;
+  desk : l.self.desk ≡ l.initial.self.desk;
+  world : world_of l.self.core ≡ record (world_of l.initial.self.core) { logged = l.self.core.logged };
+  many : l.counter + length l.self.core.logged ≡ length l.initial.self.core.logged;
+}

@@ -1,0 +1,9 @@
+use Rattle.std.proofs.Common.{◌≡◌}
+use Rattle.serving.specs.Session.{IsAsBefore}
+use Rattle.serving.proofs.session.Session.come_home.Given as goal
+
+abbrev pub invariant-loop : goal.invariant-loop
+invariant-loop g l = record {
+  as_before : IsAsBefore l.initial.self l.self;
+  failed : l.self.core.failed ≡ l.initial.self.core.failed;
+}

@@ -1,0 +1,10 @@
+use Rattle.std.specs.Prelude.{count_by, is_none}
+use Rattle.serving.specs.Session.{IsAsBefore}
+use Rattle.serving.proofs.session.Session.send_all.Given as goal
+
+abbrev pub invariant-loop-k : goal.invariant-loop-k
+invariant-loop-k g l = IsAsBefore l.initial.self l.self
+
+-- the places where nothing is lent
+abbrev pub decreases-loop-k : goal.decreases-loop-k
+decreases-loop-k g l = count_by is_none l.self.desk.lent

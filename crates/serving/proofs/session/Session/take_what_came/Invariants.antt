@@ -1,0 +1,10 @@
+use Rattle.std.proofs.Common.{◌≡◌, length}
+use Rattle.serving.specs.Session.{IsAsBefore}
+use Rattle.serving.proofs.session.Session.take_what_came.Given as goal
+
+abbrev pub invariant-loop-k : goal.invariant-loop-k
+invariant-loop-k g l = record {
+  as_before : IsAsBefore l.initial.self l.self;
+  places : length l.self.desk.lent ≡ length l.initial.self.desk.lent;
+  failed : l.self.core.failed ≡ l.initial.self.core.failed;
+}
