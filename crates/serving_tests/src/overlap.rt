@@ -14,7 +14,7 @@ use std::thread::Threads;
 use workers::Gate;
 
 /// How often a worker looks whether it may go on, before it gives up.
-const MOST_TRIES: u32 = 1_000_000;
+const MOST_TRIES: u32 = 16_000_000;
 
 /// Holds each job until that of this ticket is answered.
 #[derive(Drop)]
