@@ -52,7 +52,8 @@ AreFirst (Some input) taken = (more : List (List ℕ)) × (lines input ≡ taken
 
 -- From the start there is a legal run to the core at the end, whose tickets go in order to the messages in range of the first
 -- lines of the input: its events, each with the device as it left it.
-pub record HasRun (keeps : Type 0) (start : Handed) (new : Kept) (input : Option (List ℕ)) (taken : List (List ℕ)) (stages : List Stage) : Type 0 where
+pub record HasRun (keeps : Type 0) (start : Handed) (new : Kept)
+    (input : Option (List ℕ)) (taken : List (List ℕ)) (stages : List Stage) : Type 0 where
   pub first : AreFirst input taken
   pub legal : IsLegal start.core.geometry (machine_of start) (events_of stages)
   pub hands : List Hand
@@ -71,7 +72,8 @@ pub record HasRun (keeps : Type 0) (start : Handed) (new : Kept) (input : Option
 
 -- Behind what was written there is such a run: each line that was written is of a line that is no message or is out of range, or
 -- of one that was answered in the run. These lines that were read are not answered in the output.
-pub record HasServed (keeps : Type 0) (start : Handed) (new : Kept) (row : List Line) (input before written : Option (List ℕ)) : Type 0 where
+pub record HasServed (keeps : Type 0) (start : Handed) (new : Kept) (row : List Line)
+    (input before written : Option (List ℕ)) : Type 0 where
   pub taken : List (List ℕ)
   pub stages : List Stage
   pub run : HasRun keeps start new input taken stages
@@ -92,7 +94,8 @@ pub record IsWoundUp (core : Kept) : Type 0 where
 
 -- Where each line that was read is answered, nothing waits or is held, and the device works. Where the device or the output has failed,
 -- the core is wound up; and where the output alone has, each message that ran is logged.
-abbrev pub EndsSo : Kept → Kept → Option (List ℕ) → Option (List ℕ) → Option (List ℕ) → Option (List ℕ) → Result (Unit {0}) ServeFault → Type 0
+abbrev pub EndsSo : Kept → Kept → Option (List ℕ) → Option (List ℕ) → Option (List ℕ)
+    → Option (List ℕ) → Result (Unit {0}) ServeFault → Type 0
 EndsSo old new input left before written (Ok _) = IsIdle (world_of new) × (new.failed ≡ false) × IsAtEnd left
     × Writes input before written (λ bytes w. AreServed old.geometry (settled old) (settled new) (lines bytes) w)
 EndsSo old new input left before written (Err faults.Read) = IsIdle (world_of new) × (new.failed ≡ false)

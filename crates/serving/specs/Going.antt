@@ -22,7 +22,8 @@ pub record IsServing (keeps : Type 0) (start now : Handed) (taken : List (List �
 
 -- From its start the server has come to this machine and this row of lines. It has taken lines of the input, of which this is
 -- left, and it has written the answers to those that are not in the row.
-pub record Goes (keeps : Type 0) (start now : Handed) (row : List Line) (input left : Option (List ℕ)) (ended : Bool) (before written : Option (List ℕ)) : Type 0 where
+pub record Goes (keeps : Type 0) (start now : Handed) (row : List Line)
+    (input left : Option (List ℕ)) (ended : Bool) (before written : Option (List ℕ)) : Type 0 where
   pub taken : List (List ℕ)
   pub said : List Line
   pub takes : Takes input left ended taken

@@ -141,6 +141,7 @@ abbrev pub EndsBy : Place → Result (Unit {0}) ServeFault → Type 0
 EndsBy p (Ok _) = IsServed p × (p.stop ≡ Some stops.End)
 EndsBy p (Err faults.Read) = IsServed p × (p.stop ≡ Some stops.Fault)
 EndsBy p (Err faults.Exhausted) = IsServed p × (p.stop ≡ Some stops.Exhausted)
-EndsBy p (Err faults.Device) = IsHome p.desk.lent × (p.core.logged ≡ []) × (p.core.failed ≡ true) × (p.broken ≡ false) × (p.out ≡ []) × (comes_next p.row.lines ≡ false)
+EndsBy p (Err faults.Device) =
+    IsHome p.desk.lent × (p.core.logged ≡ []) × (p.core.failed ≡ true) × (p.broken ≡ false) × (p.out ≡ []) × (comes_next p.row.lines ≡ false)
 EndsBy p (Err faults.Write) = IsHome p.desk.lent × (p.core.logged ≡ []) × (p.core.failed ≡ false → p.core.ran ≡ [])
 EndsBy p (Err _) = ⊥

@@ -28,7 +28,8 @@ IsKept g log n (Some m) line = ((is_in_range g m ≡ false) × (line ≡ reply_l
 abbrev pub AreKept : Geometry → List Replied → ℕ → List (List ℕ) → List (List ℕ) → Type 0
 AreKept g log n taken [] = Unit {0}
 AreKept g log n [] (line ∷ lines) = ⊥
-AreKept g log n (l ∷ ls) (line ∷ lines) = IsKept g log n (message_of l) line × AreKept g log (next_ticket n (asked_in g (message_of l))) ls lines
+AreKept g log n (l ∷ ls) (line ∷ lines) =
+    IsKept g log n (message_of l) line × AreKept g log (next_ticket n (asked_in g (message_of l))) ls lines
 
 -- These bytes stand for where this log leads from this state, with more behind it. Both together are a log that the serial server may
 -- write, of messages that arrived.

@@ -144,7 +144,8 @@ impl Row {
         }
     }
 
-    /// Puts a line after the others; its ticket is the one behind theirs, if it has one. It is inlined, so that no line is copied with the room for a reply that it doesn't have.
+    /// Puts a line after the others; its ticket is the one behind theirs, if it has one. It is inlined, so that no line is copied
+    /// with the room for a reply that it doesn't have.
     #[inline(always)]
     pub(crate) fn push(&mut self, line: Line)
         requires room { length self.old.lines < self.old.slots }
