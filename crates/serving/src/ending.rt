@@ -128,7 +128,7 @@ impl<'c, 'w, B: Beginning, T: Wait, D: Disk, R: Read, W: Write, G: Gate> Session
                 Err(why) => Err(self.end_early(why)),
             },
             Stop::Failed => {
-                // Its type says that the device has failed, and is asked for it by this look.
+                // This look does nothing but open the session's invariant to the proof: the device has failed.
                 let _ = &self.core;
                 Err(self.end_early(Halt::Device))
             }
