@@ -6,8 +6,8 @@ use Rattle.std.proofs.lemmas.List.{length-set, length-replicate}
 use Rattle.std.specs.List.{concat, AllByRecursion}
 use Rattle.arena.specs.Lists.{times, is_on, without, first_of, behind_in, numbers_from}
 use Rattle.arena.specs.Linked.{Linked, list_at}
-use Rattle.arena.specs.Row.{Row, capacity_of, value_at, holds, is_lent, listed, moved, after_put, after_lend, after_take, after_move, after_restore, restore_answer, empty_row}
-use Rattle.arena.specs.Kept.{row_of, IsKept, free_in, chains_in}
+use Rattle.arena.specs.Row.{Row, capacity_of, value_at, holds_value, is_lent, listed, moved, after_put, after_lend, after_take, after_move, after_restore, restore_answer, empty_row}
+use Rattle.arena.specs.Kept.{row_of, ArenaRule, free_in, chains_in}
 use Rattle.arena.proofs.Times.{times-append, times-cons_is, without-absent, without_all-absent, length-once, length-numbers}
 use Rattle.arena.proofs.Behind.{behind_in-nowhere}
 use Rattle.arena.proofs.Parts.{parted-put, parted-lend, parted-take, parted-move, parted-restore, held-not_free, parted-from, times-tail}
@@ -40,13 +40,13 @@ start-within slots chains i some = elim (leb_tells slots i) [
 
 module _ {T : Type 0} where
   -- `next`
-  pub behind-held : (values : List (Option T)) (slots : ℕ) (lists : List (List ℕ)) (count i : ℕ) → IsKept values (linked_as slots lists) count
+  pub behind-held : (values : List (Option T)) (slots : ℕ) (lists : List (List ℕ)) (count i : ℕ) → ArenaRule values (linked_as slots lists) count
       → is_some (slice_index_or values i None) ≡ true → behind_in i lists ≡ behind_in i (chains_in lists)
   behind-held values slots [] count i kept held = refl
   behind-held values slots (free ∷ chains) count i kept held =
       rw (le-ltb 0 (times i free) (omega (arith, held-not_free (row_of values (linked_as slots (free ∷ chains))) kept.parted i held))) refl
 
-  pub behind-empty : (values : List (Option T)) (slots : ℕ) (lists : List (List ℕ)) (count i : ℕ) → IsKept values (linked_as slots lists) count
+  pub behind-empty : (values : List (Option T)) (slots : ℕ) (lists : List (List ℕ)) (count i : ℕ) → ArenaRule values (linked_as slots lists) count
       → is_some (slice_index_or values i None) ≡ false → behind_in i (chains_in lists) ≡ None
   behind-empty values slots lists count i kept empty = elim (leb_tells 1 (times i (concat (chains_in lists)))) [
     | inl e ↦ absurd (let held = kept.parted.chains_hold i e.1 in let lost : false ≡ true = sym empty ∙ held in cc)
@@ -54,7 +54,7 @@ module _ {T : Type 0} where
   ]
 
   -- `put`
-  pub put-within : (values : List (Option T)) (slots : ℕ) (lists : List (List ℕ)) (count slot : ℕ) → IsKept values (linked_as slots lists) count
+  pub put-within : (values : List (Option T)) (slots : ℕ) (lists : List (List ℕ)) (count slot : ℕ) → ArenaRule values (linked_as slots lists) count
       → first_of (slice_index_or lists 0 []) ≡ Some slot → slot < length values
   put-within values slots [] count slot kept found = absurd (cc)
   put-within values slots ([] ∷ chains) count slot kept found = absurd (cc)
@@ -62,7 +62,7 @@ module _ {T : Type 0} where
       let same : x ≡ slot = cc in
       kept.parted.within slot (omega (arith, times-cons_is slot x (rest ++ concat chains) same))
 
-  pub put-empty : (values : List (Option T)) (slots : ℕ) (lists : List (List ℕ)) (count slot : ℕ) → IsKept values (linked_as slots lists) count
+  pub put-empty : (values : List (Option T)) (slots : ℕ) (lists : List (List ℕ)) (count slot : ℕ) → ArenaRule values (linked_as slots lists) count
       → first_of (slice_index_or lists 0 []) ≡ Some slot → slice_index_or values slot None ≡ None
   put-empty values slots [] count slot kept found = absurd (cc)
   put-empty values slots ([] ∷ chains) count slot kept found = absurd (cc)
@@ -70,21 +70,21 @@ module _ {T : Type 0} where
       let same : x ≡ slot = cc in
       kept.parted.free_empty slot (omega (arith, times-cons_is slot x rest same))
 
-  pub put-counted : (values : List (Option T)) (slots : ℕ) (lists : List (List ℕ)) (count slot : ℕ) → IsKept values (linked_as slots lists) count
+  pub put-counted : (values : List (Option T)) (slots : ℕ) (lists : List (List ℕ)) (count slot : ℕ) → ArenaRule values (linked_as slots lists) count
       → first_of (slice_index_or lists 0 []) ≡ Some slot → 0 < count
   put-counted values slots [] count slot kept found = absurd (cc)
   put-counted values slots ([] ∷ chains) count slot kept found = absurd (cc)
   put-counted values slots ((x ∷ rest) ∷ chains) count slot kept found = omega (arith, kept.counted)
 
-  pub put-kept : (values : List (Option T)) (slots : ℕ) (lists : List (List ℕ)) (count slot : ℕ) (value : T) → IsKept values (linked_as slots lists) count
+  pub put-kept : (values : List (Option T)) (slots : ℕ) (lists : List (List ℕ)) (count slot : ℕ) (value : T) → ArenaRule values (linked_as slots lists) count
       → first_of (slice_index_or lists 0 []) ≡ Some slot
-      → IsKept (slice_set values slot (Some value)) (linked_as slots (map (without slot) lists)) (count - 1)
+      → ArenaRule (slice_set values slot (Some value)) (linked_as slots (map (without slot) lists)) (count - 1)
   put-kept values slots [] count slot value kept found = absurd (cc)
   put-kept values slots ([] ∷ chains) count slot value kept found = absurd (cc)
   put-kept values slots ((x ∷ rest) ∷ chains) count slot value kept found =
       let same : x ≡ slot = cc in
-      let P : ℕ → Type 0 = λ s. IsKept (slice_set values s (Some value)) (linked_as slots (map (without s) ((x ∷ rest) ∷ chains))) (count - 1) in
-      let Q : List (List ℕ) → Type 0 = λ lists. IsKept (slice_set values x (Some value)) (linked_as slots lists) (count - 1) in
+      let P : ℕ → Type 0 = λ s. ArenaRule (slice_set values s (Some value)) (linked_as slots (map (without s) ((x ∷ rest) ∷ chains))) (count - 1) in
+      let Q : List (List ℕ) → Type 0 = λ lists. ArenaRule (slice_set values x (Some value)) (linked_as slots lists) (count - 1) in
       subst P same (subst Q (sym (unlinked-free x rest chains (kept.parted.once x))) (record {
         slots = kept.slots ∙ sym (length-set values x (Some value));
         has_free = omega arith;
@@ -92,7 +92,7 @@ module _ {T : Type 0} where
         parted = parted-put values x rest chains value kept.parted;
       }))
 
-  pub put-row : (values : List (Option T)) (slots : ℕ) (lists : List (List ℕ)) (count slot : ℕ) (value : T) → IsKept values (linked_as slots lists) count
+  pub put-row : (values : List (Option T)) (slots : ℕ) (lists : List (List ℕ)) (count slot : ℕ) (value : T) → ArenaRule values (linked_as slots lists) count
       → first_of (slice_index_or lists 0 []) ≡ Some slot
       → row_of (slice_set values slot (Some value)) (linked_as slots (map (without slot) lists)) ≡ after_put (row_of values (linked_as slots lists)) value
   put-row values slots [] count slot value kept found = absurd (cc)
@@ -104,7 +104,7 @@ module _ {T : Type 0} where
       subst P same (ap (λ (lists : List (List ℕ)). row_of (slice_set values x (Some value)) (linked_as slots lists))
       (unlinked-free x rest chains (kept.parted.once x)))
 
-  pub put-made : (values values' : List (Option T)) (links links' : Linked) (count slot : ℕ) (value : T) (m : Row T) → IsKept values links count
+  pub put-made : (values values' : List (Option T)) (links links' : Linked) (count slot : ℕ) (value : T) (m : Row T) → ArenaRule values links count
       → first_of (list_at links 0) ≡ Some slot → values' ≡ slice_set values slot (Some value)
       → links' ≡ linked_as links.slots (map (without slot) links.lists) → row_of values links ≡ m → row_of values' links' ≡ after_put m value
   put-made values values' links links' count slot value m kept found values_are links_are row_is =
@@ -113,19 +113,19 @@ module _ {T : Type 0} where
 
   -- a slot that holds its value, taken off its list
   unlinked-held : (values : List (Option T)) (slots : ℕ) (free : List ℕ) (chains : List (List ℕ)) (count i : ℕ)
-      → IsKept values (linked_as slots (free ∷ chains)) count → is_some (slice_index_or values i None) ≡ true
+      → ArenaRule values (linked_as slots (free ∷ chains)) count → is_some (slice_index_or values i None) ≡ true
       → map (without i) (free ∷ chains) ≡ free ∷ map (without i) chains
   unlinked-held values slots free chains count i kept held =
       let unfree = without-absent i free (held-not_free (row_of values (linked_as slots (free ∷ chains))) kept.parted i held) in
       cc
 
   -- `lend`
-  pub lend-kept : (values : List (Option T)) (slots : ℕ) (lists : List (List ℕ)) (count i : ℕ) → IsKept values (linked_as slots lists) count
+  pub lend-kept : (values : List (Option T)) (slots : ℕ) (lists : List (List ℕ)) (count i : ℕ) → ArenaRule values (linked_as slots lists) count
       → is_some (slice_index_or values i None) ≡ true
-      → IsKept (slice_set values i None) (linked_as slots (map (without i) lists)) count
+      → ArenaRule (slice_set values i None) (linked_as slots (map (without i) lists)) count
   lend-kept values slots [] count i kept held = absurd (omega (arith, kept.has_free))
   lend-kept values slots (free ∷ chains) count i kept held =
-      let Q : List (List ℕ) → Type 0 = λ lists. IsKept (slice_set values i None) (linked_as slots lists) count in
+      let Q : List (List ℕ) → Type 0 = λ lists. ArenaRule (slice_set values i None) (linked_as slots lists) count in
       subst Q (sym (unlinked-held values slots free chains count i kept held)) (record {
         slots = kept.slots ∙ sym (length-set values i None);
         has_free = omega arith;
@@ -133,7 +133,7 @@ module _ {T : Type 0} where
         parted = parted-lend (row_of values (linked_as slots (free ∷ chains))) i kept.parted held;
       })
 
-  pub lend-row : (values : List (Option T)) (slots : ℕ) (lists : List (List ℕ)) (count i : ℕ) → IsKept values (linked_as slots lists) count
+  pub lend-row : (values : List (Option T)) (slots : ℕ) (lists : List (List ℕ)) (count i : ℕ) → ArenaRule values (linked_as slots lists) count
       → is_some (slice_index_or values i None) ≡ true
       → row_of (slice_set values i None) (linked_as slots (map (without i) lists)) ≡ after_lend (row_of values (linked_as slots lists)) i
   lend-row values slots [] count i kept held = absurd (omega (arith, kept.has_free))
@@ -143,17 +143,17 @@ module _ {T : Type 0} where
 
   -- `take`
   prepended : (values : List (Option T)) (slots : ℕ) (free : List ℕ) (chains : List (List ℕ)) (count i : ℕ)
-      → IsKept values (linked_as slots (free ∷ chains)) count → is_some (slice_index_or values i None) ≡ true
+      → ArenaRule values (linked_as slots (free ∷ chains)) count → is_some (slice_index_or values i None) ≡ true
       → slice_set (map (without i) (free ∷ chains)) 0 (i ∷ slice_index_or (map (without i) (free ∷ chains)) 0 []) ≡ (i ∷ free) ∷ map (without i) chains
   prepended values slots free chains count i kept held =
       ap (λ (lists : List (List ℕ)). slice_set lists 0 (i ∷ slice_index_or lists 0 [])) (unlinked-held values slots free chains count i kept held)
 
-  pub take-kept : (values : List (Option T)) (slots : ℕ) (lists : List (List ℕ)) (count i : ℕ) → IsKept values (linked_as slots lists) count
+  pub take-kept : (values : List (Option T)) (slots : ℕ) (lists : List (List ℕ)) (count i : ℕ) → ArenaRule values (linked_as slots lists) count
       → is_some (slice_index_or values i None) ≡ true
-      → IsKept (slice_set values i None) (linked_as slots (slice_set (map (without i) lists) 0 (i ∷ slice_index_or (map (without i) lists) 0 []))) (count + 1)
+      → ArenaRule (slice_set values i None) (linked_as slots (slice_set (map (without i) lists) 0 (i ∷ slice_index_or (map (without i) lists) 0 []))) (count + 1)
   take-kept values slots [] count i kept held = absurd (omega (arith, kept.has_free))
   take-kept values slots (free ∷ chains) count i kept held =
-      let Q : List (List ℕ) → Type 0 = λ lists. IsKept (slice_set values i None) (linked_as slots lists) (count + 1) in
+      let Q : List (List ℕ) → Type 0 = λ lists. ArenaRule (slice_set values i None) (linked_as slots lists) (count + 1) in
       subst Q (sym (prepended values slots free chains count i kept held)) (record {
         slots = kept.slots ∙ sym (length-set values i None);
         has_free = omega arith;
@@ -161,7 +161,7 @@ module _ {T : Type 0} where
         parted = parted-take (row_of values (linked_as slots (free ∷ chains))) i kept.parted held;
       })
 
-  pub take-row : (values : List (Option T)) (slots : ℕ) (lists : List (List ℕ)) (count i : ℕ) → IsKept values (linked_as slots lists) count
+  pub take-row : (values : List (Option T)) (slots : ℕ) (lists : List (List ℕ)) (count i : ℕ) → ArenaRule values (linked_as slots lists) count
       → is_some (slice_index_or values i None) ≡ true
       → row_of (slice_set values i None) (linked_as slots (slice_set (map (without i) lists) 0 (i ∷ slice_index_or (map (without i) lists) 0 [])))
       ≡ after_take (row_of values (linked_as slots lists)) i
@@ -172,19 +172,19 @@ module _ {T : Type 0} where
 
   -- `move_to`
   appended : (values : List (Option T)) (slots : ℕ) (free : List ℕ) (chains : List (List ℕ)) (count i c : ℕ)
-      → IsKept values (linked_as slots (free ∷ chains)) count → is_some (slice_index_or values i None) ≡ true
+      → ArenaRule values (linked_as slots (free ∷ chains)) count → is_some (slice_index_or values i None) ≡ true
       → slice_set (map (without i) (free ∷ chains)) (c + 1) (slice_index_or (map (without i) (free ∷ chains)) (c + 1) [] ++ i ∷ [])
       ≡ free ∷ moved chains i c
   appended values slots free chains count i c kept held =
       rw (add-one) (ap (λ (lists : List (List ℕ)). slice_set lists (suc c) (slice_index_or lists (suc c) [] ++ i ∷ []))
       (unlinked-held values slots free chains count i kept held))
 
-  pub move-kept : (values : List (Option T)) (slots : ℕ) (lists : List (List ℕ)) (count i c : ℕ) → IsKept values (linked_as slots lists) count
+  pub move-kept : (values : List (Option T)) (slots : ℕ) (lists : List (List ℕ)) (count i c : ℕ) → ArenaRule values (linked_as slots lists) count
       → is_some (slice_index_or values i None) ≡ true → c < length (chains_in lists)
-      → IsKept values (linked_as slots (slice_set (map (without i) lists) (c + 1) (slice_index_or (map (without i) lists) (c + 1) [] ++ i ∷ []))) count
+      → ArenaRule values (linked_as slots (slice_set (map (without i) lists) (c + 1) (slice_index_or (map (without i) lists) (c + 1) [] ++ i ∷ []))) count
   move-kept values slots [] count i c kept held within = absurd (omega (arith, kept.has_free))
   move-kept values slots (free ∷ chains) count i c kept held within =
-      let Q : List (List ℕ) → Type 0 = λ lists. IsKept values (linked_as slots lists) count in
+      let Q : List (List ℕ) → Type 0 = λ lists. ArenaRule values (linked_as slots lists) count in
       subst Q (sym (appended values slots free chains count i c kept held)) (record {
         slots = kept.slots;
         has_free = omega arith;
@@ -192,7 +192,7 @@ module _ {T : Type 0} where
         parted = parted-move (row_of values (linked_as slots (free ∷ chains))) i c kept.parted held within;
       })
 
-  pub move-row : (values : List (Option T)) (slots : ℕ) (lists : List (List ℕ)) (count i c : ℕ) → IsKept values (linked_as slots lists) count
+  pub move-row : (values : List (Option T)) (slots : ℕ) (lists : List (List ℕ)) (count i c : ℕ) → ArenaRule values (linked_as slots lists) count
       → is_some (slice_index_or values i None) ≡ true → c < length (chains_in lists)
       → row_of values (linked_as slots (slice_set (map (without i) lists) (c + 1) (slice_index_or (map (without i) lists) (c + 1) [] ++ i ∷ [])))
       ≡ after_move (row_of values (linked_as slots lists)) i c
@@ -206,13 +206,13 @@ module _ {T : Type 0} where
   none-from None empty = refl
   none-from (Some v) empty = absurd (cc)
 
-  pub lent-from : (m : Row T) (i : ℕ) → i < capacity_of m → holds m i ≡ false → times i m.free ≡ 0 → is_lent m i ≡ true
+  pub lent-from : (m : Row T) (i : ℕ) → i < capacity_of m → holds_value m i ≡ false → times i m.free ≡ 0 → is_lent m i ≡ true
   lent-from m i within empty unfree =
       rw (lt-ltb i (capacity_of m) within, none-from (value_at m i) empty, unfree) refl
 
-  pub restore-kept : (values : List (Option T)) (slots : ℕ) (lists : List (List ℕ)) (count i : ℕ) (value : T) → IsKept values (linked_as slots lists) count
+  pub restore-kept : (values : List (Option T)) (slots : ℕ) (lists : List (List ℕ)) (count i : ℕ) (value : T) → ArenaRule values (linked_as slots lists) count
       → i < length values → times i (concat lists) ≡ 0
-      → IsKept (slice_set values i (Some value)) (linked_as slots lists) count
+      → ArenaRule (slice_set values i (Some value)) (linked_as slots lists) count
   restore-kept values slots [] count i value kept within alone = absurd (omega (arith, kept.has_free))
   restore-kept values slots (free ∷ chains) count i value kept within alone = record {
     slots = kept.slots ∙ sym (length-set values i (Some value));
@@ -222,7 +222,7 @@ module _ {T : Type 0} where
         (omega (arith, times-append i free (concat chains)));
   }
 
-  pub lent-alone : (values : List (Option T)) (slots : ℕ) (lists : List (List ℕ)) (count i : ℕ) → IsKept values (linked_as slots lists) count
+  pub lent-alone : (values : List (Option T)) (slots : ℕ) (lists : List (List ℕ)) (count i : ℕ) → ArenaRule values (linked_as slots lists) count
       → i < length values → is_some (slice_index_or values i None) ≡ false → times i (concat lists) ≡ 0
       → is_lent (row_of values (linked_as slots lists)) i ≡ true
   lent-alone values slots [] count i kept within empty alone = absurd (omega (arith, kept.has_free))
@@ -233,7 +233,7 @@ module _ {T : Type 0} where
   pub not_lent-outside : (m : Row T) (i : ℕ) → capacity_of m ≤ i → is_lent m i ≡ false
   not_lent-outside m i outside = rw (le-ltb i (capacity_of m) outside) refl
 
-  pub not_lent : (m : Row T) (i : ℕ) → holds m i ≡ true → is_lent m i ≡ false
+  pub not_lent : (m : Row T) (i : ℕ) → holds_value m i ≡ true → is_lent m i ≡ false
   not_lent m i held = go (nat_lt i (capacity_of m)) (value_at m i) (not (is_on i m.free)) held
     where
       go : (b : Bool) (o : Option T) (f : Bool) → is_some o ≡ true → (b && (is_none o && f)) ≡ false
@@ -249,7 +249,7 @@ module _ {T : Type 0} where
       go true false = refl
       go false n = refl
 
-  pub not_lent-listed : (values : List (Option T)) (slots : ℕ) (lists : List (List ℕ)) (count i : ℕ) → IsKept values (linked_as slots lists) count
+  pub not_lent-listed : (values : List (Option T)) (slots : ℕ) (lists : List (List ℕ)) (count i : ℕ) → ArenaRule values (linked_as slots lists) count
       → (times i (concat lists) ≡ 0 → ⊥) → is_lent (row_of values (linked_as slots lists)) i ≡ false
   not_lent-listed values slots [] count i kept listed = absurd (omega (arith, kept.has_free))
   not_lent-listed values slots (free ∷ chains) count i kept listed = elim (leb_tells 1 (times i free)) [
@@ -262,7 +262,7 @@ module _ {T : Type 0} where
   ]
 
   -- no more slots are free than there are
-  pub kept-fits : (values : List (Option T)) (links : Linked) (count : ℕ) → IsKept values links count → count ≤ length values
+  pub kept-fits : (values : List (Option T)) (links : Linked) (count : ℕ) → ArenaRule values links count → count ≤ length values
   kept-fits values links count kept =
       let all = λ (i : ℕ). times-append i (free_in links.lists) (concat (chains_in links.lists)) in
       omega (
@@ -278,7 +278,7 @@ module _ {T : Type 0} where
   none-at (suc slots) zero = refl
   none-at (suc slots) (suc i) = none-at slots i
 
-  pub start-kept : (slots chains : ℕ) → IsKept {T = T} (replicate slots None) (linked_as slots (numbers_from 0 slots ∷ replicate chains [])) slots
+  pub start-kept : (slots chains : ℕ) → ArenaRule {T = T} (replicate slots None) (linked_as slots (numbers_from 0 slots ∷ replicate chains [])) slots
   start-kept slots chains = record {
     slots = sym (length-replicate slots None);
     has_free = omega arith;

@@ -7,7 +7,7 @@ use Rattle.std.proofs.lemmas.List.{length-set, get_or-set_same, get_or-set_other
 use Rattle.std.proofs.lemmas.Map.Steps.{le-length_from_below}
 use Rattle.std.specs.List.{concat, list_any}
 use Rattle.arena.specs.Lists.{times, without, first_of}
-use Rattle.arena.specs.Row.{Row, capacity_of, holds, chain_at, listed, aside, IsParted, moved, front_of, slot_from, put_answer}
+use Rattle.arena.specs.Row.{Row, capacity_of, holds_value, chain_at, listed, aside, IsParted, moved, front_of, slot_from, put_answer}
 use Rattle.arena.proofs.Times.{times-append, times-cons_is, times-cons_other, times-at, without-absent, length-once}
 use Rattle.arena.proofs.Keeping.{each-from_times}
 
@@ -66,7 +66,7 @@ module _ {T : Type 0} where
   pub chained-listed : (m : Row T) (i c : ℕ) → 0 < times i (chain_at m c) → 0 < times i (concat m.chains)
   chained-listed m i c some = omega (arith, times-at i m.chains c)
 
-  pub chained-holds : (m : Row T) (i c : ℕ) → IsParted m → 0 < times i (chain_at m c) → holds m i ≡ true
+  pub chained-holds : (m : Row T) (i c : ℕ) → IsParted m → 0 < times i (chain_at m c) → holds_value m i ≡ true
   chained-holds m i c parted some = parted.chains_hold i (chained-listed m i c some)
 
   pub chained-not_free : (m : Row T) (i c : ℕ) → IsParted m → 0 < times i (chain_at m c) → times i m.free ≡ 0

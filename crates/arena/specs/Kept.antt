@@ -16,7 +16,7 @@ module _ {T : Type 0} where
   abbrev pub row_of : List (Option T) → Linked → Row T
   row_of values links = record { values = values; free = free_in links.lists; chains = chains_in links.lists }
 
-  pub record IsKept (values : List (Option T)) (links : Linked) (free : ℕ) : Type 0 where
+  pub record ArenaRule (values : List (Option T)) (links : Linked) (free : ℕ) : Type 0 where
     pub slots : links.slots ≡ length values
     pub has_free : 0 < length links.lists
     pub counted : free ≡ length (free_in links.lists)

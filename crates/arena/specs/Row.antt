@@ -34,8 +34,8 @@ module _ {T : Type 0} where
   value_at m i = slice_index_or m.values i None
 
   -- whether a slot holds its value
-  abbrev pub holds : Row T → ℕ → Bool
-  holds m i = is_some (value_at m i)
+  abbrev pub holds_value : Row T → ℕ → Bool
+  holds_value m i = is_some (value_at m i)
 
   -- a chain, which is empty where there is none
   abbrev pub chain_at : Row T → ℕ → List ℕ
@@ -60,7 +60,7 @@ module _ {T : Type 0} where
     pub once : (i : ℕ) → times i (listed m) ≤ 1
     pub within : (i : ℕ) → 0 < times i (listed m) → i < capacity_of m
     pub free_empty : (i : ℕ) → 0 < times i m.free → value_at m i ≡ None
-    pub chains_hold : (i : ℕ) → 0 < times i (concat m.chains) → IsTrue (holds m i)
+    pub chains_hold : (i : ℕ) → 0 < times i (concat m.chains) → IsTrue (holds_value m i)
 
   -- so many free slots, in order, and so many empty chains
   abbrev pub empty_row : ℕ → ℕ → Row T
@@ -90,7 +90,7 @@ module _ {T : Type 0} where
 
   -- `move_to` wants a slot that holds its value, and a chain
   abbrev pub can_move : Row T → ℕ → ℕ → Bool
-  can_move m i c = holds m i && nat_lt c (length m.chains)
+  can_move m i c = holds_value m i && nat_lt c (length m.chains)
 
   abbrev pub after_move : Row T → ℕ → ℕ → Row T
   after_move m i c = if can_move m i c then record m { chains = moved m.chains i c } else m
@@ -98,7 +98,7 @@ module _ {T : Type 0} where
   -- `lend` gives the value out, and the slot leaves its chain
   abbrev pub after_lend : Row T → ℕ → Row T
   after_lend m i =
-      if holds m i then record m { values = slice_set m.values i None; chains = map (without i) m.chains } else m
+      if holds_value m i then record m { values = slice_set m.values i None; chains = map (without i) m.chains } else m
 
   -- `restore` wants a slot whose value is out
   abbrev pub restore_answer : Row T → ℕ → T → Result (Unit {0}) T
@@ -110,7 +110,7 @@ module _ {T : Type 0} where
   -- `take` gives the value out, and the slot leaves its chain and becomes the first free one
   abbrev pub after_take : Row T → ℕ → Row T
   after_take m i =
-      if holds m i
+      if holds_value m i
       then record m { values = slice_set m.values i None; free = i ∷ m.free; chains = map (without i) m.chains }
       else m
 

@@ -5,7 +5,7 @@ ghost use Rattle.std.specs.Prelude.{◌≡◌, ◌+◌, ◌<◌, length, slice_s
 ghost use Rattle.std.specs.Option.{option_copied_mut};
 ghost use Rattle.std.specs.Option.Follows.{option_follows_value};
 ghost use Rattle.std.specs.Borrow.{sem};
-ghost use Rattle.arena.specs.Row.{IsParted, capacity_of, value_at, holds, empty_row, put_answer, after_put, front_of, next_of, can_move, after_move, after_lend, restore_answer, after_restore, after_take, with_value};
+ghost use Rattle.arena.specs.Row.{IsParted, capacity_of, value_at, holds_value, empty_row, put_answer, after_put, front_of, next_of, can_move, after_move, after_lend, restore_answer, after_restore, after_take, with_value};
 
 mod links;
 
@@ -35,11 +35,11 @@ impl<T> Model for Arena<T> {
 
     ghost coded = { row_code T.code };
 
-    ghost use Rattle.arena.specs.Kept.{row_of, IsKept};
+    ghost use Rattle.arena.specs.Kept.{row_of, ArenaRule};
 
     ghost view = { λ a. row_of a.values.items a.links };
 
-    ghost invariant = { λ a. IsKept a.values.items a.links a.free };
+    ghost invariant = { λ a. ArenaRule a.values.items a.links a.free };
 }
 
 // The value of a slot that has one.
@@ -118,7 +118,7 @@ impl<T> Arena<T> {
     pub fn get_mut(&mut self, i: usize) -> Option<&mut T>
         ensures* writes_back { sem 𝓛 (lends_get T.row self.entry i result) }
         ensures parted { IsParted self.old }
-        ensures stays_parted { IsTrue (holds self.old i) → (value : T) → IsParted (with_value self.old i value) }
+        ensures stays_parted { IsTrue (holds_value self.old i) → (value : T) → IsParted (with_value self.old i value) }
         ensures value { option_copied_mut result ≡ value_at self.old i }
     {
         if self.holds(i) {
@@ -129,7 +129,7 @@ impl<T> Arena<T> {
     }
 
     fn value_mut(&mut self, i: usize) -> &mut T
-        requires { IsTrue (holds self.old i) }
+        requires { IsTrue (holds_value self.old i) }
         ensures* writes_back { sem 𝓛 (lends_value T.row self.entry i result) }
         ensures value { value_at self.old i ≡ Some result.now }
     {
@@ -138,7 +138,7 @@ impl<T> Arena<T> {
 
     // Whether a slot holds its value.
     fn holds(&self, i: usize) -> bool
-        ensures answer { result ≡ holds self.now i }
+        ensures answer { result ≡ holds_value self.now i }
         ensures there { IsTrue result → i < capacity_of self.now }
         ensures parted { IsParted self.now }
     {

@@ -6,25 +6,25 @@ use Rattle.checkpoint.specs.declared.fault.OpenFault.TheVariants.{BadVersion, Ba
 use Rattle.checkpoint.specs.Header.{HasHeader}
 use Rattle.checkpoint.specs.Loading.{NamedHolds, are_chained, image_fault, records_fault}
 use Rattle.checkpoint.specs.Recovery.{means}
-use Rattle.checkpoint.specs.Refusals.{fault_if, fault_of, first_bad_piece, first_bad_record, refused}
+use Rattle.checkpoint.specs.Refusals.{fault_if, fault_or_later, first_bad_piece, first_bad_record, refused}
 use Rattle.checkpoint.proofs.Refusing.{behind, named_sound, past_chain}
 use Rattle.checkpoint.proofs.Walked.{image_bytes, no_bad_piece}
 use Rattle.disk.specs.Device.{AreBytes}
 use Rattle.image.specs.Image.{read}
 use Rattle.image.proofs.Walk.{read_is_good}
 use Rattle.oplog.specs.Front.{chain, front}
-use Rattle.oplog.specs.Layout.{device_size, image, layout_of, other, part}
+use Rattle.oplog.specs.Layout.{device_size, image, layout_of, other, part_bytes}
 use Rattle.oplog.specs.Stands.{named_area, run}
 use Rattle.plain.specs.State.{State}
 
 -- the image of a device, where it is one
-pub image_fine : (g : Geometry) (number : ℕ) (now : List ℕ) → number < 2 → device_size (layout_of g) ≤ length now → AreBytes now → is_some (read g (part (layout_of g) (image number) now)) ≡ true
-    → image_fault g (part (layout_of g) (image number) now) ≡ None
+pub image_fine : (g : Geometry) (number : ℕ) (now : List ℕ) → number < 2 → device_size (layout_of g) ≤ length now → AreBytes now → is_some (read g (part_bytes (layout_of g) (image number) now)) ≡ true
+    → image_fault g (part_bytes (layout_of g) (image number) now) ≡ None
 image_fine g number now is_image long are some =
-    let bytes = part (layout_of g) (image number) now in
+    let bytes = part_bytes (layout_of g) (image number) now in
     let good = read_is_good g bytes (image_bytes g number now is_image long are) some in
-    ap (λ (t : Bool). fault_if (not t) BadVersion (fault_of BadPiece (first_bad_piece g bytes) None)) good.0
-    ∙ ap (λ (o : Option ℕ). fault_of BadPiece o None) (no_bad_piece g bytes good.1)
+    ap (λ (t : Bool). fault_if (not t) BadVersion (fault_or_later BadPiece (first_bad_piece g bytes) None)) good.0
+    ∙ ap (λ (o : Option ℕ). fault_or_later BadPiece o None) (no_bad_piece g bytes good.1)
 
 -- by the records behind those of the named half
 pub refused_behind : (g : Geometry) (c : List ℕ) (n : ℕ) (x : State) → NamedHolds g c n true x → refused g c ≡ records_fault g x (other n) (front (layout_of g) (other n) c)
@@ -32,14 +32,14 @@ refused_behind g c n x is =
     past_chain g c is.header is.whole n is.named is.sound is.first is.said is.one ∙ named_sound g is.first n c x is.ran
     ∙ ap (λ (t : Bool). behind g is.first n c t (Some x)) (sym is.chain)
 
-none_behind : (g : Geometry) (h : ℕ) (o : Option State) → fault_of (BadRecord h) (first_bad_record g 0 o []) None ≡ None
+none_behind : (g : Geometry) (h : ℕ) (o : Option State) → fault_or_later (BadRecord h) (first_bad_record g 0 o []) None ≡ None
 none_behind g h None = refl
 none_behind g h (Some x) = refl
 
 -- by the records of the named half, where there are none behind
-pub refused_alone : (g : Geometry) (c : List ℕ) (n : ℕ) (x : State) → HasHeader g c → device_size (layout_of g) ≤ length c → n ≡ named_area (layout_of g) c → are_chained (layout_of g) c ≡ false → image_fault g (part (layout_of g) (image n) c) ≡ None
-    → read g (part (layout_of g) (image n) c) ≡ Some x → (chain (layout_of g) n c == 1) ≡ false → refused g c ≡ records_fault g x n (front (layout_of g) n c)
+pub refused_alone : (g : Geometry) (c : List ℕ) (n : ℕ) (x : State) → HasHeader g c → device_size (layout_of g) ≤ length c → n ≡ named_area (layout_of g) c → are_chained (layout_of g) c ≡ false → image_fault g (part_bytes (layout_of g) (image n) c) ≡ None
+    → read g (part_bytes (layout_of g) (image n) c) ≡ Some x → (chain (layout_of g) n c == 1) ≡ false → refused g c ≡ records_fault g x n (front (layout_of g) n c)
 refused_alone g c n x head long named one good said shut =
     past_chain g c head long n named good x said one
-    ∙ ap (λ (t : Bool). fault_of (BadRecord n) (first_bad_record g 0 (Some x) (front (layout_of g) n c)) (behind g x n c t (run (means g) (Some x) (front (layout_of g) n c)))) shut
-    ∙ ap (λ (o : Option OpenFault). fault_of (BadRecord n) (first_bad_record g 0 (Some x) (front (layout_of g) n c)) o) (none_behind g (other n) (run (means g) (Some x) (front (layout_of g) n c)))
+    ∙ ap (λ (t : Bool). fault_or_later (BadRecord n) (first_bad_record g 0 (Some x) (front (layout_of g) n c)) (behind g x n c t (run (means g) (Some x) (front (layout_of g) n c)))) shut
+    ∙ ap (λ (o : Option OpenFault). fault_or_later (BadRecord n) (first_bad_record g 0 (Some x) (front (layout_of g) n c)) o) (none_behind g (other n) (run (means g) (Some x) (front (layout_of g) n c)))

@@ -4,12 +4,12 @@ use Rattle.std.proofs.lemmas.List.{replicate-append-replicate}
 use Rattle.std.specs.List.{flat_map}
 use Rattle.affinity.specs.declared.geometry.Geometry.{Geometry}
 use Rattle.image.specs.Image.{image_of}
-use Rattle.image.specs.Pieces.{joined_below, part_of, part_piece, part_size, piece_count, piece_of, piece_size, aggregate_of, volume_of, stripe_entries}
+use Rattle.image.specs.Pieces.{joined_below, part_of, part_piece, piece_part_size, piece_count, piece_of, piece_size, aggregate_of, volume_of, stripe_entries}
 use Rattle.image.proofs.Joining.{length-pieces}
 use Rattle.oplog.specs.Layout.{image_size}
 use Rattle.plain.specs.State.{empty, sum_below}
 use Rattle.stripe.specs.Entries.{entry_bytes}
-use Rattle.stripe.specs.Stripe.{Entry}
+use Rattle.stripe.specs.Stripe.{BlockEntry}
 
 none_joined : {X : Type 0} (n : ℕ) (f : ℕ → List X) → ((i : ℕ) → f i ≡ []) → joined_below n f ≡ []
 none_joined zero f none = refl
@@ -22,10 +22,10 @@ zeros_joined (suc n) f size are = (λ i. zeros_joined n f size are i ++ are n i)
 no_entries : (g : Geometry) (a v s : ℕ) → stripe_entries g empty a v s ≡ []
 no_entries g a v s = none_joined g.files _ (λ f. none_joined g.blocks _ (λ b. refl))
 
-blank_part : (g : Geometry) (a v p : ℕ) → part_piece 2 g empty a v p ≡ replicate (part_size g p) 0
+blank_part : (g : Geometry) (a v p : ℕ) → part_piece 2 g empty a v p ≡ replicate (piece_part_size g p) 0
 blank_part g a v zero = refl
 blank_part g a v (suc s) =
-    ap (λ (es : List Entry). flat_map entry_bytes es ++ replicate (g.quota * 520 - length (flat_map entry_bytes es)) 0) (no_entries g a v s)
+    ap (λ (es : List BlockEntry). flat_map entry_bytes es ++ replicate (g.quota * 520 - length (flat_map entry_bytes es)) 0) (no_entries g a v s)
     ∙ (let all : g.quota * 520 - 0 ≡ g.quota * 520 = omega arith in ap (λ (n : ℕ). replicate n 0) all)
 
 pub empty_spelled : (g : Geometry) → image_of 2 g empty ≡ 2 ∷ replicate (image_size g - 1) 0

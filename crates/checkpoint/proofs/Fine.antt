@@ -14,7 +14,7 @@ use Rattle.checkpoint.proofs.Refusing.{alone_sound, both_sound, not_refused}
 use Rattle.disk.specs.Device.{AreBytes}
 use Rattle.image.specs.Image.{read}
 use Rattle.oplog.specs.Front.{chain, front}
-use Rattle.oplog.specs.Layout.{Layout, layout_of, device_size, header, image, other, part}
+use Rattle.oplog.specs.Layout.{Layout, layout_of, device_size, header, image, other, part_bytes}
 use Rattle.oplog.specs.Stands.{in_force, is_laid_out, named_area, run}
 use Rattle.oplog.proofs.Kept.{named_area-below, run-append}
 use Rattle.plain.specs.State.{State}
@@ -34,25 +34,25 @@ module _ (g : Geometry) (c : List ℕ) (x : State) (are : AreBytes c) (stood : h
   laid : is_laid_out (means g) l c ≡ true
   laid = laid_where (is_laid_out (means g) l c) _ x stood
 
-  tests : ((is_header g (part l header c) && nat_le (device_size l) (length c)) ≡ true) × (not (are_chained l c) ≡ true)
-  tests = and_parts (is_header g (part l header c) && nat_le (device_size l) (length c)) (not (are_chained l c)) laid
+  tests : ((is_header g (part_bytes l header c) && nat_le (device_size l) (length c)) ≡ true) × (not (are_chained l c) ≡ true)
+  tests = and_parts (is_header g (part_bytes l header c) && nat_le (device_size l) (length c)) (not (are_chained l c)) laid
 
   pub head : HasHeader g c
-  head = (bytes_eq-Decides (part l header c) (header_of g)).0 (and_parts (is_header g (part l header c)) (nat_le (device_size l) (length c)) tests.0).0
+  head = (bytes_eq-Decides (part_bytes l header c) (header_of g)).0 (and_parts (is_header g (part_bytes l header c)) (nat_le (device_size l) (length c)) tests.0).0
 
   whole : device_size l ≤ length c
-  whole = leb-true (device_size l) (length c) (and_parts (is_header g (part l header c)) (nat_le (device_size l) (length c)) tests.0).1
+  whole = leb-true (device_size l) (length c) (and_parts (is_header g (part_bytes l header c)) (nat_le (device_size l) (length c)) tests.0).1
 
   one : are_chained l c ≡ false
   one = not-true (are_chained l c) tests.1
 
-  ran : run (means g) (read g (part l (image n) c)) (in_force l n c) ≡ Some x
-  ran = sym (cond-true (is_laid_out (means g) l c) (run (means g) (read g (part l (image n) c)) (in_force l n c)) None laid) ∙ stood
+  ran : run (means g) (read g (part_bytes l (image n) c)) (in_force l n c) ≡ Some x
+  ran = sym (cond-true (is_laid_out (means g) l c) (run (means g) (read g (part_bytes l (image n) c)) (in_force l n c)) None laid) ∙ stood
 
-  first : (y : State) × (read g (part l (image n) c) ≡ Some y)
-  first = some_before g (read g (part l (image n) c)) (in_force l n c) x ran
+  first : (y : State) × (read g (part_bytes l (image n) c) ≡ Some y)
+  first = some_before g (read g (part_bytes l (image n) c)) (in_force l n c) x ran
 
-  good : image_fault g (part l (image n) c) ≡ None
+  good : image_fault g (part_bytes l (image n) c) ≡ None
   good = image_fine g n c (named_area-below l c) whole are (ap (λ (o : Option State). is_some o) first.1)
 
   from_first : run (means g) (Some first.0) (in_force l n c) ≡ Some x

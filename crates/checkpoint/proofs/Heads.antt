@@ -9,9 +9,9 @@ use Rattle.affinity.specs.Geometry.{numbers_of}
 use Rattle.affinity.specs.Limits.{AreInRange}
 use Rattle.byteorder.specs.Endian.{IsRead, little_bytes, little_number}
 use Rattle.checkpoint.specs.Header.{header_of, marks_of_format}
-use Rattle.image.specs.Image.{has_head, head_of, is_version, version_in}
+use Rattle.image.specs.Image.{has_head, image_head, is_version, version_in}
 use Rattle.checkpoint.proofs.Laid.{image_some}
-use Rattle.oplog.specs.Layout.{image, layout_of, part, part_at, part_size, slice}
+use Rattle.oplog.specs.Layout.{image, layout_of, part_bytes, part_at, part_size, slice}
 use Rattle.oplog.proofs.Slices.{image_sized}
 
 -- ---- a header
@@ -49,16 +49,16 @@ first_of_part now at n size fits = sym (take-take n size (drop at now) fits)
 
 -- ---- the head of an image
 
-pub head_whole : (bytes : List ℕ) → length bytes ≡ 64 → has_head bytes ≡ (is_version (version_in bytes) && bytes_eq bytes (head_of (version_in bytes)))
-head_whole bytes size = ap (λ (l : List ℕ). is_version (version_in bytes) && bytes_eq l (head_of (version_in bytes))) (take_all 64 bytes (omega (arith, size)))
+pub head_whole : (bytes : List ℕ) → length bytes ≡ 64 → has_head bytes ≡ (is_version (version_in bytes) && bytes_eq bytes (image_head (version_in bytes)))
+head_whole bytes size = ap (λ (l : List ℕ). is_version (version_in bytes) && bytes_eq l (image_head (version_in bytes))) (take_all 64 bytes (omega (arith, size)))
 
 pub version_first : (bytes : List ℕ) → version_in (take 64 bytes) ≡ version_in bytes
 version_first bytes = get_or-take 64 bytes 0 0 (omega arith)
 
 pub has_head_first : (bytes : List ℕ) → has_head (take 64 bytes) ≡ has_head bytes
-has_head_first bytes = λ i. is_version (version_first bytes i) && bytes_eq (take-take 64 64 bytes (omega arith) i) (head_of (version_first bytes i))
+has_head_first bytes = λ i. is_version (version_first bytes i) && bytes_eq (take-take 64 64 bytes (omega arith) i) (image_head (version_first bytes i))
 
-pub head_there : (g : Geometry) (n at : ℕ) (now out : List ℕ) → n < 2 → at ≡ part_at (layout_of g) (image n) → out ≡ slice now at 64 → out ≡ take 64 (part (layout_of g) (image n) now)
+pub head_there : (g : Geometry) (n at : ℕ) (now out : List ℕ) → n < 2 → at ≡ part_at (layout_of g) (image n) → out ≡ slice now at 64 → out ≡ take 64 (part_bytes (layout_of g) (image n) now)
 head_there g n at now out is_image place is =
     is ∙ ap (λ (a : ℕ). slice now a 64) place
     ∙ first_of_part now (part_at (layout_of g) (image n)) 64 (part_size (layout_of g) (image n)) (omega (arith, image_sized (layout_of g) n is_image, image_some g))

@@ -15,7 +15,7 @@ use Rattle.disk.proofs.Overlays.{overlaid_outside, length-overlaid, range-overla
 use Rattle.image.specs.Image.{image_of, read}
 use Rattle.image.proofs.Reading.{read_again}
 use Rattle.oplog.specs.Front.{chain, front, gates, open_gates, rows}
-use Rattle.oplog.specs.Layout.{Layout, slice, layout_of, part, part_at, device_size, half, half_size, header, image, image_size}
+use Rattle.oplog.specs.Layout.{Layout, slice, layout_of, part_bytes, part_at, device_size, half, half_size, header, image, image_size}
 use Rattle.oplog.specs.Stands.{named_area, in_force, is_laid_out, run, stands_as}
 use Rattle.oplog.proofs.Slices.{slice_slice}
 use Rattle.plain.specs.State.{State, empty}
@@ -79,9 +79,9 @@ module _ (g : Geometry) (c : List ℕ) (laid : IsLaid g c) where
   shut_0 = slice_slice c 128 (half_size g.half) 64 g.half (omega arith) ∙ zeros_there c 64 (64 + (64 + g.half)) 128 g.half laid.root (omega arith)
 
   no_front : front l 0 c ≡ []
-  no_front = ap (λ (n : ℕ). rows 520 n (drop (64 + g.half) (part l (half 0) c))) (ap open_gates shut_0 ∙ open_none g.half)
+  no_front = ap (λ (n : ℕ). rows 520 n (drop (64 + g.half) (part_bytes l (half 0) c))) (ap open_gates shut_0 ∙ open_none g.half)
 
-  image_there : part l (image 0) c ≡ image_of 2 g empty
+  image_there : part_bytes l (image 0) c ≡ image_of 2 g empty
   image_there =
       let some = image_some g in
       let long : length {A = ℕ} (2 ∷ replicate {A = ℕ} (image_size g - 1) 0) ≡ image_size g = omega (arith, some, length-replicate {A = ℕ} (image_size g - 1) 0) in
@@ -95,12 +95,12 @@ pub holds_empty : (g : Geometry) (c : List ℕ) → device_size (layout_of g) �
 holds_empty g c long headed is_open =
     let l : Layout = layout_of g in
     let laid = headed.laid in
-    let head : is_header g (part l header c) ≡ true = (bytes_eq-Decides (part l header c) (header_of g)).1 (header_there g c is_open headed.header) in
+    let head : is_header g (part_bytes l header c) ≡ true = (bytes_eq-Decides (part_bytes l header c) (header_of g)).1 (header_there g c is_open headed.header) in
     let whole : nat_le (device_size l) (length c) ≡ true = le-leb (device_size l) (length c) long in
     let one_chain : not (eqb (chain l 0 c) 1 && eqb (chain l 1 c) 1) ≡ true = ap (λ (b : ℕ). not (eqb b 1 && eqb (chain l 1 c) 1)) (no_chain_0 g c laid) in
     let laid_out : is_laid_out (means g) l c ≡ true = (λ i. head i && whole i && one_chain i) in
     ap (λ (n : ℕ). stands_as (means g) l n c) (names_0 g c laid)
-    ∙ ap (λ (t : Bool). if t then run (means g) (read g (part l (image 0) c)) (in_force l 0 c) else None) laid_out
+    ∙ ap (λ (t : Bool). if t then run (means g) (read g (part_bytes l (image 0) c)) (in_force l 0 c) else None) laid_out
     ∙ ap (λ (bytes : List ℕ). run (means g) (read g bytes) (in_force l 0 c)) (image_there g c laid)
     ∙ ap (λ (x : Option State). run (means g) x (in_force l 0 c)) (read_again g empty (empty_is_state g))
     ∙ ap (λ (rs : List (List ℕ)). run (means g) (Some empty) rs) (in_force_none g c laid)

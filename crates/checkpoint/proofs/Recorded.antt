@@ -7,7 +7,7 @@ use Rattle.std.proofs.lemmas.Slice.Eq.{bytes_eq-Decides}
 use Rattle.affinity.specs.declared.geometry.Geometry.{Geometry}
 use Rattle.affinity.specs.Kind.{is_changing}
 use Rattle.checkpoint.specs.declared.fault.OpenFault.TheVariants as faults
-use Rattle.checkpoint.specs.Loading.{IsFault, fault_of_log, record_fault}
+use Rattle.checkpoint.specs.Loading.{IsFaultOfBytes, fault_of_log, record_fault}
 use Rattle.checkpoint.specs.Recovery.{apply, apply_said, is_record_there}
 use Rattle.checkpoint.specs.Refusals.{fault_if}
 use Rattle.disk.specs.Device.{AreBytes}
@@ -63,7 +63,7 @@ no_record g x bytes size are none = by (message_in_fields bytes) refl
 
 -- A record that couldn't be read gives the fault that its bytes give.
 pub read_fault : (g h : Geometry) → h ≡ g → (x : State) (half i : ℕ) (bytes : List ℕ) → length bytes ≡ 520 → AreBytes bytes → (e : LogFault)
-    → IsOfRecord h bytes (Err e) → IsAbout half i (Err e) → IsFault (record_fault g x half i bytes) (fault_of_log e)
+    → IsOfRecord h bytes (Err e) → IsAbout half i (Err e) → IsFaultOfBytes (record_fault g x half i bytes) (fault_of_log e)
 read_fault g h same x half i bytes size are Device of_it about = tt
 read_fault g h same x half i bytes size are (BadRecord a b) of_it about =
     ap (λ (o : Option State). fault_if (is_none o) (faults.BadRecord half i) None) (no_record g x bytes size are (subst (λ (k : Geometry). IsNoRecord k bytes) same of_it))

@@ -9,15 +9,15 @@ use Rattle.checkpoint.specs.declared.fault.OpenFault.TheVariants.{Device, TooSho
 use Rattle.checkpoint.specs.declared.inspecting.Shown.{Shown}
 use Rattle.checkpoint.specs.declared.loading.Loaded.{Loaded}
 use Rattle.checkpoint.specs.Header.{HasHeader, header_of, is_header}
-use Rattle.checkpoint.specs.Loading.{IsFault, IsOfHalf, IsOfHeader, are_chained, image_fault, in_force_fault, records_fault}
+use Rattle.checkpoint.specs.Loading.{IsFaultOfBytes, IsOfHalf, IsOfHeader, are_chained, image_fault, in_force_fault, records_fault}
 use Rattle.checkpoint.specs.Recovery.{apply, holds, means}
-use Rattle.checkpoint.specs.Refusals.{IsDevice, IsRefused, fault_if, fault_of, first_bad_piece, first_bad_record, refused}
+use Rattle.checkpoint.specs.Refusals.{IsDevice, IsRefused, fault_if, fault_or_later, first_bad_piece, first_bad_record, refused}
 use Rattle.checkpoint.specs.Shown.{IsLoaded, IsShown, ShowsLoaded}
 use Rattle.checkpoint.proofs.Replays.{fault_from}
 use Rattle.image.specs.Image.{has_head, read, version_in}
 use Rattle.message.specs.declared.Msg.TheVariants.{Summary}
 use Rattle.oplog.specs.Front.{chain, front}
-use Rattle.oplog.specs.Layout.{Layout, layout_of, device_size, header, image, other, part}
+use Rattle.oplog.specs.Layout.{Layout, layout_of, device_size, header, image, other, part_bytes}
 use Rattle.oplog.specs.Stands.{in_force, is_laid_out, named_area, run}
 use Rattle.oplog.proofs.Kept.{run-append}
 use Rattle.parcel.specs.Tree.{state_in}
@@ -30,17 +30,17 @@ first_if : (t : Bool) (f : OpenFault) (later : Option OpenFault) (e : OpenFault)
 first_if true f later e is = is
 first_if false f later e is = cc
 
-first_of : (f : ℕ → OpenFault) (o : Option ℕ) (later : Option OpenFault) (e : OpenFault) → fault_of f o None ≡ Some e → fault_of f o later ≡ Some e
+first_of : (f : ℕ → OpenFault) (o : Option ℕ) (later : Option OpenFault) (e : OpenFault) → fault_or_later f o None ≡ Some e → fault_or_later f o later ≡ Some e
 first_of f None later e is = cc
 first_of f (Some n) later e is = is
 
 two_first : (t : Bool) (f : OpenFault) (k : ℕ → OpenFault) (o : Option ℕ) (later : Option OpenFault) (e : OpenFault)
-    → fault_if t f (fault_of k o None) ≡ Some e → fault_if t f (fault_of k o later) ≡ Some e
+    → fault_if t f (fault_or_later k o None) ≡ Some e → fault_if t f (fault_or_later k o later) ≡ Some e
 two_first true f k o later e is = is
 two_first false f k o later e is = first_of k o later e is
 
 two_none : (t : Bool) (f : OpenFault) (k : ℕ → OpenFault) (o : Option ℕ) (later : Option OpenFault)
-    → fault_if t f (fault_of k o None) ≡ None → fault_if t f (fault_of k o later) ≡ later
+    → fault_if t f (fault_or_later k o None) ≡ None → fault_if t f (fault_or_later k o later) ≡ later
 two_none true f k o later is = cc
 two_none false f k None later is = refl
 two_none false f k (Some n) later is = cc
@@ -74,16 +74,16 @@ module _ (g : Geometry) (x : State) (n : ℕ) (c : List ℕ) where
   l = layout_of g
 
   abbrev pub behind : Bool → Option State → Option OpenFault
-  behind chained o = fault_of (BadRecord (other n)) (first_bad_record g 0 o (if chained then front l (other n) c else [])) None
+  behind chained o = fault_or_later (BadRecord (other n)) (first_bad_record g 0 o (if chained then front l (other n) c else [])) None
 
-  pub named_refused : (e : OpenFault) → IsFault (records_fault g x n (front l n c)) e → IsFault (in_force_fault g x n c) e
+  pub named_refused : (e : OpenFault) → IsFaultOfBytes (records_fault g x n (front l n c)) e → IsFaultOfBytes (in_force_fault g x n c) e
   named_refused = fault_from _ _ (first_of (BadRecord n) (first_bad_record g 0 (Some x) (front l n c)) (behind (chain l n c == 1) (run (means g) (Some x) (front l n c))))
 
   -- once the records of the named half were run
   module _ (y : State) (ran : run (means g) (Some x) (front l n c) ≡ Some y) where
     pub named_sound : in_force_fault g x n c ≡ behind (chain l n c == 1) (Some y)
     named_sound =
-        ap (λ (o : Option ℕ). fault_of (BadRecord n) o (behind (chain l n c == 1) (run (means g) (Some x) (front l n c)))) (none_bad g (front l n c) 0 (Some x) y ran)
+        ap (λ (o : Option ℕ). fault_or_later (BadRecord n) o (behind (chain l n c == 1) (run (means g) (Some x) (front l n c)))) (none_bad g (front l n c) 0 (Some x) y ran)
         ∙ ap (λ (o : Option State). behind (chain l n c == 1) o) ran
 
     pub alone_sound : (chain l n c == 1) ≡ false → in_force_fault g x n c ≡ None
@@ -95,7 +95,7 @@ module _ (g : Geometry) (x : State) (n : ℕ) (c : List ℕ) where
     pub alone_ran : (chain l n c == 1) ≡ false → run (means g) (Some x) (in_force l n c) ≡ Some y
     alone_ran alone = ap (λ (rs : List (List ℕ)). run (means g) (Some x) rs) (cond-false (chain l n c == 1) (front l n c ++ front l (other n) c) (front l n c) alone) ∙ ran
 
-    pub other_refused : (chain l n c == 1) ≡ true → (e : OpenFault) → IsFault (records_fault g y (other n) (front l (other n) c)) e → IsFault (in_force_fault g x n c) e
+    pub other_refused : (chain l n c == 1) ≡ true → (e : OpenFault) → IsFaultOfBytes (records_fault g y (other n) (front l (other n) c)) e → IsFaultOfBytes (in_force_fault g x n c) e
     other_refused chained = fault_from _ _ (λ e is. named_sound ∙ ap (λ (t : Bool). behind t (Some y)) chained ∙ is)
 
     -- and then those of the other half
@@ -103,7 +103,7 @@ module _ (g : Geometry) (x : State) (n : ℕ) (c : List ℕ) where
       pub both_sound : in_force_fault g x n c ≡ None
       both_sound =
           named_sound ∙ ap (λ (t : Bool). behind t (Some y)) chained
-          ∙ ap (λ (o : Option ℕ). fault_of (BadRecord (other n)) o None) (none_bad g (front l (other n) c) 0 (Some y) z more)
+          ∙ ap (λ (o : Option ℕ). fault_or_later (BadRecord (other n)) o None) (none_bad g (front l (other n) c) 0 (Some y) z more)
 
       both_there : in_force l n c ≡ front l n c ++ front l (other n) c
       both_there = cond-true (chain l n c == 1) (front l n c ++ front l (other n) c) (front l n c) chained
@@ -118,15 +118,15 @@ module _ (g : Geometry) (x : State) (n : ℕ) (c : List ℕ) where
 
 -- ---- an image
 
-pub head_refused : (g : Geometry) (bytes : List ℕ) (e : OpenFault) → IsFault (fault_if (not (has_head bytes)) BadVersion None) e → IsFault (image_fault g bytes) e
-head_refused g bytes = fault_from _ _ (first_if (not (has_head bytes)) BadVersion (fault_of BadPiece (first_bad_piece g bytes) None))
+pub head_refused : (g : Geometry) (bytes : List ℕ) (e : OpenFault) → IsFaultOfBytes (fault_if (not (has_head bytes)) BadVersion None) e → IsFaultOfBytes (image_fault g bytes) e
+head_refused g bytes = fault_from _ _ (first_if (not (has_head bytes)) BadVersion (fault_or_later BadPiece (first_bad_piece g bytes) None))
 
-pub pieces_refused : (g : Geometry) (bytes : List ℕ) → has_head bytes ≡ true → (e : OpenFault) → IsFault (fault_of BadPiece (first_bad_piece g bytes) None) e → IsFault (image_fault g bytes) e
-pieces_refused g bytes head = fault_from _ _ (λ e is. ap (λ (t : Bool). fault_if (not t) BadVersion (fault_of BadPiece (first_bad_piece g bytes) None)) head ∙ is)
+pub pieces_refused : (g : Geometry) (bytes : List ℕ) → has_head bytes ≡ true → (e : OpenFault) → IsFaultOfBytes (fault_or_later BadPiece (first_bad_piece g bytes) None) e → IsFaultOfBytes (image_fault g bytes) e
+pieces_refused g bytes head = fault_from _ _ (λ e is. ap (λ (t : Bool). fault_if (not t) BadVersion (fault_or_later BadPiece (first_bad_piece g bytes) None)) head ∙ is)
 
 -- ---- a device
 
-pub refused_with : (g : Geometry) (c : List ℕ) → HasHeader g c → 128 ≤ length c → (e : OpenFault) → IsFault (refused g c) e → IsRefused c e
+pub refused_with : (g : Geometry) (c : List ℕ) → HasHeader g c → 128 ≤ length c → (e : OpenFault) → IsFaultOfBytes (refused g c) e → IsRefused c e
 refused_with g c head long Device is = tt
 refused_with g c head long OutOfMemory is = tt
 refused_with g c head long NotFormatted is = absurd is
@@ -139,20 +139,20 @@ refused_with g c head long (BadRecord h i) is = record { geometry = g; long = lo
 
 module _ (g : Geometry) (c : List ℕ) (head : HasHeader g c) (long : device_size (layout_of g) ≤ length c) (n : ℕ) (names : n ≡ named_area (layout_of g) c) where
   abbrev bytes : List ℕ
-  bytes = part (layout_of g) (image n) c
+  bytes = part_bytes (layout_of g) (image n) c
 
   records_of : ℕ → Option State → Option OpenFault
   records_of k o =
-      fault_of (BadRecord k) (first_bad_record g 0 o (front (layout_of g) k c))
-      (fault_of (BadRecord (other k)) (first_bad_record g 0 (run (means g) o (front (layout_of g) k c)) (if chain (layout_of g) k c == 1 then front (layout_of g) (other k) c else [])) None)
+      fault_or_later (BadRecord k) (first_bad_record g 0 o (front (layout_of g) k c))
+      (fault_or_later (BadRecord (other k)) (first_bad_record g 0 (run (means g) o (front (layout_of g) k c)) (if chain (layout_of g) k c == 1 then front (layout_of g) (other k) c else [])) None)
 
   behind_image : ℕ → Option OpenFault
-  behind_image k = fault_if (are_chained (layout_of g) c) BadChain (records_of k (read g (part (layout_of g) (image k) c)))
+  behind_image k = fault_if (are_chained (layout_of g) c) BadChain (records_of k (read g (part_bytes (layout_of g) (image k) c)))
 
   tests_of : ℕ → Option OpenFault
   tests_of k =
-      fault_if (not (has_head (part (layout_of g) (image k) c))) BadVersion
-      (fault_of BadPiece (first_bad_piece g (part (layout_of g) (image k) c)) (behind_image k))
+      fault_if (not (has_head (part_bytes (layout_of g) (image k) c))) BadVersion
+      (fault_or_later BadPiece (first_bad_piece g (part_bytes (layout_of g) (image k) c)) (behind_image k))
 
   opened : refused g c ≡ tests_of n
   unfolding tests_of behind_image records_of
@@ -161,7 +161,7 @@ module _ (g : Geometry) (c : List ℕ) (head : HasHeader g c) (long : device_siz
   enough : 128 ≤ length c
   enough = omega (arith, long)
 
-  pub image_refused : (e : OpenFault) → IsFault (image_fault g bytes) e → IsRefused c e
+  pub image_refused : (e : OpenFault) → IsFaultOfBytes (image_fault g bytes) e → IsRefused c e
   unfolding tests_of behind_image records_of
   image_refused e is =
       refused_with g c head enough e
@@ -173,7 +173,7 @@ module _ (g : Geometry) (c : List ℕ) (head : HasHeader g c) (long : device_siz
     unfolding tests_of behind_image records_of
     past_image = opened ∙ two_none (not (has_head bytes)) BadVersion BadPiece (first_bad_piece g bytes) (behind_image n) good
 
-    pub chain_refused : (e : OpenFault) → IsFault (fault_if (are_chained (layout_of g) c) BadChain None) e → IsRefused c e
+    pub chain_refused : (e : OpenFault) → IsFaultOfBytes (fault_if (are_chained (layout_of g) c) BadChain None) e → IsRefused c e
     unfolding behind_image
     chain_refused e is =
         refused_with g c head enough e
@@ -185,7 +185,7 @@ module _ (g : Geometry) (c : List ℕ) (head : HasHeader g c) (long : device_siz
       unfolding tests_of behind_image records_of
       past_chain = past_image ∙ cond-false (are_chained (layout_of g) c) (Some BadChain) (records_of n (read g bytes)) one ∙ ap (λ (o : Option State). records_of n o) said
 
-      pub records_refused : (e : OpenFault) → IsFault (in_force_fault g x n c) e → IsRefused c e
+      pub records_refused : (e : OpenFault) → IsFaultOfBytes (in_force_fault g x n c) e → IsRefused c e
       records_refused e is = refused_with g c head enough e (fault_from _ _ (λ f it. past_chain ∙ it) e is)
 
       pub not_refused : in_force_fault g x n c ≡ None → refused g c ≡ None
@@ -193,10 +193,10 @@ module _ (g : Geometry) (c : List ℕ) (head : HasHeader g c) (long : device_siz
 
       pub stands_for : (y : State) → run (means g) (Some x) (in_force (layout_of g) n c) ≡ Some y → holds g c ≡ Some y
       stands_for y ran =
-          let is_head : is_header g (part (layout_of g) header c) ≡ true = (bytes_eq-Decides (part (layout_of g) header c) (header_of g)).1 head in
+          let is_head : is_header g (part_bytes (layout_of g) header c) ≡ true = (bytes_eq-Decides (part_bytes (layout_of g) header c) (header_of g)).1 head in
           let whole : nat_le (device_size (layout_of g)) (length c) ≡ true = le-leb (device_size (layout_of g)) (length c) long in
           let laid_out : is_laid_out (means g) (layout_of g) c ≡ true = λ i. is_head i && whole i && not (one i) in
-          ap (λ (k : ℕ). if is_laid_out (means g) (layout_of g) c then run (means g) (read g (part (layout_of g) (image k) c)) (in_force (layout_of g) k c) else None) (sym names)
+          ap (λ (k : ℕ). if is_laid_out (means g) (layout_of g) c then run (means g) (read g (part_bytes (layout_of g) (image k) c)) (in_force (layout_of g) k c) else None) (sym names)
           ∙ ap (λ (t : Bool). if t then run (means g) (read g bytes) (in_force (layout_of g) n c) else None) laid_out
           ∙ ap (λ (o : Option State). run (means g) o (in_force (layout_of g) n c)) said ∙ ran
 
@@ -208,7 +208,7 @@ shown c l s is told = record {
   sound = ap (λ (g : Geometry). refused g c) told.geometry ∙ is.sound;
   area = told.area ∙ is.area ∙ ap (λ (g : Geometry). named_area (layout_of g) c) (sym told.geometry);
   records = told.records ∙ is.records ∙ sym (λ i. length (in_force (layout_of (told.geometry i)) (told.area i) c));
-  version = told.version ∙ is.version ∙ sym (λ i. version_in (part (layout_of (told.geometry i)) (image (told.area i)) c));
+  version = told.version ∙ is.version ∙ sym (λ i. version_in (part_bytes (layout_of (told.geometry i)) (image (told.area i)) c));
   state = state_in l.tree;
   held = ap (λ (g : Geometry). holds g c) told.geometry ∙ is.state;
   summary = told.summary ∙ ap (λ (g : Geometry). reply_to g (state_in l.tree) Summary) (sym told.geometry);
@@ -216,12 +216,12 @@ shown c l s is told = record {
 
 -- of a tree whose geometry is that of the header
 pub loaded : (g : Geometry) (c : List ℕ) (l : Loaded) → l.tree.geometry ≡ g → HasHeader g c → refused g c ≡ None → l.area ≡ named_area (layout_of g) c
-    → l.version ≡ version_in (part (layout_of g) (image l.area) c) → l.records ≡ length (in_force (layout_of g) l.area c) → holds g c ≡ Some (state_in l.tree) → IsLoaded c l
+    → l.version ≡ version_in (part_bytes (layout_of g) (image l.area) c) → l.records ≡ length (in_force (layout_of g) l.area c) → holds g c ≡ Some (state_in l.tree) → IsLoaded c l
 loaded g c l same head sound area version records state = record {
   header = subst (λ (h : Geometry). HasHeader h c) (sym same) head;
   sound = ap (λ (h : Geometry). refused h c) same ∙ sound;
   area = area ∙ ap (λ (h : Geometry). named_area (layout_of h) c) (sym same);
-  version = version ∙ ap (λ (h : Geometry). version_in (part (layout_of h) (image l.area) c)) (sym same);
+  version = version ∙ ap (λ (h : Geometry). version_in (part_bytes (layout_of h) (image l.area) c)) (sym same);
   records = records ∙ ap (λ (h : Geometry). length (in_force (layout_of h) l.area c)) (sym same);
   state = ap (λ (h : Geometry). holds h c) same ∙ state;
 }
@@ -229,7 +229,7 @@ loaded g c l same head sound area version records state = record {
 -- ---- of which half a bad record is
 
 -- the head and the pieces of an image tell of no record
-pub image_half : (n : ℕ) (t : Bool) (o : Option ℕ) (e : OpenFault) → IsFault (fault_if t BadVersion (fault_of BadPiece o None)) e → IsOfHalf n e
+pub image_half : (n : ℕ) (t : Bool) (o : Option ℕ) (e : OpenFault) → IsFaultOfBytes (fault_if t BadVersion (fault_or_later BadPiece o None)) e → IsOfHalf n e
 image_half n true o (BadRecord h i) is = cc
 image_half n false None (BadRecord h i) is = cc
 image_half n false (Some k) (BadRecord h i) is = cc
@@ -243,7 +243,7 @@ image_half n t o (BadPiece k) is = tt
 image_half n t o BadChain is = tt
 
 -- nor do the chain bytes
-pub chain_half : (n : ℕ) (t : Bool) (e : OpenFault) → IsFault (fault_if t BadChain None) e → IsOfHalf n e
+pub chain_half : (n : ℕ) (t : Bool) (e : OpenFault) → IsFaultOfBytes (fault_if t BadChain None) e → IsOfHalf n e
 chain_half n true (BadRecord h i) is = cc
 chain_half n false (BadRecord h i) is = cc
 chain_half n t Device is = tt
@@ -256,7 +256,7 @@ chain_half n t (BadPiece k) is = tt
 chain_half n t BadChain is = tt
 
 -- the records of a half tell of one of that half
-pub records_half : (n : ℕ) (o : Option ℕ) (e : OpenFault) → IsFault (fault_of (BadRecord n) o None) e → IsOfHalf n e
+pub records_half : (n : ℕ) (o : Option ℕ) (e : OpenFault) → IsFaultOfBytes (fault_or_later (BadRecord n) o None) e → IsOfHalf n e
 records_half n None (BadRecord h i) is = cc
 records_half n (Some k) (BadRecord h i) is = sym (ap half_in is)
   where

@@ -5,9 +5,9 @@ use Rattle.std.proofs.lemmas.List.{drop_more}
 use Rattle.affinity.specs.declared.geometry.Geometry.{Geometry}
 use Rattle.checkpoint.specs.declared.fault.OpenFault.{OpenFault}
 use Rattle.checkpoint.specs.declared.fault.OpenFault.TheVariants.{Device, TooShort, NotFormatted, BadGeometry, OutOfMemory, BadVersion, BadPiece, BadChain, BadRecord}
-use Rattle.checkpoint.specs.Loading.{IsFault, record_fault, records_fault}
+use Rattle.checkpoint.specs.Loading.{IsFaultOfBytes, record_fault, records_fault}
 use Rattle.checkpoint.specs.Recovery.{apply, means}
-use Rattle.checkpoint.specs.Refusals.{fault_if, fault_of, first_bad_record}
+use Rattle.checkpoint.specs.Refusals.{fault_if, fault_or_later, first_bad_record}
 use Rattle.disk.specs.Device.{Medium, Moment, moments}
 use Rattle.oplog.specs.Front.{front, record_at}
 use Rattle.oplog.specs.Layout.{Layout}
@@ -29,7 +29,7 @@ same_bytes old new same = ap (λ (ms : List Moment). now_in ms) same
 -- ---- faults
 
 -- A fault that was looked for alone comes of those that are looked for later too.
-pub fault_from : (o p : Option OpenFault) → ((e : OpenFault) → o ≡ Some e → p ≡ Some e) → (e : OpenFault) → IsFault o e → IsFault p e
+pub fault_from : (o p : Option OpenFault) → ((e : OpenFault) → o ≡ Some e → p ≡ Some e) → (e : OpenFault) → IsFaultOfBytes o e → IsFaultOfBytes p e
 fault_from o p gives Device is = tt
 fault_from o p gives OutOfMemory is = tt
 fault_from o p gives NotFormatted is = absurd is
@@ -43,10 +43,10 @@ fault_from o p gives (BadRecord h i) is = gives (BadRecord h i) is
 -- ---- one record of several
 
 module _ (g : Geometry) (h i : ℕ) (x : State) (r : List ℕ) (rs : List (List ℕ)) where
-  bad_here : (e : OpenFault) → record_fault g x h i r ≡ Some e → fault_of (BadRecord h) (first_bad_record g i (Some x) (r ∷ rs)) None ≡ Some e
+  bad_here : (e : OpenFault) → record_fault g x h i r ≡ Some e → fault_or_later (BadRecord h) (first_bad_record g i (Some x) (r ∷ rs)) None ≡ Some e
   bad_here e is = by (apply g x r) is
     where
-      by : (o : Option State) → fault_if (is_none o) (BadRecord h i) None ≡ Some e → fault_of (BadRecord h) (if is_some o then first_bad_record g (suc i) o rs else Some i) None ≡ Some e
+      by : (o : Option State) → fault_if (is_none o) (BadRecord h i) None ≡ Some e → fault_or_later (BadRecord h) (if is_some o then first_bad_record g (suc i) o rs else Some i) None ≡ Some e
       by None is = is
       by (Some y) is = cc
 
@@ -78,11 +78,11 @@ module _ (g : Geometry) (l : Layout) (h : ℕ) (c : List ℕ) (x0 : State) where
     first = before.first ∙ ap (λ (rs : List (List ℕ)). first_bad_record g i (Some x) rs) (next i few) ∙ good_here g h i x (record_at l h i c) (drop (i + 1) (front l h c)) y is;
   }
 
-  pub bad_at : (i : ℕ) (x : State) → i < length (front l h c) → IsAt i x → (e : OpenFault) → IsFault (record_fault g x h i (record_at l h i c)) e → IsFault (records_fault g x0 h (front l h c)) e
+  pub bad_at : (i : ℕ) (x : State) → i < length (front l h c) → IsAt i x → (e : OpenFault) → IsFaultOfBytes (record_fault g x h i (record_at l h i c)) e → IsFaultOfBytes (records_fault g x0 h (front l h c)) e
   bad_at i x few before =
       fault_from _ _
       (λ e is.
-      ap (λ (o : Option ℕ). fault_of (BadRecord h) o None) (before.first ∙ ap (λ (rs : List (List ℕ)). first_bad_record g i (Some x) rs) (next i few))
+      ap (λ (o : Option ℕ). fault_or_later (BadRecord h) o None) (before.first ∙ ap (λ (rs : List (List ℕ)). first_bad_record g i (Some x) rs) (next i few))
       ∙ bad_here g h i x (record_at l h i c) (drop (i + 1) (front l h c)) e is)
 
 -- ---- of a tree, a log and bytes that are the same
@@ -92,9 +92,9 @@ pub apply_same : (g h : Geometry) → h ≡ g → (a b : Log) → b ≡ a → (c
 apply_same g h geometry a b log c d bytes x half i = λ j. apply (geometry j) x (record_at (layout (log j)) half i (bytes j))
 
 pub record_fault_same : (g h : Geometry) → h ≡ g → (a b : Log) → b ≡ a → (c d : List ℕ) → d ≡ c → (x : State) (half i : ℕ) (e : OpenFault)
-    → IsFault (record_fault h x half i (record_at (layout b) half i d)) e → IsFault (record_fault g x half i (record_at (layout a) half i c)) e
+    → IsFaultOfBytes (record_fault h x half i (record_at (layout b) half i d)) e → IsFaultOfBytes (record_fault g x half i (record_at (layout a) half i c)) e
 record_fault_same g h geometry a b log c d bytes x half i e =
-    subst (λ (o : Option OpenFault). IsFault o e) (λ j. record_fault (geometry j) x half i (record_at (layout (log j)) half i (bytes j)))
+    subst (λ (o : Option OpenFault). IsFaultOfBytes o e) (λ j. record_fault (geometry j) x half i (record_at (layout (log j)) half i (bytes j)))
 
 pub front_same : (a b : Log) → b ≡ a → (c d : List ℕ) → d ≡ c → (half : ℕ) → front (layout b) half d ≡ front (layout a) half c
 front_same a b log c d bytes half = λ j. front (layout (log j)) half (bytes j)

@@ -9,7 +9,7 @@ use Rattle.message.specs.declared.Msg.{Msg}
 use Rattle.message.specs.Messages.{IsMessage, kind, four_numbers, place}
 use Rattle.parcel.specs.Fits.{Fits, IsKindOf}
 use Rattle.parcel.specs.Nodes.{Nodes, tree_state}
-use Rattle.parcel.specs.Run.{Asked, IsRun, IsStep}
+use Rattle.parcel.specs.Run.{JobView, IsJobRun, IsSerialStep}
 use Rattle.parcel.specs.RunLaws.{CanBePutBack, LendsJob, LendsRunsRestores, job_place}
 use Rattle.parcel.specs.Tree.{IsIn, IsOut, LendsAt, RestoresAt}
 use Rattle.parcel.specs.declared.job.Done.{Done}
@@ -24,17 +24,17 @@ use Rattle.affinity.proofs.Preorder.{path_unique}
 pub placed : (g : Geometry) (m : Msg) (k : Kind) (n : List ℕ) (a : Interval) → k ≡ kind m → n ≡ four_numbers m → IsAffinityOf g (place_of g k n) a → IsAffinityOf g (place g m) a
 placed g m k n a k_is n_is there = subst (λ (l : List ℕ). IsAffinityOf g (place_of g (kind m) l) a) n_is (subst (λ (j : Kind). IsAffinityOf g (place_of g j n) a) k_is there)
 
-module _ (g : Geometry) (m : Msg) (s : Standing) (l : Parcels) (job : Asked) (is : job ≡ record { geometry = g; ticket = 0; message = m; standing = s; parcels = l })
-    (a : Interval) (there : IsAffinityOf g (place g m) a) (done : Done) (ran : IsRun job done) (old lent : Nodes) where
+module _ (g : Geometry) (m : Msg) (s : Standing) (l : Parcels) (job : JobView) (is : job ≡ record { geometry = g; ticket = 0; message = m; standing = s; parcels = l })
+    (a : Interval) (there : IsAffinityOf g (place g m) a) (done : Done) (ran : IsJobRun job done) (old lent : Nodes) where
   -- what was lent by the tree of a geometry that is the same
   lends : (h : Geometry) → g ≡ h → ((p : Path) → IsAffinityOf h p a → LendsAt h p s l old lent) → LendsJob job old lent
   lends h same took =
-      subst (λ (j : Asked). LendsJob j old lent) (sym is)
+      subst (λ (j : JobView). LendsJob j old lent) (sym is)
       (subst (λ (i : Geometry). (p : Path) → IsAffinityOf i p a → LendsAt i p s l old lent) (sym same) took (place g m) there)
 
   -- what was run goes back
   pub goes_back : (h : Geometry) → g ≡ h → ((p : Path) → IsAffinityOf h p a → LendsAt h p s l old lent) → CanBePutBack g (place g m) done.parcels lent
-  goes_back h same took = subst (λ (j : Asked). CanBePutBack j.geometry (job_place j) done.parcels lent) is (ran_goes_back job done old lent (lends h same took) ran)
+  goes_back h same took = subst (λ (j : JobView). CanBePutBack j.geometry (job_place j) done.parcels lent) is (ran_goes_back job done old lent (lends h same took) ran)
 
   pub fits_there : (h : Geometry) → g ≡ h → ((p : Path) → IsAffinityOf h p a → LendsAt h p s l old lent)
       → (k : Geometry) → g ≡ k → (r : Parcels) → r ≡ done.parcels → (q : Path) → IsAffinityOf k q a → IsKindOf q r → Fits k q r
@@ -56,22 +56,22 @@ module _ (g : Geometry) (m : Msg) (s : Standing) (l : Parcels) (job : Asked) (is
     served = record {
       taken = lends h same took;
       ran = ran;
-      put = subst (λ (j : Asked). RestoresAt j.geometry (job_place j) done.parcels lent new) (sym is)
+      put = subst (λ (j : JobView). RestoresAt j.geometry (job_place j) done.parcels lent new) (sym is)
           (subst (λ (x : Parcels). RestoresAt g (place g m) x lent new) is_done
           (subst (λ (i : Geometry). (q : Path) → IsAffinityOf i q a → RestoresAt i q r lent new) (sym alike) put (place g m) there));
     }
 
-    pub stepped : IsStep h (tree_state h old) m done.reply (tree_state h new)
+    pub stepped : IsSerialStep h (tree_state h old) m done.reply (tree_state h new)
     stepped =
-        subst (λ (i : Geometry). IsStep i (tree_state i old) m done.reply (tree_state i new)) same
-        (subst (λ (j : Asked). IsStep j.geometry (tree_state j.geometry old) j.message done.reply (tree_state j.geometry new)) is (served_step job done old lent new served))
+        subst (λ (i : Geometry). IsSerialStep i (tree_state i old) m done.reply (tree_state i new)) same
+        (subst (λ (j : JobView). IsSerialStep j.geometry (tree_state j.geometry old) j.message done.reply (tree_state j.geometry new)) is (served_step job done old lent new served))
 
     pub all_in_again : IsIn h [] old → IsIn h [] new
     all_in_again =
         subst (λ (i : Geometry). IsIn i [] old → IsIn i [] new) same
-        (subst (λ (j : Asked). IsIn j.geometry [] old → IsIn j.geometry [] new) is (served_is_in job done old lent new served))
+        (subst (λ (j : JobView). IsIn j.geometry [] old → IsIn j.geometry [] new) is (served_is_in job done old lent new served))
 
     pub state_again : IsMessage m → IsState h (tree_state h old) → IsState h (tree_state h new)
     state_again =
         subst (λ (i : Geometry). IsMessage m → IsState i (tree_state i old) → IsState i (tree_state i new)) same
-        (subst (λ (j : Asked). IsMessage j.message → IsState j.geometry (tree_state j.geometry old) → IsState j.geometry (tree_state j.geometry new)) is (served_state job done old lent new served))
+        (subst (λ (j : JobView). IsMessage j.message → IsState j.geometry (tree_state j.geometry old) → IsState j.geometry (tree_state j.geometry new)) is (served_state job done old lent new served))

@@ -7,8 +7,8 @@ use Rattle.affinity.specs.declared.geometry.Geometry.{Geometry}
 use Rattle.affinity.specs.Geometry.{group}
 use Rattle.checkpoint.specs.declared.fault.OpenFault.{OpenFault}
 use Rattle.checkpoint.specs.declared.fault.OpenFault.TheVariants.{BadPiece}
-use Rattle.checkpoint.specs.Loading.{IsFault}
-use Rattle.checkpoint.specs.Refusals.{fault_of, first_bad, first_bad_piece}
+use Rattle.checkpoint.specs.Loading.{IsFaultOfBytes}
+use Rattle.checkpoint.specs.Refusals.{fault_or_later, first_bad, first_bad_piece}
 use Rattle.disk.specs.Device.{AreBytes}
 use Rattle.disk.proofs.Bytes.{bytes-range, bytes_by_recursion}
 use Rattle.image.specs.Image.{AreGood, has_head, is_good, is_version, piece_in, read, said_before, version_in}
@@ -16,8 +16,8 @@ use Rattle.image.specs.Pieces.{aggregate_of, block_in, part_of, piece_at, piece_
 use Rattle.image.proofs.Joining.{length-pieces}
 use Rattle.image.proofs.Numbers.{number_there}
 use Rattle.image.proofs.Walk.{good_is_read, good_is_seen}
-use Rattle.message.specs.Messages.{AreBytes as Holds}
-use Rattle.oplog.specs.Layout.{device_size, image, image_size, layout_of, part, part_at, part_size, slice}
+use Rattle.message.specs.Messages.{AreSizedBytes as Holds}
+use Rattle.oplog.specs.Layout.{device_size, image, image_size, layout_of, part_bytes, part_at, part_size, slice}
 use Rattle.oplog.proofs.Slices.{image_sized, part_inside, slice_slice}
 use Rattle.plain.specs.State.{State, empty, is_block_of, sum_below}
 
@@ -42,7 +42,7 @@ unfolding image_size
 whole_image g = length-pieces g
 
 pub piece_there : (g : Geometry) (number n at : ℕ) (now out : List ℕ) → number < 2 → n < piece_count g → at ≡ part_at (layout_of g) (image number) + piece_at g n
-    → out ≡ slice now at (piece_size g n) → out ≡ piece_in g (part (layout_of g) (image number) now) n
+    → out ≡ slice now at (piece_size g n) → out ≡ piece_in g (part_bytes (layout_of g) (image number) now) n
 piece_there g number n at now out is_image below place is =
     is ∙ ap (λ (a : ℕ). slice now a (piece_size g n)) place
     ∙ sym (slice_slice now (part_at (layout_of g) (image number)) (part_size (layout_of g) (image number)) (piece_at g n) (piece_size g n)
@@ -146,7 +146,7 @@ module _ (g h : Geometry) (same : h ≡ g) (number n at size : ℕ) (buffer : Li
       )
 
   pub read_there : size ≤ length buffer → (now seen out : List ℕ) → seen ≡ now → out ≡ slice seen at (length (take size buffer))
-      → out ≡ piece_in g (part (layout_of g) (image number) now) n
+      → out ≡ piece_in g (part_bytes (layout_of g) (image number) now) n
   read_there room now seen out are is =
       let long : length (take size buffer) ≡ piece_size g n = omega (arith, length-take size buffer, room, its_size) in
       piece_there g number n at now out is_image below place (is ∙ (λ i. slice (are i) at (long i)))
@@ -166,10 +166,10 @@ module _ (g h : Geometry) (same : h ≡ g) (bytes : List ℕ) (version n : ℕ) 
   said_turn y is = is ∙ ap (λ (k : Geometry). with_piece version k x n out) same ∙ said_next g bytes version n ver below x so_far out there
 
   pub bad_turn : (out ≡ piece_of version h (with_piece version h x n out) n → false ≡ true) → AreGood g bytes n → (e : OpenFault) → e ≡ BadPiece n
-      → IsFault (fault_of BadPiece (first_bad_piece g bytes) None) e
+      → IsFaultOfBytes (fault_or_later BadPiece (first_bad_piece g bytes) None) e
   bad_turn bad good e is =
-      subst (λ (f : OpenFault). IsFault (fault_of BadPiece (first_bad_piece g bytes) None) f) (sym is)
-      (ap (λ (o : Option ℕ). fault_of BadPiece o None)
+      subst (λ (f : OpenFault). IsFaultOfBytes (fault_or_later BadPiece (first_bad_piece g bytes) None) f) (sym is)
+      (ap (λ (o : Option ℕ). fault_or_later BadPiece o None)
       (bad_piece g bytes n below good
       (is_bad_here g bytes version n ver below x so_far out there
       (λ here. false≢true (bad (subst (λ (k : Geometry). out ≡ piece_of version k (with_piece version k x n out) n) (sym same) here))))))
@@ -181,21 +181,21 @@ free_turn version g h same n x y out is before =
 -- ---- the whole image
 
 pub image_bytes : (g : Geometry) (number : ℕ) (now : List ℕ) → number < 2 → device_size (layout_of g) ≤ length now → AreBytes now
-    → Holds (piece_at g (piece_count g)) (part (layout_of g) (image number) now)
+    → Holds (piece_at g (piece_count g)) (part_bytes (layout_of g) (image number) now)
 image_bytes g number now is_image long are =
     let at = part_at (layout_of g) (image number) in
     let size = part_size (layout_of g) (image number) in (
       length-take-le size (drop at now) (omega (arith, length-drop at now, long, part_inside (layout_of g) (image number) (omega (arith, is_image))))
           ∙ image_sized (layout_of g) number is_image ∙ sym (whole_image g),
-      bytes_by_recursion (part (layout_of g) (image number) now) (bytes-range at size now are),
+      bytes_by_recursion (part_bytes (layout_of g) (image number) now) (bytes-range at size now are),
     )
 
 pub all_read : (g : Geometry) (number : ℕ) (now : List ℕ) → number < 2 → device_size (layout_of g) ≤ length now → AreBytes now
-    → has_head (part (layout_of g) (image number) now) ≡ true → (n : ℕ) → n ≡ piece_count g → (x : State)
-    → x ≡ said_before (version_in (part (layout_of g) (image number) now)) g (part (layout_of g) (image number) now) n
-    → AreGood g (part (layout_of g) (image number) now) n → read g (part (layout_of g) (image number) now) ≡ Some x
+    → has_head (part_bytes (layout_of g) (image number) now) ≡ true → (n : ℕ) → n ≡ piece_count g → (x : State)
+    → x ≡ said_before (version_in (part_bytes (layout_of g) (image number) now)) g (part_bytes (layout_of g) (image number) now) n
+    → AreGood g (part_bytes (layout_of g) (image number) now) n → read g (part_bytes (layout_of g) (image number) now) ≡ Some x
 all_read g number now is_image long are head n all x said good =
-    let bytes = part (layout_of g) (image number) now in
+    let bytes = part_bytes (layout_of g) (image number) now in
     good_is_read g bytes (image_bytes g number now is_image long are) head (subst (λ (k : ℕ). AreGood g bytes k) all good)
     ∙ ap (λ (y : State). Some y) (sym (said ∙ ap (λ (k : ℕ). said_before (version_in bytes) g bytes k) all))
 

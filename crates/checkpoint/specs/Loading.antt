@@ -5,12 +5,12 @@ use Rattle.checkpoint.specs.declared.fault.OpenFault.{OpenFault}
 use Rattle.checkpoint.specs.declared.fault.OpenFault.TheVariants.{Device, TooShort, NotFormatted, BadGeometry, OutOfMemory, BadVersion, BadPiece, BadRecord}
 use Rattle.checkpoint.specs.Header.{HasHeader}
 use Rattle.checkpoint.specs.Recovery.{apply, means}
-use Rattle.checkpoint.specs.Refusals.{fault_if, fault_of, first_bad_piece, first_bad_record}
+use Rattle.checkpoint.specs.Refusals.{fault_if, fault_or_later, first_bad_piece, first_bad_record}
 use Rattle.image.specs.Image.{has_head, read}
 use Rattle.oplog.specs.declared.fault.LogFault.{LogFault}
 use Rattle.oplog.specs.declared.fault.LogFault.TheVariants as log
 use Rattle.oplog.specs.Front.{chain, front}
-use Rattle.oplog.specs.Layout.{Layout, device_size, image, layout_of, other, part}
+use Rattle.oplog.specs.Layout.{Layout, device_size, image, layout_of, other, part_bytes}
 use Rattle.oplog.specs.Stands.{named_area, run}
 use Rattle.plain.specs.State.{State}
 
@@ -22,12 +22,12 @@ CountsOpenFault (Err _) old new = new ≡ old
 
 -- This fault is the one that the bytes of a device with a header give. Of a device that fails and of want of memory
 -- they tell nothing.
-abbrev pub IsFault : Option OpenFault → OpenFault → Type 0
-IsFault given Device = Unit {0}
-IsFault given OutOfMemory = Unit {0}
-IsFault given NotFormatted = ⊥
-IsFault given BadGeometry = ⊥
-IsFault given fault = given ≡ Some fault
+abbrev pub IsFaultOfBytes : Option OpenFault → OpenFault → Type 0
+IsFaultOfBytes given Device = Unit {0}
+IsFaultOfBytes given OutOfMemory = Unit {0}
+IsFaultOfBytes given NotFormatted = ⊥
+IsFaultOfBytes given BadGeometry = ⊥
+IsFaultOfBytes given fault = given ≡ Some fault
 
 -- The device failed, or the fault is one of its header: nothing behind it was looked at, and no memory taken.
 abbrev pub IsOfHeader : OpenFault → Type 0
@@ -53,11 +53,11 @@ record_fault g x h i bytes = fault_if (is_none (apply g x bytes)) (BadRecord h i
 
 -- the fault of the first of these records of half h that can't be run where it stands
 abbrev pub records_fault : Geometry → State → ℕ → List (List ℕ) → Option OpenFault
-records_fault g x h records = fault_of (BadRecord h) (first_bad_record g 0 (Some x) records) None
+records_fault g x h records = fault_or_later (BadRecord h) (first_bad_record g 0 (Some x) records) None
 
 -- why these bytes can't be read as an image
 abbrev pub image_fault : Geometry → List ℕ → Option OpenFault
-image_fault g bytes = fault_if (not (has_head bytes)) BadVersion (fault_of BadPiece (first_bad_piece g bytes) None)
+image_fault g bytes = fault_if (not (has_head bytes)) BadVersion (fault_or_later BadPiece (first_bad_piece g bytes) None)
 
 -- the chain bytes of both halves are 1
 abbrev pub are_chained : Layout → List ℕ → Bool
@@ -67,8 +67,8 @@ are_chained l c = (chain l 0 c == 1) && (chain l 1 c == 1)
 abbrev pub in_force_fault : Geometry → State → ℕ → List ℕ → Option OpenFault
 in_force_fault g x n c =
     let l = layout_of g in
-    fault_of (BadRecord n) (first_bad_record g 0 (Some x) (front l n c))
-    (fault_of (BadRecord (other n)) (first_bad_record g 0 (run (means g) (Some x) (front l n c)) (if chain l n c == 1 then front l (other n) c else [])) None)
+    fault_or_later (BadRecord n) (first_bad_record g 0 (Some x) (front l n c))
+    (fault_or_later (BadRecord (other n)) (first_bad_record g 0 (run (means g) (Some x) (front l n c)) (if chain l n c == 1 then front l (other n) c else [])) None)
 
 -- A device with these bytes has a header of this geometry and all its parts, this is its named area, and whether its half is
 -- chained. The image there is sound, at most one half is chained, and the records of the named half lead from the state of
@@ -79,7 +79,7 @@ pub record NamedHolds (g : Geometry) (c : List ℕ) (area : ℕ) (chained : Bool
   pub named : area ≡ named_area (layout_of g) c
   pub chain : chained ≡ (chain (layout_of g) area c == 1)
   pub one : are_chained (layout_of g) c ≡ false
-  pub sound : image_fault g (part (layout_of g) (image area) c) ≡ None
+  pub sound : image_fault g (part_bytes (layout_of g) (image area) c) ≡ None
   pub first : State
-  pub said : read g (part (layout_of g) (image area) c) ≡ Some first
+  pub said : read g (part_bytes (layout_of g) (image area) c) ≡ Some first
   pub ran : run (means g) (Some first) (front (layout_of g) area c) ≡ Some x

@@ -8,7 +8,7 @@ use Rattle.checkpoint.specs.Recovery.{apply, means}
 use Rattle.image.specs.Image.{has_head, is_good, read}
 use Rattle.image.specs.Pieces.{piece_count}
 use Rattle.oplog.specs.Front.{chain, front}
-use Rattle.oplog.specs.Layout.{layout_of, part, device_size, image, other}
+use Rattle.oplog.specs.Layout.{layout_of, part_bytes, device_size, image, other}
 use Rattle.oplog.specs.Stands.{named_area, run}
 use Rattle.plain.specs.State.{State}
 
@@ -32,23 +32,23 @@ first_bad_record g i (Some x) (r ∷ rs) = if is_some (apply g x r) then first_b
 abbrev pub fault_if : Bool → OpenFault → Option OpenFault → Option OpenFault
 fault_if test fault later = if test then Some fault else later
 
-abbrev pub fault_of : (ℕ → OpenFault) → Option ℕ → Option OpenFault → Option OpenFault
-fault_of fault None later = later
-fault_of fault (Some n) later = Some (fault n)
+abbrev pub fault_or_later : (ℕ → OpenFault) → Option ℕ → Option OpenFault → Option OpenFault
+fault_or_later fault None later = later
+fault_or_later fault (Some n) later = Some (fault n)
 
 -- Why a device with the header of this geometry is refused, in the order in which it is looked for. None: it isn't.
 abbrev pub refused : Geometry → List ℕ → Option OpenFault
 refused g c =
     let l = layout_of g in
     let n = named_area l c in
-    let bytes = part l (image n) c in
+    let bytes = part_bytes l (image n) c in
     let chained = if chain l n c == 1 then front l (other n) c else [] in
     fault_if (nat_lt (length c) (device_size l)) TooShort
     (fault_if (not (has_head bytes)) BadVersion
-    (fault_of BadPiece (first_bad_piece g bytes)
+    (fault_or_later BadPiece (first_bad_piece g bytes)
     (fault_if ((chain l 0 c == 1) && (chain l 1 c == 1)) BadChain
-    (fault_of (BadRecord n) (first_bad_record g 0 (read g bytes) (front l n c))
-    (fault_of (BadRecord (other n)) (first_bad_record g 0 (run (means g) (read g bytes) (front l n c)) chained) None)))))
+    (fault_or_later (BadRecord n) (first_bad_record g 0 (read g bytes) (front l n c))
+    (fault_or_later (BadRecord (other n)) (first_bad_record g 0 (run (means g) (read g bytes) (front l n c)) chained) None)))))
 
 -- The device is long enough for a header, and doesn't begin with the marks of a formatted one.
 abbrev pub IsUnformatted : List ℕ → Type 0

@@ -7,7 +7,7 @@ use Rattle.checkpoint.specs.Recovery.{holds}
 use Rattle.checkpoint.specs.Refusals.{refused}
 use Rattle.image.specs.Image.{version_in}
 use Rattle.message.specs.declared.Msg.TheVariants.{Summary}
-use Rattle.oplog.specs.Layout.{layout_of, image, part}
+use Rattle.oplog.specs.Layout.{layout_of, image, part_bytes}
 use Rattle.oplog.specs.Stands.{in_force, named_area}
 use Rattle.parcel.specs.Tree.{state_in}
 use Rattle.plain.specs.Serial.{reply_to}
@@ -18,7 +18,7 @@ pub record IsLoaded (c : List ℕ) (l : Loaded) : Type 0 where
   pub header : HasHeader l.tree.geometry c
   pub sound : refused l.tree.geometry c ≡ None
   pub area : l.area ≡ named_area (layout_of l.tree.geometry) c
-  pub version : l.version ≡ version_in (part (layout_of l.tree.geometry) (image l.area) c)
+  pub version : l.version ≡ version_in (part_bytes (layout_of l.tree.geometry) (image l.area) c)
   pub records : l.records ≡ length (in_force (layout_of l.tree.geometry) l.area c)
   pub state : holds l.tree.geometry c ≡ Some (state_in l.tree)
 
@@ -38,7 +38,7 @@ pub record IsShown (c : List ℕ) (s : Shown) : Type 0 where
   pub area : s.area ≡ named_area (layout_of s.geometry) c
   -- the front of the named half, and where that one is chained, of the other half
   pub records : s.records ≡ length (in_force (layout_of s.geometry) s.area c)
-  pub version : s.version ≡ version_in (part (layout_of s.geometry) (image s.area) c)
+  pub version : s.version ≡ version_in (part_bytes (layout_of s.geometry) (image s.area) c)
   pub state : State
   pub held : holds s.geometry c ≡ Some state
   pub summary : s.summary ≡ reply_to s.geometry state Summary

@@ -1,12 +1,12 @@
 //! An image, read into a tree piece by piece.
 ghost use Rattle.std.specs.Prelude.{◌≡◌, ◌↔◌, ◌+◌, ◌*◌, ◌<◌, ◌≤◌, ℕ, true, None, Some, length, IfErr, IsOk, OnOk};
 ghost use Rattle.checkpoint.specs.declared.fault.OpenFault.TheVariants.{BadPiece};
-ghost use Rattle.checkpoint.specs.Loading.{CountsOpenFault, IsFault};
-ghost use Rattle.checkpoint.specs.Refusals.{fault_of, first_bad_piece};
+ghost use Rattle.checkpoint.specs.Loading.{CountsOpenFault, IsFaultOfBytes};
+ghost use Rattle.checkpoint.specs.Refusals.{fault_or_later, first_bad_piece};
 ghost use Rattle.disk.specs.Device.{moments};
 ghost use Rattle.image.specs.Image.{has_head, is_version, read, version_in};
 ghost use Rattle.image.specs.Pieces.{aggregate_of, part_of, piece_count, piece_of, piece_size, volume_of, with_piece};
-ghost use Rattle.oplog.specs.Layout.{device_size, image, layout_of, part};
+ghost use Rattle.oplog.specs.Layout.{device_size, image, layout_of, part_bytes};
 ghost use Rattle.parcel.specs.Tree.{IsWholeTree, state_in};
 ghost use Rattle.plain.specs.State.{empty};
 
@@ -87,17 +87,17 @@ pub(crate) fn read_pieces<D: Disk>(
     requires number { number < 2 }
     requires known { is_version version ≡ true }
     requires version { D.keeps → version ≡ version_in
-        (part (layout_of tree.old.geometry) (image number) (D.medium disk.old).now) }
+        (part_bytes (layout_of tree.old.geometry) (image number) (D.medium disk.old).now) }
     requires head { D.keeps → has_head
-        (part (layout_of tree.old.geometry) (image number) (D.medium disk.old).now) ≡ true }
+        (part_bytes (layout_of tree.old.geometry) (image number) (D.medium disk.old).now) ≡ true }
     requires parts { device_size (layout_of tree.old.geometry) ≤ length (D.medium disk.old).now }
     requires room { tree.old.geometry.quota * 520 ≤ length buffer.old }
     ensures read { OnOk result (D.keeps → read tree.old.geometry
-        (part (layout_of tree.old.geometry) (image number) (D.medium disk.old).now) ≡ Some (state_in tree.new)) }
+        (part_bytes (layout_of tree.old.geometry) (image number) (D.medium disk.old).now) ≡ Some (state_in tree.new)) }
     ensures good { OnOk result (D.keeps → first_bad_piece tree.old.geometry
-        (part (layout_of tree.old.geometry) (image number) (D.medium disk.old).now) ≡ None) }
-    ensures refused { IfErr result (λ e. D.keeps → IsFault (fault_of BadPiece (first_bad_piece tree.old.geometry
-        (part (layout_of tree.old.geometry) (image number) (D.medium disk.old).now)) None) e) }
+        (part_bytes (layout_of tree.old.geometry) (image number) (D.medium disk.old).now) ≡ None) }
+    ensures refused { IfErr result (λ e. D.keeps → IsFaultOfBytes (fault_or_later BadPiece (first_bad_piece tree.old.geometry
+        (part_bytes (layout_of tree.old.geometry) (image number) (D.medium disk.old).now)) None) e) }
     ensures whole { OnOk result (IsWholeTree tree.new) }
     ensures geometry { tree.new.geometry ≡ tree.old.geometry }
     ensures untouched { D.keeps → moments (D.medium disk.new) ≡ moments (D.medium disk.old) }

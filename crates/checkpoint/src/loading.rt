@@ -2,7 +2,7 @@
 ghost use Rattle.std.specs.Prelude.{◌≡◌, ◌+◌, ◌*◌, ◌<◌, ◌≤◌, ◌==◌, false, None, Some, length, IfErr, IfOk, OnOk};
 ghost use Rattle.checkpoint.specs.declared.fault.OpenFault.TheVariants.{BadChain, OutOfMemory};
 ghost use Rattle.checkpoint.specs.Header.{HasHeader};
-ghost use Rattle.checkpoint.specs.Loading.{CountsOpenFault, IsFault, IsOfHalf, NamedHolds, are_chained, image_fault, in_force_fault};
+ghost use Rattle.checkpoint.specs.Loading.{CountsOpenFault, IsFaultOfBytes, IsOfHalf, NamedHolds, are_chained, image_fault, in_force_fault};
 ghost use Rattle.checkpoint.specs.Recovery.{means};
 ghost use Rattle.checkpoint.specs.Refusals.{IsDevice, IsRefused, fault_if};
 ghost use Rattle.checkpoint.specs.Shown.{IsLoaded};
@@ -10,7 +10,7 @@ ghost use Rattle.disk.specs.Device.{moments};
 ghost use Rattle.image.specs.Image.{read, version_in};
 ghost use Rattle.oplog.specs.Calls.{HasParts};
 ghost use Rattle.oplog.specs.Front.{chain, front};
-ghost use Rattle.oplog.specs.Layout.{device_size, image, layout_of, part};
+ghost use Rattle.oplog.specs.Layout.{device_size, image, layout_of, part_bytes};
 ghost use Rattle.oplog.specs.Log.{layout, new_log, renamed};
 ghost use Rattle.oplog.specs.Stands.{in_force, named_area, run};
 ghost use Rattle.parcel.specs.Tree.{IsWholeTree, state_in};
@@ -72,13 +72,13 @@ fn read_image<D: Disk>(
     requires parts { device_size (layout_of tree.old.geometry) ≤ length (D.medium disk.old).now }
     requires room { tree.old.geometry.quota * 520 ≤ length buffer.old }
     ensures version { IfOk result (λ v. D.keeps →
-        v ≡ version_in (part (layout_of tree.old.geometry) (image area) (D.medium disk.old).now)) }
+        v ≡ version_in (part_bytes (layout_of tree.old.geometry) (image area) (D.medium disk.old).now)) }
     ensures read { OnOk result (D.keeps → read tree.old.geometry
-        (part (layout_of tree.old.geometry) (image area) (D.medium disk.old).now) ≡ Some (state_in tree.new)) }
+        (part_bytes (layout_of tree.old.geometry) (image area) (D.medium disk.old).now) ≡ Some (state_in tree.new)) }
     ensures sound { OnOk result (D.keeps → image_fault tree.old.geometry
-        (part (layout_of tree.old.geometry) (image area) (D.medium disk.old).now) ≡ None) }
-    ensures refused { IfErr result (λ e. D.keeps → IsFault (image_fault tree.old.geometry
-        (part (layout_of tree.old.geometry) (image area) (D.medium disk.old).now)) e) }
+        (part_bytes (layout_of tree.old.geometry) (image area) (D.medium disk.old).now) ≡ None) }
+    ensures refused { IfErr result (λ e. D.keeps → IsFaultOfBytes (image_fault tree.old.geometry
+        (part_bytes (layout_of tree.old.geometry) (image area) (D.medium disk.old).now)) e) }
     ensures whole { OnOk result (IsWholeTree tree.new) }
     ensures geometry { OnOk result (tree.new.geometry ≡ tree.old.geometry) }
     ensures untouched { D.keeps → moments (D.medium disk.new) ≡ moments (D.medium disk.old) }
@@ -98,7 +98,7 @@ fn chain_of<D: Disk>(disk: &mut D, g: &Geometry, area: usize) -> Result<bool, Op
         b ≡ (chain (layout_of g.now) area (D.medium disk.old).now == 1)) }
     ensures sound { OnOk result (D.keeps → are_chained (layout_of g.now) (D.medium disk.old).now ≡ false) }
     ensures refused { IfErr result (λ e. D.keeps →
-        IsFault (fault_if (are_chained (layout_of g.now) (D.medium disk.old).now) BadChain None) e) }
+        IsFaultOfBytes (fault_if (are_chained (layout_of g.now) (D.medium disk.old).now) BadChain None) e) }
     ensures untouched { D.keeps → moments (D.medium disk.new) ≡ moments (D.medium disk.old) }
     ensures counts { CountsOpenFault result (D.medium disk.old).faults (D.medium disk.new).faults }
     ensures len { length (D.medium disk.new).now ≡ length (D.medium disk.old).now }
@@ -149,7 +149,7 @@ pub fn load_named<D: Disk>(
         NamedHolds tree.old.geometry (D.medium disk.old).now n.area n.chained (state_in tree.new)) }
     ensures area { IfOk result (λ n. n.area < 2) }
     ensures version { IfOk result (λ n. D.keeps →
-        n.version ≡ version_in (part (layout_of tree.old.geometry) (image n.area) (D.medium disk.old).now)) }
+        n.version ≡ version_in (part_bytes (layout_of tree.old.geometry) (image n.area) (D.medium disk.old).now)) }
     ensures records { IfOk result (λ n. D.keeps →
         n.records ≡ length (front (layout_of tree.old.geometry) n.area (D.medium disk.old).now)) }
     ensures log { IfOk result (λ n. log.new ≡ renamed n.area (new_log tree.old.geometry)) }
@@ -197,7 +197,7 @@ fn replay_in_force<D: Disk>(
     ensures sound { OnOk result (D.keeps →
         in_force_fault tree.old.geometry (state_in tree.old) area (D.medium disk.old).now ≡ None) }
     ensures refused { IfErr result (λ e. D.keeps →
-        IsFault (in_force_fault tree.old.geometry (state_in tree.old) area (D.medium disk.old).now) e) }
+        IsFaultOfBytes (in_force_fault tree.old.geometry (state_in tree.old) area (D.medium disk.old).now) e) }
     ensures whole { OnOk result (IsWholeTree tree.new) }
     ensures geometry { OnOk result (tree.new.geometry ≡ tree.old.geometry) }
     ensures log { OnOk result (log.new ≡ log.old) }

@@ -1,12 +1,12 @@
 //! Reads of a device: any range, a chain byte, and the head of an image.
 ghost use Rattle.std.specs.Prelude.{◌≡◌, ◌+◌, ◌<◌, ◌≤◌, ◌==◌, not, true, None, length, IfErr, IfOk, OnOk};
 ghost use Rattle.checkpoint.specs.declared.fault.OpenFault.TheVariants.{Device, BadVersion};
-ghost use Rattle.checkpoint.specs.Loading.{CountsOpenFault, IsFault};
+ghost use Rattle.checkpoint.specs.Loading.{CountsOpenFault, IsFaultOfBytes};
 ghost use Rattle.checkpoint.specs.Refusals.{fault_if};
 ghost use Rattle.disk.specs.Device.{moments};
-ghost use Rattle.image.specs.Image.{has_head, head_of, is_version, version_in};
+ghost use Rattle.image.specs.Image.{has_head, image_head, is_version, version_in};
 ghost use Rattle.oplog.specs.Front.{chain};
-ghost use Rattle.oplog.specs.Layout.{device_size, image, layout_of, part, slice};
+ghost use Rattle.oplog.specs.Layout.{device_size, image, layout_of, part_bytes, slice};
 
 use crate::OpenFault;
 use affinity::Geometry;
@@ -50,7 +50,7 @@ pub(crate) fn is_chained<D: Disk>(
 
 /// What an image of this version begins with.
 fn head_of(version: u8) -> [u8; IMAGE_HEAD_SIZE]
-    ensures { result ≡ head_of version }
+    ensures { result ≡ image_head version }
 {
     let mut head = [0u8; IMAGE_HEAD_SIZE];
     head[0] = version;
@@ -83,12 +83,12 @@ pub(crate) fn version_of<D: Disk>(
     requires number { number < 2 }
     requires whole { device_size (layout_of g.now) ≤ length (D.medium disk.old).now }
     ensures version { IfOk result (λ v. D.keeps →
-        v ≡ version_in (part (layout_of g.now) (image number) (D.medium disk.old).now)) }
+        v ≡ version_in (part_bytes (layout_of g.now) (image number) (D.medium disk.old).now)) }
     ensures known { IfOk result (λ v. is_version v ≡ true) }
     ensures head { OnOk result (D.keeps →
-        has_head (part (layout_of g.now) (image number) (D.medium disk.old).now) ≡ true) }
-    ensures refused { IfErr result (λ e. D.keeps → IsFault (fault_if (not (has_head
-        (part (layout_of g.now) (image number) (D.medium disk.old).now))) BadVersion None) e) }
+        has_head (part_bytes (layout_of g.now) (image number) (D.medium disk.old).now) ≡ true) }
+    ensures refused { IfErr result (λ e. D.keeps → IsFaultOfBytes (fault_if (not (has_head
+        (part_bytes (layout_of g.now) (image number) (D.medium disk.old).now))) BadVersion None) e) }
     ensures untouched { D.keeps → moments (D.medium disk.new) ≡ moments (D.medium disk.old) }
     ensures counts { CountsOpenFault result (D.medium disk.old).faults (D.medium disk.new).faults }
     ensures len { length (D.medium disk.new).now ≡ length (D.medium disk.old).now }

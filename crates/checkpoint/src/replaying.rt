@@ -1,7 +1,7 @@
 //! The records of a half, run on a tree.
 ghost use Rattle.std.specs.Prelude.{◌≡◌, ◌≢◌, ◌<◌, ◌≤◌, Some, false, length, IfOk, IfErr, OnOk};
 ghost use Rattle.checkpoint.specs.declared.fault.OpenFault.TheVariants.{OutOfMemory};
-ghost use Rattle.checkpoint.specs.Loading.{CountsOpenFault, IsFault, record_fault, records_fault};
+ghost use Rattle.checkpoint.specs.Loading.{CountsOpenFault, IsFaultOfBytes, record_fault, records_fault};
 ghost use Rattle.checkpoint.specs.Recovery.{apply, means};
 ghost use Rattle.disk.specs.Device.{moments};
 ghost use Rattle.oplog.specs.Calls.{HasFront, HasParts};
@@ -35,7 +35,7 @@ fn replay_record<D: Disk>(
     ensures done { OnOk result (D.keeps →
         apply tree.old.geometry (state_in tree.old) (record_at (layout log.old) half i (D.medium disk.old).now)
         ≡ Some (state_in tree.new)) }
-    ensures refused { IfErr result (λ e. D.keeps → IsFault (record_fault tree.old.geometry (state_in tree.old)
+    ensures refused { IfErr result (λ e. D.keeps → IsFaultOfBytes (record_fault tree.old.geometry (state_in tree.old)
         half i (record_at (layout log.old) half i (D.medium disk.old).now)) e) }
     ensures took_none { IfErr result (λ e. e ≢ OutOfMemory) }
     ensures whole { OnOk result (IsWholeTree tree.new) }
@@ -70,7 +70,7 @@ fn replay_front<D: Disk>(
     ensures done { OnOk result (D.keeps →
         run (means tree.old.geometry) (Some (state_in tree.old))
         (front (layout log.old) half (D.medium disk.old).now) ≡ Some (state_in tree.new)) }
-    ensures refused { IfErr result (λ e. D.keeps → IsFault (records_fault tree.old.geometry
+    ensures refused { IfErr result (λ e. D.keeps → IsFaultOfBytes (records_fault tree.old.geometry
         (state_in tree.old) half (front (layout log.old) half (D.medium disk.old).now)) e) }
     ensures took_none { IfErr result (λ e. e ≢ OutOfMemory) }
     ensures whole { OnOk result (IsWholeTree tree.new) }
@@ -104,7 +104,7 @@ pub fn replay<D: Disk>(
     ensures done { OnOk result (D.keeps →
         run (means tree.old.geometry) (Some (state_in tree.old))
         (front (layout log.old) half (D.medium disk.old).now) ≡ Some (state_in tree.new)) }
-    ensures refused { IfErr result (λ e. D.keeps → IsFault (records_fault tree.old.geometry
+    ensures refused { IfErr result (λ e. D.keeps → IsFaultOfBytes (records_fault tree.old.geometry
         (state_in tree.old) half (front (layout log.old) half (D.medium disk.old).now)) e) }
     ensures took_none { IfErr result (λ e. e ≢ OutOfMemory) }
     ensures whole { OnOk result (IsWholeTree tree.new) }

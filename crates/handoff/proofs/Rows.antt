@@ -1,11 +1,11 @@
 -- A fact about each job that is lent, after one place changed.
 use Rattle.std.proofs.Common.{◌≡◌, ℕ, zero, suc, List, [], ◌∷◌, set, Option, Some, None, IfSome, MatchOption, sym, subst}
-use Rattle.parcel.specs.Run.{Asked}
+use Rattle.parcel.specs.Run.{JobView}
 use Rattle.workers.specs.Rule.{lent_at}
 use Rattle.workers.specs.Desk.{Desk}
 
-module _ (Fact : Asked → Type 0) where
-  pub each_set : (lent : List (Option Asked)) (k : ℕ) (o : Option Asked) → IfSome o Fact → ((i : ℕ) → IfSome (lent_at lent i) Fact) → (i : ℕ) → IfSome (lent_at (set lent k o) i) Fact
+module _ (Fact : JobView → Type 0) where
+  pub each_set : (lent : List (Option JobView)) (k : ℕ) (o : Option JobView) → IfSome o Fact → ((i : ℕ) → IfSome (lent_at lent i) Fact) → (i : ℕ) → IfSome (lent_at (set lent k o) i) Fact
   each_set [] k o fact each i = each i
   each_set (x ∷ xs) zero o fact each zero = fact
   each_set (x ∷ xs) zero o fact each (suc i) = each (suc i)
@@ -13,7 +13,7 @@ module _ (Fact : Asked → Type 0) where
   each_set (x ∷ xs) (suc k) o fact each (suc i) = each_set xs k o fact (λ j. each (suc j)) i
 
   -- after an offer, whether the place took it or not
-  pub offered : (old new : Desk) (k : ℕ) (job : Asked) (there : Option Asked) (A B : Type 0)
+  pub offered : (old new : Desk) (k : ℕ) (job : JobView) (there : Option JobView) (A B : Type 0)
       → MatchOption there (A × (new.lent ≡ set old.lent k (Some job))) (λ _. B × (new ≡ old))
       → Fact job → ((i : ℕ) → IfSome (lent_at old.lent i) Fact) → (i : ℕ) → IfSome (lent_at new.lent i) Fact
   offered old new k job None A B took fact each = subst (λ l. (i : ℕ) → IfSome (lent_at l i) Fact) (sym took.1) (each_set old.lent k (Some job) fact each)

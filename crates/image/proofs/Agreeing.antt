@@ -7,8 +7,8 @@ use Rattle.affinity.specs.declared.geometry.Geometry.{Geometry}
 use Rattle.message.specs.declared.Block.{Block}
 use Rattle.plain.specs.State.{State, empty}
 use Rattle.stripe.specs.Entries.{stripe_bytes}
-use Rattle.stripe.specs.Stripe.{Entry}
-use Rattle.image.specs.Pieces.{piece_size, part_size, piece_of, part_piece, aggregate_of, volume_of, part_of, volume_piece_number, stripe_piece_number, has_volume, volume_piece, stripe_piece, stripe_entries, entry_if, joined_below, has_file_in, is_made_in, block_in, said_by}
+use Rattle.stripe.specs.Stripe.{BlockEntry}
+use Rattle.image.specs.Pieces.{piece_size, piece_part_size, piece_of, part_piece, aggregate_of, volume_of, part_of, volume_piece_number, stripe_piece_number, has_volume, volume_piece, stripe_piece, stripe_entries, entry_if, joined_below, has_file_in, is_made_in, block_in, said_by}
 use Rattle.image.proofs.Numbers.{number_there}
 use Rattle.image.proofs.Taken.{first_of, zeros_of_volume, no_block_in_zeros}
 
@@ -74,7 +74,7 @@ module _ (version : ℕ) (g : Geometry) (ps qs : ℕ → List ℕ) where
 
 -- ---- pieces of which nothing is said
 
-nothing_joined : (n : ℕ) (h : ℕ → List Entry) → ((i : ℕ) → h i ≡ []) → joined_below n h ≡ []
+nothing_joined : (n : ℕ) (h : ℕ → List BlockEntry) → ((i : ℕ) → h i ≡ []) → joined_below n h ≡ []
 nothing_joined zero h none = refl
 nothing_joined (suc n) h none = λ i. nothing_joined n h none i ++ none n i
 
@@ -86,7 +86,7 @@ module _ (version : ℕ) (g : Geometry) (pieces : ℕ → List ℕ) (n i : ℕ) 
   zero_piece = by (part_of g i) refl
     where
       by : (p : ℕ) → part_of g i ≡ p → part_piece version g (said_by version g (first_of g pieces n)) (aggregate_of g i)
-          (volume_of g i) p ≡ replicate (part_size g p) 0
+          (volume_of g i) p ≡ replicate (piece_part_size g p) 0
       by zero part =
           let a : ℕ = aggregate_of g i in
           let v : ℕ = volume_of g i in

@@ -10,16 +10,16 @@ use Rattle.message.specs.declared.Block.{Block}
 use Rattle.plain.specs.State.{sum_below, count_below, one_if}
 use Rattle.plain.proofs.Sums.{sum_below-le, sum_below-add, sum_pick}
 use Rattle.stripe.specs.Entries.{entry_in, entries_in}
-use Rattle.stripe.specs.Stripe.{Entry, content_at}
+use Rattle.stripe.specs.Stripe.{BlockEntry, content_at}
 use Rattle.image.proofs.Measures.{all-take, all-drop}
 
 -- ---- what bytes say are blocks, and not too many
 
 pub entries_are_blocks : (n : ℕ) (bytes : List ℕ) → length bytes ≡ n * 520 → AllByRecursion (λ b. b < 256) bytes
-    → AllByRecursion (λ (e : Entry). IsBlock e.content) (entries_in n bytes)
+    → AllByRecursion (λ (e : BlockEntry). IsBlock e.content) (entries_in n bytes)
 entries_are_blocks zero bytes long small = tt
 entries_are_blocks (suc n) bytes long small =
-    elim (get_or bytes 0 0 == 1) as (λ t. AllByRecursion (λ (e : Entry). IsBlock e.content)
+    elim (get_or bytes 0 0 == 1) as (λ t. AllByRecursion (λ (e : BlockEntry). IsBlock e.content)
     (if t then entry_in (take 520 bytes) ∷ entries_in n (drop 520 bytes) else [])) [
       | true ↦ (
         (
@@ -43,7 +43,7 @@ entries_few (suc n) bytes =
 
 -- ---- what holds of all entries holds of what they hold
 
-pub content_is : (P : Block → Type 0) (f b : ℕ) (es : List Entry) → AllByRecursion (λ (e : Entry). P e.content) es
+pub content_is : (P : Block → Type 0) (f b : ℕ) (es : List BlockEntry) → AllByRecursion (λ (e : BlockEntry). P e.content) es
     → IfSome (content_at es f b) P
 content_is P f b [] all = tt
 content_is P f b (e ∷ es) all =
@@ -52,7 +52,7 @@ content_is P f b (e ∷ es) all =
       | false ↦ content_is P f b es all.1
     ]
 
-pub content_of : (Q : ℕ → ℕ → Type 0) (f b : ℕ) (es : List Entry) → AllByRecursion (λ (e : Entry). Q e.file e.block) es
+pub content_of : (Q : ℕ → ℕ → Type 0) (f b : ℕ) (es : List BlockEntry) → AllByRecursion (λ (e : BlockEntry). Q e.file e.block) es
     → is_some (content_at es f b) ≡ true → Q f b
 content_of Q f b [] all some = absurd (true≢false (sym some))
 content_of Q f b (e ∷ es) all some = by ((f == e.file) && (b == e.block)) refl (content_of Q f b es all.1)
@@ -99,7 +99,7 @@ one_more : (t : Bool) (content : Block) (o : Option Block)
 one_more true content o = omega arith
 one_more false content o = omega arith
 
-few_held : (n m : ℕ) (es : List Entry) → sum_below n (λ f. count_below m (λ b. is_some (content_at es f b))) ≤ length es
+few_held : (n m : ℕ) (es : List BlockEntry) → sum_below n (λ f. count_below m (λ b. is_some (content_at es f b))) ≤ length es
 few_held n m [] = let none = no_rows n in omega (arith, none)
   where
     no_row : (m : ℕ) → sum_below m (λ (b : ℕ). 0) ≡ 0
@@ -126,7 +126,7 @@ few_held n m (e ∷ es) =
     omega (arith, rest, once, more, apart)
 
 -- what entries hold of one stripe
-pub few_of_stripe : (g : Geometry) (s : ℕ) (held : ℕ → ℕ → Option Block) (es : List Entry)
+pub few_of_stripe : (g : Geometry) (s : ℕ) (held : ℕ → ℕ → Option Block) (es : List BlockEntry)
     → ((f b : ℕ) → group g f b ≡ s → held f b ≡ content_at es f b)
     → sum_below g.files (λ f. count_below g.blocks (λ b. (group g f b == s) && is_some (held f b))) ≤ length es
 few_of_stripe g s held es same =

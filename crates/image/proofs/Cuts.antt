@@ -6,7 +6,7 @@ use Rattle.std.proofs.lemmas.Nat.{mul-add-lt}
 use Rattle.affinity.specs.declared.geometry.Geometry.{Geometry}
 use Rattle.plain.specs.State.{State, sum_below}
 use Rattle.image.specs.Pieces.{pieces_of_volume, piece_count, volume_piece_number, stripe_piece_number, piece_size, piece_of, part_piece, volume_piece, stripe_piece, joined_below}
-use Rattle.image.specs.Image.{head_of, image_of, piece_in}
+use Rattle.image.specs.Image.{image_head, image_of, piece_in}
 use Rattle.image.proofs.Numbers.{part_there, aggregate_there, volume_there}
 use Rattle.image.proofs.Measures.{IsMeasured, length-piece, length-joined}
 
@@ -31,8 +31,8 @@ module _ {X : Type 0} (f : ℕ → List X) (size : ℕ → ℕ) (sized : (i : �
 pub piece_again : (version : ℕ) (g : Geometry) (x : State) → IsMeasured g x → (n : ℕ) → n < piece_count g → piece_in g (image_of version g x) n ≡ piece_of version g x n
 piece_again version g x is n below =
     let all : List ℕ = joined_below (piece_count g) (piece_of version g x) in
-    let behind : drop (64 + sum_below n (piece_size g)) (head_of version ++ all) ≡ drop (sum_below n (piece_size g)) all =
-    sym (drop-drop (sum_below n (piece_size g)) 64 (head_of version ++ all)) ∙ ap (λ (l : List ℕ). drop (sum_below n (piece_size g)) l) (drop_at (head_of version) all 64 refl) in
+    let behind : drop (64 + sum_below n (piece_size g)) (image_head version ++ all) ≡ drop (sum_below n (piece_size g)) all =
+    sym (drop-drop (sum_below n (piece_size g)) 64 (image_head version ++ all)) ∙ ap (λ (l : List ℕ). drop (sum_below n (piece_size g)) l) (drop_at (image_head version) all 64 refl) in
     ap (λ (l : List ℕ). take (piece_size g n) l) behind ∙ ap (λ (l : List ℕ). take (piece_size g n) (drop (sum_below n (piece_size g)) l)) (sym (append-nil all))
     ∙ joined_cut (piece_of version g x) (piece_size g) (length-piece version g x is) (piece_count g) n [] below
 

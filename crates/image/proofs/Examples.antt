@@ -9,7 +9,7 @@ use Rattle.message.specs.declared.Reply.{Reply}
 use Rattle.plain.specs.Serial.{fold, reply_to}
 use Rattle.plain.specs.State.{State, empty}
 use Rattle.image.specs.Pieces.{piece_of}
-use Rattle.image.specs.Touched.{touches}
+use Rattle.image.specs.Touched.{may_change}
 use Rattle.image.specs.Image.{image_of, read, said_before, is_good}
 
 -- a block that begins with this byte
@@ -151,7 +151,7 @@ bad_stripe_without_a_file = refl
 
 -- of the volume's piece, that of its first stripe and that of its second
 abbrev touched_in_small : Msg → List Bool
-touched_in_small m = touches small m 0 ∷ touches small m 1 ∷ touches small m 2 ∷ []
+touched_in_small m = may_change small m 0 ∷ may_change small m 1 ∷ may_change small m 2 ∷ []
 
 make_touches : touched_in_small (MakeVol 0 0) ≡ true ∷ false ∷ false ∷ []
 make_touches = refl
@@ -186,7 +186,7 @@ questions_touch_nothing = refl
 
 -- pieces 4, 5, 9 and 10 of the standard server: the second of its four volumes has five pieces, behind the five of the first one
 abbrev touched_in_standard : Msg → List Bool
-touched_in_standard m = touches standard m 4 ∷ touches standard m 5 ∷ touches standard m 9 ∷ touches standard m 10 ∷ []
+touched_in_standard m = may_change standard m 4 ∷ may_change standard m 5 ∷ may_change standard m 9 ∷ may_change standard m 10 ∷ []
 
 drop_touches_its_volume : touched_in_standard (DropVol 0 1) ≡ false ∷ true ∷ true ∷ false ∷ []
 drop_touches_its_volume = refl

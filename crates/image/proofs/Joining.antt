@@ -5,8 +5,8 @@ use Rattle.std.proofs.Math.Seq.{take-add}
 use Rattle.std.proofs.lemmas.Nat.{mod-mul-add}
 use Rattle.affinity.specs.declared.geometry.Geometry.{Geometry}
 use Rattle.plain.specs.State.{State, sum_below}
-use Rattle.image.specs.Pieces.{pieces_of_volume, piece_count, part_size, piece_size, piece_at, piece_of, joined_below}
-use Rattle.image.specs.Image.{head_of, image_of, piece_in}
+use Rattle.image.specs.Pieces.{pieces_of_volume, piece_count, piece_part_size, piece_size, piece_at, piece_of, joined_below}
+use Rattle.image.specs.Image.{image_head, image_of, piece_in}
 
 -- ---- sums of what comes again
 
@@ -34,24 +34,24 @@ module _ (k : ℕ) (h : ℕ → ℕ) where
       let same : sum_below (suc m * k) (λ n. h (n % k)) ≡ sum_below (m * k + k) (λ n. h (n % k)) = ap (λ (n : ℕ). sum_below n (λ n. h (n % k))) more in
       omega (arith, one, same)
 
-parts_sum : (g : Geometry) (s : ℕ) → sum_below (suc s) (part_size g) ≡ 64 + s * (g.quota * 520)
+parts_sum : (g : Geometry) (s : ℕ) → sum_below (suc s) (piece_part_size g) ≡ 64 + s * (g.quota * 520)
 parts_sum g zero = omega arith
 parts_sum g (suc s) = let before = parts_sum g s in omega (arith, before)
 
 pub length-pieces : (g : Geometry) → piece_at g (piece_count g) ≡ 64 + g.aggregates * g.volumes * (64 + g.stripes * (g.quota * 520))
 length-pieces g =
-    ap (λ (n : ℕ). 64 + n) (rounds (pieces_of_volume g) (part_size g) (g.aggregates * g.volumes) ∙ ap (λ (n : ℕ). g.aggregates * g.volumes * n) (parts_sum g g.stripes))
+    ap (λ (n : ℕ). 64 + n) (rounds (pieces_of_volume g) (piece_part_size g) (g.aggregates * g.volumes) ∙ ap (λ (n : ℕ). g.aggregates * g.volumes * n) (parts_sum g g.stripes))
 
 -- ---- bytes, by their pieces
 
-module _ (version : ℕ) (g : Geometry) (x : State) (bytes : List ℕ) (head : take 64 bytes ≡ head_of version) where
-  first_pieces : (n : ℕ) → ((i : ℕ) → i < n → piece_in g bytes i ≡ piece_of version g x i) → take (piece_at g n) bytes ≡ head_of version ++ joined_below n (piece_of version g x)
-  first_pieces zero each = head ∙ sym (append-nil (head_of version))
+module _ (version : ℕ) (g : Geometry) (x : State) (bytes : List ℕ) (head : take 64 bytes ≡ image_head version) where
+  first_pieces : (n : ℕ) → ((i : ℕ) → i < n → piece_in g bytes i ≡ piece_of version g x i) → take (piece_at g n) bytes ≡ image_head version ++ joined_below n (piece_of version g x)
+  first_pieces zero each = head ∙ sym (append-nil (image_head version))
   first_pieces (suc n) each =
       let place : piece_at g (suc n) ≡ piece_at g n + piece_size g n = omega arith in
       ap (λ (k : ℕ). take k bytes) place ∙ take-add (piece_at g n) (piece_size g n) bytes
       ∙ (λ i. first_pieces n (λ i few. each i (omega (arith, few))) i ++ each n (omega arith) i)
-      ∙ append_assoc (head_of version) (joined_below n (piece_of version g x)) (piece_of version g x n)
+      ∙ append_assoc (image_head version) (joined_below n (piece_of version g x)) (piece_of version g x n)
 
   pub by_pieces : length bytes ≡ piece_at g (piece_count g) → ((i : ℕ) → i < piece_count g → piece_in g bytes i ≡ piece_of version g x i) → bytes ≡ image_of version g x
   by_pieces long each = sym (take_all (piece_at g (piece_count g)) bytes (omega (arith, long))) ∙ first_pieces (piece_count g) each

@@ -5,20 +5,20 @@ use Rattle.std.specs.List.{AllByRecursion, flat_map}
 use Rattle.std.proofs.lemmas.List.{length-replicate}
 use Rattle.affinity.specs.Geometry.{group}
 use Rattle.affinity.specs.declared.geometry.Geometry.{Geometry}
-use Rattle.message.specs.Messages.{IsBlock, AreBytes}
+use Rattle.message.specs.Messages.{IsBlock, AreSizedBytes}
 use Rattle.message.specs.declared.Block.{Block}
-use Rattle.stripe.specs.Stripe.{Entry}
+use Rattle.stripe.specs.Stripe.{BlockEntry}
 use Rattle.byteorder.specs.Endian.{little_bytes}
 use Rattle.plain.specs.Serial.{no_label, file_bits}
 use Rattle.plain.specs.State.{State, VolumeKey, BlockKey, IsState, sum_below, one_if, group_count}
 use Rattle.stripe.specs.Entries.{entry_bytes, stripe_bytes}
-use Rattle.image.specs.Pieces.{joined_below, entry_if, stripe_entries, volume_piece, label_bytes, part_piece, part_size, piece_of, piece_size, part_of, aggregate_of, volume_of}
+use Rattle.image.specs.Pieces.{joined_below, entry_if, stripe_entries, volume_piece, label_bytes, part_piece, piece_part_size, piece_of, piece_size, part_of, aggregate_of, volume_of}
 use Rattle.stripe.proofs.EntryBytes.{IsSpellable, length-entries}
 
 -- Blocks and labels are of their size, and no stripe has more than its quota, whatever else holds of the state.
 pub record IsMeasured (g : Geometry) (x : State) : Type 0 where
   pub content : (k : BlockKey) → IfSome (x.blocks k) IsBlock
-  pub label_content : (k : VolumeKey) → IfSome (x.labels k) (AreBytes 32)
+  pub label_content : (k : VolumeKey) → IfSome (x.labels k) (AreSizedBytes 32)
   pub quota : (a v s : ℕ) → length (stripe_entries g x a v s) ≤ g.quota
 
 -- ---- lists of the numbers below n
@@ -86,17 +86,17 @@ state_is_measured g x is = record {
 
 -- ---- the pieces
 
-pub length-stripe_bytes : (quota : ℕ) (es : List Entry) → AllByRecursion IsSpellable es → length es ≤ quota → length (stripe_bytes quota es) ≡ quota * 520
+pub length-stripe_bytes : (quota : ℕ) (es : List BlockEntry) → AllByRecursion IsSpellable es → length es ≤ quota → length (stripe_bytes quota es) ≡ quota * 520
 length-stripe_bytes quota es good most =
     let long = length-entries es good in
     omega (arith, long, most, length-append (flat_map entry_bytes es) (replicate (quota * 520 - length (flat_map entry_bytes es)) 0), length-replicate {A = ℕ} (quota * 520 - length (flat_map entry_bytes es)) 0)
 
-length-label : (version : ℕ) (label : Option (List ℕ)) → IfSome label (AreBytes 32) → length (label_bytes version label) ≡ 32
+length-label : (version : ℕ) (label : Option (List ℕ)) → IfSome label (AreSizedBytes 32) → length (label_bytes version label) ≡ 32
 length-label version label is =
     let by : (b : Bool) → length (if b then unwrap_or label no_label else no_label) ≡ 32 = λ b. elim b as (λ b. length (if b then unwrap_or label no_label else no_label) ≡ 32) [ true ↦ of_label label is | false ↦ refl ] in
     by (version == 2)
   where
-    of_label : (label : Option (List ℕ)) → IfSome label (AreBytes 32) → length (unwrap_or label no_label) ≡ 32
+    of_label : (label : Option (List ℕ)) → IfSome label (AreSizedBytes 32) → length (unwrap_or label no_label) ≡ 32
     of_label None is = refl
     of_label (Some bytes) is = is.0
 
@@ -110,6 +110,6 @@ length-volume_piece version g x is a v = by (x.made (a, v))
 pub length-piece : (version : ℕ) (g : Geometry) (x : State) → IsMeasured g x → (n : ℕ) → length (piece_of version g x n) ≡ piece_size g n
 length-piece version g x is n = by (part_of g n)
   where
-    by : (p : ℕ) → length (part_piece version g x (aggregate_of g n) (volume_of g n) p) ≡ part_size g p
+    by : (p : ℕ) → length (part_piece version g x (aggregate_of g n) (volume_of g n) p) ≡ piece_part_size g p
     by zero = length-volume_piece version g x is (aggregate_of g n) (volume_of g n)
     by (suc s) = length-stripe_bytes g.quota _ (entries_good g x is (aggregate_of g n) (volume_of g n) s) (is.quota (aggregate_of g n) (volume_of g n) s)

@@ -2,7 +2,7 @@
 use Rattle.std.proofs.Common.{◌≡◌, ℕ, ◌+◌, ◌*◌, ◌/◌, ◌%◌, ◌<◌, ◌∙◌, ap, arith, mod-lt, div-lt_iff_lt-mul, div-add-mod'}
 use Rattle.std.proofs.lemmas.Nat.{div-mul-add, mod-mul-add}
 use Rattle.affinity.specs.declared.geometry.Geometry.{Geometry}
-use Rattle.image.specs.Pieces.{pieces_of_volume, piece_count, volume_piece_number, aggregate_of, volume_of, part_of, part_size, piece_size}
+use Rattle.image.specs.Pieces.{pieces_of_volume, piece_count, volume_piece_number, aggregate_of, volume_of, part_of, piece_part_size, piece_size}
 
 module _ (g : Geometry) (a v p : ℕ) (part : p < pieces_of_volume g) where
   volume_number : (volume_piece_number g a v + p) / pieces_of_volume g ≡ a * g.volumes + v
@@ -11,8 +11,8 @@ module _ (g : Geometry) (a v p : ℕ) (part : p < pieces_of_volume g) where
   pub part_there : part_of g (volume_piece_number g a v + p) ≡ p
   part_there = mod-mul-add (a * g.volumes + v) (pieces_of_volume g) p part
 
-  pub size_there : piece_size g (volume_piece_number g a v + p) ≡ part_size g p
-  size_there = ap (part_size g) part_there
+  pub size_there : piece_size g (volume_piece_number g a v + p) ≡ piece_part_size g p
+  size_there = ap (piece_part_size g) part_there
 
   pub aggregate_there : v < g.volumes → aggregate_of g (volume_piece_number g a v + p) ≡ a
   aggregate_there in_volumes = ap (λ (k : ℕ). k / g.volumes) volume_number ∙ div-mul-add a g.volumes v in_volumes

@@ -10,16 +10,16 @@ use Rattle.std.proofs.lemmas.Slice.Eq.{bytes_eq-Decides}
 use Rattle.affinity.specs.Geometry.{group}
 use Rattle.affinity.specs.declared.geometry.Geometry.{Geometry}
 use Rattle.byteorder.specs.Endian.{little_bytes, little_number}
-use Rattle.message.specs.Messages.{AreBytes}
+use Rattle.message.specs.Messages.{AreSizedBytes}
 use Rattle.message.specs.Replies.{has_file}
 use Rattle.message.specs.declared.Block.{Block}
 use Rattle.plain.specs.Serial.{file_bits}
 use Rattle.plain.specs.State.{State, VolumeKey, FileKey, BlockKey, IsState, one_if}
 use Rattle.stripe.specs.Entries.{entry_bytes, entries_in}
-use Rattle.stripe.specs.Stripe.{Entry, content_at}
+use Rattle.stripe.specs.Stripe.{BlockEntry, content_at}
 use Rattle.stripe.proofs.EntryBytes.{entries_again}
 use Rattle.image.specs.Pieces.{has_volume, volume_piece_number, volume_piece, stripe_entries, entry_if, joined_below, label_bytes, label_in, bytes_at}
-use Rattle.image.specs.Image.{image_of, said, read, is_image, is_version, version_in, piece_in}
+use Rattle.image.specs.Image.{image_of, said_state, read, is_image, is_version, version_in, piece_in}
 use Rattle.image.proofs.Cuts.{volume_again, stripe_again}
 use Rattle.image.proofs.FileNumber.{number_small, bits_there}
 use Rattle.image.proofs.Measures.{entries_good, state_is_measured}
@@ -30,7 +30,7 @@ or_else : Option Block → Option Block → Option Block
 or_else None other = other
 or_else (Some content) other = Some content
 
-content-append : (f b : ℕ) (xs ys : List Entry) → content_at (xs ++ ys) f b ≡ or_else (content_at xs f b) (content_at ys f b)
+content-append : (f b : ℕ) (xs ys : List BlockEntry) → content_at (xs ++ ys) f b ≡ or_else (content_at xs f b) (content_at ys f b)
 unfolding or_else
 content-append f b [] ys = refl
 content-append f b (e ∷ xs) ys =
@@ -49,12 +49,12 @@ unfolding or_else
 or_none o = refl
 
 module _ (f b : ℕ) where
-  pub none_joined : (n : ℕ) (h : ℕ → List Entry) → ((i : ℕ) → i < n → content_at (h i) f b ≡ None) → content_at (joined_below n h) f b ≡ None
+  pub none_joined : (n : ℕ) (h : ℕ → List BlockEntry) → ((i : ℕ) → i < n → content_at (h i) f b ≡ None) → content_at (joined_below n h) f b ≡ None
   none_joined zero h each = refl
   none_joined (suc n) h each =
       content-append f b (joined_below n h) (h n) ∙ (λ i. or_else (none_joined n h (λ k few. each k (omega (arith, few))) i) (each n (omega arith) i)) ∙ or_none None
 
-  pub one_joined : (n k : ℕ) (h : ℕ → List Entry) → ((i : ℕ) → i ≢ k → content_at (h i) f b ≡ None) → k < n → content_at (joined_below n h) f b ≡ content_at (h k) f b
+  pub one_joined : (n k : ℕ) (h : ℕ → List BlockEntry) → ((i : ℕ) → i ≢ k → content_at (h i) f b ≡ None) → k < n → content_at (joined_below n h) f b ≡ content_at (h k) f b
   one_joined zero k h others below = absurd (omega (arith, below))
   one_joined (suc n) k h others below =
       content-append f b (joined_below n h) (h n)
@@ -86,7 +86,7 @@ module _ (g : Geometry) (x : State) (is : IsState g x) where
   pub entries_hold : (a v f b : ℕ) → content_at (stripe_entries g x a v (group g f b)) f b ≡ x.blocks (a, v, f, b)
   entries_hold a v f b =
       let s : ℕ = group g f b in
-      let row : ℕ → ℕ → List Entry = λ i j. entry_if (x.files (a, v, i) && (group g i j == s)) i j (x.blocks (a, v, i, j)) in
+      let row : ℕ → ℕ → List BlockEntry = λ i j. entry_if (x.files (a, v, i) && (group g i j == s)) i j (x.blocks (a, v, i, j)) in
       let none_out : (b < g.blocks → ⊥) ⊎ (f < g.files → ⊥) → None ≡ x.blocks (a, v, f, b) = λ out. absent (x.blocks (a, v, f, b)) refl out in
       ⊎_elim
       (λ (file : f < g.files).
@@ -169,13 +169,13 @@ module _ (g : Geometry) (x : State) (is : IsState g x) where
       let parts = and_parts (nat_lt k.0 g.aggregates) (nat_lt k.1 g.volumes) there in
       volume_again g k.0 k.1 (ltb-true k.0 g.aggregates parts.0) (ltb-true k.1 g.volumes parts.1) 2 x (state_is_measured g x is)
 
-  made_again : (k : VolumeKey) → (said 2 g (image_of 2 g x)).made k ≡ x.made k
+  made_again : (k : VolumeKey) → (said_state 2 g (image_of 2 g x)).made k ≡ x.made k
   made_again k =
       and_there (has_volume g k) _ (x.made k)
       (λ there. ap (λ (l : List ℕ). get_or l 0 0 == 1) (volume_said k there) ∙ made_said g x k.0 k.1 2)
       (has k)
 
-  sealed_again : (k : VolumeKey) → (said 2 g (image_of 2 g x)).sealed k ≡ x.sealed k
+  sealed_again : (k : VolumeKey) → (said_state 2 g (image_of 2 g x)).sealed k ≡ x.sealed k
   sealed_again k =
       and_there (has_volume g k) _ (x.sealed k)
       (λ there. ap (λ (l : List ℕ). get_or l 1 0 == 1) (volume_said k there) ∙ sealed_said g x k.0 k.1 2 ∙ both (x.made k) (x.sealed k) (is.sealed k))
@@ -185,7 +185,7 @@ module _ (g : Geometry) (x : State) (is : IsState g x) where
       both true u needs = refl
       both false u needs = sym (false_from_ne_true u (λ e. true≢false (sym (needs e))))
 
-  files_again : (k : FileKey) → (said 2 g (image_of 2 g x)).files k ≡ x.files k
+  files_again : (k : FileKey) → (said_state 2 g (image_of 2 g x)).files k ≡ x.files k
   files_again k =
       let n : ℕ = if x.made (k.0, k.1) then file_bits g x k.0 k.1 else 0 in
       and_there (has_volume g (k.0, k.1)) _ (x.files k)
@@ -205,18 +205,18 @@ module _ (g : Geometry) (x : State) (is : IsState g x) where
           ap (λ (m : ℕ). has_file m k.2) (eight_bytes (file_bits g x k.0 k.1) (omega (arith, small, most))) ∙ bits_there g.files (λ f. x.files (k.0, k.1, f)) within k.2
       bits false made = bits_there 0 (λ f. false) (λ f e. absurd (true≢false (sym e))) k.2 ∙ sym (false_from_ne_true (x.files k) (λ e. true≢false (sym (is.files k e).1 ∙ made)))
 
-  blocks_again : (k : BlockKey) → (said 2 g (image_of 2 g x)).blocks k ≡ x.blocks k
+  blocks_again : (k : BlockKey) → (said_state 2 g (image_of 2 g x)).blocks k ≡ x.blocks k
   blocks_again k =
       let s : ℕ = group g k.2 k.3 in
       if_there (has_volume g (k.0, k.1)) _ (x.blocks k)
       (λ there.
       let parts = and_parts (nat_lt k.0 g.aggregates) (nat_lt k.1 g.volumes) there in
       ap (λ (l : List ℕ). content_at (entries_in g.quota l) k.2 k.3) (stripe_again g k.0 k.1 (ltb-true k.0 g.aggregates parts.0) (ltb-true k.1 g.volumes parts.1) 2 x (state_is_measured g x is) s (mod-lt (k.2 + k.3 / g.width) g.stripes_range.0))
-      ∙ ap (λ (es : List Entry). content_at es k.2 k.3) (entries_again (stripe_entries g x k.0 k.1 s) (entries_good g x (state_is_measured g x is) k.0 k.1 s) g.quota (g.quota * 520 - length (flat_map entry_bytes (stripe_entries g x k.0 k.1 s))) ((state_is_measured g x is).quota k.0 k.1 s))
+      ∙ ap (λ (es : List BlockEntry). content_at es k.2 k.3) (entries_again (stripe_entries g x k.0 k.1 s) (entries_good g x (state_is_measured g x is) k.0 k.1 s) g.quota (g.quota * 520 - length (flat_map entry_bytes (stripe_entries g x k.0 k.1 s))) ((state_is_measured g x is).quota k.0 k.1 s))
       ∙ entries_hold g x is k.0 k.1 k.2 k.3)
       (λ some. has (k.0, k.1) (is.files (k.0, k.1, k.2) (is.blocks k some).1).1)
 
-  labels_again : (k : VolumeKey) → (said 2 g (image_of 2 g x)).labels k ≡ x.labels k
+  labels_again : (k : VolumeKey) → (said_state 2 g (image_of 2 g x)).labels k ≡ x.labels k
   labels_again k =
       if_there (has_volume g k) _ (x.labels k)
       (λ there.
@@ -228,12 +228,12 @@ module _ (g : Geometry) (x : State) (is : IsState g x) where
       by : (t : Bool) (o : Option (List ℕ)) → x.made k ≡ t → x.labels k ≡ o → (if t then Some (bytes_at 16 32 (volume_piece 2 g x k.0 k.1)) else None) ≡ o
       by true None made has_none = absurd (true≢false (sym (sym (ap (λ (o : Option (List ℕ)). is_some o) has_none) ∙ is.labels k ∙ made)))
       by true (Some label) made has_one =
-          let long : length label ≡ 32 = (subst (λ (o : Option (List ℕ)). IfSome o (AreBytes 32)) has_one (is.label_content k)).0 in
+          let long : length label ≡ 32 = (subst (λ (o : Option (List ℕ)). IfSome o (AreSizedBytes 32)) has_one (is.label_content k)).0 in
           ap (λ (l : List ℕ). Some l) (label_there g x k.0 k.1 label long made has_one)
       by false None made has_none = refl
       by false (Some label) made has_one = absurd (true≢false (sym (ap (λ (o : Option (List ℕ)). is_some o) has_one) ∙ is.labels k ∙ made))
 
-  pub said_again : said 2 g (image_of 2 g x) ≡ x
+  pub said_again : said_state 2 g (image_of 2 g x) ≡ x
   said_again = λ i. record {
     made = λ k. made_again k i;
     sealed = λ k. sealed_again k i;
@@ -244,22 +244,22 @@ module _ (g : Geometry) (x : State) (is : IsState g x) where
 
   pub read_again : read g (image_of 2 g x) ≡ Some x
   read_again =
-      let same = (bytes_eq-Decides (image_of 2 g x) (image_of 2 g (said 2 g (image_of 2 g x)))).1 (ap (image_of 2 g) (sym said_again)) in
-      ap (λ (t : Bool). if t then Some (said 2 g (image_of 2 g x)) else None) same ∙ ap (λ (y : State). Some y) said_again
+      let same = (bytes_eq-Decides (image_of 2 g x) (image_of 2 g (said_state 2 g (image_of 2 g x)))).1 (ap (image_of 2 g) (sym said_again)) in
+      ap (λ (t : Bool). if t then Some (said_state 2 g (image_of 2 g x)) else None) same ∙ ap (λ (y : State). Some y) said_again
 
 -- what is read is spelled
 pub spelling : (g : Geometry) (bytes : List ℕ) (x : State) → read g bytes ≡ Some x → bytes ≡ image_of (version_in bytes) g x
 spelling g bytes x is = by (is_image g bytes) refl is
   where
-    by : (t : Bool) → is_image g bytes ≡ t → (if t then Some (said (version_in bytes) g bytes) else None) ≡ Some x → bytes ≡ image_of (version_in bytes) g x
+    by : (t : Bool) → is_image g bytes ≡ t → (if t then Some (said_state (version_in bytes) g bytes) else None) ≡ Some x → bytes ≡ image_of (version_in bytes) g x
     by false off same = absurd (none_is_not_some same)
       where
         none_is_not_some : None ≡ Some x → ⊥
         none_is_not_some e = cc
     by true on same =
-        let parts = and_parts (is_version (version_in bytes)) (bytes_eq bytes (image_of (version_in bytes) g (said (version_in bytes) g bytes))) on in
-        let spelled = (bytes_eq-Decides bytes (image_of (version_in bytes) g (said (version_in bytes) g bytes))).0 parts.1 in
+        let parts = and_parts (is_version (version_in bytes)) (bytes_eq bytes (image_of (version_in bytes) g (said_state (version_in bytes) g bytes))) on in
+        let spelled = (bytes_eq-Decides bytes (image_of (version_in bytes) g (said_state (version_in bytes) g bytes))).0 parts.1 in
         spelled ∙ ap (image_of (version_in bytes) g) (one_value same)
       where
-        one_value : Some (said (version_in bytes) g bytes) ≡ Some x → said (version_in bytes) g bytes ≡ x
+        one_value : Some (said_state (version_in bytes) g bytes) ≡ Some x → said_state (version_in bytes) g bytes ≡ x
         one_value e = cc

@@ -9,15 +9,15 @@ use Rattle.affinity.specs.Geometry.{group}
 use Rattle.affinity.specs.declared.geometry.Geometry.{Geometry}
 use Rattle.affinity.proofs.Placed.{group_below}
 use Rattle.byteorder.specs.Endian.{little_bytes, little_number}
-use Rattle.message.specs.Messages.{IsBlock, AreBytes}
+use Rattle.message.specs.Messages.{IsBlock, AreSizedBytes}
 use Rattle.message.specs.Replies.{has_file}
 use Rattle.message.specs.declared.Block.{Block}
 use Rattle.plain.specs.Serial.{file_bits, no_label}
 use Rattle.plain.specs.State.{State, VolumeKey, FileKey, BlockKey, IsState, group_count}
 use Rattle.stripe.specs.Entries.{entry_bytes, entries_in}
-use Rattle.stripe.specs.Stripe.{Entry, content_at}
+use Rattle.stripe.specs.Stripe.{BlockEntry, content_at}
 use Rattle.stripe.proofs.EntryBytes.{entries_again}
-use Rattle.image.specs.Pieces.{piece_count, pieces_of_volume, piece_size, piece_of, said_by, has_volume, volume_piece_number, stripe_piece_number, volume_piece, stripe_piece, part_piece, part_size, stripe_entries, entry_if, is_made_in, is_sealed_in, has_file_in, label_in, block_in, bytes_at}
+use Rattle.image.specs.Pieces.{piece_count, pieces_of_volume, piece_size, piece_of, said_by, has_volume, volume_piece_number, stripe_piece_number, volume_piece, stripe_piece, part_piece, piece_part_size, stripe_entries, entry_if, is_made_in, is_sealed_in, has_file_in, label_in, block_in, bytes_at}
 use Rattle.image.proofs.Counted.{entries_are_blocks, entries_few, content_is, content_of, few_of_stripe}
 use Rattle.image.proofs.Cuts.{is_piece, piece_there}
 use Rattle.image.proofs.Numbers.{size_there}
@@ -35,10 +35,10 @@ if_is : {X : Type 0} (P : X → Type 0) (h : Bool) (o : Option X) → (h ≡ tru
 if_is P true o is = is refl
 if_is P false o is = tt
 
-label_is : (version : ℕ) (bytes : List ℕ) → AreBytes 64 bytes → IfSome (label_in version bytes) (AreBytes 32)
+label_is : (version : ℕ) (bytes : List ℕ) → AreSizedBytes 64 bytes → IfSome (label_in version bytes) (AreSizedBytes 32)
 label_is version bytes are = by (is_made_in bytes) (version == 2)
   where
-    by : (made told : Bool) → IfSome (if made then Some (if told then bytes_at 16 32 bytes else no_label) else None) (AreBytes 32)
+    by : (made told : Bool) → IfSome (if made then Some (if told then bytes_at 16 32 bytes else no_label) else None) (AreSizedBytes 32)
     by true true = (
       omega (arith, are.0, length-drop 16 bytes, length-take 32 (drop 16 bytes)),
       all-take (λ b. b < 256) 32 (drop 16 bytes) (all-drop (λ b. b < 256) 16 bytes are.1),
@@ -49,21 +49,21 @@ label_is version bytes are = by (is_made_in bytes) (version == 2)
 -- ---- the sizes
 
 module _ (version : ℕ) (g : Geometry) (pieces : ℕ → List ℕ)
-    (sized : (n : ℕ) → n < piece_count g → AreBytes (piece_size g n) (pieces n)) where
+    (sized : (n : ℕ) → n < piece_count g → AreSizedBytes (piece_size g n) (pieces n)) where
   bytes_of_part : (k : VolumeKey) → has_volume g k ≡ true → (p : ℕ) → p < pieces_of_volume g
-      → AreBytes (part_size g p) (pieces (volume_piece_number g k.0 k.1 + p))
+      → AreSizedBytes (piece_part_size g p) (pieces (volume_piece_number g k.0 k.1 + p))
   bytes_of_part k there p part =
       let within = is_volume_there g k there in
-      subst (λ (size : ℕ). AreBytes size (pieces (volume_piece_number g k.0 k.1 + p))) (size_there g k.0 k.1 p part)
+      subst (λ (size : ℕ). AreSizedBytes size (pieces (volume_piece_number g k.0 k.1 + p))) (size_there g k.0 k.1 p part)
       (sized (volume_piece_number g k.0 k.1 + p) (is_piece g k.0 k.1 within.0 within.1 p part))
 
-  bytes_of_volume : (k : VolumeKey) → has_volume g k ≡ true → AreBytes 64 (pieces (volume_piece_number g k.0 k.1))
+  bytes_of_volume : (k : VolumeKey) → has_volume g k ≡ true → AreSizedBytes 64 (pieces (volume_piece_number g k.0 k.1))
   bytes_of_volume k there =
       let first : volume_piece_number g k.0 k.1 + 0 ≡ volume_piece_number g k.0 k.1 = omega arith in
-      subst (λ (n : ℕ). AreBytes 64 (pieces n)) first (bytes_of_part k there 0 (omega arith))
+      subst (λ (n : ℕ). AreSizedBytes 64 (pieces n)) first (bytes_of_part k there 0 (omega arith))
 
   bytes_of_stripe : (k : VolumeKey) → has_volume g k ≡ true → (s : ℕ) → s < g.stripes
-      → AreBytes (g.quota * 520) (pieces (stripe_piece_number g k.0 k.1 s))
+      → AreSizedBytes (g.quota * 520) (pieces (stripe_piece_number g k.0 k.1 s))
   bytes_of_stripe k there s below = bytes_of_part k there (suc s) (omega (arith, below))
 
   blocks_told : (a v s f b : ℕ) (t : Bool) → has_volume g (a, v) ≡ t → group g f b ≡ s
@@ -80,7 +80,7 @@ module _ (version : ℕ) (g : Geometry) (pieces : ℕ → List ℕ)
     where
       by : (t : Bool) → has_volume g (a, v) ≡ t → group_count g (said_by version g pieces) a v s ≤ g.quota
       by t is =
-          let es : List Entry = if t then entries_in g.quota (pieces (stripe_piece_number g a v s)) else [] in
+          let es : List BlockEntry = if t then entries_in g.quota (pieces (stripe_piece_number g a v s)) else [] in
           let held = few_of_stripe g s (λ f b. (said_by version g pieces).blocks (a, v, f, b)) es
           (λ f b on. blocks_told a v s f b t is on) in
           let few : length es ≤ g.quota = elim t as
@@ -99,8 +99,8 @@ module _ (version : ℕ) (g : Geometry) (pieces : ℕ → List ℕ)
       content_is IsBlock k.2 k.3 (entries_in g.quota (pieces (stripe_piece_number g k.0 k.1 s)))
       (entries_are_blocks g.quota (pieces (stripe_piece_number g k.0 k.1 s)) are.0 are.1))
 
-  label_told : (k : VolumeKey) → IfSome ((said_by version g pieces).labels k) (AreBytes 32)
-  label_told k = if_is (AreBytes 32) (has_volume g k) _
+  label_told : (k : VolumeKey) → IfSome ((said_by version g pieces).labels k) (AreSizedBytes 32)
+  label_told k = if_is (AreSizedBytes 32) (has_volume g k) _
       (λ there. label_is version (pieces (volume_piece_number g k.0 k.1)) (bytes_of_volume k there))
 
   pub is_measured : IsMeasured g (said_by version g pieces)
@@ -120,7 +120,7 @@ bit_within n t f on =
     (λ (no_less : n ≤ f). absurd (true≢false (sym on ∙ ap (λ b. b == 1) (bit_at_above (number_of n t) n f (number_small n t) no_less))))
     (cases_lt f n)
 
-module _ (version : ℕ) (g : Geometry) (pieces : ℕ → List ℕ) (sized : (n : ℕ) → n < piece_count g → AreBytes (piece_size g n) (pieces n))
+module _ (version : ℕ) (g : Geometry) (pieces : ℕ → List ℕ) (sized : (n : ℕ) → n < piece_count g → AreSizedBytes (piece_size g n) (pieces n))
     (good : (n : ℕ) → n < piece_count g → pieces n ≡ piece_of version g (said_by version g pieces) n) where
   part_spelled : (k : VolumeKey) → has_volume g k ≡ true → (p : ℕ) → p < pieces_of_volume g
       → pieces (volume_piece_number g k.0 k.1 + p) ≡ part_piece version g (said_by version g pieces) k.0 k.1 p
@@ -175,19 +175,19 @@ module _ (version : ℕ) (g : Geometry) (pieces : ℕ → List ℕ) (sized : (n 
 
   -- every entry of a stripe has its file and stands within the numbers
   entry_within : (a v s : ℕ) → AllByRecursion
-      (λ (e : Entry). (e.block < g.blocks) × ((said_by version g pieces).files (a, v, e.file) ≡ true))
+      (λ (e : BlockEntry). (e.block < g.blocks) × ((said_by version g pieces).files (a, v, e.file) ≡ true))
       (stripe_entries g (said_by version g pieces) a v s)
   entry_within a v s =
       let x : State = said_by version g pieces in
-      all_joined (λ (e : Entry). (e.block < g.blocks) × (x.files (a, v, e.file) ≡ true)) g.files _
-      (λ f in_files. all_joined (λ (e : Entry). (e.block < g.blocks) × (x.files (a, v, e.file) ≡ true)) g.blocks _
+      all_joined (λ (e : BlockEntry). (e.block < g.blocks) × (x.files (a, v, e.file) ≡ true)) g.files _
+      (λ f in_files. all_joined (λ (e : BlockEntry). (e.block < g.blocks) × (x.files (a, v, e.file) ≡ true)) g.blocks _
       (λ b below. by f b below (x.files (a, v, f)) refl))
     where
       by : (f b : ℕ) → b < g.blocks → (t : Bool) → (said_by version g pieces).files (a, v, f) ≡ t
-          → AllByRecursion (λ (e : Entry). (e.block < g.blocks) × ((said_by version g pieces).files (a, v, e.file) ≡ true))
+          → AllByRecursion (λ (e : BlockEntry). (e.block < g.blocks) × ((said_by version g pieces).files (a, v, e.file) ≡ true))
           (entry_if (t && (group g f b == s)) f b ((said_by version g pieces).blocks (a, v, f, b)))
       by f b below true there =
-          one_of (λ (e : Entry). (e.block < g.blocks) × ((said_by version g pieces).files (a, v, e.file) ≡ true)) (group g f b == s) f b
+          one_of (λ (e : BlockEntry). (e.block < g.blocks) × ((said_by version g pieces).files (a, v, e.file) ≡ true)) (group g f b == s) f b
           ((said_by version g pieces).blocks (a, v, f, b)) (λ content. (below, there))
       by f b below false out = tt
 
@@ -205,7 +205,7 @@ module _ (version : ℕ) (g : Geometry) (pieces : ℕ → List ℕ) (sized : (n 
           ∙ entries_again (stripe_entries g x k.0 k.1 s) (entries_good g x measured k.0 k.1 s) g.quota
           (g.quota * 520 - length (flat_map entry_bytes (stripe_entries g x k.0 k.1 s))) (measured.quota k.0 k.1 s) in
           let held : x.blocks k ≡ content_at (stripe_entries g x k.0 k.1 s) k.2 k.3 =
-          blocks_told version g pieces sized k.0 k.1 s k.2 k.3 true there refl ∙ ap (λ (es : List Entry). content_at es k.2 k.3) entries in
+          blocks_told version g pieces sized k.0 k.1 s k.2 k.3 true there refl ∙ ap (λ (es : List BlockEntry). content_at es k.2 k.3) entries in
           content_of (λ f b. (b < g.blocks) × (x.files (k.0, k.1, f) ≡ true)) k.2 k.3 (stripe_entries g x k.0 k.1 s)
           (entry_within k.0 k.1 s)
           (sym (ap (λ (o : Option Block). is_some o) held) ∙ some)

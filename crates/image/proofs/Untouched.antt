@@ -13,7 +13,7 @@ use Rattle.plain.specs.Serial.{key, effect, outcome, accepted_reply, refusal, ne
 use Rattle.plain.specs.State.{State, IsState, sum_below, one_if, is_volume, is_file, is_block}
 use Rattle.stripe.specs.Entries.{stripe_bytes}
 use Rattle.image.specs.Pieces.{aggregate_of, volume_of, part_of, piece_of, part_piece, label_bytes, stripe_piece, entry_if}
-use Rattle.image.specs.Touched.{touches, touches_part}
+use Rattle.image.specs.Touched.{may_change, may_change_part}
 use Rattle.image.proofs.Agreeing.{entries_same, no_entry_of_none}
 
 -- ---- another volume
@@ -151,7 +151,7 @@ block_elsewhere g s i j k l a v f b other on =
     by false q r t none = refl
 
 module _ (version : ℕ) (g : Geometry) (x : State) (is : IsState g x) (i j : ℕ) where
-  part_untouched : (m : Msg) (p : ℕ) → touches_part g m p ≡ false → part_piece version g (effect x m) i j p ≡ part_piece version g x i j p
+  part_untouched : (m : Msg) (p : ℕ) → may_change_part g m p ≡ false → part_piece version g (effect x m) i j p ≡ part_piece version g x i j p
   part_untouched (MakeVol a v) zero off = absurd (true≢false off)
   part_untouched (MakeVol a v) (suc s) off = refl
   part_untouched (DropVol a v) p off = absurd (true≢false off)
@@ -184,12 +184,12 @@ module _ (version : ℕ) (g : Geometry) (x : State) (is : IsState g x) (i j : �
   part_untouched AskSummary p off = refl
   part_untouched (AskLabel a v) p off = refl
 
-module _ (version : ℕ) (g : Geometry) (x : State) (is : IsState g x) (m : Msg) (n : ℕ) (off : touches g m n ≡ false) where
+module _ (version : ℕ) (g : Geometry) (x : State) (is : IsState g x) (m : Msg) (n : ℕ) (off : may_change g m n ≡ false) where
   effect_leaves : piece_of version g (effect x m) n ≡ piece_of version g x n
   effect_leaves = by (is_volume (key m).0 (key m).1 (aggregate_of g n, volume_of g n)) refl off
     where
       by : (t : Bool) → is_volume (key m).0 (key m).1 (aggregate_of g n, volume_of g n) ≡ t
-          → (t && touches_part g m (part_of g n)) ≡ false → piece_of version g (effect x m) n ≡ piece_of version g x n
+          → (t && may_change_part g m (part_of g n)) ≡ false → piece_of version g (effect x m) n ≡ piece_of version g x n
       by true on none = part_untouched version g x is (aggregate_of g n) (volume_of g n) m (part_of g n) none
       by false out none = agreeing version g (effect x m) x (aggregate_of g n) (volume_of g n)
           (agrees_elsewhere x (aggregate_of g n) (volume_of g n) m out) (part_of g n)

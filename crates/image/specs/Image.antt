@@ -7,12 +7,12 @@ use Rattle.image.specs.Pieces.{piece_count, piece_at, piece_size, piece_of, join
 
 -- ---- writing
 
-abbrev pub head_of : ℕ → List ℕ
-head_of version = version ∷ replicate 63 0
+abbrev pub image_head : ℕ → List ℕ
+image_head version = version ∷ replicate 63 0
 
 -- a state as an image of this version
 abbrev pub image_of : ℕ → Geometry → State → List ℕ
-image_of version g x = head_of version ++ joined_below (piece_count g) (piece_of version g x)
+image_of version g x = image_head version ++ joined_below (piece_count g) (piece_of version g x)
 
 -- ---- reading
 
@@ -24,27 +24,27 @@ abbrev pub piece_in : Geometry → List ℕ → ℕ → List ℕ
 piece_in g bytes n = bytes_at (piece_at g n) (piece_size g n) bytes
 
 -- what the bytes of an image say
-abbrev pub said : ℕ → Geometry → List ℕ → State
-said version g bytes = said_by version g (piece_in g bytes)
+abbrev pub said_state : ℕ → Geometry → List ℕ → State
+said_state version g bytes = said_by version g (piece_in g bytes)
 
 abbrev pub is_version : ℕ → Bool
 is_version version = (version == 1) || (version == 2)
 
 -- They are the image of what they say.
 abbrev pub is_image : Geometry → List ℕ → Bool
-is_image g bytes = let version = version_in bytes in is_version version && bytes_eq bytes (image_of version g (said version g bytes))
+is_image g bytes = let version = version_in bytes in is_version version && bytes_eq bytes (image_of version g (said_state version g bytes))
 
 -- the state of an image, if these bytes are one
 abbrev pub read : Geometry → List ℕ → Option State
-read g bytes = if is_image g bytes then Some (said (version_in bytes) g bytes) else None
+read g bytes = if is_image g bytes then Some (said_state (version_in bytes) g bytes) else None
 
 -- Piece n is that of what the image says.
 abbrev pub is_good : Geometry → List ℕ → ℕ → Bool
-is_good g bytes n = let version = version_in bytes in bytes_eq (piece_in g bytes n) (piece_of version g (said version g bytes) n)
+is_good g bytes n = let version = version_in bytes in bytes_eq (piece_in g bytes n) (piece_of version g (said_state version g bytes) n)
 
 -- The head is a version and zeros.
 abbrev pub has_head : List ℕ → Bool
-has_head bytes = let version = version_in bytes in is_version version && bytes_eq (bytes_at 0 64 bytes) (head_of version)
+has_head bytes = let version = version_in bytes in is_version version && bytes_eq (bytes_at 0 64 bytes) (image_head version)
 
 -- ---- piece by piece
 

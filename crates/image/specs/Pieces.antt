@@ -5,7 +5,7 @@ use Rattle.affinity.specs.declared.geometry.Geometry.{Geometry}
 use Rattle.byteorder.specs.Endian.{little_bytes, little_number}
 use Rattle.message.specs.Replies.{has_file}
 use Rattle.message.specs.declared.Block.{Block}
-use Rattle.stripe.specs.Stripe.{Entry, content_at}
+use Rattle.stripe.specs.Stripe.{BlockEntry, content_at}
 use Rattle.plain.specs.Serial.{file_bits, no_label}
 use Rattle.plain.specs.State.{State, VolumeKey, is_volume, is_file_of, is_block_of, sum_below, one_if}
 use Rattle.stripe.specs.Entries.{stripe_bytes, entries_in}
@@ -40,12 +40,12 @@ part_of g n = n % pieces_of_volume g
 abbrev pub volume_piece_size : ℕ
 volume_piece_size = 64
 
-abbrev pub part_size : Geometry → ℕ → ℕ
-part_size g zero = 64
-part_size g (suc s) = g.quota * 520
+abbrev pub piece_part_size : Geometry → ℕ → ℕ
+piece_part_size g zero = 64
+piece_part_size g (suc s) = g.quota * 520
 
 abbrev pub piece_size : Geometry → ℕ → ℕ
-piece_size g n = part_size g (part_of g n)
+piece_size g n = piece_part_size g (part_of g n)
 
 -- where a piece begins in an image: behind the head and the pieces before
 abbrev pub piece_at : Geometry → ℕ → ℕ
@@ -58,12 +58,12 @@ abbrev pub joined_below : {X : Type 0} → ℕ → (ℕ → List X) → List X
 joined_below zero f = []
 joined_below (suc n) f = joined_below n f ++ f n
 
-abbrev pub entry_if : Bool → ℕ → ℕ → Option Block → List Entry
+abbrev pub entry_if : Bool → ℕ → ℕ → Option Block → List BlockEntry
 entry_if true f b (Some content) = record { file = f; block = b; content = content } ∷ []
 entry_if _ f b _ = []
 
 -- the blocks of a stripe, by file and then by block; only a file that is there has blocks
-abbrev pub stripe_entries : Geometry → State → ℕ → ℕ → ℕ → List Entry
+abbrev pub stripe_entries : Geometry → State → ℕ → ℕ → ℕ → List BlockEntry
 stripe_entries g x a v s = joined_below g.files (λ f. joined_below g.blocks (λ b. entry_if (x.files (a, v, f) && (group g f b == s)) f b (x.blocks (a, v, f, b))))
 
 abbrev pub stripe_piece : Geometry → State → ℕ → ℕ → ℕ → List ℕ

@@ -6,12 +6,12 @@ ghost use Rattle.affinity.specs.Geometry.{group};
 ghost use Rattle.affinity.specs.declared.geometry.Geometry.{Geometry};
 ghost use Rattle.image.specs.Image.{AreGood, has_head, image_of, is_good, read, said_before, version_in, piece_in};
 ghost use Rattle.image.specs.Pieces.{aggregate_of, part_of, piece_at, piece_count, piece_of, piece_size, stripe_entries, volume_of};
-ghost use Rattle.image.specs.Touched.{touches};
-ghost use Rattle.message.specs.Messages.{AreBytes};
+ghost use Rattle.image.specs.Touched.{may_change};
+ghost use Rattle.message.specs.Messages.{AreSizedBytes};
 ghost use Rattle.message.specs.declared.Msg.{Msg};
 ghost use Rattle.plain.specs.Serial.{next_state};
 ghost use Rattle.plain.specs.State.{State, IsState};
-ghost use Rattle.stripe.specs.Stripe.{Entry, IsAscending, content_at};
+ghost use Rattle.stripe.specs.Stripe.{BlockEntry, IsAscending, content_at};
 
 /// The image of a state is read as that state.
 pub fn a_state_is_read_again()
@@ -25,7 +25,7 @@ pub fn an_image_is_its_spelling()
 
 /// Bytes of an image's length that are read as a state are read as one that keeps all its limits.
 pub fn what_is_read_is_a_state()
-    ensures { (g : Geometry) (bytes : List ℕ) (x : State) → AreBytes (piece_at g (piece_count g)) bytes
+    ensures { (g : Geometry) (bytes : List ℕ) (x : State) → AreSizedBytes (piece_at g (piece_count g)) bytes
         → read g bytes ≡ Some x → IsState g x }
 {}
 
@@ -33,16 +33,16 @@ pub fn what_is_read_is_a_state()
 /// last one is good. What good pieces say so far is a state, with no block of a volume before the volume's piece.
 /// An image is read exactly where its head and all its pieces are good, as what these say one after the other.
 pub fn an_image_is_read_piece_by_piece()
-    ensures state { (g : Geometry) (bytes : List ℕ) → AreBytes (piece_at g (piece_count g)) bytes
+    ensures state { (g : Geometry) (bytes : List ℕ) → AreSizedBytes (piece_at g (piece_count g)) bytes
         → (n : ℕ) → n ≤ piece_count g → AreGood g bytes n → IsState g (said_before (version_in bytes) g bytes n) }
     ensures no_blocks { (version : ℕ) (g : Geometry) (bytes : List ℕ) (n : ℕ) → n < piece_count g → part_of g n ≡ 0
         → (f b : ℕ) → (said_before version g bytes n).blocks (aggregate_of g n, volume_of g n, f, b) ≡ None }
     ensures good { (g : Geometry) (bytes : List ℕ) (n : ℕ) → n < piece_count g → (is_good g bytes n ≡ true)
         ↔ (piece_in g bytes n ≡ piece_of (version_in bytes) g (said_before (version_in bytes) g bytes (suc n)) n) }
-    ensures all_good { (g : Geometry) (bytes : List ℕ) → AreBytes (piece_at g (piece_count g)) bytes
+    ensures all_good { (g : Geometry) (bytes : List ℕ) → AreSizedBytes (piece_at g (piece_count g)) bytes
         → has_head bytes ≡ true → AreGood g bytes (piece_count g)
         → read g bytes ≡ Some (said_before (version_in bytes) g bytes (piece_count g)) }
-    ensures only_good { (g : Geometry) (bytes : List ℕ) → AreBytes (piece_at g (piece_count g)) bytes
+    ensures only_good { (g : Geometry) (bytes : List ℕ) → AreSizedBytes (piece_at g (piece_count g)) bytes
         → is_some (read g bytes) ≡ true → (has_head bytes ≡ true) × AreGood g bytes (piece_count g) }
 {}
 
@@ -56,12 +56,12 @@ pub fn an_image_is_cut_into_its_pieces()
 
 /// Entries that ascend and hold the blocks of a stripe are those that spell it.
 pub fn entries_of_a_stripe_are_spelled()
-    ensures { (g : Geometry) (x : State) → IsState g x → (a v s : ℕ) (es : List Entry) → IsAscending es
+    ensures { (g : Geometry) (x : State) → IsState g x → (a v s : ℕ) (es : List BlockEntry) → IsAscending es
         → ((f b : ℕ) → content_at es f b ≡ (if group g f b == s then x.blocks (a, v, f, b) else None)) → es ≡ stripe_entries g x a v s }
 {}
 
 /// A piece that a message doesn't touch is the same before it and after it.
 pub fn an_untouched_piece_stays()
-    ensures { (version : ℕ) (g : Geometry) (x : State) (m : Msg) (n : ℕ) → IsState g x → touches g m n ≡ false
+    ensures { (version : ℕ) (g : Geometry) (x : State) (m : Msg) (n : ℕ) → IsState g x → may_change g m n ≡ false
         → piece_of version g (next_state g x m) n ≡ piece_of version g x n }
 {}

@@ -1,6 +1,6 @@
 //! Which pieces of an image a message may change.
 ghost use Rattle.std.specs.Prelude.{◌≡◌};
-ghost use Rattle.image.specs.Touched.{touches, touches_part};
+ghost use Rattle.image.specs.Touched.{may_change, may_change_part};
 
 use affinity::{Geometry, group_of};
 use message::Msg;
@@ -8,7 +8,7 @@ use message::Msg;
 /// Whether a message may change piece `n` of an image: some of its volume's pieces, and none where it only asks.
 /// All other pieces stay as they are, whatever the reply to it is (`laws::an_untouched_piece_stays`).
 pub fn touched(g: &Geometry, m: &Msg, n: usize) -> bool
-    ensures { result ≡ touches g.now m.now n }
+    ensures { result ≡ may_change g.now m.now n }
 {
     let pieces_of_volume = usize::from(g.stripes) + 1;
     let volumes = usize::from(g.volumes);
@@ -25,7 +25,7 @@ pub fn touched(g: &Geometry, m: &Msg, n: usize) -> bool
 
 // Whether a message may change this part of its own volume: 0 is the volume's piece, and `s + 1` that of stripe `s`.
 fn touches_part(g: &Geometry, m: &Msg, part: usize) -> bool
-    ensures { result ≡ touches_part g.now m.now part }
+    ensures { result ≡ may_change_part g.now m.now part }
 {
     match *m {
         Msg::MakeVol(..) | Msg::Create(..) | Msg::Seal(..) | Msg::Unseal(..) | Msg::SetLabel(..) =>

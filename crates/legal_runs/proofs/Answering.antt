@@ -13,7 +13,7 @@ use Rattle.legal_runs.specs.World.{Replied, World}
 use Rattle.legal_runs.specs.Events.{Hands, Event, loggable}
 use Rattle.legal_runs.specs.Runs.{IsLegal, last, goes, went, journal, answers, answered, answered_at, answered_messages, answered_changes}
 use Rattle.legal_runs.specs.Crash.{IsLogAfter, in_doubt}
-use Rattle.legal_runs.specs.Laws.{said}
+use Rattle.legal_runs.specs.Laws.{ticket_replies}
 use Rattle.legal_runs.proofs.Moves.{Passed, Move, Stays, Arrives, Grants, Backs, Logs, Answers, moves}
 use Rattle.legal_runs.proofs.Told.{said-append}
 use Rattle.legal_runs.proofs.Runs.{journal_is_loggable}
@@ -38,15 +38,15 @@ module _ (w : World) where
 -- Where nothing is answered, none of the outcome's messages is.
 record Silent (old : World) (o : Outcome) : Type 0 where
   pub none : answered_at old o ≡ []
-  pub same : said (answered_at old o) ≡ answers o
+  pub same : ticket_replies (answered_at old o) ≡ answers o
 
 silent : (old : World) (o : Outcome) → answers o ≡ [] → Silent old o
-silent old o e = record { none = none_answered old o e; same = ap said (none_answered old o e) ∙ sym e }
+silent old o e = record { none = none_answered old o e; same = ap ticket_replies (none_answered old o e) ∙ sym e }
 
 -- What an event answers stands before what is logged then.
 pub record Ordered (old new : World) (p : Passed) (o : Outcome) : Type 0 where
   pub order : old.logged ++ p.gone ≡ answered_at old o ++ new.logged
-  pub same : said (answered_at old o) ≡ answers o
+  pub same : ticket_replies (answered_at old o) ≡ answers o
 
 quiet : (old new : World) (p : Passed) (o : Outcome) → answers o ≡ p.told → p.gone ≡ [] → p.told ≡ [] → new.logged ≡ old.logged
     → Ordered old new p o
@@ -77,7 +77,7 @@ move_ordered g old new p o told (Answers a rest front is e) =
     record {
       order = ap (λ p. old.logged ++ p.gone) e ∙ append-nil old.logged ∙ front ∙ ap (λ w. a ∷ w.logged) (sym is)
           ∙ ap (λ l. l ++ new.logged) (sym one);
-      same = ap said one ∙ sym (told ∙ ap (λ p. p.told) e);
+      same = ap ticket_replies one ∙ sym (told ∙ ap (λ p. p.told) e);
     }
 
 -- ---- a run
@@ -96,7 +96,7 @@ run_in_order g old (event ∷ events) legal =
     ∙ sym (append_assoc now (answered_messages event.world events) (last event.world events).core.logged)
 
 pub run_told : (g : Geometry) (old : Hands) (events : List Event) → IsLegal g old events
-    → said (answered_messages old events) ≡ answered events
+    → ticket_replies (answered_messages old events) ≡ answered events
 run_told g old [] legal = refl
 run_told g old (event ∷ events) legal =
     let k = move_ordered g old.core event.world.core _ event.outcome refl (moves g old event legal.0) in

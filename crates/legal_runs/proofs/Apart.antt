@@ -8,13 +8,13 @@ use Rattle.affinity.specs.declared.geometry.Geometry.{Geometry}
 use Rattle.affinity.proofs.Paths.{unrelated_turned}
 use Rattle.message.specs.Messages.{place}
 use Rattle.plain.specs.Serial.{reply_to}
-use Rattle.legal_runs.specs.World.{Entry, Replied, World, entry, entries, held, touches}
+use Rattle.legal_runs.specs.World.{Entry, Replied, World, entry, entries, held, are_related_entries}
 use Rattle.legal_runs.specs.Eligible.{is_clear, has_room, is_eligible, next_eligible}
 use Rattle.legal_runs.specs.Events.{grant, give_back, out_with, log}
 use Rattle.legal_runs.specs.Laws.{AreApart}
 use Rattle.legal_runs.proofs.Lists.{all_none, all_weaker, before_push, before_moved, picked}
 
-pub apart_turned : (g : Geometry) (e d : Entry) → touches g e d ≡ false → touches g d e ≡ false
+pub apart_turned : (g : Geometry) (e d : Entry) → are_related_entries g e d ≡ false → are_related_entries g d e ≡ false
 apart_turned g e d h = unrelated_turned (place g e.1) (place g d.1) h
 
 pub entries-append : (as' bs : List Replied) → entries (as' ++ bs) ≡ entries as' ++ entries bs
@@ -27,14 +27,14 @@ length_held w = length-append (entries w.logged) (entries w.ran ++ w.out)
 
 -- what goes out is at a place unrelated to those of all that are held
 pub granted_is_free : (g : Geometry) (w : World) (found : Entry × List Entry) → next_eligible g w ≡ Some found
-    → AllByRecursion (λ d. touches g found.0 d ≡ false) (held w)
+    → AllByRecursion (λ d. are_related_entries g found.0 d ≡ false) (held w)
 granted_is_free g w found h =
     let k = picked (is_eligible g w) w.waiting found h in
     let e = found.0 in
     let clear = (and_parts (is_clear g w e) (has_room w e) k.passes).0 in
-    let free = (and_parts (not (list_any (touches g e) (held w))) (not (list_any
-    (λ d. nat_lt d.0 e.0 && touches g e d) w.waiting)) clear).0 in
-    all_none (touches g e) (held w) (not-true _ free)
+    let free = (and_parts (not (list_any (are_related_entries g e) (held w))) (not (list_any
+    (λ d. nat_lt d.0 e.0 && are_related_entries g e d) w.waiting)) clear).0 in
+    all_none (are_related_entries g e) (held w) (not-true _ free)
 
 pub held_grant : (w : World) (found : Entry × List Entry) → held (grant w found) ≡ held w ++ found.0 ∷ []
 held_grant w found = ap (λ l. entries w.logged ++ l) (sym (append_assoc (entries w.ran) w.out (found.0 ∷ [])))
@@ -45,7 +45,7 @@ pub grant_apart : (g : Geometry) (w : World) (found : Entry × List Entry) → n
 grant_apart g w found h apart =
     let e = found.0 in
     subst (AreApart g) (sym (held_grant w found))
-    (before_push (λ e d. touches g e d ≡ false) (held w) e apart (all_weaker (λ d. touches g e d ≡ false) (λ d. touches g d e ≡ false)
+    (before_push (λ e d. are_related_entries g e d ≡ false) (held w) e apart (all_weaker (λ d. are_related_entries g e d ≡ false) (λ d. are_related_entries g d e ≡ false)
     (λ d. apart_turned g e d) (held w) (granted_is_free g w found h)))
 
 pub back_apart : (g : Geometry) (w : World) (ticket : ℕ) (found : Entry × List Entry) → out_with w ticket ≡ Some found
@@ -56,7 +56,7 @@ back_apart g w ticket found h apart =
     let L = entries w.logged in
     let R = entries w.ran in
     let split : held w ≡ (L ++ R) ++ (k.before ++ e ∷ k.behind) = ap (λ o. L ++ (R ++ o)) k.whole ∙ sym (append_assoc L R _) in
-    let moved = before_moved (λ e d. touches g e d ≡ false) (apart_turned g) (L ++ R) k.before e k.behind
+    let moved = before_moved (λ e d. are_related_entries g e d ≡ false) (apart_turned g) (L ++ R) k.before e k.behind
     (subst (AreApart g) split apart) in
     subst (AreApart g)
     (append_assoc L R _ ∙ ap (λ l. L ++ l) (sym (append_assoc R (e ∷ []) (k.before ++ k.behind)) ∙

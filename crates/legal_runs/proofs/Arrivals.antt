@@ -11,11 +11,11 @@ use Rattle.plain.specs.State.{State}
 use Rattle.plain.specs.Serial.{reply_to, fold}
 use Rattle.plain.specs.Order.{told, messages, by_ticket, IsBefore}
 use Rattle.plain.proofs.ByTicket.{by_ticket-ascending, AreAscending as AreEachLess}
-use Rattle.legal_runs.specs.World.{Entry, Replied, World, entries, held, touches}
+use Rattle.legal_runs.specs.World.{Entry, Replied, World, entries, held, are_related_entries}
 use Rattle.legal_runs.specs.Eligible.{is_clear, has_room, is_eligible}
 use Rattle.legal_runs.specs.Events.{Hands, Event, grant, give_back, log}
 use Rattle.legal_runs.specs.Runs.{IsLegal, last, goes, arrives, went, arrived, answered}
-use Rattle.legal_runs.specs.Laws.{AreApart, AreAscending, EachBefore, IsSound, IsIdle, said}
+use Rattle.legal_runs.specs.Laws.{AreApart, AreAscending, EachBefore, IsSoundWorld, IsIdle, ticket_replies}
 use Rattle.legal_runs.proofs.Lists.{picked, all_join, all_front, all_none, all_permuted, all_weaker, before_back, before_front, before_moved, before_one, before_past, before_push, before_join}
 use Rattle.legal_runs.proofs.Apart.{apart_turned, entries-append}
 use Rattle.legal_runs.proofs.Moves.{Passed, Move, Stays, Arrives, Grants, Backs, Logs, Answers, moves, passed}
@@ -44,7 +44,7 @@ any_front p (u ∷ us) vs h = let k = or_parts (p u) (list_any p (us ++ vs)) h i
 -- Two rows that are in step stay so where one more comes behind each, and where one of the second moves past unrelated ones.
 pub record KeepsInStep (g : Geometry) (AreInStep : List Entry → List Entry → Type 0) : Type 0 where
   pub push : (es fs : List Entry) (e : Entry) → AreInStep es fs → AreInStep (es ++ e ∷ []) (fs ++ e ∷ [])
-  pub moved : (es ps us : List Entry) (e : Entry) (vs : List Entry) → AllByRecursion (λ d. touches g e d ≡ false) us
+  pub moved : (es ps us : List Entry) (e : Entry) (vs : List Entry) → AllByRecursion (λ d. are_related_entries g e d ≡ false) us
       → AreInStep es (ps ++ (us ++ e ∷ vs)) → AreInStep es (ps ++ e ∷ (us ++ vs))
 
 module _ (g : Geometry) (AreInStep : List Entry → List Entry → Type 0) (keeps : KeepsInStep g AreInStep) where
@@ -65,18 +65,18 @@ module _ (g : Geometry) (AreInStep : List Entry → List Entry → Type 0) (keep
       (λ l. entries w.ran ++ l) (append_assoc w.out w.waiting (e ∷ [])))
 
   -- a related one with a smaller ticket doesn't wait
-  clear_of : (w : World) (e : Entry) (us : List Entry) → list_any (λ d. nat_lt d.0 e.0 && touches g e d) us ≡ false
-      → AllByRecursion (λ d. d.0 < e.0) us → AllByRecursion (λ d. touches g e d ≡ false) us
+  clear_of : (w : World) (e : Entry) (us : List Entry) → list_any (λ d. nat_lt d.0 e.0 && are_related_entries g e d) us ≡ false
+      → AllByRecursion (λ d. d.0 < e.0) us → AllByRecursion (λ d. are_related_entries g e d ≡ false) us
   clear_of w e [] h j = tt
   clear_of w e (u ∷ us) h j =
-      let k = all_none (λ d. nat_lt d.0 e.0 && touches g e d) (u ∷ us) h in (
-        ap (λ b. b && touches g e u) (sym (lt-ltb u.0 e.0 j.0))
+      let k = all_none (λ d. nat_lt d.0 e.0 && are_related_entries g e d) (u ∷ us) h in (
+        ap (λ b. b && are_related_entries g e u) (sym (lt-ltb u.0 e.0 j.0))
             ∙ k.0,
-        clear_of w e us (not_any (λ d. nat_lt d.0 e.0 && touches g e d) us k.1) j.1,
+        clear_of w e us (not_any (λ d. nat_lt d.0 e.0 && are_related_entries g e d) us k.1) j.1,
       )
 
   move_in_step : (old new : World) (p : Passed) (past : List Replied) (all : List Entry)
-      → Move g old new p → IsSound g old → AreInStep all (row old past) → AreInStep (all ++ p.come) (row new (past ++ p.gone))
+      → Move g old new p → IsSoundWorld g old → AreInStep all (row old past) → AreInStep (all ++ p.come) (row new (past ++ p.gone))
   move_in_step old new p past all (Stays s e) h good =
       quiet new past all p.gone p.come (ap (λ p. p.gone) e) (ap (λ p. p.come) e)
       (subst (AreInStep all) (λ i. entries past ++ (entries (sym s.ran i) ++ (sym s.out i ++ sym s.waiting i))) good)
@@ -91,10 +91,10 @@ module _ (g : Geometry) (AreInStep : List Entry → List Entry → Type 0) (keep
       let one = found.0 in
       let P = entries past in
       let R = entries old.ran in
-      let waits_before = λ (d : Entry). nat_lt d.0 one.0 && touches g one d in
+      let waits_before = λ (d : Entry). nat_lt d.0 one.0 && are_related_entries g one d in
       let clear = (and_parts (is_clear g old one) (has_room old one) k.passes).0 in
-      let early = (and_parts (not (list_any (touches g one) (held old))) (not (list_any
-      (λ d. nat_lt d.0 one.0 && touches g one d) old.waiting)) clear).1 in
+      let early = (and_parts (not (list_any (are_related_entries g one) (held old))) (not (list_any
+      (λ d. nat_lt d.0 one.0 && are_related_entries g one d) old.waiting)) clear).1 in
       let none = any_front waits_before k.before (one ∷ k.behind) (ap (list_any waits_before) (sym k.whole) ∙ not-true _ early) in
       let free = clear_of old one k.before none (before_one (λ e d. e.0 < d.0) k.before one k.behind
       (subst AreAscending k.whole h.ascending)) in
@@ -115,9 +115,9 @@ module _ (g : Geometry) (AreInStep : List Entry → List Entry → Type 0) (keep
       let R = entries old.ran in
       let L = entries old.logged in
       let whole : held old ≡ (L ++ R) ++ (k.before ++ one ∷ k.behind) = ap (λ o. L ++ (R ++ o)) k.whole ∙ sym (append_assoc L R _) in
-      let free = all_front (λ d. touches g one d ≡ false) k.before k.behind (before_back
-      (λ e d. touches g e d ≡ false) (L ++ R) _ (before_moved
-      (λ e d. touches g e d ≡ false) (apart_turned g) (L ++ R) k.before one k.behind (subst (AreApart g) whole h.apart))).0 in
+      let free = all_front (λ d. are_related_entries g one d ≡ false) k.before k.behind (before_back
+      (λ e d. are_related_entries g e d ≡ false) (L ++ R) _ (before_moved
+      (λ e d. are_related_entries g e d ≡ false) (apart_turned g) (L ++ R) k.before one k.behind (subst (AreApart g) whole h.apart))).0 in
       let from : row old past ≡ (P ++ R) ++ (k.before ++ one ∷ (k.behind ++ old.waiting)) =
       ap (λ o. P ++ (R ++ (o ++ old.waiting))) k.whole ∙ ap (λ l. P ++ (R ++ l)) (append_assoc k.before (one ∷ k.behind) old.waiting)
       ∙ sym (append_assoc P R _) in
@@ -145,7 +145,7 @@ module _ (g : Geometry) (AreInStep : List Entry → List Entry → Type 0) (keep
       quiet new past all p.gone p.come (ap (λ p. p.gone) e) (ap (λ p. p.come) e) (subst (λ w. AreInStep all (row w past)) (sym is) good)
 
   run_in_step : (old : Hands) (events : List Event) (past : List Replied) (all : List Entry) → IsLegal g old events
-      → IsSound g old.core → AreInStep all (row old.core past)
+      → IsSoundWorld g old.core → AreInStep all (row old.core past)
       → AreInStep (all ++ arrived events) (row (last old events).core (past ++ went old events))
   run_in_step old [] past all legal h good = quiet old.core past all [] [] refl refl good
   run_in_step old (event ∷ events) past all legal h good =
@@ -192,7 +192,7 @@ reordered_in_step g = record {
   moved = λ es ps us e vs free h. record {
     same = IsPermutation-trans es _ _ h.same (IsPermutation-append_right ps _ _ (IsPermutation-middle us e vs));
     ordered = λ ordered. before_past (IsBefore g) ps us e vs
-        (all_weaker (λ d. touches g e d ≡ false) (IsBefore g e) (λ d free related. absurd (true≢false (sym related ∙ free))) us free)
+        (all_weaker (λ d. are_related_entries g e d ≡ false) (IsBefore g e) (λ d free related. absurd (true≢false (sym related ∙ free))) us free)
         (h.ordered ordered);
   };
 }
@@ -265,7 +265,7 @@ arrived_by_ticket g old events legal = by_ticket-ascending (arrived events) (eac
 
 -- ---- from a world in which nothing waits and nothing is held
 
-module _ (g : Geometry) (old : Hands) (events : List Event) (legal : IsLegal g old events) (h : IsSound g old.core)
+module _ (g : Geometry) (old : Hands) (events : List Event) (legal : IsLegal g old events) (h : IsSoundWorld g old.core)
     (idle : IsIdle old.core) where
   good : IsAsGood g old.core.settled (by_ticket (arrived events)) (row (last old events).core (went old events))
   good =
@@ -274,7 +274,7 @@ module _ (g : Geometry) (old : Hands) (events : List Event) (legal : IsLegal g o
       (arrivals_in_step g (IsAsGood g x) (good_in_step g x) old events legal idle (good_itself g x []))
 
   -- Each reply to a message that the run logs is that of the serial server to the messages by ticket.
-  pub logged_by_ticket : (p : ℕ × Reply) → IsIn p (said (went old events)) → IsIn p (told g old.core.settled (by_ticket (arrived events)))
+  pub logged_by_ticket : (p : ℕ × Reply) → IsIn p (ticket_replies (went old events)) → IsIn p (told g old.core.settled (by_ticket (arrived events)))
   logged_by_ticket p is =
       let x = old.core.settled in
       good.tells p (subst (IsIn p) (sym (told-append g x (entries (went old events)) _)) (in_left p _ _
@@ -283,8 +283,8 @@ module _ (g : Geometry) (old : Hands) (events : List Event) (legal : IsLegal g o
   -- So is each reply that it gives.
   pub answered_by_ticket : (p : ℕ × Reply) → IsIn p (answered events) → IsIn p (told g old.core.settled (by_ticket (arrived events)))
   answered_by_ticket p is =
-      let all : said (went old events) ≡ answered events ++ said (last old events).core.logged =
-      ap (λ l. said l ++ said (went old events)) (sym (none_logged old.core idle)) ∙ run_answers g old events legal in
+      let all : ticket_replies (went old events) ≡ answered events ++ ticket_replies (last old events).core.logged =
+      ap (λ l. ticket_replies l ++ ticket_replies (went old events)) (sym (none_logged old.core idle)) ∙ run_answers g old events legal in
       logged_by_ticket p (subst (IsIn p) (sym all) (in_left p (answered events) _ is))
 
   -- Where all was answered in the end, the settled state is the serial one too.

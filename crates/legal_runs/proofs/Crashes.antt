@@ -8,7 +8,7 @@ use Rattle.legal_runs.specs.World.{Replied}
 use Rattle.legal_runs.specs.Events.{Hands, Event}
 use Rattle.legal_runs.specs.Runs.{IsLegal, last, appended, goes, journal, went}
 use Rattle.legal_runs.specs.Crash.{in_doubt, IsLogAfter, IsLeftSince}
-use Rattle.legal_runs.specs.Laws.{IsSound}
+use Rattle.legal_runs.specs.Laws.{IsSoundWorld}
 use Rattle.legal_runs.proofs.Told.{fold-joined}
 use Rattle.legal_runs.proofs.Runs.{run_journal}
 
@@ -52,7 +52,7 @@ left_begins g old events k x left =
 
 -- It is the settled state with the first so many of the messages in doubt.
 pub left_is_settled : (g : Geometry) (old : Hands) (events : List Event) (k : ℕ) (ms : List Msg) → IsLegal g old events
-    → IsSound g old.core → (log : IsLogAfter old events k ms)
+    → IsSoundWorld g old.core → (log : IsLogAfter old events k ms)
     → fold g old.core.settled ms
     ≡ fold g (last old (take k events)).core.settled (take log.some (in_doubt (last old (take k events)).core (drop k events)))
 left_is_settled g old events k ms legal h log =

@@ -4,7 +4,7 @@ use Rattle.std.specs.List.{AllByRecursion}
 use Rattle.affinity.specs.declared.geometry.Geometry.{Geometry}
 use Rattle.legal_runs.specs.World.{Replied, World, entries}
 use Rattle.legal_runs.specs.Eligible.{in_flight}
-use Rattle.legal_runs.specs.Laws.{AreApart, AreReplied, AreAscending, AreOnce, IsSound, IsIdle}
+use Rattle.legal_runs.specs.Laws.{AreApart, AreReplied, AreAscending, AreOnce, IsSoundWorld, IsIdle}
 
 -- the parts of a list of which nothing is there
 pub none_behind : {A : Type 0} (xs ys : List A) → xs ++ ys ≡ [] → ys ≡ []
@@ -35,7 +35,7 @@ module _ (w : World) (h : IsIdle w) where
   few : in_flight w ≡ 0
   few = λ i. in_flight (record w { out = none_out i; ran = none_ran i })
 
-  pub idle_sound : (g : Geometry) → IsSound g w
+  pub idle_sound : (g : Geometry) → IsSoundWorld g w
   idle_sound g =
       let none = few in
       let waits = ap length h.none_waits in

@@ -10,7 +10,7 @@ use Rattle.legal_runs.specs.World.{World}
 use Rattle.legal_runs.specs.Events.{Hands, Event}
 use Rattle.legal_runs.specs.Runs.{IsLegal, last, goes, appended, arrives, answers, journal}
 use Rattle.legal_runs.specs.Crash.{in_doubt, next_batch, IsLogAfter, IsLeftSince}
-use Rattle.legal_runs.specs.Laws.{IsJoined, IsSound}
+use Rattle.legal_runs.specs.Laws.{IsJoined, IsSoundWorld}
 use Rattle.legal_runs.proofs.Runs.{run_journal}
 use Rattle.legal_runs.proofs.Told.{fold-joined}
 
@@ -92,7 +92,7 @@ left_of_first g old events more k x left =
     }
 
 pub left_of_second : (g : Geometry) (old : Hands) (events more : List Event) (k : ℕ) (x : State) → IsLegal g old events
-    → IsSound g old.core → IsLeftSince g (last old events) more k x → IsLeftSince g old (events ++ more) (length events + k) x
+    → IsSoundWorld g old.core → IsLeftSince g (last old events) more k x → IsLeftSince g old (events ++ more) (length events + k) x
 left_of_second g old events more k x legal sound left =
     let long = length-append events more in
     record {

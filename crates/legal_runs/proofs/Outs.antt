@@ -18,9 +18,9 @@ use Rattle.legal_runs.specs.declared.outcomes.Outcome.{Outcome}
 use Rattle.legal_runs.specs.declared.outcomes.PointRefusal.{PointRefusal}
 use Rattle.legal_runs.specs.declared.outcomes.Step.{Step}
 use Rattle.legal_runs.specs.declared.outcomes.Step.TheVariants as steps
-use Rattle.legal_runs.specs.World.{Entry, Replied, World, entry, entries, held, touches}
+use Rattle.legal_runs.specs.World.{Entry, Replied, World, entry, entries, held, are_related_entries}
 use Rattle.legal_runs.specs.Events.{Hand, Hands, Empty, Job, Result, Event, IsAllowed, IsCarriedOut, IsFault, answer, arrive, batch, fault, flip_refusal, happens, loggable, piece_refusal, point_refusal, run_hand, unless_refused}
-use Rattle.legal_runs.specs.Laws.{EachBefore, IsSound, moves_what_is_out}
+use Rattle.legal_runs.specs.Laws.{EachBefore, IsSoundWorld, moves_what_is_out}
 use Rattle.legal_runs.proofs.Apart.{apart_turned, entries-append}
 use Rattle.legal_runs.proofs.Clearing.{all_at}
 use Rattle.legal_runs.proofs.Lists.{all_back, all_front, before_back}
@@ -40,13 +40,13 @@ module _ (g : Geometry) where
   fold_leaves x m [] apart = agree-refl x
   fold_leaves x m (n ∷ ms) apart = agree-trans (fold_leaves (next_state g x n) m ms apart.1) (left_alone g x m n apart.0)
 
-  messages_apart : (e : Entry) (es : List Entry) → AllByRecursion (λ d. touches g e d ≡ false) es
+  messages_apart : (e : Entry) (es : List Entry) → AllByRecursion (λ d. are_related_entries g e d ≡ false) es
       → AllByRecursion (λ n. are_related (place g e.1) (place g n) ≡ false) (messages es)
   messages_apart e [] apart = tt
   messages_apart e (d ∷ es) apart = (apart.0, messages_apart e es apart.1)
 
   -- so do messages with their tickets
-  pub entries_leave : (x : State) (e : Entry) (es : List Entry) → AllByRecursion (λ d. touches g e d ≡ false) es
+  pub entries_leave : (x : State) (e : Entry) (es : List Entry) → AllByRecursion (λ d. are_related_entries g e d ≡ false) es
       → AgreeOn g (are_related (place g e.1)) (fold g x (messages es)) x
   entries_leave x e es apart = fold_leaves x e.1 (messages es) (messages_apart e es apart)
 
@@ -54,7 +54,7 @@ module _ (g : Geometry) where
     abbrev Elsewhere : Msg → Type 0
     Elsewhere n = are_related (place g e.1) (place g n) ≡ false
 
-    logged_elsewhere : (as' : List Replied) → AllByRecursion (λ d. touches g d e ≡ false) (entries as')
+    logged_elsewhere : (as' : List Replied) → AllByRecursion (λ d. are_related_entries g d e ≡ false) (entries as')
         → AllByRecursion Elsewhere (loggable as')
     logged_elsewhere [] apart = tt
     logged_elsewhere (a ∷ as') apart =
@@ -65,14 +65,14 @@ module _ (g : Geometry) where
           | false ↦ k
         ]
 
-    batch_elsewhere : (w : World) (n : ℕ) → IsSound g w → IsIn e w.out → AllByRecursion Elsewhere (batch w n)
+    batch_elsewhere : (w : World) (n : ℕ) → IsSoundWorld g w → IsIn e w.out → AllByRecursion Elsewhere (batch w n)
     batch_elsewhere w n sound is =
-        let R : Entry → Entry → Type 0 = λ c d. touches g c d ≡ false in
+        let R : Entry → Entry → Type 0 = λ c d. are_related_entries g c d ≡ false in
         let ran = before_in R (entries w.ran) w.out e (before_back R (entries w.logged) _ sound.apart) is in
         let split = ap entries (sym (take-append-drop n w.ran)) ∙ entries-append (take n w.ran) (drop n w.ran) in
         logged_elsewhere (take n w.ran)
-        (all_front (λ d. touches g d e ≡ false) (entries (take n w.ran)) (entries (drop n w.ran))
-        (subst (AllByRecursion (λ d. touches g d e ≡ false)) split ran))
+        (all_front (λ d. are_related_entries g d e ≡ false) (entries (take n w.ran)) (entries (drop n w.ran))
+        (subst (AllByRecursion (λ d. are_related_entries g d e ≡ false)) split ran))
 
     abbrev SeesSame : World → World → Type 0
     SeesSame old new = AgreeOn g (are_related (place g e.1)) new.settled old.settled
@@ -80,7 +80,7 @@ module _ (g : Geometry) where
     same_settled : (old new : World) → new.settled ≡ old.settled → SeesSame old new
     same_settled old new same = subst (λ x. AgreeOn g (are_related (place g e.1)) x old.settled) (sym same) (agree-refl old.settled)
 
-    move_sees : (old new : World) (p : Passed) → Move g old new p → IsSound g old → IsIn e old.out → SeesSame old new
+    move_sees : (old new : World) (p : Passed) → Move g old new p → IsSoundWorld g old → IsIn e old.out → SeesSame old new
     move_sees old new p (Stays s k) sound is = same_settled old new s.settled
     move_sees old new p (Arrives m fits moved k) sound is = same_settled old new (ap (λ w. w.settled) moved)
     move_sees old new p (Grants found first moved k) sound is = same_settled old new (ap (λ w. w.settled) moved)
@@ -89,7 +89,7 @@ module _ (g : Geometry) where
         subst (λ (w : World). SeesSame old w) (sym moved) (fold_leaves old.settled e.1 (batch old n) (batch_elsewhere old n sound is))
     move_sees old new p (Answers a rest front moved k) sound is = same_settled old new (ap (λ w. w.settled) moved)
 
-  pub event_sees : (old : Hands) (event : Event) (e : Entry) → IsAllowed g old event → IsSound g old.core → IsIn e old.core.out
+  pub event_sees : (old : Hands) (event : Event) (e : Entry) → IsAllowed g old event → IsSoundWorld g old.core → IsIn e old.core.out
       → AgreeOn g (are_related (place g e.1)) event.world.core.settled old.core.settled
   event_sees old event e allowed sound is = move_sees e old.core event.world.core _ (moves g old event allowed) sound is
 

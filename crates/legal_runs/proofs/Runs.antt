@@ -11,7 +11,7 @@ use Rattle.legal_runs.specs.declared.outcomes.Step.TheVariants as steps
 use Rattle.legal_runs.specs.World.{Replied, World, entries}
 use Rattle.legal_runs.specs.Events.{Hands, Event, IsAllowed, batch, loggable}
 use Rattle.legal_runs.specs.Runs.{IsLegal, last, goes, appended, answers, went, journal, answered}
-use Rattle.legal_runs.specs.Laws.{IsSound, said}
+use Rattle.legal_runs.specs.Laws.{IsSoundWorld, ticket_replies}
 use Rattle.legal_runs.proofs.Apart.{entries-append}
 use Rattle.legal_runs.proofs.Moves.{Passed, Move, Stays, Arrives, Grants, Backs, Logs, Answers, moves}
 use Rattle.legal_runs.proofs.Told.{fold-append, fold-joined, told-append, said-append}
@@ -21,13 +21,13 @@ use Rattle.legal_runs.proofs.Sound.{row_of, event_sound}
 
 -- What goes to logged is told as it was replied, and the settled state follows.
 pub record Follows (g : Geometry) (old new : World) (gone : List Replied) : Type 0 where
-  pub told : told g old.settled (entries gone) ≡ said gone
+  pub told : told g old.settled (entries gone) ≡ ticket_replies gone
   pub settled : new.settled ≡ fold g old.settled (messages (entries gone))
 
 quiet : (g : Geometry) (old new : World) (gone : List Replied) → gone ≡ [] → new.settled ≡ old.settled → Follows g old new gone
 quiet g old new gone none settled = subst (Follows g old new) (sym none) (record { told = refl; settled = settled })
 
-move_follows : (g : Geometry) (old new : World) (p : Passed) → Move g old new p → IsSound g old → Follows g old new p.gone
+move_follows : (g : Geometry) (old new : World) (p : Passed) → Move g old new p → IsSoundWorld g old → Follows g old new p.gone
 move_follows g old new p (Stays s e) h = quiet g old new p.gone (ap (λ p. p.gone) e) s.settled
 move_follows g old new p (Arrives m fits is e) h = quiet g old new p.gone (ap (λ p. p.gone) e) (ap (λ w. w.settled) is)
 move_follows g old new p (Grants found first is e) h = quiet g old new p.gone (ap (λ p. p.gone) e) (ap (λ w. w.settled) is)
@@ -37,12 +37,12 @@ move_follows g old new p (Logs n is e) h =
     subst (λ p. Follows g old new p.gone) (sym e) (record { told = k.told; settled = ap (λ w. w.settled) is ∙ k.logs })
 move_follows g old new p (Answers a rest front is e) h = quiet g old new p.gone (ap (λ p. p.gone) e) (ap (λ w. w.settled) is)
 
-event_follows : (g : Geometry) (old : Hands) (event : Event) → IsAllowed g old event → IsSound g old.core
+event_follows : (g : Geometry) (old : Hands) (event : Event) → IsAllowed g old event → IsSoundWorld g old.core
     → Follows g old.core event.world.core (goes old.core event.step event.rose)
 event_follows g old event allowed h = move_follows g old.core event.world.core _ (moves g old event allowed) h
 
 -- The messages that a run logs are told, one after the other in log order, what they were replied.
-pub run_follows : (g : Geometry) (old : Hands) (events : List Event) → IsLegal g old events → IsSound g old.core
+pub run_follows : (g : Geometry) (old : Hands) (events : List Event) → IsLegal g old events → IsSoundWorld g old.core
     → Follows g old.core (last old events).core (went old events)
 run_follows g old [] legal h = record { told = refl; settled = refl }
 run_follows g old (event ∷ events) legal h =
@@ -53,46 +53,46 @@ run_follows g old (event ∷ events) legal h =
     let j = run_follows g event.world events legal.1 (event_sound g old event legal.0 h) in
     record {
       told = ap (told g x) (entries-append gone later) ∙ told-append g x (entries gone) (entries later)
-          ∙ (λ i. k.told i ++ told g (sym k.settled i) (entries later)) ∙ ap (λ l. said gone ++ l) j.told ∙ sym (said-append gone later);
+          ∙ (λ i. k.told i ++ told g (sym k.settled i) (entries later)) ∙ ap (λ l. ticket_replies gone ++ l) j.told ∙ sym (said-append gone later);
       settled = j.settled ∙ ap (λ y. fold g y (messages (entries later))) k.settled ∙ sym (fold-append g x (entries gone) (entries later))
           ∙ ap (λ l. fold g x (messages l)) (sym (entries-append gone later));
     }
 
 -- ---- what is answered
 
-move_answers : (g : Geometry) (old new : World) (p : Passed) → Move g old new p → said old.logged ++ said p.gone ≡ p.told ++ said new.logged
-move_answers g old new p (Stays s e) = ap (λ p. said old.logged ++ said p.gone) e ∙ append-nil (said old.logged)
-    ∙ ap said (sym s.logged) ∙ ap (λ p. p.told ++ said new.logged) (sym e)
-move_answers g old new p (Arrives m fits is e) = ap (λ p. said old.logged ++ said p.gone) e ∙ append-nil (said old.logged) ∙ ap
-    (λ w. said w.logged) (sym is) ∙ ap (λ p. p.told ++ said new.logged) (sym e)
-move_answers g old new p (Grants found first is e) = ap (λ p. said old.logged ++ said p.gone) e ∙ append-nil (said old.logged) ∙ ap
-    (λ w. said w.logged) (sym is) ∙ ap (λ p. p.told ++ said new.logged) (sym e)
-move_answers g old new p (Backs ticket found one_out is e) = ap (λ p. said old.logged ++ said p.gone) e ∙ append-nil (said old.logged)
-    ∙ ap (λ w. said w.logged) (sym is) ∙ ap (λ p. p.told ++ said new.logged) (sym e)
-move_answers g old new p (Logs n is e) = ap (λ p. said old.logged ++ said p.gone) e ∙ sym (said-append old.logged (take n old.ran)) ∙ ap
-    (λ w. said w.logged) (sym is) ∙ ap (λ p. p.told ++ said new.logged) (sym e)
+move_answers : (g : Geometry) (old new : World) (p : Passed) → Move g old new p → ticket_replies old.logged ++ ticket_replies p.gone ≡ p.told ++ ticket_replies new.logged
+move_answers g old new p (Stays s e) = ap (λ p. ticket_replies old.logged ++ ticket_replies p.gone) e ∙ append-nil (ticket_replies old.logged)
+    ∙ ap ticket_replies (sym s.logged) ∙ ap (λ p. p.told ++ ticket_replies new.logged) (sym e)
+move_answers g old new p (Arrives m fits is e) = ap (λ p. ticket_replies old.logged ++ ticket_replies p.gone) e ∙ append-nil (ticket_replies old.logged) ∙ ap
+    (λ w. ticket_replies w.logged) (sym is) ∙ ap (λ p. p.told ++ ticket_replies new.logged) (sym e)
+move_answers g old new p (Grants found first is e) = ap (λ p. ticket_replies old.logged ++ ticket_replies p.gone) e ∙ append-nil (ticket_replies old.logged) ∙ ap
+    (λ w. ticket_replies w.logged) (sym is) ∙ ap (λ p. p.told ++ ticket_replies new.logged) (sym e)
+move_answers g old new p (Backs ticket found one_out is e) = ap (λ p. ticket_replies old.logged ++ ticket_replies p.gone) e ∙ append-nil (ticket_replies old.logged)
+    ∙ ap (λ w. ticket_replies w.logged) (sym is) ∙ ap (λ p. p.told ++ ticket_replies new.logged) (sym e)
+move_answers g old new p (Logs n is e) = ap (λ p. ticket_replies old.logged ++ ticket_replies p.gone) e ∙ sym (said-append old.logged (take n old.ran)) ∙ ap
+    (λ w. ticket_replies w.logged) (sym is) ∙ ap (λ p. p.told ++ ticket_replies new.logged) (sym e)
 move_answers g old new p (Answers a rest front is e) =
-    ap (λ p. said old.logged ++ said p.gone) e ∙ append-nil (said old.logged) ∙ ap said front ∙ ap
-    (λ w. (a.0, a.2) ∷ said w.logged) (sym is) ∙ ap (λ p. p.told ++ said new.logged) (sym e)
+    ap (λ p. ticket_replies old.logged ++ ticket_replies p.gone) e ∙ append-nil (ticket_replies old.logged) ∙ ap ticket_replies front ∙ ap
+    (λ w. (a.0, a.2) ∷ ticket_replies w.logged) (sym is) ∙ ap (λ p. p.told ++ ticket_replies new.logged) (sym e)
 
 -- What a run answers is what was logged before and in it, in log order, up to what is logged still.
 pub run_answers : (g : Geometry) (old : Hands) (events : List Event) → IsLegal g old events
-    → said old.core.logged ++ said (went old events) ≡ answered events ++ said (last old events).core.logged
-run_answers g old [] legal = append-nil (said old.core.logged)
+    → ticket_replies old.core.logged ++ ticket_replies (went old events) ≡ answered events ++ ticket_replies (last old events).core.logged
+run_answers g old [] legal = append-nil (ticket_replies old.core.logged)
 run_answers g old (event ∷ events) legal =
     let gone = goes old.core event.step event.rose in
     let later = went event.world events in
-    ap (λ l. said old.core.logged ++ l) (said-append gone later)
-    ∙ sym (append_assoc (said old.core.logged) (said gone) (said later))
-    ∙ ap (λ l. l ++ said later) (move_answers g old.core event.world.core _ (moves g old event legal.0))
-    ∙ append_assoc (answers event.outcome) (said event.world.core.logged) (said later)
+    ap (λ l. ticket_replies old.core.logged ++ l) (said-append gone later)
+    ∙ sym (append_assoc (ticket_replies old.core.logged) (ticket_replies gone) (ticket_replies later))
+    ∙ ap (λ l. l ++ ticket_replies later) (move_answers g old.core event.world.core _ (moves g old event legal.0))
+    ∙ append_assoc (answers event.outcome) (ticket_replies event.world.core.logged) (ticket_replies later)
     ∙ ap (λ l. answers event.outcome ++ l) (run_answers g event.world events legal.1)
-    ∙ sym (append_assoc (answers event.outcome) (answered events) (said (last event.world events).core.logged))
+    ∙ sym (append_assoc (answers event.outcome) (answered events) (ticket_replies (last event.world events).core.logged))
 
 -- ---- the journal
 
 -- What a step appends leads where the messages that it logs lead.
-appends : (g : Geometry) (w : World) (s : Step) (rose : Bool) → IsSound g w
+appends : (g : Geometry) (w : World) (s : Step) (rose : Bool) → IsSoundWorld g w
     → fold g w.settled (appended w s rose) ≡ fold g w.settled (messages (entries (goes w s rose)))
 appends g w (steps.Arrive m) rose h = refl
 appends g w steps.Grant rose h = refl
@@ -110,7 +110,7 @@ appends g w steps.Piece rose h = refl
 appends g w steps.Flip rose h = refl
 
 -- The settled state after a run is what its journal leaves.
-pub run_journal : (g : Geometry) (old : Hands) (events : List Event) → IsLegal g old events → IsSound g old.core
+pub run_journal : (g : Geometry) (old : Hands) (events : List Event) → IsLegal g old events → IsSoundWorld g old.core
     → (last old events).core.settled ≡ fold g old.core.settled (journal old events)
 run_journal g old [] legal h = refl
 run_journal g old (event ∷ events) legal h =

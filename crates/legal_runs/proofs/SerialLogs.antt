@@ -16,7 +16,7 @@ use Rattle.legal_runs.specs.World.{Entry, Replied, World, entries, entry}
 use Rattle.legal_runs.specs.Events.{Hands, Event, loggable}
 use Rattle.legal_runs.specs.Runs.{IsLegal, answered_messages, arrived, journal, last, went}
 use Rattle.legal_runs.specs.Crash.{IsLogAfter, in_doubt}
-use Rattle.legal_runs.specs.Laws.{AreAscending, AreOnce, EachBefore, IsIdle, IsSerialLog, said}
+use Rattle.legal_runs.specs.Laws.{AreAscending, AreOnce, EachBefore, IsIdle, IsSerialLog, ticket_replies}
 use Rattle.legal_runs.proofs.Answering.{loggable-append, run_in_order}
 use Rattle.legal_runs.proofs.Apart.{entries-append}
 use Rattle.legal_runs.proofs.Arrivals.{arrivals_reordered, row, run_ascending}
@@ -147,7 +147,7 @@ module _ (g : Geometry) (old : Hands) (events : List Event) (legal : IsLegal g o
       ap (λ l. W ++ l) split ∙ sym (append_assoc W first rest)
       ∙ ap (λ l. l ++ rest) (sym (entries-append (went old events) (take j now.ran)))
 
-  in_order : (j : ℕ) → said (log j) ≡ told g old.core.settled (entries (log j))
+  in_order : (j : ℕ) → ticket_replies (log j) ≡ told g old.core.settled (entries (log j))
   in_order j =
       let x = old.core.settled in
       let W = went old events in

@@ -10,9 +10,9 @@ use Rattle.plain.specs.Serial.{reply_to, next_state, fold, is_loggable}
 use Rattle.plain.specs.Order.{told, messages}
 use Rattle.plain.proofs.Frame.{commute, same_reply}
 use Rattle.plain.proofs.Unchanged.{unlogged_changes_nothing}
-use Rattle.legal_runs.specs.World.{Entry, Replied, entry, entries, touches}
+use Rattle.legal_runs.specs.World.{Entry, Replied, entry, entries, are_related_entries}
 use Rattle.legal_runs.specs.Events.{loggable}
-use Rattle.legal_runs.specs.Laws.{AreApart, AreReplied, said}
+use Rattle.legal_runs.specs.Laws.{AreApart, AreReplied, ticket_replies}
 use Rattle.legal_runs.proofs.Apart.{apart_turned}
 
 -- ---- lists after one another
@@ -30,14 +30,14 @@ pub told-append : (g : Geometry) (x : State) (es fs : List Entry) → told g x (
 told-append g x [] fs = refl
 told-append g x (e ∷ es) fs = ap (λ l. (e.0, reply_to g x e.1) ∷ l) (told-append g (next_state g x e.1) es fs)
 
-pub said-append : (as' bs : List Replied) → said (as' ++ bs) ≡ said as' ++ said bs
+pub said-append : (as' bs : List Replied) → ticket_replies (as' ++ bs) ≡ ticket_replies as' ++ ticket_replies bs
 said-append [] bs = refl
 said-append (a ∷ as') bs = ap (λ l. (a.0, a.2) ∷ l) (said-append as' bs)
 
 -- ---- messages in a row
 
 module _ (g : Geometry) where
-  pub still_replied : (x : State) (a : Replied) (as' : List Replied) → AllByRecursion (λ d. touches g (entry a) d ≡ false) (entries as')
+  pub still_replied : (x : State) (a : Replied) (as' : List Replied) → AllByRecursion (λ d. are_related_entries g (entry a) d ≡ false) (entries as')
       → AreReplied g x as' → AreReplied g (next_state g x a.1) as'
   still_replied x a [] apart h = tt
   still_replied x a (d ∷ as') apart h =
@@ -45,7 +45,7 @@ module _ (g : Geometry) where
 
   -- messages that are not related, each with its reply at one state, run in a row
   pub record InARow (x : State) (first rest : List Replied) : Type 0 where
-    pub told : told g x (entries first) ≡ said first
+    pub told : told g x (entries first) ≡ ticket_replies first
     pub logs : fold g x (loggable first) ≡ fold g x (messages (entries first))
     pub still : AreReplied g (fold g x (messages (entries first))) rest
 
@@ -108,7 +108,7 @@ module _ (g : Geometry) where
   }
 
   -- one moves to the front, past unrelated ones
-  good_first : (x : State) (us : List Entry) (e : Entry) (vs : List Entry) → AllByRecursion (λ d. touches g e d ≡ false) us
+  good_first : (x : State) (us : List Entry) (e : Entry) (vs : List Entry) → AllByRecursion (λ d. are_related_entries g e d ≡ false) us
       → IsAsGood g x (us ++ e ∷ vs) (e ∷ (us ++ vs))
   good_first x [] e vs h = good_itself x (e ∷ vs)
   good_first x (u ∷ us) e vs h =
@@ -129,6 +129,6 @@ module _ (g : Geometry) where
       let k = good_after (next_state g x p'.1) ps es fs h in
       record { state = k.state; tells = λ p r. ⊎_elim (λ is. inl is) (λ t. inr (k.tells p t)) r }
 
-  pub good_moved : (x : State) (ps us : List Entry) (e : Entry) (vs : List Entry) → AllByRecursion (λ d. touches g e d ≡ false) us
+  pub good_moved : (x : State) (ps us : List Entry) (e : Entry) (vs : List Entry) → AllByRecursion (λ d. are_related_entries g e d ≡ false) us
       → IsAsGood g x (ps ++ (us ++ e ∷ vs)) (ps ++ e ∷ (us ++ vs))
   good_moved x ps us e vs h = good_after x ps _ _ (λ y. good_first y us e vs h)

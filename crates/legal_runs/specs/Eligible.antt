@@ -5,11 +5,11 @@ use Rattle.affinity.specs.declared.geometry.Geometry.{Geometry}
 use Rattle.affinity.specs.Kind.{is_changing}
 use Rattle.message.specs.declared.Msg.{Msg}
 use Rattle.message.specs.Messages.{kind}
-use Rattle.legal_runs.specs.World.{Entry, World, held, touches}
+use Rattle.legal_runs.specs.World.{Entry, World, held, are_related_entries}
 
 -- Its place is related to that of no held message, and of no waiting one with a smaller ticket.
 abbrev pub is_clear : Geometry → World → Entry → Bool
-is_clear g w e = not (list_any (touches g e) (held w)) && not (list_any (λ d. nat_lt d.0 e.0 && touches g e d) w.waiting)
+is_clear g w e = not (list_any (are_related_entries g e) (held w)) && not (list_any (λ d. nat_lt d.0 e.0 && are_related_entries g e d) w.waiting)
 
 abbrev pub changes : Msg → Bool
 changes m = is_changing (kind m)

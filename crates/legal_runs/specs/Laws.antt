@@ -12,7 +12,7 @@ use Rattle.legal_runs.specs.declared.outcomes.Outcome.{Outcome}
 use Rattle.legal_runs.specs.declared.outcomes.Outcome.TheVariants as outcomes
 use Rattle.legal_runs.specs.declared.outcomes.CoreFault.TheVariants as faults
 use Rattle.legal_runs.specs.declared.outcomes.PointRefusal.TheVariants as points
-use Rattle.legal_runs.specs.World.{Entry, Replied, World, entries, held, touches}
+use Rattle.legal_runs.specs.World.{Entry, Replied, World, entries, held, are_related_entries}
 use Rattle.legal_runs.specs.Eligible.{in_flight}
 use Rattle.legal_runs.specs.Events.{Hand, Hands, Event, is_empty, loggable}
 use Rattle.legal_runs.specs.Runs.{IsLegal, last, went, journal, arrived, answered}
@@ -24,7 +24,7 @@ EachBefore R (x ∷ xs) = AllByRecursion (R x) xs × EachBefore R xs
 
 -- no two of the messages are at related places
 abbrev pub AreApart : Geometry → List Entry → Type 0
-AreApart g es = EachBefore (λ e d. touches g e d ≡ false) es
+AreApart g es = EachBefore (λ e d. are_related_entries g e d ≡ false) es
 
 -- the tickets ascend
 abbrev pub AreAscending : List Entry → Type 0
@@ -39,8 +39,8 @@ abbrev pub AreReplied : Geometry → State → List Replied → Type 0
 AreReplied g x as' = AllByRecursion (λ a. a.2 ≡ reply_to g x a.1) as'
 
 -- each ticket with its reply
-abbrev pub said : List Replied → List (ℕ × Reply)
-said as' = map (λ a. (a.0, a.2)) as'
+abbrev pub ticket_replies : List Replied → List (ℕ × Reply)
+ticket_replies as' = map (λ a. (a.0, a.2)) as'
 
 -- Messages with their replies, in an order in which they may have been done from this state on. The log begins an order of all that arrived
 -- in which each is once, and those at related places are by ticket; and each has the reply that it gets where the log runs from its first
@@ -50,10 +50,10 @@ pub record IsSerialLog (g : Geometry) (x : State) (arrivals : List Entry) (log :
   pub rest : List Entry
   pub each_once : IsPermutation arrivals (entries log ++ rest)
   pub by_ticket : KeepsOrder g (entries log ++ rest)
-  pub in_order : said log ≡ told g x (entries log)
+  pub in_order : ticket_replies log ≡ told g x (entries log)
 
 -- What every world keeps.
-pub record IsSound (g : Geometry) (w : World) : Type 0 where
+pub record IsSoundWorld (g : Geometry) (w : World) : Type 0 where
   -- no two messages held at once are at related places
   pub apart : AreApart g (held w)
   -- the replies of those that ran are those at the settled state

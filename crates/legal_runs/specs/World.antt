@@ -49,5 +49,5 @@ abbrev pub held : World → List Entry
 held w = entries w.logged ++ (entries w.ran ++ w.out)
 
 -- whether the places of two messages are related
-abbrev pub touches : Geometry → Entry → Entry → Bool
-touches g e d = are_related (place g e.1) (place g d.1)
+abbrev pub are_related_entries : Geometry → Entry → Entry → Bool
+are_related_entries g e d = are_related (place g e.1) (place g d.1)

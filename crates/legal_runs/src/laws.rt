@@ -12,44 +12,44 @@ ghost use Rattle.plain.specs.State.{State, empty};
 ghost use Rattle.plain.specs.Serial.{fold};
 ghost use Rattle.plain.specs.Order.{by_ticket, messages, told};
 ghost use Rattle.plain.specs.Shares.{AgreeOn};
-ghost use Rattle.legal_runs.specs.World.{Entry, Replied, World, entries, entry, held, touches};
+ghost use Rattle.legal_runs.specs.World.{Entry, Replied, World, entries, entry, held, are_related_entries};
 ghost use Rattle.legal_runs.specs.Eligible.{is_clear};
 ghost use Rattle.legal_runs.specs.Events.{Event, Hands, IsAllowed, batch, loggable};
 ghost use Rattle.legal_runs.specs.Runs.{IsLegal, answered, answered_changes, answered_messages, arrived, journal, last, went};
 ghost use Rattle.legal_runs.specs.Crash.{IsLeftSince, IsLogAfter, in_doubt};
 ghost use Rattle.legal_runs.specs.Lives.{AreLogsOf, HoldAnswered, IsLeftByLives, IsLogOf, Life, Ran};
 ghost use Rattle.legal_runs.specs.Laws.{AreApart, AreAscending, AreOnce, DoubtsOnlyFailed, DoubtsWhatRan, HasRoom, IsAnswered, IsIdle};
-ghost use Rattle.legal_runs.specs.Laws.{IsJoined, IsSerialLog, IsSound, IsStopped, full, moves_what_is_out, said, tells_of_failure};
+ghost use Rattle.legal_runs.specs.Laws.{IsJoined, IsSerialLog, IsSoundWorld, IsStopped, full, moves_what_is_out, ticket_replies, tells_of_failure};
 
 /// A world in which nothing waits and nothing is held is sound, and each event leads from a sound
 /// world to a sound one.
 pub fn events_keep_worlds_sound()
-    ensures idle { (g : Geometry) (w : World) → IsIdle w → IsSound g w }
-    ensures event { (g : Geometry) (old : Hands) (event : Event) → IsAllowed g old event → IsSound g old.core
-        → IsSound g event.world.core }
+    ensures idle { (g : Geometry) (w : World) → IsIdle w → IsSoundWorld g w }
+    ensures event { (g : Geometry) (old : Hands) (event : Event) → IsAllowed g old event → IsSoundWorld g old.core
+        → IsSoundWorld g event.world.core }
 {}
 
 /// In each world of a legal run no two of the messages that are held are at related places.
 pub fn held_messages_are_unrelated()
-    ensures { (g : Geometry) (old : Hands) (events : List Event) → IsLegal g old events → IsSound g old.core
+    ensures { (g : Geometry) (old : Hands) (events : List Event) → IsLegal g old events → IsSoundWorld g old.core
         → AllByRecursion (λ event. AreApart g (held event.world.core)) events }
 {}
 
 /// The messages that a run logs are replied what the serial server replies to them, one after the
 /// other in log order; and they are answered so, in that order, after the ones logged before.
 pub fn replies_are_in_log_order()
-    ensures replied { (g : Geometry) (old : Hands) (events : List Event) → IsLegal g old events → IsSound g old.core
-        → said (went old events) ≡ told g old.core.settled (entries (went old events)) }
+    ensures replied { (g : Geometry) (old : Hands) (events : List Event) → IsLegal g old events → IsSoundWorld g old.core
+        → ticket_replies (went old events) ≡ told g old.core.settled (entries (went old events)) }
     ensures answered { (g : Geometry) (old : Hands) (events : List Event) → IsLegal g old events
-        → said old.core.logged ++ said (went old events) ≡ answered events ++ said (last old events).core.logged }
+        → ticket_replies old.core.logged ++ ticket_replies (went old events) ≡ answered events ++ ticket_replies (last old events).core.logged }
 {}
 
 /// The settled state is where the messages that a run logs lead, and where those of them lead that it
 /// appends to the journal.
 pub fn settled_is_what_was_logged()
-    ensures logged { (g : Geometry) (old : Hands) (events : List Event) → IsLegal g old events → IsSound g old.core
+    ensures logged { (g : Geometry) (old : Hands) (events : List Event) → IsLegal g old events → IsSoundWorld g old.core
         → (last old events).core.settled ≡ fold g old.core.settled (messages (entries (went old events))) }
-    ensures appended { (g : Geometry) (old : Hands) (events : List Event) → IsLegal g old events → IsSound g old.core
+    ensures appended { (g : Geometry) (old : Hands) (events : List Event) → IsLegal g old events → IsSoundWorld g old.core
         → (last old events).core.settled ≡ fold g old.core.settled (journal old events) }
     ensures journal { (old : Hands) (events : List Event) → journal old events ≡ loggable (went old events) }
 {}
@@ -65,9 +65,9 @@ pub fn legal_runs_join()
 /// slot for each message, of as many as there were in the beginning. So a log always has room for what
 /// it appends.
 pub fn room_and_slots_are_enough()
-    ensures run { (g : Geometry) (old : Hands) (events : List Event) → IsLegal g old events → IsSound g old.core
+    ensures run { (g : Geometry) (old : Hands) (events : List Event) → IsLegal g old events → IsSoundWorld g old.core
         → AllByRecursion (λ event. HasRoom old.core.slots event.world.core) events }
-    ensures log { (g : Geometry) (w : World) (n : ℕ) → IsSound g w → length (batch w n) ≤ w.room }
+    ensures log { (g : Geometry) (w : World) (n : ℕ) → IsSoundWorld g w → length (batch w n) ≤ w.room }
 {}
 
 /// Where nothing waited and nothing was held in the beginning, each reply to a message that was logged or
@@ -77,7 +77,7 @@ pub fn room_and_slots_are_enough()
 pub fn replies_are_by_ticket()
     ensures tickets { (g : Geometry) (old : Hands) (events : List Event) → IsLegal g old events → AreAscending (arrived events) }
     ensures logged { (g : Geometry) (old : Hands) (events : List Event) → IsLegal g old events → IsIdle old.core
-        → (reply : ℕ × Reply) → Contains (said (went old events)) reply
+        → (reply : ℕ × Reply) → Contains (ticket_replies (went old events)) reply
         → Contains (told g old.core.settled (by_ticket (arrived events))) reply }
     ensures answered { (g : Geometry) (old : Hands) (events : List Event) → IsLegal g old events → IsIdle old.core
         → (reply : ℕ × Reply) → Contains (answered events) reply
@@ -117,9 +117,9 @@ pub fn what_ran_is_a_serial_log()
 /// Only an answer makes a waiting message clear, and only one to a message at a place related to its own:
 /// whatever else comes, a message that waits on stays clear, or stays not clear.
 pub fn only_answers_clear()
-    ensures { (g : Geometry) (old : Hands) (event : Event) (e : Entry) → IsAllowed g old event → IsSound g old.core
+    ensures { (g : Geometry) (old : Hands) (event : Event) (e : Entry) → IsAllowed g old event → IsSoundWorld g old.core
         → Contains old.core.waiting e → Contains event.world.core.waiting e
-        → ((a : Replied) → IsAnswered old.core event.world.core a → touches g e (entry a) ≡ false)
+        → ((a : Replied) → IsAnswered old.core event.world.core a → are_related_entries g e (entry a) ≡ false)
         → is_clear g event.world.core e ≡ is_clear g old.core e }
 {}
 
@@ -156,7 +156,7 @@ pub fn a_crash_leaves_what_was_appended()
     ensures begins { (g : Geometry) (old : Hands) (events : List Event) (k : ℕ) (x : State) → IsLeftSince g old events k x
         → (rest : List Msg) × (x ≡ fold g old.core.settled (journal old (take k events) ++ rest)) }
     ensures settled { (g : Geometry) (old : Hands) (events : List Event) (k : ℕ) (ms : List Msg) → IsLegal g old events
-        → IsSound g old.core → (log : IsLogAfter old events k ms) → fold g old.core.settled ms
+        → IsSoundWorld g old.core → (log : IsLogAfter old events k ms) → fold g old.core.settled ms
         ≡ fold g (last old (take k events)).core.settled (take log.some (in_doubt (last old (take k events)).core (drop k events))) }
 {}
 
@@ -171,7 +171,7 @@ pub fn a_crash_may_come_in_either_run()
     ensures left_first { (g : Geometry) (old : Hands) (events more : List Event) (k : ℕ) (x : State) → IsLeftSince g old events k x
         → IsLeftSince g old (events ++ more) k x }
     ensures left_second { (g : Geometry) (old : Hands) (events more : List Event) (k : ℕ) (x : State) → IsLegal g old events
-        → IsSound g old.core → IsLeftSince g (last old events) more k x
+        → IsSoundWorld g old.core → IsLeftSince g (last old events) more k x
         → IsLeftSince g old (events ++ more) (length events + k) x }
 {}
 
@@ -179,7 +179,7 @@ pub fn a_crash_may_come_in_either_run()
 /// later, the log begins with every change that was answered.
 pub fn answered_changes_are_in_the_log()
     ensures told { (g : Geometry) (old : Hands) (events : List Event) → IsLegal g old events
-        → said (answered_messages old events) ≡ answered events }
+        → ticket_replies (answered_messages old events) ≡ answered events }
     ensures in_order { (g : Geometry) (old : Hands) (events : List Event) → IsLegal g old events
         → old.core.logged ++ went old events ≡ answered_messages old events ++ (last old events).core.logged }
     ensures crash { (g : Geometry) (old : Hands) (events : List Event) (k after : ℕ) (ms : List Msg) → IsLegal g old events
@@ -208,7 +208,7 @@ pub fn a_crash_leaves_a_serial_log()
 /// Whatever comes, what a message that is out can read of the settled state stays as it is: what is at its place, below it and
 /// above it.
 pub fn what_is_out_sees_no_change()
-    ensures { (g : Geometry) (old : Hands) (event : Event) (e : Entry) → IsAllowed g old event → IsSound g old.core
+    ensures { (g : Geometry) (old : Hands) (event : Event) (e : Entry) → IsAllowed g old event → IsSoundWorld g old.core
         → Contains old.core.out e → AgreeOn g (are_related (place g e.1)) event.world.core.settled old.core.settled }
 {}
 

@@ -8,18 +8,18 @@ use Rattle.legal_runs.proofs.Answering.{answered_left}
 use Rattle.legal_runs.proofs.Idle.{none_logged}
 use Rattle.legal_runs.specs.Crash.{in_doubt}
 use Rattle.legal_runs.specs.Events.{Event, Hands, loggable}
-use Rattle.legal_runs.specs.Laws.{IsIdle, IsSound}
+use Rattle.legal_runs.specs.Laws.{IsIdle, IsSoundWorld}
 use Rattle.legal_runs.specs.Lives.{HoldsAnswered, Ran}
 use Rattle.legal_runs.specs.Runs.{IsLegal, last}
 use Rattle.machine.proofs.Events.{some_of}
 use Rattle.machine.proofs.Running.{StandsSince, stands_for_run}
-use Rattle.machine.specs.Machine.{Handed, machine_of}
+use Rattle.machine.specs.Machine.{MachineView, machine_of}
 use Rattle.machine.specs.Stages.{StandsForRun}
 use Rattle.machine.specs.declared.hands.Hand.{Hand as Holding}
-use Rattle.scheduler.specs.Kept.{Kept, StandsNow, world_of}
+use Rattle.scheduler.specs.Kept.{CoreView, StandsNow, world_of}
 
-module _ (start : Handed) (new : Kept) (hands : List Holding) (events : List Event)
-    (legal : IsLegal start.core.geometry (machine_of start) events) (sound : IsSound start.core.geometry (world_of start.core))
+module _ (start : MachineView) (new : CoreView) (hands : List Holding) (events : List Event)
+    (legal : IsLegal start.core.geometry (machine_of start) events) (sound : IsSoundWorld start.core.geometry (world_of start.core))
     (ends : last (machine_of start) events ≡ machine_of (record { core = new; hands = hands })) (same : new.geometry ≡ start.core.geometry)
     (none : new.failed ≡ false → new.doubt ≡ []) (stands : StandsNow new) (c : List ℕ) (left : Leaves new.medium c) where
   abbrev g : Geometry

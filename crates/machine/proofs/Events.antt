@@ -29,19 +29,19 @@ use Rattle.machine.proofs.Holding.{granted_is_fresh, granted_stays, hands_stay, 
 use Rattle.machine.proofs.Jobs.{job_ran}
 use Rattle.machine.specs.Hands.{IsRunIn, IsTakenFrom}
 use Rattle.machine.specs.Machine.{HoldsJobs, IsHandOf, hand_at, hand_of, machine_of, ticket_in}
-use Rattle.machine.specs.Steps.{IsCoreStep, IsStep}
+use Rattle.machine.specs.Steps.{IsCoreStep, IsMachineStep}
 use Rattle.machine.specs.declared.hands.Hand.{Hand as Holding}
 use Rattle.machine.specs.declared.hands.Hand.TheVariants as has
 use Rattle.message.specs.declared.Msg.{Msg}
 use Rattle.message.specs.declared.Reply.{Reply}
-use Rattle.parcel.specs.Run.{Asked, IsRun}
+use Rattle.parcel.specs.Run.{JobView, IsJobRun}
 use Rattle.parcel.specs.declared.job.Done.{Done}
 use Rattle.plain.specs.Serial.{fold}
 use Rattle.plain.specs.State.{State}
 use Rattle.scheduler.proofs.Called.{answer_called, arrive_called}
-use Rattle.scheduler.specs.Calls.{IsGrantOf, IsNoGrant, answered, arrived}
+use Rattle.scheduler.specs.Calls.{IsGrantOf, IsNoGrant, answer_outcome, arrive_outcome}
 use Rattle.scheduler.specs.Jobs.{IsResultOf}
-use Rattle.scheduler.specs.Kept.{Kept, StandsNow, StandsThroughout, world_of}
+use Rattle.scheduler.specs.Kept.{CoreView, StandsNow, StandsThroughout, world_of}
 
 -- ---- what a crash leaves of a device that is left alone
 
@@ -57,7 +57,7 @@ some_of g x false doubt ms c none h =
     let k = subst (λ (l : List Msg). HoldsSome g x l c) (none refl) h in
     record { added = 0; at_most = omega arith; is = k.is ∙ ap (λ (l : List Msg). Some (fold g x l)) (take_none k.added) }
 
-pub quiet_moments : (old new : Kept) (ms : List Msg) → (old.failed ≡ false → old.doubt ≡ []) → StandsNow old
+pub quiet_moments : (old new : CoreView) (ms : List Msg) → (old.failed ≡ false → old.doubt ≡ []) → StandsNow old
     → new.medium ≡ old.medium → StandsThroughout ms old new
 quiet_moments old new ms none stands same =
     let P : List ℕ → Type 0 = HoldsSome old.geometry (world_of old).settled (if old.failed then old.doubt else ms) in
@@ -65,10 +65,10 @@ quiet_moments old new ms none stands same =
     (started old.medium P (λ c left. some_of old.geometry (world_of old).settled old.failed old.doubt ms c none (stands c left)))
 
 -- The calls that leave the device alone.
-module _ (keeps : Type 0) (old new : Kept) (none : old.failed ≡ false → old.doubt ≡ []) (stands : keeps → StandsNow old)
+module _ (keeps : Type 0) (old new : CoreView) (none : old.failed ≡ false → old.doubt ≡ []) (stands : keeps → StandsNow old)
     (geometry : new.geometry ≡ old.geometry) (same : new.medium ≡ old.medium) where
-  pub arrive_step : (m : Msg) (r : Result ℕ ArriveRefusal) → (arrived r, world_of new) ≡ arrive old.geometry (world_of old) m
-      → IsCoreStep keeps old new (steps.Arrive m) (arrived r)
+  pub arrive_step : (m : Msg) (r : Result ℕ ArriveRefusal) → (arrive_outcome r, world_of new) ≡ arrive old.geometry (world_of old) m
+      → IsCoreStep keeps old new (steps.Arrive m) (arrive_outcome r)
   arrive_step m r e = record {
     rose = false;
     called = arrive_called old.geometry (world_of old) (world_of new) m r e;
@@ -77,8 +77,8 @@ module _ (keeps : Type 0) (old new : Kept) (none : old.failed ≡ false → old.
     any_moment = λ kept. quiet_moments old new [] none (stands kept) same;
   }
 
-  pub answer_step : (r : Option (ℕ × Reply)) → (answered r, world_of new) ≡ answer (world_of old) old.logged
-      → IsCoreStep keeps old new steps.Answer (answered r)
+  pub answer_step : (r : Option (ℕ × Reply)) → (answer_outcome r, world_of new) ≡ answer (world_of old) old.logged
+      → IsCoreStep keeps old new steps.Answer (answer_outcome r)
   answer_step r e = record {
     rose = false;
     called = answer_called old.geometry (world_of old) (world_of new) r e;
@@ -89,9 +89,9 @@ module _ (keeps : Type 0) (old new : Kept) (none : old.failed ≡ false → old.
 
 -- ---- steps of the core
 
-module _ (keeps : Type 0) (old new : Kept) (hands : List Holding) (step : Step) (outcome : Outcome)
+module _ (keeps : Type 0) (old new : CoreView) (hands : List Holding) (step : Step) (outcome : Outcome)
     (h : HoldsJobs old.geometry (world_of old) hands) (k : IsCoreStep keeps old new step outcome) where
-  pub core_step : IsStep keeps (record { core = old; hands = hands }) (record { core = new; hands = hands }) step outcome
+  pub core_step : IsMachineStep keeps (record { core = old; hands = hands }) (record { core = new; hands = hands }) step outcome
   core_step = record {
     rose = k.rose;
     allowed = k.called (map hand_of hands);
@@ -118,12 +118,12 @@ module _ (keeps : Type 0) (old new : Kept) (hands : List Holding) (step : Step) 
 -- ---- steps with the hands
 
 -- Such a step was carried out while the device was left alone.
-module _ (keeps : Type 0) (old new : Kept) (hands after : List Holding) (step : Step) (outcome : Outcome)
+module _ (keeps : Type 0) (old new : CoreView) (hands after : List Holding) (step : Step) (outcome : Outcome)
     (none : old.failed ≡ false → old.doubt ≡ []) (stands : keeps → StandsNow old) (geometry : new.geometry ≡ old.geometry)
     (same : new.medium ≡ old.medium) where
   pub quiet_step : happens old.geometry 0 (machine_of (record { core = old; hands = hands })) step
       ≡ (outcome, machine_of (record { core = new; hands = after }))
-      → IsStep keeps (record { core = old; hands = hands }) (record { core = new; hands = after }) step outcome
+      → IsMachineStep keeps (record { core = old; hands = hands }) (record { core = new; hands = after }) step outcome
   quiet_step does = record {
     rose = false;
     allowed = record { to_write = 0; at_most = omega arith; does = does };
@@ -183,14 +183,14 @@ module _ (g : Geometry) (n : ℕ) (w : Hands) where
       ≡ (outcomes.Granted hand found.0.0, record { core = grant w.core found; hands = set w.hands hand (JobIn found.0.0) })
   grant_one hand found at works first = grant_at hand false at works ∙ ap (grant_to g w (Some hand)) first
 
-module _ (keeps : Type 0) (old new : Kept) (hands : List Holding)
+module _ (keeps : Type 0) (old new : CoreView) (hands : List Holding)
     (none : old.failed ≡ false → old.doubt ≡ []) (stands : keeps → StandsNow old) (geometry : new.geometry ≡ old.geometry)
     (same : new.medium ≡ old.medium) where
   abbrev Holds : List Holding → Type 0
   Holds after = HoldsJobs new.geometry (world_of new) after
 
   abbrev StepsTo : List Holding → Step → Outcome → Type 0
-  StepsTo after step outcome = IsStep keeps (record { core = old; hands = hands }) (record { core = new; hands = after }) step outcome
+  StepsTo after step outcome = IsMachineStep keeps (record { core = old; hands = hands }) (record { core = new; hands = after }) step outcome
 
   abbrev w : Hands
   w = machine_of (record { core = old; hands = hands })
@@ -220,7 +220,7 @@ module _ (keeps : Type 0) (old new : Kept) (hands : List Holding)
       → world_of new ≡ world_of old → StepsTo hands steps.Grant outcomes.Failed
   failed_step hand at failed still = unmoved steps.Grant outcomes.Failed (grant_failed old.geometry 0 w hand (at_hand hand at) failed) still
 
-  module _ (hand : ℕ) (at : position (λ h. is_empty (hand_of h)) hands ≡ Some hand) (job : Asked)
+  module _ (hand : ℕ) (at : position (λ h. is_empty (hand_of h)) hands ≡ Some hand) (job : JobView)
       (k : IsGrantOf old.geometry (world_of old) (world_of new) job) where
     granted : happens old.geometry 0 w steps.Grant
         ≡ (outcomes.Granted hand job.ticket, machine_of (record { core = new; hands = set hands hand (has.Job job) }))
@@ -280,10 +280,10 @@ module _ (g : Geometry) (n : ℕ) (core : World) (hands : List Holding) (i : ℕ
   back_past : length hands ≤ i → happens g n at_i (steps.Back i) ≡ (outcomes.Idle, at_i)
   back_past over = ap (λ (h : Option Hand). back_from g at_i i (result_in core h)) (past over)
 
-module _ (keeps : Type 0) (core : Kept) (hands : List Holding) (none : core.failed ≡ false → core.doubt ≡ []) (stands : keeps → StandsNow core)
+module _ (keeps : Type 0) (core : CoreView) (hands : List Holding) (none : core.failed ≡ false → core.doubt ≡ []) (stands : keeps → StandsNow core)
     (i : ℕ) where
   abbrev StaysAt : Step → Type 0
-  StaysAt step = IsStep keeps (record { core = core; hands = hands }) (record { core = core; hands = hands }) step outcomes.Idle
+  StaysAt step = IsMachineStep keeps (record { core = core; hands = hands }) (record { core = core; hands = hands }) step outcomes.Idle
 
   pub run_nowhere : length hands ≤ i → StaysAt (steps.Run i)
   run_nowhere over = quiet_step keeps core core hands hands (steps.Run i) outcomes.Idle none stands refl refl
@@ -308,7 +308,7 @@ module _ (hands : List Holding) (i : ℕ) (x : Holding) (read : slice_get hands 
   put_back : (new : Holding) → new ≡ x → set hands i new ≡ hands
   put_back new same = ap (set hands i) (same ∙ sym it_has) ∙ set-get_or hands i has.Empty
 
-module _ (keeps : Type 0) (core : Kept) (hands : List Holding) (none : core.failed ≡ false → core.doubt ≡ []) (stands : keeps → StandsNow core)
+module _ (keeps : Type 0) (core : CoreView) (hands : List Holding) (none : core.failed ≡ false → core.doubt ≡ []) (stands : keeps → StandsNow core)
     (h : HoldsJobs core.geometry (world_of core) hands) (i : ℕ) where
   abbrev g : Geometry
   g = core.geometry
@@ -317,7 +317,7 @@ module _ (keeps : Type 0) (core : Kept) (hands : List Holding) (none : core.fail
   held_now = machine_of (record { core = core; hands = hands })
 
   abbrev Moves : List Holding → Step → Outcome → Type 0
-  Moves after step outcome = IsStep keeps (record { core = core; hands = hands }) (record { core = core; hands = after }) step outcome
+  Moves after step outcome = IsMachineStep keeps (record { core = core; hands = hands }) (record { core = core; hands = after }) step outcome
       × HoldsJobs g (world_of core) after
 
   -- the hands are as they were
@@ -345,7 +345,7 @@ module _ (keeps : Type 0) (core : Kept) (hands : List Holding) (none : core.fail
   some_same e = cc
 
   -- a job that runs
-  module _ (job : Asked) (done : Done) (read : slice_get hands i ≡ Some (has.Job job)) (run : IsRun job done) where
+  module _ (job : JobView) (done : Done) (read : slice_get hands i ≡ Some (has.Job job)) (run : IsJobRun job done) where
     abbrev ran_hands : List Holding
     ran_hands = set hands i (has.Result done)
 
@@ -384,7 +384,7 @@ module _ (keeps : Type 0) (core : Kept) (hands : List Holding) (none : core.fail
     abbrev emptied : List Holding
     emptied = set hands i has.Empty
 
-    module _ (new : Kept) (geometry : new.geometry ≡ core.geometry) (same : new.medium ≡ core.medium) (found : Entry × List Entry)
+    module _ (new : CoreView) (geometry : new.geometry ≡ core.geometry) (same : new.medium ≡ core.medium) (found : Entry × List Entry)
         (one_out : out_with (world_of core) done.ticket ≡ Some found) (told : found.0 ≡ (done.ticket, done.message))
         (is : world_of new ≡ give_back g (world_of core) found) where
       back_does : happens g 0 held_now (steps.Back i) ≡ (outcomes.Back done.ticket, machine_of (record { core = new; hands = emptied }))
@@ -392,7 +392,7 @@ module _ (keeps : Type 0) (core : Kept) (hands : List Holding) (none : core.fail
           ∙ ap (back_from g held_now i) one_out
           ∙ (λ j. (outcomes.Back (told j).0, record { core = sym is j; hands = sym (map-set hands i has.Empty) j }))
 
-      pub back_step : IsStep keeps (record { core = core; hands = hands }) (record { core = new; hands = emptied }) (steps.Back i)
+      pub back_step : IsMachineStep keeps (record { core = core; hands = hands }) (record { core = new; hands = emptied }) (steps.Back i)
           (outcomes.Back done.ticket)
       back_step = quiet_step keeps core new hands emptied (steps.Back i) (outcomes.Back done.ticket) none stands geometry same back_does
 

@@ -12,7 +12,7 @@ use Rattle.legal_runs.proofs.Outs.{before_in}
 use Rattle.legal_runs.proofs.Told.{IsIn, in_either, in_left, in_right}
 use Rattle.legal_runs.specs.Eligible.{is_eligible, next_eligible}
 use Rattle.legal_runs.specs.Events.{give_back, grant, out_with}
-use Rattle.legal_runs.specs.Laws.{IsSound}
+use Rattle.legal_runs.specs.Laws.{IsSoundWorld}
 use Rattle.legal_runs.specs.World.{Entry, World}
 use Rattle.machine.proofs.Jobs.{SeesSame, job_stays, result_stays}
 use Rattle.machine.specs.Machine.{HoldsJobs, IsHandOf, hand_at, ticket_in}
@@ -41,7 +41,7 @@ module _ (g : Geometry) where
       (stays done.ticket done.message refl is.is_out)
 
   -- The hands are as they were, and the messages that they have stay out.
-  pub hands_stay : (old new : World) (hands : List Holding) → HoldsJobs g old hands → IsSound g new
+  pub hands_stay : (old new : World) (hands : List Holding) → HoldsJobs g old hands → IsSoundWorld g new
       → ((e : Entry) → Contains old.out e → SeesSame g old new e.1) → ((i : ℕ) → StaysOut old new (hand_at hands i))
       → HoldsJobs g new hands
   hands_stay old new hands h sound sees stays = record {
@@ -88,7 +88,7 @@ module _ (g : Geometry) where
   granted_stays w found e out = contains_in _ e (in_left e w.out (found.0 ∷ []) (in_contained _ e out))
 
   -- The ticket of what goes out is that of no message which is out.
-  pub granted_is_fresh : (w : World) (found : Entry × List Entry) → IsSound g w → next_eligible g w ≡ Some found → (e : Entry)
+  pub granted_is_fresh : (w : World) (found : Entry × List Entry) → IsSoundWorld g w → next_eligible g w ≡ Some found → (e : Entry)
       → Contains w.out e → e.0 ≡ found.0.0 → ⊥
   granted_is_fresh w found sound first e out =
       let R : Entry → Entry → Type 0 = λ c d. c.0 ≡ d.0 → ⊥ in

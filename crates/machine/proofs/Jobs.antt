@@ -8,7 +8,7 @@ use Rattle.message.specs.Messages.{place}
 use Rattle.message.specs.declared.Msg.{Msg}
 use Rattle.parcel.proofs.SerialRuns.{serial_run}
 use Rattle.parcel.specs.Fits.{Suits}
-use Rattle.parcel.specs.Run.{Asked, IsRun, Shows}
+use Rattle.parcel.specs.Run.{JobView, IsJobRun, Shows}
 use Rattle.parcel.specs.declared.job.Done.{Done}
 use Rattle.plain.proofs.Agree.{agree-sym, agree-trans}
 use Rattle.plain.proofs.Frame.{reads_only}
@@ -18,7 +18,7 @@ use Rattle.scheduler.specs.Jobs.{IsJobOf, IsResultOf}
 
 module _ (g : Geometry) where
   -- A job that runs becomes its result.
-  pub job_ran : (w : World) (job : Asked) (done : Done) → IsJobOf g w job → IsRun job done → IsResultOf g w done
+  pub job_ran : (w : World) (job : JobView) (done : Done) → IsJobOf g w job → IsJobRun job done → IsResultOf g w done
   job_ran w job done h run =
       let k = serial_run job done w.settled run h.lent in
       let same : ◌≡◌ {A = Geometry × Msg} (job.geometry, job.message) (g, done.message) = λ i. (h.geometry i, sym run.message i) in
@@ -34,7 +34,7 @@ module _ (g : Geometry) where
   abbrev pub SeesSame : World → World → Msg → Type 0
   SeesSame old new m = AgreeOn g (are_related (place g m)) new.settled old.settled
 
-  pub job_stays : (old new : World) (job : Asked) → IsJobOf g old job → SeesSame old new job.message
+  pub job_stays : (old new : World) (job : JobView) → IsJobOf g old job → SeesSame old new job.message
       → Contains new.out (job.ticket, job.message) → IsJobOf g new job
   job_stays old new job h same out =
       let there = subst (λ (y : Geometry). AgreeOn y (are_related (place y job.message)) new.settled old.settled) (sym h.geometry) same in

@@ -16,20 +16,20 @@ use Rattle.legal_runs.proofs.Runs.{run_follows}
 use Rattle.legal_runs.proofs.Sound.{run_sound}
 use Rattle.legal_runs.specs.Crash.{IsLogAfter, in_doubt}
 use Rattle.legal_runs.specs.Events.{Event, Hands, IsAllowed, touches_device}
-use Rattle.legal_runs.specs.Laws.{AreApart, IsSound}
+use Rattle.legal_runs.specs.Laws.{AreApart, IsSoundWorld}
 use Rattle.legal_runs.specs.Runs.{IsLegal, IsRun, journal, last}
 use Rattle.legal_runs.specs.World.{held}
 use Rattle.legal_runs.specs.declared.outcomes.Outcome.{Outcome}
 use Rattle.legal_runs.specs.declared.outcomes.Step.{Step}
 use Rattle.machine.proofs.Events.{some_of}
-use Rattle.machine.specs.Machine.{Handed, HasRun, HasStages, machine_of}
+use Rattle.machine.specs.Machine.{MachineView, HasRun, HasStages, machine_of}
 use Rattle.machine.specs.Stages.{AreSafe, Stage, StandsForRun, TouchAsTold, device_after, events_of}
-use Rattle.machine.specs.Steps.{IsStep}
+use Rattle.machine.specs.Steps.{IsMachineStep}
 use Rattle.message.specs.declared.Msg.{Msg}
 use Rattle.plain.specs.Serial.{fold}
-use Rattle.scheduler.specs.Calls.{Counts}
+use Rattle.scheduler.specs.Calls.{CountsFailure}
 use Rattle.machine.specs.declared.hands.Hand.{Hand as Holding}
-use Rattle.scheduler.specs.Kept.{Kept, StandsNow, world_of}
+use Rattle.scheduler.specs.Kept.{CoreView, StandsNow, world_of}
 
 -- ---- what a crash of a run leaves
 
@@ -89,7 +89,7 @@ module _ (g : Geometry) where
       (from_event stage.event.world stage.medium stages safe.1 ends k c (omega (arith, le)) since)
 
   -- So it stands for a state that the run may leave.
-  pub stands_for_run : (w : Hands) (events : List Event) (k : ℕ) (c : List ℕ) → IsLegal g w events → IsSound g w.core
+  pub stands_for_run : (w : Hands) (events : List Event) (k : ℕ) (c : List ℕ) → IsLegal g w events → IsSoundWorld g w.core
       → StandsSince g w events k c → StandsForRun g w events k c
   stands_for_run w events k c legal sound h =
       let first = take h.at events in
@@ -109,14 +109,14 @@ module _ (g : Geometry) where
         };
       }
 
-  left_by_run : (w : Hands) (m : Medium) (stages : List Stage) → IsLegal g w (events_of stages) → IsSound g w.core
+  left_by_run : (w : Hands) (m : Medium) (stages : List Stage) → IsLegal g w (events_of stages) → IsSoundWorld g w.core
       → AreSafe g w m stages → EndsSo w m stages → (k : ℕ) (c : List ℕ) → k ≤ length stages
       → left_since (device_after m stages) (moment (device_after m (take k stages))) c → StandsForRun g w (events_of stages) k c
   left_by_run w m stages legal sound safe ends k c le since =
       stands_for_run w (events_of stages) k c legal sound (from_event w m stages safe ends k c le since)
 
   -- So it is where the core at the end is as it always is.
-  pub left_since_event : (w : Hands) (m : Medium) (stages : List Stage) (new : Handed) → IsLegal g w (events_of stages) → IsSound g w.core
+  pub left_since_event : (w : Hands) (m : Medium) (stages : List Stage) (new : MachineView) → IsLegal g w (events_of stages) → IsSoundWorld g w.core
       → AreSafe g w m stages → last w (events_of stages) ≡ machine_of new → new.core.geometry ≡ g → device_after m stages ≡ new.core.medium
       → (new.core.failed ≡ false → new.core.doubt ≡ []) → StandsNow new.core → (k : ℕ) (c : List ℕ) → k ≤ length stages
       → left_since new.core.medium (moment (device_after m (take k stages))) c → StandsForRun g w (events_of stages) k c
@@ -141,13 +141,13 @@ after-append m [] ys = refl
 after-append m (s ∷ xs) ys = after-append s.medium xs ys
 
 told-push : (w : Hands) (m : Medium) (stages : List Stage) (stage : Stage) → TouchAsTold w m stages
-    → Counts stage.event.rose (device_after m stages).faults stage.medium.faults
+    → CountsFailure stage.event.rose (device_after m stages).faults stage.medium.faults
     → (touches_device (last w (events_of stages)).core stage.event.step ≡ false → stage.medium ≡ device_after m stages)
     → TouchAsTold w m (stages ++ stage ∷ [])
 told-push w m [] stage told counts quiet = (counts, quiet, tt)
 told-push w m (s ∷ stages) stage told counts quiet = (told.0, told.1, told-push s.event.world s.medium stages stage told.2 counts quiet)
 
-pub no_stages : (keeps : Type 0) (m : Handed) → HasStages keeps m m [] []
+pub no_stages : (keeps : Type 0) (m : MachineView) → HasStages keeps m m [] []
 no_stages keeps m = record {
   stages = [];
   run = record { legal = tt; of_steps = refl; with_outcomes = refl; ends = refl };
@@ -157,8 +157,8 @@ no_stages keeps m = record {
   any_moment = λ kept. tt;
 }
 
-pub more_stages : (keeps : Type 0) (old now new : Handed) (asked : List Step) (came : List Outcome) (step : Step) (outcome : Outcome)
-    → HasStages keeps old now asked came → IsStep keeps now new step outcome
+pub more_stages : (keeps : Type 0) (old now new : MachineView) (asked : List Step) (came : List Outcome) (step : Step) (outcome : Outcome)
+    → HasStages keeps old now asked came → IsMachineStep keeps now new step outcome
     → (touches_device (world_of now.core) step ≡ false → new.core.medium ≡ now.core.medium)
     → HasStages keeps old new (asked ++ step ∷ []) (came ++ outcome ∷ [])
 more_stages keeps old now new asked came step outcome h k quiet =
@@ -184,7 +184,7 @@ more_stages keeps old now new asked came step outcome h k quiet =
       run = subst (IsRun g (machine_of old) (machine_of new) (asked ++ step ∷ []) (came ++ outcome ∷ [])) (sym pushed) run;
       device = after-append old.core.medium h.stages (stage ∷ []);
       told = told-push (machine_of old) old.core.medium h.stages stage h.told
-          (subst (λ (m : Medium). Counts k.rose m.faults new.core.medium.faults) (sym h.device) k.failures)
+          (subst (λ (m : Medium). CountsFailure k.rose m.faults new.core.medium.faults) (sym h.device) k.failures)
           (λ none. quiet (ap (λ (x : Hands). touches_device x.core step) (sym here) ∙ none) ∙ sym h.device);
       geometry = k.geometry ∙ h.geometry;
       any_moment = λ kept. safe-append g (machine_of old) old.core.medium h.stages (stage ∷ []) (h.any_moment kept) (
@@ -199,13 +199,13 @@ more_stages keeps old now new asked came step outcome h k quiet =
 
 -- ---- the whole run
 
-worlds_apart : (g : Geometry) (events : List Event) → AllByRecursion (λ (event : Event). IsSound g event.world.core) events
+worlds_apart : (g : Geometry) (events : List Event) → AllByRecursion (λ (event : Event). IsSoundWorld g event.world.core) events
     → AllByRecursion (λ (w : Hands). AreApart g (held w.core)) (map (λ e. e.world) events)
 worlds_apart g [] sound = tt
 worlds_apart g (event ∷ events) sound = (sound.0.apart, worlds_apart g events sound.1)
 
-pub has_run : (keeps : Type 0) (old new : Handed) (asked : List Step) (came : List Outcome)
-    → IsSound old.core.geometry (world_of old.core) → HasStages keeps old new asked came
+pub has_run : (keeps : Type 0) (old new : MachineView) (asked : List Step) (came : List Outcome)
+    → IsSoundWorld old.core.geometry (world_of old.core) → HasStages keeps old new asked came
     → (new.core.failed ≡ false → new.core.doubt ≡ []) → (keeps → StandsNow new.core) → HasRun keeps old new asked came
 has_run keeps old new asked came sound h none stands =
     let g = old.core.geometry in
@@ -222,14 +222,14 @@ has_run keeps old new asked came sound h none stands =
     }
 
 -- The next step of a list, whose hands are these by another name.
-pub next_stages : (keeps : Type 0) (old : Handed) (core : Kept) (hands lent : List Holding) (new : Handed) (asked : List Step) (i : ℕ) (d : Step)
+pub next_stages : (keeps : Type 0) (old : MachineView) (core : CoreView) (hands lent : List Holding) (new : MachineView) (asked : List Step) (i : ℕ) (d : Step)
     (came : List Outcome) (outcome : Outcome) → lent ≡ hands → i < length asked → i < length came
     → HasStages keeps old (record { core = core; hands = hands }) (take i asked) (take i came)
-    → IsStep keeps (record { core = core; hands = lent }) new (get_or asked i d) outcome
+    → IsMachineStep keeps (record { core = core; hands = lent }) new (get_or asked i d) outcome
     → (touches_device (world_of core) (get_or asked i d) ≡ false → new.core.medium ≡ core.medium)
     → HasStages keeps old new (take (i + 1) asked) (take (i + 1) (set came i outcome))
 next_stages keeps old core hands lent new asked i d came outcome same in_asked in_came h k quiet =
-    let step = subst (λ (l : List Holding). IsStep keeps (record { core = core; hands = l }) new (get_or asked i d) outcome) same k in
+    let step = subst (λ (l : List Holding). IsMachineStep keeps (record { core = core; hands = l }) new (get_or asked i d) outcome) same k in
     let more = more_stages keeps old (record { core = core; hands = hands }) new (take i asked) (take i came) (get_or asked i d) outcome h step quiet in
     subst (λ (ss : List Step). HasStages keeps old new ss (take (i + 1) (set came i outcome))) (sym (take_more asked i d in_asked))
     (subst (λ (os : List Outcome). HasStages keeps old new (take i asked ++ get_or asked i d ∷ []) os) (sym (take_more_set came i outcome in_came)) more)

@@ -4,7 +4,7 @@ use Rattle.std.specs.List.{AllByRecursion, Contains}
 use Rattle.affinity.specs.declared.geometry.Geometry.{Geometry}
 use Rattle.disk.specs.Moments.{moment, left_since}
 use Rattle.legal_runs.specs.Events.{Event, Hand, Hands, Empty, Job, Result}
-use Rattle.legal_runs.specs.Laws.{AreApart, IsIdle, IsSound, said}
+use Rattle.legal_runs.specs.Laws.{AreApart, IsIdle, IsSoundWorld, ticket_replies}
 use Rattle.legal_runs.specs.Runs.{IsLegal, IsRun, answered, arrived, last, went}
 use Rattle.legal_runs.specs.World.{World, entries, held}
 use Rattle.legal_runs.specs.declared.outcomes.Outcome.{Outcome}
@@ -15,10 +15,10 @@ use Rattle.machine.specs.declared.hands.Hand.TheVariants as has
 use Rattle.message.specs.declared.Reply.{Reply}
 use Rattle.plain.specs.Order.{by_ticket, told}
 use Rattle.scheduler.specs.Jobs.{IsJobOf, IsResultOf}
-use Rattle.scheduler.specs.Kept.{Kept, StandsNow, world_of}
+use Rattle.scheduler.specs.Kept.{CoreView, StandsNow, world_of}
 
-pub record Handed : Type 0 where
-  pub core : Kept
+pub record MachineView : Type 0 where
+  pub core : CoreView
   pub hands : List Holding
 
 abbrev pub hand_of : Holding → Hand
@@ -27,7 +27,7 @@ hand_of (has.Job job) = Job job.ticket
 hand_of (has.Result done) = Result done.ticket
 
 -- the machine of the definitions
-abbrev pub machine_of : Handed → Hands
+abbrev pub machine_of : MachineView → Hands
 machine_of m = record { core = world_of m.core; hands = map hand_of m.hands }
 
 -- ---- what every machine keeps
@@ -48,7 +48,7 @@ abbrev pub hand_at : List Holding → ℕ → Holding
 hand_at hands i = slice_index_or hands i has.Empty
 
 pub record HoldsJobs (g : Geometry) (w : World) (hands : List Holding) : Type 0 where
-  pub sound : IsSound g w
+  pub sound : IsSoundWorld g w
   pub each : (i : ℕ) → IsHandOf g w (hand_at hands i)
   -- no message is in two hands
   pub once : (i k ticket : ℕ) → ticket_in (hand_at hands i) ≡ Some ticket → ticket_in (hand_at hands k) ≡ Some ticket → i ≡ k
@@ -56,7 +56,7 @@ pub record HoldsJobs (g : Geometry) (w : World) (hands : List Holding) : Type 0 
 -- ---- runs
 
 -- These steps had these outcomes, and led from one machine to the other.
-pub record HasStages (keeps : Type 0) (old new : Handed) (asked : List Step) (came : List Outcome) : Type 0 where
+pub record HasStages (keeps : Type 0) (old new : MachineView) (asked : List Step) (came : List Outcome) : Type 0 where
   pub stages : List Stage
   pub run : IsRun old.core.geometry (machine_of old) (machine_of new) asked came (events_of stages)
   pub device : device_after old.core.medium stages ≡ new.core.medium
@@ -67,7 +67,7 @@ pub record HasStages (keeps : Type 0) (old new : Handed) (asked : List Step) (ca
   pub any_moment : keeps → AreSafe old.core.geometry (machine_of old) old.core.medium stages
 
 -- What a machine promises of a run of steps, sensible or not.
-pub record HasRun (keeps : Type 0) (old new : Handed) (asked : List Step) (came : List Outcome) : Type 0 where
+pub record HasRun (keeps : Type 0) (old new : MachineView) (asked : List Step) (came : List Outcome) : Type 0 where
   pub ran : HasStages keeps old new asked came
   -- For every k: a crash at any moment since event k ended leaves a device that stands for a state which the run may leave.
   pub crash : keeps → (k : ℕ) (c : List ℕ) → k ≤ length ran.stages
@@ -77,14 +77,14 @@ pub record HasRun (keeps : Type 0) (old new : Handed) (asked : List Step) (came 
   pub apart : AllByRecursion (λ (w : Hands). AreApart old.core.geometry (held w.core))
       (machine_of old ∷ map (λ e. e.world) (events_of ran.stages))
   -- What was logged is replied what the serial server replies, in log order.
-  pub in_log_order : said (went (machine_of old) (events_of ran.stages))
+  pub in_log_order : ticket_replies (went (machine_of old) (events_of ran.stages))
       ≡ told old.core.geometry (world_of old.core).settled (entries (went (machine_of old) (events_of ran.stages)))
   -- Where nothing waited or was held, each answer is also the one where all that arrived come by ticket.
   pub in_ticket_order : IsIdle (world_of old.core) → (reply : ℕ × Reply) → Contains (answered (events_of ran.stages)) reply
       → Contains (told old.core.geometry (world_of old.core).settled (by_ticket (arrived (events_of ran.stages)))) reply
 
 -- A run has ended: these events led from one machine to another, which has this core.
-pub record IsEndOfRun (start : Handed) (events : List Event) (new : Kept) : Type 0 where
+pub record IsEndOfRun (start : MachineView) (events : List Event) (new : CoreView) : Type 0 where
   pub legal : IsLegal start.core.geometry (machine_of start) events
   pub hands : List Holding
   pub ends : last (machine_of start) events ≡ machine_of (record { core = new; hands = hands })

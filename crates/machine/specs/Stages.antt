@@ -8,7 +8,7 @@ use Rattle.journal.specs.Journal.{HoldsSome}
 use Rattle.legal_runs.specs.Crash.{IsLeftSince, in_doubt}
 use Rattle.legal_runs.specs.Events.{Event, Hands, touches_device}
 use Rattle.plain.specs.State.{State}
-use Rattle.scheduler.specs.Calls.{Counts}
+use Rattle.scheduler.specs.Calls.{CountsFailure}
 
 pub record Stage : Type 0 where
   pub event : Event
@@ -34,7 +34,7 @@ AreSafe g w m (stage ∷ stages) =
 abbrev pub TouchAsTold : Hands → Medium → List Stage → Type 0
 TouchAsTold w m [] = Unit {0}
 TouchAsTold w m (stage ∷ stages) =
-    Counts stage.event.rose m.faults stage.medium.faults
+    CountsFailure stage.event.rose m.faults stage.medium.faults
     × (touches_device w.core stage.event.step ≡ false → stage.medium ≡ m)
     × TouchAsTold stage.event.world stage.medium stages
 

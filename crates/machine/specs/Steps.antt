@@ -6,25 +6,25 @@ use Rattle.legal_runs.specs.Crash.{in_doubt, to_append}
 use Rattle.legal_runs.specs.Events.{IsAllowed}
 use Rattle.legal_runs.specs.declared.outcomes.Outcome.{Outcome}
 use Rattle.legal_runs.specs.declared.outcomes.Step.{Step}
-use Rattle.machine.specs.Machine.{Handed, machine_of}
-use Rattle.scheduler.specs.Calls.{Counts, IsCalled}
-use Rattle.scheduler.specs.Kept.{Kept, StandsThroughout, world_of}
+use Rattle.machine.specs.Machine.{MachineView, machine_of}
+use Rattle.scheduler.specs.Calls.{CountsFailure, IsCalled}
+use Rattle.scheduler.specs.Kept.{CoreView, StandsThroughout, world_of}
 
 -- The step had this outcome: it was an event, at each moment of which a crash leaves what was settled, with the first so many
 -- of the messages in doubt.
-pub record IsStep (keeps : Type 0) (old new : Handed) (step : Step) (outcome : Outcome) : Type 0 where
+pub record IsMachineStep (keeps : Type 0) (old new : MachineView) (step : Step) (outcome : Outcome) : Type 0 where
   pub rose : Bool
   pub allowed : IsAllowed old.core.geometry (machine_of old)
       (record { step = step; outcome = outcome; rose = rose; world = machine_of new })
   pub geometry : new.core.geometry ≡ old.core.geometry
-  pub failures : Counts rose old.core.medium.faults new.core.medium.faults
+  pub failures : CountsFailure rose old.core.medium.faults new.core.medium.faults
   pub any_moment : keeps → LeavesOnly old.core.medium new.core.medium (HoldsSome old.core.geometry (world_of old.core).settled
       (in_doubt (world_of old.core) (record { step = step; outcome = outcome; rose = rose; world = machine_of new } ∷ [])))
 
 -- The same of a core, whatever the hands have.
-pub record IsCoreStep (keeps : Type 0) (old new : Kept) (step : Step) (outcome : Outcome) : Type 0 where
+pub record IsCoreStep (keeps : Type 0) (old new : CoreView) (step : Step) (outcome : Outcome) : Type 0 where
   pub rose : Bool
   pub called : IsCalled old.geometry (world_of old) (world_of new) step outcome rose
   pub geometry : new.geometry ≡ old.geometry
-  pub failures : Counts rose old.medium.faults new.medium.faults
+  pub failures : CountsFailure rose old.medium.faults new.medium.faults
   pub any_moment : keeps → StandsThroughout (to_append (world_of old) step) old new

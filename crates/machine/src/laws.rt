@@ -3,11 +3,11 @@
 ghost use Rattle.std.specs.Prelude.{◌≡◌, ℕ, List, Some, None, length};
 ghost use Rattle.disk.specs.Device.{Leaves};
 ghost use Rattle.legal_runs.specs.Events.{Event};
-ghost use Rattle.legal_runs.specs.Laws.{IsIdle, IsSound};
+ghost use Rattle.legal_runs.specs.Laws.{IsIdle, IsSoundWorld};
 ghost use Rattle.legal_runs.specs.Lives.{HoldsAnswered, Ran};
-ghost use Rattle.machine.specs.Machine.{Handed, IsEndOfRun, machine_of};
+ghost use Rattle.machine.specs.Machine.{MachineView, IsEndOfRun, machine_of};
 ghost use Rattle.machine.specs.Stages.{StandsForRun};
-ghost use Rattle.scheduler.specs.Kept.{Kept, world_of};
+ghost use Rattle.scheduler.specs.Kept.{CoreView, world_of};
 ghost use Rattle.affinity.specs.declared.geometry.Geometry.{Geometry};
 ghost use Rattle.checkpoint.specs.Header.{HasHeader};
 ghost use Rattle.checkpoint.specs.Recovery.{holds};
@@ -37,10 +37,10 @@ pub fn lives_leave_what_was_answered()
 /// A run has ended. Whatever a crash leaves of its device now stands for where the log of the run leads, with the first m of
 /// the messages in doubt. Where no message was in the core at its start, that log begins with every change that was answered.
 pub fn a_crash_behind_a_run_leaves_what_was_answered()
-    ensures run { (start : Handed) (events : List Event) (new : Kept) (c : List ℕ) → IsSound start.core.geometry (world_of start.core)
+    ensures run { (start : MachineView) (events : List Event) (new : CoreView) (c : List ℕ) → IsSoundWorld start.core.geometry (world_of start.core)
         → IsEndOfRun start events new → Leaves new.medium c
         → StandsForRun start.core.geometry (machine_of start) events (length events) c }
-    ensures answered { (start : Handed) (events : List Event) (new : Kept) (c : List ℕ) → IsIdle (world_of start.core)
+    ensures answered { (start : MachineView) (events : List Event) (new : CoreView) (c : List ℕ) → IsIdle (world_of start.core)
         → IsEndOfRun start events new → Leaves new.medium c
         → (h : StandsForRun start.core.geometry (machine_of start) events (length events) c)
         × HoldsAnswered (Ran (machine_of start) events (length events)) h.left.log }

@@ -27,10 +27,10 @@ pub struct MachineError<D: Disk> {
 }
 
 impl<D: Disk> Model for Machine<D> {
-    ghost use Rattle.machine.specs.Machine.{Handed, HoldsJobs};
+    ghost use Rattle.machine.specs.Machine.{MachineView, HoldsJobs};
     ghost use Rattle.scheduler.specs.Kept.{world_of};
 
-    ghost Value = { Handed };
+    ghost Value = { MachineView };
 
     ghost view = { λ m. record { core = m.core; hands = m.hands.items } };
 

@@ -3,7 +3,7 @@ ghost use Rattle.std.specs.Prelude.{◌≡◌, false};
 ghost use Rattle.legal_runs.specs.Events.{touches_device};
 ghost use Rattle.legal_runs.specs.declared.outcomes.Step.TheVariants as steps;
 ghost use Rattle.machine.specs.Machine.{HoldsJobs};
-ghost use Rattle.machine.specs.Steps.{IsCoreStep, IsStep};
+ghost use Rattle.machine.specs.Steps.{IsCoreStep, IsMachineStep};
 ghost use Rattle.scheduler.specs.Kept.{world_of};
 
 use crate::hands::{Hand, first_empty, run_in, take_result};
@@ -15,7 +15,7 @@ use scheduler::{Core, Granted};
 /// Makes one step, and tells what came of it.
 pub(crate) fn make_step<D: Disk>(core: &mut Core<D>, hands: &mut [Hand], step: &Step) -> Outcome
     requires { HoldsJobs core.old.geometry (world_of core.old) hands.old }
-    ensures step { IsStep D.keeps (record { core = core.old; hands = hands.old })
+    ensures step { IsMachineStep D.keeps (record { core = core.old; hands = hands.old })
         (record { core = core.new; hands = hands.new }) step.now result }
     ensures holds { HoldsJobs core.new.geometry (world_of core.new) hands.new }
     ensures untouched { touches_device (world_of core.old) step.now ≡ false → core.new.medium ≡ core.old.medium }
@@ -39,7 +39,7 @@ pub(crate) fn make_step<D: Disk>(core: &mut Core<D>, hands: &mut [Hand], step: &
 // Lets the eligible message with the least ticket go to the least empty hand.
 fn grant<D: Disk>(core: &mut Core<D>, hands: &mut [Hand]) -> Outcome
     requires { HoldsJobs core.old.geometry (world_of core.old) hands.old }
-    ensures step { IsStep D.keeps (record { core = core.old; hands = hands.old })
+    ensures step { IsMachineStep D.keeps (record { core = core.old; hands = hands.old })
         (record { core = core.new; hands = hands.new }) steps.Grant result }
     ensures holds { HoldsJobs core.new.geometry (world_of core.new) hands.new }
     ensures untouched { core.new.medium ≡ core.old.medium }
@@ -63,7 +63,7 @@ fn grant<D: Disk>(core: &mut Core<D>, hands: &mut [Hand]) -> Outcome
 // Runs the job in a hand. The core is left alone.
 fn run_job<D: Disk>(core: &Core<D>, hands: &mut [Hand], hand: usize) -> Outcome
     requires { HoldsJobs core.now.geometry (world_of core.now) hands.old }
-    ensures step { IsStep D.keeps (record { core = core.now; hands = hands.old })
+    ensures step { IsMachineStep D.keeps (record { core = core.now; hands = hands.old })
         (record { core = core.now; hands = hands.new }) (steps.Run hand) result }
     ensures holds { HoldsJobs core.now.geometry (world_of core.now) hands.new }
 {
@@ -81,7 +81,7 @@ fn run_job<D: Disk>(core: &Core<D>, hands: &mut [Hand], hand: usize) -> Outcome
 // Gives back the result in a hand.
 fn give_back<D: Disk>(core: &mut Core<D>, hands: &mut [Hand], hand: usize) -> Outcome
     requires { HoldsJobs core.old.geometry (world_of core.old) hands.old }
-    ensures step { IsStep D.keeps (record { core = core.old; hands = hands.old })
+    ensures step { IsMachineStep D.keeps (record { core = core.old; hands = hands.old })
         (record { core = core.new; hands = hands.new }) (steps.Back hand) result }
     ensures holds { HoldsJobs core.new.geometry (world_of core.new) hands.new }
     ensures untouched { core.new.medium ≡ core.old.medium }

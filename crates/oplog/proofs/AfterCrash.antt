@@ -4,7 +4,7 @@ use Rattle.std.proofs.lemmas.Bool.{ne_eqb}
 use Rattle.disk.specs.Device.{Medium, IsSynced}
 use Rattle.disk.proofs.Leaves.{calm_left}
 use Rattle.disk.proofs.Moments.{weaker}
-use Rattle.oplog.specs.Layout.{Layout, part, root, half, image, other}
+use Rattle.oplog.specs.Layout.{Layout, part_bytes, root, half, image, other}
 use Rattle.oplog.specs.Front.{chain, front}
 use Rattle.oplog.specs.Stands.{Meaning, named_area, current_of, run, stands_as}
 use Rattle.oplog.specs.Changes.{IsSameBut, IsSameButChain, HasMore}
@@ -106,7 +106,7 @@ module _ {S : Type 0} (means : Meaning S) where
       record {
         named = refl;
         current = refl;
-        is = either x (λ (n : ℕ). stands_as means g n c) (eqb (get_or (part g root c) 0 0) 1) (kept 0 ∙ both.0) (kept 1 ∙ both.1);
+        is = either x (λ (n : ℕ). stands_as means g n c) (eqb (get_or (part_bytes g root c) 0 0) 1) (kept 0 ∙ both.0) (kept 1 ∙ both.1);
       })
 
   pub flip_by_area : FlipByArea means

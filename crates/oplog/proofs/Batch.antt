@@ -5,7 +5,7 @@ use Rattle.std.specs.List.{concat}
 use Rattle.disk.specs.Device.{AreBytes, Medium, SameOutside, overlaid}
 use Rattle.disk.proofs.Leaves.{itself, calm_left, calm_range, range_kept}
 use Rattle.disk.proofs.Overlays.{overlaid_outside, range-overlaid, length-overlaid}
-use Rattle.oplog.specs.Layout.{Layout, slice, part, part_at, part_size, half, half_size, device_size}
+use Rattle.oplog.specs.Layout.{Layout, slice, part_bytes, part_at, part_size, half, half_size, device_size}
 use Rattle.oplog.specs.Front.{gates_in, open_gates}
 use Rattle.oplog.specs.Changes.{IsSameBut, HasMore, After, Grew, IsReady, HasAll}
 use Rattle.oplog.specs.Store.{Stored}
@@ -22,10 +22,10 @@ module _ (g : Layout) (h k : ℕ) (more : List (List ℕ)) (is_half : h < 2) (si
   change : (i n : ℕ) (old c : List ℕ) → i + n ≤ half_size g.slots → SameOutside (part_at g (half h) + i) n old c → IsSameBut g (half h) old c
   change i n old c inside same = same_but g (half h) i n (part_at g (half h) + i) old c (omega (arith, is_half)) refl (omega (arith, inside, size)) same
 
-  in_half : (i n : ℕ) (old c : List ℕ) → i + n ≤ half_size g.slots → SameOutside (part_at g (half h) + i) n old c → SameOutside i n (part g (half h) old) (part g (half h) c)
+  in_half : (i n : ℕ) (old c : List ℕ) → i + n ≤ half_size g.slots → SameOutside (part_at g (half h) + i) n old c → SameOutside i n (part_bytes g (half h) old) (part_bytes g (half h) c)
   in_half i n old c inside same = within (part_at g (half h)) (part_size g (half h)) i n old c (omega (arith, inside, size)) same
 
-  grown : (rs : List (List ℕ)) (old c : List ℕ) → IsSameBut g (half h) old c → HasMoreIn g.slots rs (part g (half h) old) (part g (half h) c) → HasMore g h rs old c
+  grown : (rs : List (List ℕ)) (old c : List ℕ) → IsSameBut g (half h) old c → HasMoreIn g.slots rs (part_bytes g (half h) old) (part_bytes g (half h) c) → HasMore g h rs old c
   grown rs old c same has = record { same = same; area = has.area; front = has.front }
 
   bytes : length (concat more) ≡ length more * 520
@@ -38,7 +38,7 @@ module _ (g : Layout) (h k : ℕ) (more : List (List ℕ)) (is_half : h < 2) (si
   pub first : (c : List ℕ) → After w0 (SameOutside {X = ℕ} (part_at g (half h) + body_at g.slots k) (length (concat more))) c → Grew g h more w0 c
   first c after =
       let same = subst (λ (m : ℕ). SameOutside (part_at g (half h) + body_at g.slots k) m after.old c) bytes after.change in
-      let kept : part g (half h) after.old ≡ part g (half h) w0.now = range_kept (part_at g (half h)) (part_size g (half h)) w0 after.old ready.calm after.left in
+      let kept : part_bytes g (half h) after.old ≡ part_bytes g (half h) w0.now = range_kept (part_at g (half h)) (part_size g (half h)) w0 after.old ready.calm after.left in
       record {
         added = 0;
         at_most = omega arith;
@@ -46,7 +46,7 @@ module _ (g : Layout) (h k : ℕ) (more : List (List ℕ)) (is_half : h < 2) (si
           old = after.old;
           left = after.left;
           change = grown [] after.old c (change (body_at g.slots k) (length more * 520) after.old c body_room same)
-              (bodies_written g.slots k (length more * 520) (part g (half h) after.old) (part g (half h) c) (ap (λ (l : List ℕ). open_gates (gates_in g.slots l)) kept ∙ ready.used)
+              (bodies_written g.slots k (length more * 520) (part_bytes g (half h) after.old) (part_bytes g (half h) c) (ap (λ (l : List ℕ). open_gates (gates_in g.slots l)) kept ∙ ready.used)
               (in_half (body_at g.slots k) (length more * 520) after.old c body_room same));
         };
       }
@@ -59,7 +59,7 @@ module _ (g : Layout) (h k : ℕ) (more : List (List ℕ)) (is_half : h < 2) (si
         (subst (λ (m : ℕ). SameOutside (part_at g (half h) + body_at g.slots k) m w0.now (overlaid w0.now (part_at g (half h) + body_at g.slots k) (concat more))) bytes
         (overlaid_outside w0.now (part_at g (half h) + body_at g.slots k) (concat more)))
 
-    stand : slice (part g (half h) w1.now) (body_at g.slots k) (length more * 520) ≡ concat more
+    stand : slice (part_bytes g (half h) w1.now) (body_at g.slots k) (length more * 520) ≡ concat more
     stand =
         slice_slice w1.now (part_at g (half h)) (part_size g (half h)) (body_at g.slots k) (length more * 520) (omega (arith, body_room, size))
         ∙ ap (λ (l : List ℕ). slice l (part_at g (half h) + body_at g.slots k) (length more * 520)) bodies.now
@@ -70,10 +70,10 @@ module _ (g : Layout) (h k : ℕ) (more : List (List ℕ)) (is_half : h < 2) (si
     gate_room = omega (arith, room)
 
     module _ (c : List ℕ) (same : SameOutside (part_at g (half h) + (64 + k)) (length more) w1.now c) where
-      bodies_in : SameOutside (body_at g.slots k) (length more * 520) (part g (half h) w0.now) (part g (half h) w1.now)
+      bodies_in : SameOutside (body_at g.slots k) (length more * 520) (part_bytes g (half h) w0.now) (part_bytes g (half h) w1.now)
       bodies_in = in_half (body_at g.slots k) (length more * 520) w0.now w1.now body_room put
 
-      gates_in_half : SameOutside (64 + k) (length more) (part g (half h) w1.now) (part g (half h) c)
+      gates_in_half : SameOutside (64 + k) (length more) (part_bytes g (half h) w1.now) (part_bytes g (half h) c)
       gates_in_half = in_half (64 + k) (length more) w1.now c gate_room same
 
       all_same : IsSameBut g (half h) w0.now c
@@ -83,7 +83,7 @@ module _ (g : Layout) (h k : ℕ) (more : List (List ℕ)) (is_half : h < 2) (si
 
       torn : (j : ℕ) × (j ≤ length more) × HasMore g h (take j more) w0.now c
       torn =
-          let t = gates_torn g.slots k more sized room (part g (half h) w0.now) (part g (half h) w1.now) (part g (half h) c) ready.used ready.shut bodies_in stand gates_in_half in
+          let t = gates_torn g.slots k more sized room (part_bytes g (half h) w0.now) (part_bytes g (half h) w1.now) (part_bytes g (half h) c) ready.used ready.shut bodies_in stand gates_in_half in
           (t.0, t.1, grown (take t.0 more) w0.now c all_same t.2)
 
       pub grew : Grew g h more w0 c
@@ -94,17 +94,17 @@ module _ (g : Layout) (h k : ℕ) (more : List (List ℕ)) (is_half : h < 2) (si
       }
 
       module _ (ones : slice c (part_at g (half h) + (64 + k)) (length more) ≡ replicate (length more) 1) where
-        open_in : slice (part g (half h) c) (64 + k) (length more) ≡ replicate (length more) 1
+        open_in : slice (part_bytes g (half h) c) (64 + k) (length more) ≡ replicate (length more) 1
         open_in = slice_slice c (part_at g (half h)) (part_size g (half h)) (64 + k) (length more) (omega (arith, gate_room, size)) ∙ ones
 
         pub has_all : HasMore g h more w0.now c
-        has_all = grown more w0.now c all_same (gates_written g.slots k more sized room (part g (half h) w0.now) (part g (half h) w1.now) (part g (half h) c) ready.used ready.shut bodies_in stand gates_in_half open_in)
+        has_all = grown more w0.now c all_same (gates_written g.slots k more sized room (part_bytes g (half h) w0.now) (part_bytes g (half h) w1.now) (part_bytes g (half h) c) ready.used ready.shut bodies_in stand gates_in_half open_in)
 
-        pub used_all : open_gates (gates_in g.slots (part g (half h) c)) ≡ k + length more
-        used_all = now_used g.slots k more sized room (part g (half h) w0.now) (part g (half h) w1.now) (part g (half h) c) ready.used ready.shut bodies_in stand gates_in_half open_in
+        pub used_all : open_gates (gates_in g.slots (part_bytes g (half h) c)) ≡ k + length more
+        used_all = now_used g.slots k more sized room (part_bytes g (half h) w0.now) (part_bytes g (half h) w1.now) (part_bytes g (half h) c) ready.used ready.shut bodies_in stand gates_in_half open_in
 
-        pub shut_all : drop (k + length more) (gates_in g.slots (part g (half h) c)) ≡ replicate (g.slots - (k + length more)) 0
-        shut_all = now_shut g.slots k more sized room (part g (half h) w0.now) (part g (half h) w1.now) (part g (half h) c) ready.used ready.shut bodies_in stand gates_in_half open_in
+        pub shut_all : drop (k + length more) (gates_in g.slots (part_bytes g (half h) c)) ≡ replicate (g.slots - (k + length more)) 0
+        shut_all = now_shut g.slots k more sized room (part_bytes g (half h) w0.now) (part_bytes g (half h) w1.now) (part_bytes g (half h) c) ready.used ready.shut bodies_in stand gates_in_half open_in
 
     pub second : (ones : List ℕ) → length ones ≡ length more → (c : List ℕ) → After w1 (SameOutside {X = ℕ} (part_at g (half h) + (64 + k)) (length ones)) c → Grew g h more w0 c
     second ones few c after =

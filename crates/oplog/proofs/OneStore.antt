@@ -7,7 +7,7 @@ use Rattle.disk.proofs.Leaves.{calm_range}
 use Rattle.disk.proofs.Moments.{weaker}
 use Rattle.disk.proofs.Outside.{same_drop}
 use Rattle.disk.proofs.Overlays.{overlaid_outside, range-overlaid, length-overlaid, item-overlaid}
-use Rattle.oplog.specs.Layout.{Layout, slice, part, part_at, part_size, half, root, device_size}
+use Rattle.oplog.specs.Layout.{Layout, slice, part_bytes, part_at, part_size, half, root, device_size}
 use Rattle.oplog.specs.Front.{open_gates, gates}
 use Rattle.oplog.specs.Changes.{IsSameButGates, IsSameButChain, IsSameButRoot, After, Cleared, Chained, Flipped}
 use Rattle.oplog.specs.Store.{Stored}
@@ -30,14 +30,14 @@ module _ (g : Layout) (h at : ℕ) (bytes : List ℕ) (is_half : h < 2) (place :
       let room : 0 + length bytes ≤ part_size g (half h) = omega (arith, few, half_sized g h is_half) in
       record {
         same = same_but g (half h) 0 (length bytes) at old c (omega (arith, is_half)) at0 room same;
-        records = same_drop 0 (length bytes) (part g (half h) old) (part g (half h) c) (within (part_at g (half h)) (part_size g (half h)) 0 (length bytes) old c room same') (64 + g.slots) (omega (arith, few));
+        records = same_drop 0 (length bytes) (part_bytes g (half h) old) (part_bytes g (half h) c) (within (part_at g (half h)) (part_size g (half h)) 0 (length bytes) old c room same') (64 + g.slots) (omega (arith, few));
       }
 
   pub clear_moments : (w0 w1 : Medium) → LeavesOnly w0 w1 (After w0 (SameOutside {X = ℕ} at (length bytes))) → LeavesOnly w0 w1 (After w0 (IsSameButGates g h))
   clear_moments w0 w1 moments = weaker w0 w1 _ _ moments (λ c after. record { old = after.old; left = after.left; change = gates_alone after.old c after.change })
 
   module _ (w0 w1 : Medium) (fits : device_size g ≤ length w0.now) (stored : Stored at bytes w0 w1) where
-    zeros : take (64 + g.slots) (part g (half h) w1.now) ≡ replicate (64 + g.slots) 0
+    zeros : take (64 + g.slots) (part_bytes g (half h) w1.now) ≡ replicate (64 + g.slots) 0
     zeros =
         take-take (64 + g.slots) (part_size g (half h)) (drop (part_at g (half h)) w1.now) (omega (arith, half_sized g h is_half))
         ∙ ap (λ (a : ℕ). slice w1.now a (64 + g.slots)) (sym place)
@@ -49,7 +49,7 @@ module _ (g : Layout) (h at : ℕ) (bytes : List ℕ) (is_half : h < 2) (place :
     shut : gates g h w1.now ≡ replicate g.slots 0
     shut =
         let count : 64 + g.slots - 64 ≡ g.slots = omega arith in
-        sym (drop-take 64 g.slots (part g (half h) w1.now)) ∙ ap (λ (l : List ℕ). drop 64 l) zeros ∙ drop-replicate 64 (64 + g.slots) 0 ∙ ap (λ (n : ℕ). replicate n 0) count
+        sym (drop-take 64 g.slots (part_bytes g (half h) w1.now)) ∙ ap (λ (l : List ℕ). drop 64 l) zeros ∙ drop-replicate 64 (64 + g.slots) 0 ∙ ap (λ (n : ℕ). replicate n 0) count
 
     long : length w1.now ≡ length w0.now
     long = ap length stored.now ∙ length-overlaid w0.now at bytes
@@ -58,7 +58,7 @@ module _ (g : Layout) (h at : ℕ) (bytes : List ℕ) (is_half : h < 2) (place :
     cleared = record {
       same = gates_alone w0.now w1.now (changed w0 w1 at bytes stored);
       zeros = zeros;
-      chain = sym (get_or-take (64 + g.slots) (part g (half h) w1.now) 0 0 (omega arith)) ∙ ap (λ (l : List ℕ). get_or l 0 0) zeros ∙ get_or-replicate (64 + g.slots) 0 0 0 (omega arith);
+      chain = sym (get_or-take (64 + g.slots) (part_bytes g (half h) w1.now) 0 0 (omega arith)) ∙ ap (λ (l : List ℕ). get_or l 0 0) zeros ∙ get_or-replicate (64 + g.slots) 0 0 0 (omega arith);
       ready = record {
         used = ap open_gates shut ∙ open_none g.slots;
         shut = let all : g.slots ≡ g.slots - 0 = omega arith in shut ∙ ap (λ (n : ℕ). replicate n 0) all;
@@ -76,7 +76,7 @@ module _ (g : Layout) (h at : ℕ) (is_half : h < 2) (place : at ≡ part_at g (
       let room : 0 + 1 ≤ part_size g (half h) = omega (arith, half_sized g h is_half) in
       record {
         same = same_but g (half h) 0 1 at old c (omega (arith, is_half)) at0 room same;
-        beside = same_drop 0 1 (part g (half h) old) (part g (half h) c) (within (part_at g (half h)) (part_size g (half h)) 0 1 old c room same') 1 (omega arith);
+        beside = same_drop 0 1 (part_bytes g (half h) old) (part_bytes g (half h) c) (within (part_at g (half h)) (part_size g (half h)) 0 1 old c room same') 1 (omega arith);
       }
 
   pub chain_moments : (w0 w1 : Medium) → LeavesOnly w0 w1 (After w0 (SameOutside {X = ℕ} at 1)) → LeavesOnly w0 w1 (After w0 (IsSameButChain g h))
@@ -97,7 +97,7 @@ module _ (g : Layout) (n : ℕ) where
   root_alone : (old c : List ℕ) → SameOutside 64 1 old c → IsSameButRoot g old c
   root_alone old c same = record {
     same = same_but g root 0 1 64 old c (omega arith) refl (omega arith) same;
-    beside = same_drop 0 1 (part g root old) (part g root c) (within 64 64 0 1 old c (omega arith) same) 1 (omega arith);
+    beside = same_drop 0 1 (part_bytes g root old) (part_bytes g root c) (within 64 64 0 1 old c (omega arith) same) 1 (omega arith);
   }
 
   pub root_moments : (w0 w1 : Medium) → LeavesOnly w0 w1 (After w0 (SameOutside {X = ℕ} 64 1)) → LeavesOnly w0 w1 (After w0 (IsSameButRoot g))
@@ -111,7 +111,7 @@ module _ (g : Layout) (n : ℕ) where
   pub named : (w0 w1 : Medium) → n < 2 → device_size g ≤ length w0.now → Stored 64 (n ∷ []) w0 w1 → Flipped g n w0 w1
   named w0 w1 is_area fits stored = record {
     same = root_alone w0.now w1.now (changed w0 w1 64 (n ∷ []) stored);
-    named = named_by n (get_or (part g root w1.now) 0 0) is_area
+    named = named_by n (get_or (part_bytes g root w1.now) 0 0) is_area
         (get_or-take 64 (drop 64 w1.now) 0 0 (omega arith) ∙ get_or-drop 64 w1.now 0 0
         ∙ ap (λ (l : List ℕ). get_or l 64 0) stored.now ∙ item-overlaid w0.now 64 n 0 [] (omega (arith, fits)));
     calm = stored.calm;

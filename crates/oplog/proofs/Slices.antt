@@ -5,7 +5,7 @@ use Rattle.std.proofs.lemmas.List.{take-take, take-append-drop, drop-drop, drop-
 use Rattle.disk.specs.Device.{SameOutside, overlaid}
 use Rattle.disk.proofs.Outside.{same_before, same_behind, same_drop}
 use Rattle.disk.proofs.Overlays.{overlaid_outside, overlaid_parts, range-overlaid}
-use Rattle.oplog.specs.Layout.{Layout, slice, sizes, half_size, offset, part, part_at, part_size, device_size, half, image}
+use Rattle.oplog.specs.Layout.{Layout, slice, sizes, half_size, offset, part_bytes, part_at, part_size, device_size, half, image}
 use Rattle.oplog.specs.Changes.{IsSameBut}
 
 -- ---- a part of a part
@@ -70,17 +70,17 @@ same_but g p i n at old c is_part place inside same = record {
 }
 
 -- Bytes that are written within a part are written into the part's own bytes.
-pub part_overlaid : (g : Layout) (p i at : ℕ) (bytes old : List ℕ) → p < 6 → at ≡ part_at g p + i → i + length bytes ≤ part_size g p → device_size g ≤ length old → part g p (overlaid old at bytes) ≡ overlaid (part g p old) i bytes
+pub part_overlaid : (g : Layout) (p i at : ℕ) (bytes old : List ℕ) → p < 6 → at ≡ part_at g p + i → i + length bytes ≤ part_size g p → device_size g ≤ length old → part_bytes g p (overlaid old at bytes) ≡ overlaid (part_bytes g p old) i bytes
 part_overlaid g p i at bytes old is_part place inside fits =
     let new = overlaid old at bytes in
     let same : SameOutside (part_at g p + i) (length bytes) old new = subst (λ (a : ℕ). SameOutside a (length bytes) old new) place (overlaid_outside old at bytes) in
     let ends = part_inside g p is_part in
-    let written : slice (part g p new) i (length bytes) ≡ bytes =
+    let written : slice (part_bytes g p new) i (length bytes) ≡ bytes =
     slice_slice new (part_at g p) (part_size g p) i (length bytes) inside ∙ ap (λ (a : ℕ). slice new a (length bytes)) (sym place)
     ∙ range-overlaid old at bytes (omega (arith, place, inside, fits, ends)) in
-    let size : length (part g p old) ≡ part_size g p =
+    let size : length (part_bytes g p old) ≡ part_size g p =
     length-take-le (part_size g p) (drop (part_at g p) old) (omega (arith, length-drop (part_at g p) old, fits, ends)) in
-    put_in (part g p old) (part g p new) i bytes (omega (arith, inside, size)) (within (part_at g p) (part_size g p) i (length bytes) old new inside same) written
+    put_in (part_bytes g p old) (part_bytes g p new) i bytes (omega (arith, inside, size)) (within (part_at g p) (part_size g p) i (length bytes) old new inside same) written
   where
     put_in : (xs ys : List ℕ) (i : ℕ) (bytes : List ℕ) → i + length bytes ≤ length xs → SameOutside i (length bytes) xs ys → slice ys i (length bytes) ≡ bytes → ys ≡ overlaid xs i bytes
     put_in xs ys i bytes inside same written =

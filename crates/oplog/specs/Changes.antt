@@ -2,7 +2,7 @@
 use Rattle.std.specs.Prelude.{◌≡◌, ◌≢◌, ◌≤◌, ℕ, ◌+◌, false, List, ◌++◌, length, take, drop, replicate}
 use Rattle.disk.specs.Device.{Medium, Leaves, IsSynced}
 use Rattle.disk.specs.Moments.{LeavesOnly}
-use Rattle.oplog.specs.Layout.{Layout, slice, root, half, part, part_at, part_size, device_size, chain_area}
+use Rattle.oplog.specs.Layout.{Layout, slice, root, half, part_bytes, part_at, part_size, device_size, chain_area}
 use Rattle.oplog.specs.Stands.{named_area}
 use Rattle.oplog.specs.Front.{chain, gates, front, open_gates, IsShutBehind}
 
@@ -11,30 +11,30 @@ use Rattle.oplog.specs.Front.{chain, gates, front, open_gates, IsShutBehind}
 -- No other part differs, nor what lies behind the parts.
 pub record IsSameBut (g : Layout) (p : ℕ) (old c : List ℕ) : Type 0 where
   pub size : length c ≡ length old
-  pub others : (q : ℕ) → q ≢ p → part g q c ≡ part g q old
+  pub others : (q : ℕ) → q ≢ p → part_bytes g q c ≡ part_bytes g q old
   pub rest : drop (device_size g) c ≡ drop (device_size g) old
 
 -- Only gates and records of half h differ, and these records stand behind its front.
 pub record HasMore (g : Layout) (h : ℕ) (more : List (List ℕ)) (old c : List ℕ) : Type 0 where
   pub same : IsSameBut g (half h) old c
   -- its chain byte and the bytes beside it
-  pub area : take chain_area (part g (half h) c) ≡ take chain_area (part g (half h) old)
+  pub area : take chain_area (part_bytes g (half h) c) ≡ take chain_area (part_bytes g (half h) old)
   pub front : front g h c ≡ front g h old ++ more
 
 -- Only the chain byte of half h, the bytes beside it, and its gates differ: its records stay.
 pub record IsSameButGates (g : Layout) (h : ℕ) (old c : List ℕ) : Type 0 where
   pub same : IsSameBut g (half h) old c
-  pub records : drop (chain_area + g.slots) (part g (half h) c) ≡ drop (chain_area + g.slots) (part g (half h) old)
+  pub records : drop (chain_area + g.slots) (part_bytes g (half h) c) ≡ drop (chain_area + g.slots) (part_bytes g (half h) old)
 
 -- Only the chain byte of half h differs.
 pub record IsSameButChain (g : Layout) (h : ℕ) (old c : List ℕ) : Type 0 where
   pub same : IsSameBut g (half h) old c
-  pub beside : drop 1 (part g (half h) c) ≡ drop 1 (part g (half h) old)
+  pub beside : drop 1 (part_bytes g (half h) c) ≡ drop 1 (part_bytes g (half h) old)
 
 -- Only the first byte of the root zone differs.
 pub record IsSameButRoot (g : Layout) (old c : List ℕ) : Type 0 where
   pub same : IsSameBut g root old c
-  pub beside : drop 1 (part g root c) ≡ drop 1 (part g root old)
+  pub beside : drop 1 (part_bytes g root c) ≡ drop 1 (part_bytes g root old)
 
 -- ---- what a crash leaves
 
@@ -77,7 +77,7 @@ pub record HasAll (g : Layout) (h k : ℕ) (more : List (List ℕ)) (old new : M
 -- The chain byte of half h, the bytes beside it and its gates are 0, and nothing is loose.
 pub record Cleared (g : Layout) (h : ℕ) (old new : Medium) : Type 0 where
   pub same : IsSameButGates g h old.now new.now
-  pub zeros : take (chain_area + g.slots) (part g (half h) new.now) ≡ replicate (chain_area + g.slots) 0
+  pub zeros : take (chain_area + g.slots) (part_bytes g (half h) new.now) ≡ replicate (chain_area + g.slots) 0
   pub chain : chain g h new.now ≡ 0
   pub ready : IsReady g h 0 new
   pub calm : IsSynced new

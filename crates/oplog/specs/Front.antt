@@ -1,7 +1,7 @@
 -- What a half holds: its chain byte, its gates, and the records that its gates put in force.
 use Rattle.std.specs.Prelude.{◌≡◌, ℕ, zero, suc, ◌+◌, ◌-◌, ◌*◌, ◌==◌, List, [], ◌∷◌, take, drop, get_or, replicate}
 use Rattle.std.specs.List.{prefix_len}
-use Rattle.oplog.specs.Layout.{Layout, slice, part, half, chain_area, record_size}
+use Rattle.oplog.specs.Layout.{Layout, slice, part_bytes, half, chain_area, record_size}
 
 -- how many gates are 1 before the first that isn't
 abbrev pub open_gates : List ℕ → ℕ
@@ -31,16 +31,16 @@ record_in slots i h = slice h (chain_area + slots + i * record_size) record_size
 -- ---- of the bytes of a device
 
 abbrev pub chain : Layout → ℕ → List ℕ → ℕ
-chain g h c = chain_in (part g (half h) c)
+chain g h c = chain_in (part_bytes g (half h) c)
 
 abbrev pub gates : Layout → ℕ → List ℕ → List ℕ
-gates g h c = gates_in g.slots (part g (half h) c)
+gates g h c = gates_in g.slots (part_bytes g (half h) c)
 
 abbrev pub front : Layout → ℕ → List ℕ → List (List ℕ)
-front g h c = front_in g.slots (part g (half h) c)
+front g h c = front_in g.slots (part_bytes g (half h) c)
 
 abbrev pub record_at : Layout → ℕ → ℕ → List ℕ → List ℕ
-record_at g h i c = record_in g.slots i (part g (half h) c)
+record_at g h i c = record_in g.slots i (part_bytes g (half h) c)
 
 -- the gates behind the first k are 0
 abbrev pub IsShutBehind : Layout → ℕ → ℕ → List ℕ → Type 0

@@ -27,8 +27,8 @@ abbrev pub volume_piece_size : ℕ
 volume_piece_size = 64
 
 -- the greatest number of records that are written at a time
-abbrev pub batch : ℕ
-batch = 64
+abbrev pub largest_batch : ℕ
+largest_batch = 64
 
 -- ---- the sizes of one device
 
@@ -69,8 +69,8 @@ abbrev pub part_size : Layout → ℕ → ℕ
 part_size g k = get_or (sizes g) k 0
 
 -- the bytes of a part
-abbrev pub part : Layout → ℕ → List ℕ → List ℕ
-part g k c = slice c (part_at g k) (part_size g k)
+abbrev pub part_bytes : Layout → ℕ → List ℕ → List ℕ
+part_bytes g k c = slice c (part_at g k) (part_size g k)
 
 -- how many bytes all parts have
 abbrev pub device_size : Layout → ℕ

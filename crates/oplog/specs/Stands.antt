@@ -1,11 +1,11 @@
 -- What a device stands for: the state of an image with the records in force run on it.
 use Rattle.std.specs.Prelude.{ℕ, Bool, not, ◌&&◌, ◌==◌, nat_le, if◌then◌else◌, List, [], ◌∷◌, ◌++◌, length, get_or, Option, Some, None}
-use Rattle.oplog.specs.Layout.{Layout, part, device_size, header, root, image, other}
+use Rattle.oplog.specs.Layout.{Layout, part_bytes, device_size, header, root, image, other}
 use Rattle.oplog.specs.Front.{chain, front}
 
 -- the area that the root zone names: image and half of that number
 abbrev pub named_area : Layout → List ℕ → ℕ
-named_area g c = if get_or (part g root c) 0 0 == 1 then 1 else 0
+named_area g c = if get_or (part_bytes g root c) 0 0 == 1 then 1 else 0
 
 -- ---- with area n for the named one
 
@@ -39,11 +39,11 @@ module _ {S : Type 0} (means : Meaning S) where
 
   -- The header and the length are as they should, and at most one chain byte is 1.
   abbrev pub is_laid_out : Layout → List ℕ → Bool
-  is_laid_out g c = means.is_header (part g header c) && nat_le (device_size g) (length c) && not ((chain g 0 c == 1) && (chain g 1 c == 1))
+  is_laid_out g c = means.is_header (part_bytes g header c) && nat_le (device_size g) (length c) && not ((chain g 0 c == 1) && (chain g 1 c == 1))
 
   -- what the device would stand for, were area n the named one
   abbrev pub stands_as : Layout → ℕ → List ℕ → Option S
-  stands_as g n c = if is_laid_out g c then run (means.read (part g (image n) c)) (in_force g n c) else None
+  stands_as g n c = if is_laid_out g c then run (means.read (part_bytes g (image n) c)) (in_force g n c) else None
 
   -- the state that the device stands for; none where it isn't sound
   abbrev pub stands : Layout → List ℕ → Option S

@@ -33,7 +33,7 @@ pub struct Halves {
 
 impl Model for Halves {
     ghost use Rattle.std.specs.Prelude.{◌≡◌, ◌*◌, ◌<◌, ◌≤◌, min, vec_len};
-    ghost use Rattle.oplog.specs.Layout.{batch, record_size};
+    ghost use Rattle.oplog.specs.Layout.{largest_batch, record_size};
     ghost use Rattle.oplog.specs.Log.{Log};
 
     ghost Value = { Log };
@@ -48,7 +48,7 @@ impl Model for Halves {
     } };
 
     ghost invariant = { λ h. (h.named < 2) × (h.current < 2) × (h.used ≤ h.geometry.half)
-        × (vec_len h.buffer ≡ min h.geometry.half batch * record_size) };
+        × (vec_len h.buffer ≡ min h.geometry.half largest_batch * record_size) };
 }
 
 impl Halves {

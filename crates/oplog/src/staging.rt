@@ -1,7 +1,7 @@
 //! Messages as bytes, before they are written.
 ghost use Rattle.std.specs.Prelude.{◌≡◌, ◌*◌, ◌≤◌, length, take, vec_len};
 ghost use Rattle.std.specs.List.{concat, All, AllByRecursion};
-ghost use Rattle.message.specs.Records.{record_of, HasRoom};
+ghost use Rattle.message.specs.Records.{record_of, FitsRecord};
 ghost use Rattle.oplog.specs.Logged.{records_of};
 
 use crate::layout::RECORD_SIZE;
@@ -9,7 +9,7 @@ use message::{Msg, encode};
 
 /// Writes the record of a message into a place of 520 bytes.
 fn put_record(m: &Msg, place: &mut [u8])
-    requires room { HasRoom m.now }
+    requires room { FitsRecord m.now }
     requires size { length place.old ≡ 520 }
     ensures { place.new ≡ record_of m.now }
 {
@@ -21,7 +21,7 @@ fn put_record(m: &Msg, place: &mut [u8])
 
 /// Puts the records of these messages in a row at the front of `out`.
 fn put_records(messages: &[Msg], out: &mut [u8])
-    requires fit { All HasRoom messages.now }
+    requires fit { All FitsRecord messages.now }
     requires room { length messages.now * 520 ≤ length out.old }
     ensures staged { take (length messages.now * 520) out.new ≡ concat (records_of messages.now) }
     ensures sizes { AllByRecursion (λ r. length r ≡ 520) (records_of messages.now) }
@@ -34,7 +34,7 @@ fn put_records(messages: &[Msg], out: &mut [u8])
 
 /// Puts the records of these messages in a row at the front of the buffer.
 pub(crate) fn stage(messages: &[Msg], buffer: &mut Vec<u8>)
-    requires fit { All HasRoom messages.now }
+    requires fit { All FitsRecord messages.now }
     requires room { length messages.now * 520 ≤ vec_len buffer.old }
     ensures staged { take (length messages.now * 520) buffer.new.items ≡ concat (records_of messages.now) }
     ensures sizes { AllByRecursion (λ r. length r ≡ 520) (records_of messages.now) }

@@ -6,7 +6,7 @@ use Rattle.std.proofs.lemmas.List.{get_or-set_same, get_or-set_other}
 use Rattle.std.proofs.Math.Seq.{take-length}
 use Rattle.affinity.specs.Path.{Path, begins, are_related}
 use Rattle.parcel.specs.Fits.{EachFits}
-use Rattle.parcel.specs.Levels.{IsRowPath, Refuses, Takes, Puts, HandsBack}
+use Rattle.parcel.specs.Levels.{IsRowPath, Refuses, TakesParcels, Puts, HandsBack}
 use Rattle.parcel.specs.Nodes.{Node, Nodes, in_child, in_row, in_parcels, put_at, TakesOut, PutsBack, SameNodes}
 use Rattle.parcel.specs.Tree.{IsOut}
 use Rattle.parcel.specs.declared.parts.Parcels.{Parcels}
@@ -50,9 +50,6 @@ related_rest i j p q h = ⊎_elim
     (or_cases ((i == j) && begins p q) ((j == i) && begins q p) h)
 
 -- ---- a row after a write
-
-abbrev child_at : {X : Type 0} → List (Option X) → ℕ → Option X
-child_at xs j = slice_index_or xs j None
 
 module _ {X : Type 0} (nodes : X → Nodes) (own : Node) (xs : List (Option X)) (i : ℕ) (y : Option X) (there : i < length xs) where
   same_there : (j : ℕ) → i ≡ j → slice_index_or (slice_set xs i y) j None ≡ y
@@ -112,8 +109,8 @@ module _ {X : Type 0} (nodes : X → Nodes) (own : Node) (xs : List (Option X)) 
     same = row_same h.same;
   }
 
-  pub row_is_taken : (IsBelow : Path → Type 0) (count : ℕ) (p : Path) (lent : Parcels) → Takes IsBelow p lent (in_child nodes (slice_index_or xs i None)) (in_child nodes y)
-      → Takes (IsRowPath count IsBelow) (i ∷ p) lent (in_row nodes own xs) (in_row nodes own (slice_set xs i y))
+  pub row_is_taken : (IsBelow : Path → Type 0) (count : ℕ) (p : Path) (lent : Parcels) → TakesParcels IsBelow p lent (in_child nodes (slice_index_or xs i None)) (in_child nodes y)
+      → TakesParcels (IsRowPath count IsBelow) (i ∷ p) lent (in_row nodes own xs) (in_row nodes own (slice_set xs i y))
   row_is_taken IsBelow count p lent h = record {
     all_in = row_all_in {IsBelow = IsBelow} count p h.all_in;
     parcels = h.parcels;
@@ -134,12 +131,6 @@ module _ {X : Type 0} (nodes : X → Nodes) (own : Node) (xs : List (Option X)) 
   pub row_handed_back : (IsKind : Type 0) (p : Path) (parcels back : Parcels) → HandsBack IsKind p parcels back (in_child nodes (slice_index_or xs i None)) (in_child nodes y)
       → HandsBack IsKind (i ∷ p) parcels back (in_row nodes own xs) (in_row nodes own (slice_set xs i y))
   row_handed_back IsKind p parcels back h = record { back = h.back; why = λ out kind. h.why (out_row p out) kind; same = row_same h.same }
-
--- ---- where there is no row
-
-pub none_refused : {X : Type 0} (nodes : X → Nodes) (IsThere : Path → Type 0) (p : Path) → IsThere [] → Refuses IsThere p (in_child nodes None) (in_child nodes None)
-none_refused nodes IsThere [] top = record { gap = ([], top, refl, refl); same = λ q. refl }
-none_refused nodes IsThere (i ∷ p) top = record { gap = ([], top, refl, refl); same = λ q. refl }
 
 -- ---- the first of a path, and the rest
 

@@ -9,9 +9,9 @@ use Rattle.std.proofs.lemmas.Nat.Bits.{bit_at-lt, bit_at_above, bit_at_set_same,
 use Rattle.std.proofs.Math.Pow.{pow-lt}
 use Rattle.std.proofs.Math.Nat.{pow-le-pow_right}
 use Rattle.plain.specs.State.{sum_below}
-use Rattle.parcel.specs.Shown.{has_bit}
+use Rattle.parcel.specs.Shown.{has_file}
 
-pub sum_bits : (n m : ℕ) → sum_below n (λ f. if has_bit m f then 2 ^ f else 0) ≡ m % 2 ^ n
+pub sum_bits : (n m : ℕ) → sum_below n (λ f. if has_file m f then 2 ^ f else 0) ≡ m % 2 ^ n
 sum_bits zero m = omega arith
 sum_bits (suc n) m =
     let before = sum_bits n m in
@@ -19,20 +19,20 @@ sum_bits (suc n) m =
     let same : 1 + n ≡ suc n = omega arith in
     ⊎_elim
     (λ e.
-    let one : (if has_bit m n then 2 ^ n else 0) ≡ 2 ^ n = ap (λ b. if b then 2 ^ n else 0) (eq-eqb (bit_at m n) 1 e) in
+    let one : (if has_file m n then 2 ^ n else 0) ≡ 2 ^ n = ap (λ b. if b then 2 ^ n else 0) (eq-eqb (bit_at m n) 1 e) in
     let times : bit_at m n * 2 ^ n ≡ 1 * 2 ^ n = ap (λ b. b * 2 ^ n) e in
-    let goal : sum_below n (λ f. if has_bit m f then 2 ^ f else 0) + (if has_bit m n then 2 ^ n else 0) ≡ m % 2 ^ (1 + n) = omega (arith, before, high, one, times) in
+    let goal : sum_below n (λ f. if has_file m f then 2 ^ f else 0) + (if has_file m n then 2 ^ n else 0) ≡ m % 2 ^ (1 + n) = omega (arith, before, high, one, times) in
     goal ∙ ap (λ k. m % 2 ^ k) same)
     (λ ne.
-    let none : (if has_bit m n then 2 ^ n else 0) ≡ 0 = ap (λ b. if b then 2 ^ n else 0) (ne_eqb (bit_at m n) 1 ne) in
+    let none : (if has_file m n then 2 ^ n else 0) ≡ 0 = ap (λ b. if b then 2 ^ n else 0) (ne_eqb (bit_at m n) 1 ne) in
     let zero' : bit_at m n ≡ 0 = omega (arith, ne, bit_at-lt m n) in
     let times : bit_at m n * 2 ^ n ≡ 0 * 2 ^ n = ap (λ b. b * 2 ^ n) zero' in
-    let goal : sum_below n (λ f. if has_bit m f then 2 ^ f else 0) + (if has_bit m n then 2 ^ n else 0) ≡ m % 2 ^ (1 + n) = omega (arith, before, high, none, times) in
+    let goal : sum_below n (λ f. if has_file m f then 2 ^ f else 0) + (if has_file m n then 2 ^ n else 0) ≡ m % 2 ^ (1 + n) = omega (arith, before, high, none, times) in
     goal ∙ ap (λ k. m % 2 ^ k) same)
     (cases_eq (bit_at m n) 1)
 
 -- a number below 2 ^ n is the sum of its bits
-pub bits_back : (n m : ℕ) → m < 2 ^ n → sum_below n (λ f. if has_bit m f then 2 ^ f else 0) ≡ m
+pub bits_back : (n m : ℕ) → m < 2 ^ n → sum_below n (λ f. if has_file m f then 2 ^ f else 0) ≡ m
 bits_back n m below = sum_bits n m ∙ mod-eq_of_lt below
 
 -- ---- one file more, one less
@@ -45,20 +45,20 @@ with_bit n f = bit_or n (1 * 2 ^ f % 2 ^ 64)
 abbrev pub without_bit : ℕ → ℕ → ℕ
 without_bit n f = bit_and n (bit_not w64 (1 * 2 ^ f % 2 ^ 64))
 
-pub with_bit_has : (n f : ℕ) → f < 64 → (i : ℕ) → has_bit (with_bit n f) i ≡ ((f == i) || has_bit n i)
+pub with_bit_has : (n f : ℕ) → f < 64 → (i : ℕ) → has_file (with_bit n f) i ≡ ((f == i) || has_file n i)
 with_bit_has n f lt i =
     ⊎_elim
     (λ e.
-    ap (λ k. has_bit (with_bit n f) k) e ∙ eq-eqb _ 1 (bit_at_set_same w64 n f lt) ∙ sym (ap (λ t. t || has_bit n i) (eq-eqb f i (sym e))))
+    ap (λ k. has_file (with_bit n f) k) e ∙ eq-eqb _ 1 (bit_at_set_same w64 n f lt) ∙ sym (ap (λ t. t || has_file n i) (eq-eqb f i (sym e))))
     (λ ne.
-    ap (λ b. b == 1) (bit_at_set_other w64 n f lt i ne) ∙ sym (ap (λ t. t || has_bit n i) (ne_eqb f i (λ e. ne (sym e)))))
+    ap (λ b. b == 1) (bit_at_set_other w64 n f lt i ne) ∙ sym (ap (λ t. t || has_file n i) (ne_eqb f i (λ e. ne (sym e)))))
     (cases_eq i f)
 
-pub without_bit_has : (n f : ℕ) → f < 64 → n < 2 ^ 64 → (i : ℕ) → has_bit (without_bit n f) i ≡ (not (f == i) && has_bit n i)
+pub without_bit_has : (n f : ℕ) → f < 64 → n < 2 ^ 64 → (i : ℕ) → has_file (without_bit n f) i ≡ (not (f == i) && has_file n i)
 without_bit_has n f lt fits i =
     ⊎_elim
     (λ e.
-    ap (λ k. has_bit (without_bit n f) k) e ∙ ap (λ b. b == 1) (bit_at_clear_same w64 n f lt) ∙ sym (ap (λ t. not t && has_bit n i) (eq-eqb f i (sym e))))
+    ap (λ k. has_file (without_bit n f) k) e ∙ ap (λ b. b == 1) (bit_at_clear_same w64 n f lt) ∙ sym (ap (λ t. not t && has_file n i) (eq-eqb f i (sym e))))
     (λ ne.
     ap (λ b. b == 1) (⊎_elim
     (λ below. bit_at_clear_other w64 n f lt i below ne)
@@ -66,7 +66,7 @@ without_bit_has n f lt fits i =
     let left : without_bit n f ≤ n = and_le_l n (bit_not w64 (1 * 2 ^ f % 2 ^ 64)) in
     let small : without_bit n f < 2 ^ 64 = omega (arith, left, fits) in
     bit_at_above (without_bit n f) 64 i small above ∙ sym (bit_at_above n 64 i fits above))
-    (cases_lt i 64)) ∙ sym (ap (λ t. not t && has_bit n i) (ne_eqb f i (λ e. ne (sym e)))))
+    (cases_lt i 64)) ∙ sym (ap (λ t. not t && has_file n i) (ne_eqb f i (λ e. ne (sym e)))))
     (cases_eq i f)
 
 pub with_bit_below : (k n f : ℕ) → n < 2 ^ k → f < k → k ≤ 64 → with_bit n f < 2 ^ k

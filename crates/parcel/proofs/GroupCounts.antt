@@ -8,43 +8,43 @@ use Rattle.affinity.specs.Geometry.{group}
 use Rattle.plain.specs.State.{State, sum_below, one_if, group_count}
 use Rattle.plain.proofs.Sums.{sum_same, sum_zero, sum_one_more}
 use Rattle.parcel.specs.Fits.{FitsStripe}
-use Rattle.stripe.specs.Stripe.{Entry, StripePart, ComesBefore, IsAscending, IsKept, content_at}
+use Rattle.stripe.specs.Stripe.{BlockEntry, StripePart, ComesBefore, IsAscending, StripeRule, content_at}
 
 -- ---- an entry isn't there again behind itself
 
-before_differs : (d e : Entry) → ComesBefore d e → ((d.file == e.file) && (d.block == e.block)) ≡ false
+before_differs : (d e : BlockEntry) → ComesBefore d e → ((d.file == e.file) && (d.block == e.block)) ≡ false
 before_differs d e h = false_from_ne_true ((d.file == e.file) && (d.block == e.block)) (λ is.
     let p = and_parts (d.file == e.file) (d.block == e.block) is in
     let same_file : d.file ≡ e.file = eqb-true d.file e.file p.0 in
     let same_block : d.block ≡ e.block = eqb-true d.block e.block p.1 in
     ⊎_elim (λ lt. omega (arith, same_file, lt)) (λ r. omega (arith, same_block, r.1)) h)
 
-absent_behind : (e : Entry) (es : List Entry) → AllByRecursion (ComesBefore e) es → content_at es e.file e.block ≡ None
+absent_behind : (e : BlockEntry) (es : List BlockEntry) → AllByRecursion (ComesBefore e) es → content_at es e.file e.block ≡ None
 absent_behind e [] h = refl
 absent_behind e (d ∷ es) h = ap (λ t. if t then Some d.content else content_at es e.file e.block) (before_differs e d h.0) ∙ absent_behind e es h.1
 
 module _ (g : Geometry) (s : ℕ) where
-  abbrev pub Lies : List Entry → Type 0
+  abbrev pub Lies : List BlockEntry → Type 0
   Lies es = (f b : ℕ) → is_some (content_at es f b) ≡ true → (f < g.files) × (b < g.blocks) × (group g f b ≡ s)
 
-  pub lies_behind : (e : Entry) (es : List Entry) → Lies (e ∷ es) → Lies es
+  pub lies_behind : (e : BlockEntry) (es : List BlockEntry) → Lies (e ∷ es) → Lies es
   lies_behind e es lies f b there = lies f b (still ((f == e.file) && (b == e.block)))
     where
       still : (t : Bool) → is_some (if t then Some e.content else content_at es f b) ≡ true
       still true = refl
       still false = there
 
-  pub lies_first : (e : Entry) (es : List Entry) → Lies (e ∷ es) → (e.file < g.files) × (e.block < g.blocks) × (group g e.file e.block ≡ s)
+  pub lies_first : (e : BlockEntry) (es : List BlockEntry) → Lies (e ∷ es) → (e.file < g.files) × (e.block < g.blocks) × (group g e.file e.block ≡ s)
   lies_first e es lies = lies e.file e.block (λ i. is_some (if eq-eqb e.file e.file refl i && eq-eqb e.block e.block refl i then Some e.content else content_at es e.file e.block))
 
-  abbrev counted : List Entry → ℕ → ℕ → ℕ
+  abbrev counted : List BlockEntry → ℕ → ℕ → ℕ
   counted es f b = one_if ((group g f b == s) && is_some (content_at es f b))
 
-  abbrev all_counted : List Entry → ℕ
+  abbrev all_counted : List BlockEntry → ℕ
   all_counted es = sum_below g.files (λ f. sum_below g.blocks (λ b. counted es f b))
 
   -- an entry in front counts one more, at its place
-  one_entry : (e : Entry) (es : List Entry) → AllByRecursion (ComesBefore e) es → Lies (e ∷ es) → all_counted (e ∷ es) ≡ all_counted es + 1
+  one_entry : (e : BlockEntry) (es : List BlockEntry) → AllByRecursion (ComesBefore e) es → Lies (e ∷ es) → all_counted (e ∷ es) ≡ all_counted es + 1
   one_entry e es before lies =
       let at = lies_first e es lies in
       let in_group : (group g e.file e.block == s) ≡ true = eq-eqb _ _ at.2 in
@@ -57,7 +57,7 @@ module _ (g : Geometry) (s : ℕ) where
       (λ b ne i. one_if ((group g e.file b == s) && is_some (if file i && ne_eqb b e.block ne i then Some e.content else content_at es e.file b)))
       ((λ i. one_if (in_group i && is_some (if file i && block i then Some e.content else content_at es e.file e.block))) ∙ (λ i. one_if (sym in_group i && is_some (sym absent i)) + 1)))
 
-  as_many : (es : List Entry) → IsAscending es → Lies es → all_counted es ≡ length es
+  as_many : (es : List BlockEntry) → IsAscending es → Lies es → all_counted es ≡ length es
   as_many [] ascending lies = sum_same g.files _ (λ f. 0) (λ f. sum_same g.blocks _ (λ b. 0) (λ b. nothing (group g f b == s)) ∙ sum_zero g.blocks) ∙ sum_zero g.files
     where
       nothing : (t : Bool) → one_if (t && false) ≡ 0
@@ -69,7 +69,7 @@ module _ (g : Geometry) (s : ℕ) where
       omega (arith, rest, one)
 
   -- where a state has the blocks of the stripe
-  pub count_is_length : (x : State) (a v : ℕ) (p : StripePart) → IsKept p → FitsStripe g s p → ((f b : ℕ) → group g f b ≡ s → x.blocks (a, v, f, b) ≡ content_at p.entries f b) → group_count g x a v s ≡ length p.entries
+  pub count_is_length : (x : State) (a v : ℕ) (p : StripePart) → StripeRule p → FitsStripe g s p → ((f b : ℕ) → group g f b ≡ s → x.blocks (a, v, f, b) ≡ content_at p.entries f b) → group_count g x a v s ≡ length p.entries
   count_is_length x a v p kept fits same = sum_same g.files _ _ (λ f. sum_same g.blocks _ _ (λ b. at f b (group g f b == s) refl)) ∙ as_many p.entries kept.ascending fits.lies
     where
       at : (f b : ℕ) (t : Bool) → (group g f b == s) ≡ t → one_if ((group g f b == s) && is_some (x.blocks (a, v, f, b))) ≡ counted p.entries f b

@@ -19,7 +19,7 @@ use Rattle.plain.proofs.Kept.{step_kept}
 use Rattle.parcel.specs.Fits.{Fits}
 use Rattle.parcel.specs.Holding.{TreeHolds, IsApart, IsJobOut, nowhere, with_place}
 use Rattle.parcel.specs.Nodes.{Node, Nodes, in_parcels, tree_state}
-use Rattle.parcel.specs.Run.{Asked, IsRun, Shows}
+use Rattle.parcel.specs.Run.{JobView, IsJobRun, Shows}
 use Rattle.parcel.specs.RunLaws.{CanBePutBack, LendsJob, job_place}
 use Rattle.parcel.specs.Tree.{IsIn, HasGap, IsOut, LendsAt, RestoresAt, path_above}
 use Rattle.parcel.specs.declared.job.Done.{Done}
@@ -75,7 +75,7 @@ lent_is_out g (x ∷ p) t l old lent path h =
 pub place_is_path : (g : Geometry) (m : Msg) → is_in_range g m ≡ true → IsPath g (place g m)
 place_is_path g m h = IsPath-place g (kind m) (four_numbers m) h
 
-pub ran_goes_back : (job : Asked) (done : Done) (old lent : Nodes) → LendsJob job old lent → IsRun job done
+pub ran_goes_back : (job : JobView) (done : Done) (old lent : Nodes) → LendsJob job old lent → IsJobRun job done
     → CanBePutBack job.geometry (job_place job) done.parcels lent
 ran_goes_back job done old lent h ran =
     let g = job.geometry in
@@ -210,7 +210,7 @@ shows_still g p t l x m apart shows = agree-trans shows (agree_within (λ q rela
 
 -- ---- a job that is out, and what it left when it ran
 
-pub job_goes_back : (out : Path → Bool) (job : Asked) (done : Done) (n : Nodes) (x : State) → IsJobOut out job n x → IsRun job done → CanBePutBack job.geometry (job_place job) done.parcels n
+pub job_goes_back : (out : Path → Bool) (job : JobView) (done : Done) (n : Nodes) (x : State) → IsJobOut out job n x → IsJobRun job done → CanBePutBack job.geometry (job_place job) done.parcels n
 job_goes_back out job done n x h ran =
     let g = job.geometry in
     let p = place g job.message in
@@ -220,10 +220,10 @@ job_goes_back out job done n x h ran =
       fits = ran.suits.fits;
     }
 
-pub job_reply : (out : Path → Bool) (job : Asked) (done : Done) (n : Nodes) (x : State) → IsJobOut out job n x → IsRun job done → done.reply ≡ reply_to job.geometry x job.message
+pub job_reply : (out : Path → Bool) (job : JobView) (done : Done) (n : Nodes) (x : State) → IsJobOut out job n x → IsJobRun job done → done.reply ≡ reply_to job.geometry x job.message
 job_reply out job done n x h ran = (serial_run job done x ran h.shows).reply
 
-pub job_is_back : (out : Path → Bool) (job : Asked) (done : Done) (n new : Nodes) (x : State) → IsJobOut out job n x → IsRun job done → IsMessage job.message
+pub job_is_back : (out : Path → Bool) (job : JobView) (done : Done) (n new : Nodes) (x : State) → IsJobOut out job n x → IsJobRun job done → IsMessage job.message
     → RestoresAt job.geometry (job_place job) done.parcels n new → TreeHolds job.geometry out new (next_state job.geometry x job.message)
 job_is_back out job done n new x h ran message put =
     restored_holds job.geometry out (job_place job) h.apart job.message refl job.standing done.parcels n new x h.holds put ran.suits.fits (serial_run job done x ran h.shows).shows message

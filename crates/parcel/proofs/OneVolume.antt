@@ -14,19 +14,19 @@ use Rattle.message.specs.declared.Reply.TheVariants.{Refused}
 use Rattle.message.specs.Messages.{is_in_range}
 use Rattle.plain.specs.State.{State, group_count}
 use Rattle.plain.specs.Serial.{refusal, effect, accepted_reply, outcome}
-use Rattle.parcel.specs.Run.{IsStep}
+use Rattle.parcel.specs.Run.{IsSerialStep}
 use Rattle.parcel.specs.Steps.{unless, unless_closed}
 use Rattle.parcel.specs.Volume.{Facts, facts_if, only}
 
 -- ---- a step, by its refusal
 
-pub refused : (g : Geometry) (x : State) (m : Msg) (why : Refusal) → refusal g x m ≡ Some why → IsStep g x m (Refused why) x
+pub refused : (g : Geometry) (x : State) (m : Msg) (why : Refusal) → refusal g x m ≡ Some why → IsSerialStep g x m (Refused why) x
 refused g x m why e = record {
   reply = λ i. (outcome (sym e i) (accepted_reply g x m) (effect x m) x).0;
   state = λ i. (outcome (sym e i) (accepted_reply g x m) (effect x m) x).1;
 }
 
-pub passed : (g : Geometry) (x : State) (m : Msg) (told : Reply) (y : State) → refusal g x m ≡ None → told ≡ accepted_reply g x m → y ≡ effect x m → IsStep g x m told y
+pub passed : (g : Geometry) (x : State) (m : Msg) (told : Reply) (y : State) → refusal g x m ≡ None → told ≡ accepted_reply g x m → y ≡ effect x m → IsSerialStep g x m told y
 passed g x m told y e same new = record {
   reply = same ∙ (λ i. (outcome (sym e i) (accepted_reply g x m) (effect x m) x).0);
   state = new ∙ (λ i. (outcome (sym e i) (accepted_reply g x m) (effect x m) x).1);

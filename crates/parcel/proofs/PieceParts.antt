@@ -8,7 +8,7 @@ use Rattle.affinity.specs.Interval.{IsPath}
 use Rattle.affinity.specs.Path.{Path}
 use Rattle.affinity.specs.declared.geometry.Geometry.{Geometry}
 use Rattle.byteorder.specs.Endian.{little_number}
-use Rattle.message.specs.Messages.{AreBytes}
+use Rattle.message.specs.Messages.{AreSizedBytes}
 use Rattle.message.specs.Replies.{has_file}
 use Rattle.message.specs.declared.Block.{Block}
 use Rattle.plain.specs.State.{State, IsState}
@@ -17,10 +17,10 @@ use Rattle.stripe.specs.Stripe.{StripePart}
 use Rattle.image.specs.Pieces.{block_in, bytes_at, piece_count, aggregate_of, volume_of as volume_number}
 use Rattle.image.proofs.Numbers.{in_aggregates, in_volumes}
 use Rattle.parcel.specs.Fits.{FitsLogical, FitsVolume, FitsAggregate, FitsRoot, IsWholeChild, IsWholeLogical, IsWholeVolume, IsWholeAggregate, IsWholeRoot}
-use Rattle.parcel.specs.Levels.{volume_of, volume_in, is_whole_root}
+use Rattle.parcel.specs.Levels.{volume_below, volume_in, is_whole_root}
 use Rattle.parcel.specs.Nodes.{Nodes, in_child, in_stripe, in_label, in_logical, in_volume, in_aggregate, in_root, marks_made, marks_sealed, files_have, slots_hold, text_of, tree_state}
 use Rattle.parcel.specs.Pieces.{HasFacts, IsPartRead, spelled, said_piece, volume_with, with_files, facts_with}
-use Rattle.parcel.specs.Shown.{by_volume, files_in, blocks_below, blocks_in, blocks_of, label_in}
+use Rattle.parcel.specs.Shown.{volume_facts, files_in, blocks_below, blocks_in, blocks_of, shown_label}
 use Rattle.parcel.specs.Tree.{IsIn}
 use Rattle.parcel.specs.declared.parts.Label.{Label}
 use Rattle.parcel.specs.declared.parts.Logical.{Logical}
@@ -45,7 +45,7 @@ volume_is_read version g bytes good old new fits whole is taken kept = record {
     λ on. is.0 on ∙ sym (volume_said version g x a v bytes),
     λ same. is.1 (same ∙ volume_said version g x a v bytes),
   );
-  facts = λ on. ap (by_volume g) (taken on) ∙ facts_said version g bytes (is.0 on) old whole;
+  facts = λ on. ap (volume_facts g) (taken on) ∙ facts_said version g bytes (is.0 on) old whole;
 }
   where
     files_fit : (o : Option Logical) → IfSome o (FitsLogical g) → IfSome (with_files (little_number 8 (bytes_at 8 8 bytes) % 2 ^ g.files) o) (FitsLogical g)
@@ -73,7 +73,7 @@ all_bytes (b ∷ bytes) each = (each 0, all_bytes bytes (λ i. each (suc i)))
 pub stripe_is_read : (version : ℕ) (g : Geometry) (s : ℕ) (bytes : List ℕ) (good : Bool) (old : Vol) (l k : Logical) → old.logical ≡ Some l → IsWholeVolume old → FitsLogical g k → IsWholeLogical k → k.files ≡ l.files
     → (IsTrue good ↔ IsStripePiece g l.files s bytes)
     → (IsTrue good → (f b : ℕ) → blocks_of g k.stripes.items f b ≡ (if group g f b == s then block_in g bytes f b else blocks_of g l.stripes.items f b))
-    → AreBytes (g.quota * 520) bytes → IsPartRead version g (suc s) bytes good old (record old { logical = Some k })
+    → AreSizedBytes (g.quota * 520) bytes → IsPartRead version g (suc s) bytes good old (record old { logical = Some k })
 stripe_is_read version g s bytes good old l k was whole fits now_whole files piece blocks are = record {
   fits = record { logical = fits };
   whole = (now_whole, whole.1);
@@ -86,7 +86,7 @@ stripe_is_read version g s bytes good old l k was whole fits now_whole files pie
     sealed = old.sealed;
     files = λ f. (ap (λ n. has_file n f) files ∙ sym (ap (λ o. files_in o f) was)) i;
     blocks = λ f b. (blocks on f b ∙ sym (ap (λ o. if group g f b == s then block_in g bytes f b else blocks_below g o f b) was)) i;
-    label = label_in old.label;
+    label = shown_label old.label;
   };
 }
 
@@ -106,7 +106,7 @@ module _ (g : Geometry) where
   abbrev IsThere : Option Vol → Type 0
   IsThere found = IfSome found (FitsVolume g) × IsWholeChild IsWholeVolume found
 
-  of_aggregate : (v : ℕ) → v < g.volumes → (x : Option Aggr) → IfSome x (FitsAggregate g) → IsWholeChild IsWholeAggregate x → IsThere (volume_of x v)
+  of_aggregate : (v : ℕ) → v < g.volumes → (x : Option Aggr) → IfSome x (FitsAggregate g) → IsWholeChild IsWholeAggregate x → IsThere (volume_below x v)
   of_aggregate v below None fits whole = absurd whole
   of_aggregate v below (Some r) fits whole =
       let within : v < length r.volumes.items = omega (arith, below, fits.count) in
@@ -129,7 +129,7 @@ module _ (g : Geometry) where
   nodes_there a v None q = refl
   nodes_there a v (Some r) q = by (slice_index_or r.aggregates.items a None)
     where
-      by : (x : Option Aggr) → in_child in_aggregate x (v ∷ q) ≡ in_child in_volume (volume_of x v) q
+      by : (x : Option Aggr) → in_child in_aggregate x (v ∷ q) ≡ in_child in_volume (volume_below x v) q
       by None = refl
       by (Some r) = refl
 
@@ -145,12 +145,12 @@ module _ (g : Geometry) where
   blocks_same None f b = refl
   blocks_same (Some l) f b = stripe_same (slice_index_or l.stripes.items (group g f b) None) f b
 
-  label_same : (o : Option Label) → text_of (in_child in_label o []) ≡ label_in o
+  label_same : (o : Option Label) → text_of (in_child in_label o []) ≡ shown_label o
   label_same None = refl
   label_same (Some l) = refl
 
   -- the state of nodes has there what the volume has
-  pub state_there : (n : Nodes) (a v : ℕ) (w : Vol) → ((q : Path) → n (a ∷ v ∷ q) ≡ in_volume w q) → HasFacts (tree_state g n) a v (by_volume g w)
+  pub state_there : (n : Nodes) (a v : ℕ) (w : Vol) → ((q : Path) → n (a ∷ v ∷ q) ≡ in_volume w q) → HasFacts (tree_state g n) a v (volume_facts g w)
   state_there n a v w at = record {
     made = ap marks_made (at []);
     sealed = ap marks_sealed (at []);

@@ -6,7 +6,7 @@ use Rattle.affinity.specs.Geometry.{group}
 use Rattle.affinity.specs.Interval.{IsPath}
 use Rattle.affinity.specs.Path.{Path, begins, volume}
 use Rattle.affinity.specs.declared.geometry.Geometry.{Geometry}
-use Rattle.message.specs.Messages.{AreBytes}
+use Rattle.message.specs.Messages.{AreSizedBytes}
 use Rattle.message.specs.Replies.{has_file}
 use Rattle.message.specs.declared.Block.{Block}
 use Rattle.plain.specs.Laws.{outside}
@@ -14,10 +14,10 @@ use Rattle.plain.specs.Shares.{AgreeOn}
 use Rattle.plain.specs.State.{State, VolumeKey, FileKey, BlockKey, IsState, is_volume, is_block_of}
 use Rattle.plain.proofs.Agree.{agree-sym, agree-trans}
 use Rattle.plain.proofs.ShareLaws.{agree_in_and_out}
-use Rattle.image.specs.Pieces.{part_piece, part_size, with_part, with_volume_piece, with_stripe_piece, is_made_in, is_sealed_in, has_file_in, label_in as said_label_in, block_in}
+use Rattle.image.specs.Pieces.{part_piece, piece_part_size, with_part, with_volume_piece, with_stripe_piece, is_made_in, is_sealed_in, has_file_in, label_in as said_label_in, block_in}
 use Rattle.parcel.specs.Nodes.{Nodes, in_child, in_logical, in_volume, files_bits, tree_state, PutsBack}
 use Rattle.parcel.specs.Pieces.{HasFacts, IsPartRead, IsRead, facts_with, spelled, said_piece}
-use Rattle.parcel.specs.Shown.{by_volume, files_in}
+use Rattle.parcel.specs.Shown.{volume_facts, files_in}
 use Rattle.parcel.specs.Tree.{IsIn}
 use Rattle.parcel.specs.Volume.{Facts}
 use Rattle.parcel.specs.declared.parts.Logical.{Logical}
@@ -99,8 +99,8 @@ files_told : (o : Option Logical) (f : ℕ) → files_in o f ≡ has_file (files
 files_told None f = sym (has_none f)
 files_told (Some l) f = refl
 
-pub part_state : (version : ℕ) (g : Geometry) (x : State) → IsState g x → (a v : ℕ) → a < g.aggregates → v < g.volumes → (w : Vol) → HasFacts x a v (by_volume g w) → (part : ℕ) → (part ≡ 0 → (f b : ℕ) → x.blocks (a, v, f, b) ≡ None)
-    → (bytes : List ℕ) → AreBytes (part_size g part) bytes → bytes ≡ part_piece version g (with_part version g x a v part bytes) a v part → IsState g (with_part version g x a v part bytes)
+pub part_state : (version : ℕ) (g : Geometry) (x : State) → IsState g x → (a v : ℕ) → a < g.aggregates → v < g.volumes → (w : Vol) → HasFacts x a v (volume_facts g w) → (part : ℕ) → (part ≡ 0 → (f b : ℕ) → x.blocks (a, v, f, b) ≡ None)
+    → (bytes : List ℕ) → AreSizedBytes (piece_part_size g part) bytes → bytes ≡ part_piece version g (with_part version g x a v part bytes) a v part → IsState g (with_part version g x a v part bytes)
 part_state version g x is a v first second w has zero empty bytes are good =
     volume_state version g bytes (good ∙ volume_said version g x a v bytes) x is a v first second (empty refl) are
 part_state version g x is a v first second w has (suc s) empty bytes are good =
@@ -112,7 +112,7 @@ part_state version g x is a v first second w has (suc s) empty bytes are good =
 
 module _ (version : ℕ) (g : Geometry) (part : ℕ) (bytes : List ℕ) (good : Bool) (a v : ℕ) (found : Option Vol) (old new : Nodes) (read : IsRead version g part bytes good (volume a v) found old new)
     (at : (q : Path) → old (a ∷ v ∷ q) ≡ in_child in_volume found q) where
-  pub has_then : HasFacts (tree_state g old) a v (by_volume g read.was)
+  pub has_then : HasFacts (tree_state g old) a v (volume_facts g read.was)
   has_then = state_there g old a v read.was (λ q. at q ∙ ap (λ o. in_child in_volume o q) read.there)
 
   pub read_good : IsState g (tree_state g old) → IsTrue good ↔ (bytes ≡ part_piece version g (with_part version g (tree_state g old) a v part bytes) a v part)
@@ -123,7 +123,7 @@ module _ (version : ℕ) (g : Geometry) (part : ℕ) (bytes : List ℕ) (good : 
       let now = state_there g new a v read.now (λ q. read.nodes (a ∷ v ∷ q) ∙ put_there (volume a v) q (in_volume read.now) old) in
       let told = subst (λ (h : Facts). HasFacts (tree_state g new) a v h) (read.read.facts on) now in
       agree_in_and_out g (volume a v) (tree_state g new) (with_part version g (tree_state g old) a v part bytes)
-      (same_there g a v (tree_state g new) (with_part version g (tree_state g old) a v part bytes) _ told (facts_taken g a v version (tree_state g old) (by_volume g read.was) has_then part bytes))
+      (same_there g a v (tree_state g new) (with_part version g (tree_state g old) a v part bytes) _ told (facts_taken g a v version (tree_state g old) (volume_facts g read.was) has_then part bytes))
       (agree-trans (put_leaves g (volume a v) (in_volume read.now) old new read.nodes) (agree-sym (elsewhere_taken g a v version (tree_state g old) part bytes)))
 
   pub read_in : IsIn g [] old → IsIn g [] new

@@ -15,7 +15,7 @@ use Rattle.plain.proofs.Frame.{reads_only, changes_only}
 use Rattle.plain.proofs.Kept.{step_kept}
 use Rattle.plain.proofs.ShareLaws.{agree_in_and_out, part_from_agree}
 use Rattle.parcel.specs.Nodes.{Nodes, in_parcels, tree_state}
-use Rattle.parcel.specs.Run.{Asked, IsRun, IsStep, Shows}
+use Rattle.parcel.specs.Run.{JobView, IsJobRun, IsSerialStep, Shows}
 use Rattle.parcel.specs.RunLaws.{IsLentOf, IsSerialStepOf, LendsRunsRestores}
 use Rattle.parcel.specs.Shown.{shown_state}
 use Rattle.parcel.specs.Tree.{IsIn}
@@ -25,7 +25,7 @@ use Rattle.parcel.specs.declared.parts.Standing.{Standing}
 use Rattle.parcel.proofs.Leaving.{taken_leaves, put_leaves, put_outside}
 use Rattle.parcel.proofs.Lending.{restored_is_in}
 
-pub serial_run : (job : Asked) (done : Done) (x : State) → IsRun job done → IsLentOf job x → IsSerialStepOf job done x
+pub serial_run : (job : JobView) (done : Done) (x : State) → IsJobRun job done → IsLentOf job x → IsSerialStepOf job done x
 serial_run job done x run lent =
     let g = job.geometry in
     let m = job.message in
@@ -37,8 +37,8 @@ serial_run job done x run lent =
     }
 
 -- At the place and below, the tree has what the run left, and elsewhere what it had before.
-pub served_step : (job : Asked) (done : Done) (old lent new : Nodes) → LendsRunsRestores job done old lent new
-    → IsStep job.geometry (tree_state job.geometry old) job.message done.reply (tree_state job.geometry new)
+pub served_step : (job : JobView) (done : Done) (old lent new : Nodes) → LendsRunsRestores job done old lent new
+    → IsSerialStep job.geometry (tree_state job.geometry old) job.message done.reply (tree_state job.geometry new)
 served_step job done old lent new h =
     let g = job.geometry in
     let m = job.message in
@@ -60,7 +60,7 @@ begins_split (x ∷ p) (y ∷ q) h =
     let rest = begins_split p q both.1 in
     (rest.0, sym (ap (λ z. z ∷ q) (eqb-true x y both.0)) ∙ ap (λ r. x ∷ r) rest.1)
 
-pub served_is_in : (job : Asked) (done : Done) (old lent new : Nodes) → LendsRunsRestores job done old lent new → IsIn job.geometry [] old → IsIn job.geometry [] new
+pub served_is_in : (job : JobView) (done : Done) (old lent new : Nodes) → LendsRunsRestores job done old lent new → IsIn job.geometry [] old → IsIn job.geometry [] new
 served_is_in job done old lent new h whole q path related =
     let g = job.geometry in
     let p = place g job.message in
@@ -70,7 +70,7 @@ served_is_in job done old lent new h whole q path related =
       | false ↦ λ e. ap is_some (h.put.nodes q ∙ put_outside p (in_parcels done.parcels) lent q e ∙ h.taken.rest q ∙ cond-false (begins p q) None (old q) e) ∙ whole q path refl
     ] refl
 
-pub served_state : (job : Asked) (done : Done) (old lent new : Nodes) → LendsRunsRestores job done old lent new → IsMessage job.message
+pub served_state : (job : JobView) (done : Done) (old lent new : Nodes) → LendsRunsRestores job done old lent new → IsMessage job.message
     → IsState job.geometry (tree_state job.geometry old) → IsState job.geometry (tree_state job.geometry new)
 served_state job done old lent new h message is = subst (λ (y : State). IsState job.geometry y) (sym (served_step job done old lent new h).state) (step_kept job.geometry (tree_state job.geometry old) job.message is message)
 

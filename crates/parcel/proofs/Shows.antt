@@ -9,7 +9,7 @@ use Rattle.affinity.specs.Path.{Path, begins, are_related}
 use Rattle.plain.specs.Shares.{AgreeOn}
 use Rattle.stripe.specs.Stripe.{StripePart}
 use Rattle.parcel.specs.Volume.{Facts, facts_if, state_by, only}
-use Rattle.parcel.specs.Shown.{has_bit, blocks_in, by_stripe, by_logical, by_label, files_in, blocks_below, label_in, by_volume, by_child, by_aggregate, shown_state}
+use Rattle.parcel.specs.Shown.{has_file, blocks_in, by_stripe, by_logical, by_label, files_in, blocks_below, shown_label, volume_facts, by_child, by_aggregate, shown_state}
 use Rattle.parcel.specs.Fits.{IsKindOf}
 use Rattle.parcel.specs.Nodes.{Node, Nodes, in_child, in_stripe, in_label, in_logical, in_volume, in_aggregate, in_root, in_parcels, marks_made, marks_sealed, files_have, files_bits, slots_hold, text_of, tree_state}
 use Rattle.parcel.specs.Nodes.Node.{Inner, Marks, Files, Slots, Text}
@@ -56,11 +56,11 @@ module _ (g : Geometry) (R : Path → Bool) where
   logical_blocks None f b = refl
   logical_blocks (Some l) f b = stripe_blocks (slice_index_or l.stripes.items (group g f b) None) f b
 
-  label_text : (x : Option Label) → label_in x ≡ text_of (in_child in_label x [])
+  label_text : (x : Option Label) → shown_label x ≡ text_of (in_child in_label x [])
   label_text None = refl
   label_text (Some l) = refl
 
-  volume_holds : (x : Option Vol) → HoldsAt g R (by_child (by_volume g) x) (in_child in_volume x)
+  volume_holds : (x : Option Vol) → HoldsAt g R (by_child (volume_facts g) x) (in_child in_volume x)
   volume_holds None = record { made = λ r. refl; sealed = λ r. refl; files = λ f r. refl; blocks = λ f b r. refl; label = λ r. refl }
   volume_holds (Some w) = record {
     made = λ r. refl;
@@ -120,7 +120,7 @@ pub record StandsAt (R : Path → Bool) (t : Standing) (n : Nodes) : Type 0 wher
   sealed : R [] ≡ true → t.sealed ≡ marks_sealed (n [])
 
 module _ (g : Geometry) (R : Path → Bool) (t : Standing) (n : Nodes) (stands : StandsAt R t n) where
-  stripe_holds : (s : ℕ) (part : StripePart) → ((f : ℕ) → R (0 ∷ []) ≡ true → has_bit t.files f ≡ files_have (n (0 ∷ [])) f)
+  stripe_holds : (s : ℕ) (part : StripePart) → ((f : ℕ) → R (0 ∷ []) ≡ true → has_file t.files f ≡ files_have (n (0 ∷ [])) f)
       → ((i : ℕ) → R (0 ∷ i ∷ []) ≡ true → i ≡ s) → (R (1 ∷ []) ≡ true → ⊥) → n (0 ∷ s ∷ []) ≡ Some (Slots part) → HoldsAt g R (by_stripe t part) n
   stripe_holds s part files one other at = record {
     made = stands.made;
@@ -148,10 +148,10 @@ module _ (g : Geometry) (R : Path → Bool) (t : Standing) (n : Nodes) (stands :
     label = λ r. ap text_of (sym at);
   }
 
-pub has_none : (f : ℕ) → has_bit 0 f ≡ false
+pub has_none : (f : ℕ) → has_file 0 f ≡ false
 has_none f = ap (λ n. n == 1) (bit_at-zero f)
 
-bits_have : (o : Option Node) (f : ℕ) → has_bit (files_bits o) f ≡ files_have o f
+bits_have : (o : Option Node) (f : ℕ) → has_file (files_bits o) f ≡ files_have o f
 bits_have None f = has_none f
 bits_have (Some Inner) f = has_none f
 bits_have (Some (Marks made sealed)) f = has_none f
@@ -181,7 +181,7 @@ share_shown g (a ∷ []) t (parcels.Aggr r) n kind at =
     aggregate_agree g (begins (a ∷ [])) n a (by_aggregate g r) (λ x q e. eqb-true a x (and_parts (a == x) true e).0)
     (λ v. holds_same g _ _ (λ q. n (a ∷ v ∷ q)) (λ q. in_aggregate r (v ∷ q)) (λ q. at (v ∷ q)) (volume_holds g _ (slice_index_or r.volumes.items v None)))
 share_shown g (a ∷ v ∷ []) t (parcels.Vol w) n kind at =
-    only_agree g (begins (a ∷ v ∷ [])) n a v (begins []) (by_volume g w) (λ x y q. begins_below a v x y [] q)
+    only_agree g (begins (a ∷ v ∷ [])) n a v (begins []) (volume_facts g w) (λ x y q. begins_below a v x y [] q)
     (holds_same g _ _ (λ q. n (a ∷ v ∷ q)) (in_volume w) at (volume_holds g _ (Some w)))
 share_shown g (a ∷ v ∷ zero ∷ []) t (parcels.Logical l) n kind at =
     only_agree g (begins (a ∷ v ∷ 0 ∷ [])) n a v (begins (0 ∷ [])) (by_logical g t l) (λ x y q. begins_below a v x y (0 ∷ []) q)
@@ -203,7 +203,7 @@ related_shown g (a ∷ []) t (parcels.Aggr r) n kind at stands =
     aggregate_agree g (are_related (a ∷ [])) n a (by_aggregate g r) (λ x q e. related_first a x [] q e)
     (λ v. holds_same g _ _ (λ q. n (a ∷ v ∷ q)) (λ q. in_aggregate r (v ∷ q)) (λ q. at (v ∷ q)) (volume_holds g _ (slice_index_or r.volumes.items v None)))
 related_shown g (a ∷ v ∷ []) t (parcels.Vol w) n kind at stands =
-    only_agree g (are_related (a ∷ v ∷ [])) n a v (are_related []) (by_volume g w) (λ x y q. related_below a v x y [] q)
+    only_agree g (are_related (a ∷ v ∷ [])) n a v (are_related []) (volume_facts g w) (λ x y q. related_below a v x y [] q)
     (holds_same g _ _ (λ q. n (a ∷ v ∷ q)) (in_volume w) at (volume_holds g _ (Some w)))
 related_shown g (a ∷ v ∷ zero ∷ []) t (parcels.Logical l) n kind at stands =
     only_agree g (are_related (a ∷ v ∷ 0 ∷ [])) n a v (are_related (0 ∷ [])) (by_logical g t l) (λ x y q. related_below a v x y (0 ∷ []) q)
@@ -211,7 +211,7 @@ related_shown g (a ∷ v ∷ zero ∷ []) t (parcels.Logical l) n kind at stands
 related_shown g (a ∷ v ∷ zero ∷ s ∷ []) t (parcels.Stripe p) n kind at stands =
     only_agree g (are_related (a ∷ v ∷ 0 ∷ s ∷ [])) n a v (are_related (0 ∷ s ∷ [])) (by_stripe t p) (λ x y q. related_below a v x y (0 ∷ s ∷ []) q)
     (stripe_holds g (are_related (0 ∷ s ∷ [])) t (λ q. n (a ∷ v ∷ q)) (record { made = λ r. ap (λ z. z.made) stands; sealed = λ r. ap (λ z. z.sealed) stands }) s p
-    (λ f r. ap (λ z. has_bit z.files f) stands ∙ bits_have (n (a ∷ v ∷ 0 ∷ [])) f)
+    (λ f r. ap (λ z. has_file z.files f) stands ∙ bits_have (n (a ∷ v ∷ 0 ∷ [])) f)
     (λ i r. sym (related_first s i [] [] (related_rest 0 0 (s ∷ []) (i ∷ []) r))) (λ r. true≢false (sym r)) (at []))
 related_shown g (a ∷ v ∷ suc zero ∷ []) t (parcels.Label l) n kind at stands =
     only_agree g (are_related (a ∷ v ∷ 1 ∷ [])) n a v (are_related (1 ∷ [])) (by_label t l) (λ x y q. related_below a v x y (1 ∷ []) q)

@@ -8,7 +8,7 @@ use Rattle.affinity.specs.declared.geometry.Geometry.{Geometry}
 use Rattle.affinity.specs.Geometry.{group}
 use Rattle.plain.specs.State.{empty}
 use Rattle.stripe.specs.Stripe.{StripePart, content_at}
-use Rattle.parcel.specs.Shown.{has_bit}
+use Rattle.parcel.specs.Shown.{has_file}
 use Rattle.parcel.specs.Fits.{EachFits, FitsStripe, FitsLogical, FitsVolume, FitsAggregate, FitsRoot, IsWholeChild, IsWholeLogical, IsWholeVolume, IsWholeAggregate, IsWholeRoot}
 use Rattle.parcel.specs.Levels.{IsNewLogical, IsNewVolume, IsNewAggregate, IsNewRoot}
 use Rattle.parcel.specs.Nodes.{Nodes, in_child, in_stripe, in_label, in_logical, in_volume, in_aggregate, in_root, marks_made, marks_sealed, files_have, slots_hold, text_of, tree_state}
@@ -103,7 +103,7 @@ module _ (g : Geometry) where
 
   files_empty : (x : Option Logical) (f : ℕ) → IsWholeChild (IsNewLogical g) x → files_have (in_child in_logical x []) f ≡ false
   files_empty None f h = refl
-  files_empty (Some l) f h = ap (λ n. has_bit n f) h.0 ∙ has_none f
+  files_empty (Some l) f h = ap (λ n. has_file n f) h.0 ∙ has_none f
 
   blocks_empty : (x : Option Logical) (s f b : ℕ) → IsWholeChild (IsNewLogical g) x → slots_hold (in_child in_logical x (s ∷ [])) f b ≡ None
   blocks_empty None s f b h = refl

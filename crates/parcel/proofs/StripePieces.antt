@@ -6,13 +6,13 @@ use Rattle.std.proofs.lemmas.Bool.{and_parts, and_from, eqb-true, eq-eqb, lt-ltb
 use Rattle.std.proofs.lemmas.Nat.Bits.{bit_at_above}
 use Rattle.affinity.specs.Geometry.{group}
 use Rattle.affinity.specs.declared.geometry.Geometry.{Geometry}
-use Rattle.message.specs.Messages.{IsBlock, AreBytes}
+use Rattle.message.specs.Messages.{IsBlock, AreSizedBytes}
 use Rattle.message.specs.Replies.{has_file}
 use Rattle.message.specs.declared.Block.{Block}
 use Rattle.plain.specs.State.{State, BlockKey, IsState, is_block_of, one_if, group_count}
 use Rattle.plain.proofs.Sums.{sum_same}
 use Rattle.stripe.specs.Entries.{entry_bytes, entries_in, stripe_bytes, can_stand, IsStripePiece}
-use Rattle.stripe.specs.Stripe.{Entry, StripePart, content_at, IsAscending}
+use Rattle.stripe.specs.Stripe.{BlockEntry, StripePart, content_at, IsAscending}
 use Rattle.stripe.proofs.EntryBytes.{IsSpellable, length-entries, entries_again}
 use Rattle.image.specs.Pieces.{stripe_piece, stripe_entries, entry_if, with_stripe_piece}
 use Rattle.image.proofs.Counted.{entries_are_blocks, entries_few, content_is, content_of, few_of_stripe}
@@ -24,7 +24,7 @@ use Rattle.parcel.proofs.GroupCounts.{Lies, lies_first, lies_behind}
 -- ---- from the tree
 
 -- a stripe that fits has files that one byte tells
-pub files_small : (g : Geometry) (s : ℕ) (es : List Entry) → Lies g s es → AllByRecursion (λ (e : Entry). e.file < 256) es
+pub files_small : (g : Geometry) (s : ℕ) (es : List BlockEntry) → Lies g s es → AllByRecursion (λ (e : BlockEntry). e.file < 256) es
 files_small g s [] lies = tt
 files_small g s (e ∷ es) lies =
     let first = (lies_first g s e es lies).0 in
@@ -47,8 +47,8 @@ entries_spelled g x is a v s p up fits same = stripe_spelled g x is a v s p.entr
 
 -- ---- from bytes
 
-module _ (g : Geometry) (x : State) (is : IsState g x) (a v s files : ℕ) (has : (f : ℕ) → x.files (a, v, f) ≡ has_file files f) (bytes : List ℕ) (are : AreBytes (g.quota * 520) bytes) where
-  abbrev es : List Entry
+module _ (g : Geometry) (x : State) (is : IsState g x) (a v s files : ℕ) (has : (f : ℕ) → x.files (a, v, f) ≡ has_file files f) (bytes : List ℕ) (are : AreSizedBytes (g.quota * 520) bytes) where
+  abbrev es : List BlockEntry
   es = entries_in g.quota bytes
 
   abbrev taken : State
@@ -93,13 +93,13 @@ module _ (g : Geometry) (x : State) (is : IsState g x) (a v s files : ℕ) (has 
       by false t volume stripe = as_before (at false t volume stripe)
 
   module _ (piece : IsStripePiece g files s bytes) where
-    stands : (e : Entry) → can_stand g files s e.file e.block ≡ true → (e.block < g.blocks) × (x.files (a, v, e.file) ≡ true) × (group g e.file e.block ≡ s)
+    stands : (e : BlockEntry) → can_stand g files s e.file e.block ≡ true → (e.block < g.blocks) × (x.files (a, v, e.file) ≡ true) × (group g e.file e.block ≡ s)
     stands e can =
         let first = and_parts (has_file files e.file && nat_lt e.block g.blocks) (group g e.file e.block == s) can in
         let second = and_parts (has_file files e.file) (nat_lt e.block g.blocks) first.0 in
         (ltb-true e.block g.blocks second.1, has e.file ∙ second.0, eqb-true (group g e.file e.block) s first.1)
 
-    all_stand : (ds : List Entry) → AllByRecursion (λ e. can_stand g files s e.file e.block ≡ true) ds → AllByRecursion (λ (e : Entry). (e.block < g.blocks) × (x.files (a, v, e.file) ≡ true) × (group g e.file e.block ≡ s)) ds
+    all_stand : (ds : List BlockEntry) → AllByRecursion (λ e. can_stand g files s e.file e.block ≡ true) ds → AllByRecursion (λ (e : BlockEntry). (e.block < g.blocks) × (x.files (a, v, e.file) ≡ true) × (group g e.file e.block ≡ s)) ds
     all_stand [] all = tt
     all_stand (e ∷ ds) all = (stands e all.0, all_stand ds all.1)
 
@@ -152,20 +152,20 @@ module _ (g : Geometry) (x : State) (is : IsState g x) (a v s files : ℕ) (has 
       all_joined IsSpellable g.files _
       (λ f in_files. all_joined IsSpellable g.blocks _ (λ b below. spellable (taken.files (a, v, f) && (group g f b == s)) f b (taken.blocks (a, v, f, b)) below (content_held (a, v, f, b))))
 
-  can : (p q : Bool) (f b : ℕ) (o : Option Block) → b < g.blocks → has_file files f ≡ p → (group g f b == s) ≡ q → AllByRecursion (λ (e : Entry). can_stand g files s e.file e.block ≡ true) (entry_if (p && q) f b o)
+  can : (p q : Bool) (f b : ℕ) (o : Option Block) → b < g.blocks → has_file files f ≡ p → (group g f b == s) ≡ q → AllByRecursion (λ (e : BlockEntry). can_stand g files s e.file e.block ≡ true) (entry_if (p && q) f b o)
   can true true f b (Some content) below there on = (and_from (has_file files f && nat_lt b g.blocks) (group g f b == s) (and_from (has_file files f) (nat_lt b g.blocks) there (lt-ltb b g.blocks below)) on, tt)
   can true true f b None below there on = tt
   can true false f b o below there on = tt
   can false q f b o below there on = tt
 
-  all_can : AllByRecursion (λ (e : Entry). can_stand g files s e.file e.block ≡ true) (stripe_entries g taken a v s)
+  all_can : AllByRecursion (λ (e : BlockEntry). can_stand g files s e.file e.block ≡ true) (stripe_entries g taken a v s)
   all_can =
-      all_joined (λ (e : Entry). can_stand g files s e.file e.block ≡ true) g.files _
-      (λ f in_files. all_joined (λ (e : Entry). can_stand g files s e.file e.block ≡ true) g.blocks _ (λ b below. can (x.files (a, v, f)) (group g f b == s) f b (taken.blocks (a, v, f, b)) below (sym (has f)) refl))
+      all_joined (λ (e : BlockEntry). can_stand g files s e.file e.block ≡ true) g.files _
+      (λ f in_files. all_joined (λ (e : BlockEntry). can_stand g files s e.file e.block ≡ true) g.blocks _ (λ b below. can (x.files (a, v, f)) (group g f b == s) f b (taken.blocks (a, v, f, b)) below (sym (has f)) refl))
 
   pub stripe_is_piece : bytes ≡ stripe_piece g taken a v s → IsStripePiece g files s bytes
   stripe_is_piece good =
-      let ds : List Entry = stripe_entries g taken a v s in
+      let ds : List BlockEntry = stripe_entries g taken a v s in
       let k : ℕ = g.quota * 520 - length (flat_map entry_bytes ds) in
       let long : length (flat_map entry_bytes ds) + length (replicate k 0) ≡ g.quota * 520 = sym (length-append (flat_map entry_bytes ds) (replicate k 0)) ∙ sym (ap (λ (l : List ℕ). length l) good) ∙ are.0 in
       let most : length ds ≤ g.quota = omega (arith, long, length-entries ds all_spellable) in
@@ -173,7 +173,7 @@ module _ (g : Geometry) (x : State) (is : IsState g x) (a v s files : ℕ) (has 
       record {
         spelled = good ∙ sym (ap (stripe_bytes g.quota) same);
         ascending = subst IsAscending (sym same) (entries_ascend g taken a v s);
-        fit = subst (AllByRecursion (λ (e : Entry). can_stand g files s e.file e.block ≡ true)) (sym same) all_can;
+        fit = subst (AllByRecursion (λ (e : BlockEntry). can_stand g files s e.file e.block ≡ true)) (sym same) all_can;
       }
 
 -- ---- into the tree
@@ -190,15 +190,15 @@ file_below k files f small there =
 pub entries_fit : (g : Geometry) (s files : ℕ) (bytes : List ℕ) → files < 2 ^ g.files → IsStripePiece g files s bytes → (p : StripePart) → p.quota ≡ g.quota → p.entries ≡ entries_in g.quota bytes → FitsStripe g s p
 entries_fit g s files bytes small piece p quota entries = record {
   quota = quota;
-  lies = λ f b some. content_of (λ f b. (f < g.files) × (b < g.blocks) × (group g f b ≡ s)) f b p.entries (subst (AllByRecursion (λ (e : Entry). (e.file < g.files) × (e.block < g.blocks) × (group g e.file e.block ≡ s))) (sym entries) (all (entries_in g.quota bytes) piece.fit)) some;
+  lies = λ f b some. content_of (λ f b. (f < g.files) × (b < g.blocks) × (group g f b ≡ s)) f b p.entries (subst (AllByRecursion (λ (e : BlockEntry). (e.file < g.files) × (e.block < g.blocks) × (group g e.file e.block ≡ s))) (sym entries) (all (entries_in g.quota bytes) piece.fit)) some;
 }
   where
-    one : (e : Entry) → can_stand g files s e.file e.block ≡ true → (e.file < g.files) × (e.block < g.blocks) × (group g e.file e.block ≡ s)
+    one : (e : BlockEntry) → can_stand g files s e.file e.block ≡ true → (e.file < g.files) × (e.block < g.blocks) × (group g e.file e.block ≡ s)
     one e can =
         let first = and_parts (has_file files e.file && nat_lt e.block g.blocks) (group g e.file e.block == s) can in
         let second = and_parts (has_file files e.file) (nat_lt e.block g.blocks) first.0 in
         (file_below g.files files e.file small second.0, ltb-true e.block g.blocks second.1, eqb-true (group g e.file e.block) s first.1)
 
-    all : (ds : List Entry) → AllByRecursion (λ e. can_stand g files s e.file e.block ≡ true) ds → AllByRecursion (λ (e : Entry). (e.file < g.files) × (e.block < g.blocks) × (group g e.file e.block ≡ s)) ds
+    all : (ds : List BlockEntry) → AllByRecursion (λ e. can_stand g files s e.file e.block ≡ true) ds → AllByRecursion (λ (e : BlockEntry). (e.file < g.files) × (e.block < g.blocks) × (group g e.file e.block ≡ s)) ds
     all [] can = tt
     all (e ∷ ds) can = (one e can.0, all ds can.1)

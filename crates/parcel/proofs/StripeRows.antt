@@ -86,9 +86,3 @@ whole_emptied None None h w = w
 whole_emptied None (Some q) h w = absurd h
 whole_emptied (Some p) None h w = absurd h
 whole_emptied (Some p) (Some q) h w = w
-
-pub blocks_emptied : (x y : Option StripePart) → Empties x y → (i j : ℕ) → blocks_in y i j ≡ None
-blocks_emptied None None h i j = refl
-blocks_emptied None (Some q) h i j = absurd h
-blocks_emptied (Some p) None h i j = absurd h
-blocks_emptied (Some p) (Some q) h i j = h.content i j

@@ -7,7 +7,7 @@ use Rattle.plain.specs.State.{State, group_count}
 use Rattle.plain.proofs.Sums.{sum_same, sum_zero}
 use Rattle.parcel.specs.Fits.{FitsStripe}
 use Rattle.parcel.specs.Shown.{blocks_in, blocks_of}
-use Rattle.stripe.specs.Stripe.{StripePart, IsKept}
+use Rattle.stripe.specs.Stripe.{StripePart, StripeRule}
 use Rattle.parcel.specs.Totals.{entry_count, file_total, block_total, totals_of, sum_totals}
 use Rattle.parcel.specs.Volume.{nothing, state_by}
 use Rattle.parcel.proofs.GroupCounts.{count_is_length, count_is_none}
@@ -17,12 +17,12 @@ abbrev pub holding : (ℕ → ℕ → Option Block) → State
 holding blocks = state_by (λ a v. record nothing { blocks = blocks })
 
 -- the blocks of group s are those that lie at place s
-pub count_at : (g : Geometry) (row : List (Option StripePart)) (s : ℕ) (place : Option StripePart) → slice_index_or row s None ≡ place → IfSome place IsKept → IfSome place (FitsStripe g s)
+pub count_at : (g : Geometry) (row : List (Option StripePart)) (s : ℕ) (place : Option StripePart) → slice_index_or row s None ≡ place → IfSome place StripeRule → IfSome place (FitsStripe g s)
     → group_count g (holding (blocks_of g row)) 0 0 s ≡ entry_count place
 count_at g row s None at kept fits = count_is_none g s (holding (blocks_of g row)) 0 0 (λ f b e. ap (λ k. blocks_in (slice_index_or row k None) f b) e ∙ ap (λ o. blocks_in o f b) at)
 count_at g row s (Some p) at kept fits = count_is_length g s (holding (blocks_of g row)) 0 0 p kept fits (λ f b e. ap (λ k. blocks_in (slice_index_or row k None) f b) e ∙ ap (λ o. blocks_in o f b) at)
 
-pub few_entries : (g : Geometry) (s : ℕ) (place : Option StripePart) → IfSome place IsKept → IfSome place (FitsStripe g s) → entry_count place ≤ 64
+pub few_entries : (g : Geometry) (s : ℕ) (place : Option StripePart) → IfSome place StripeRule → IfSome place (FitsStripe g s) → entry_count place ≤ 64
 few_entries g s None kept fits = omega arith
 few_entries g s (Some p) kept fits = let most = g.quota_range.1 in omega (arith, kept.within, fits.quota, most)
 

@@ -8,7 +8,7 @@ use Rattle.std.proofs.lemmas.Nat.Bits.{bit_at_above}
 use Rattle.std.proofs.Math.Nat.{pow-le-pow_right}
 use Rattle.affinity.specs.declared.geometry.Geometry.{Geometry}
 use Rattle.byteorder.specs.Endian.{little_bytes, little_number}
-use Rattle.message.specs.Messages.{AreBytes}
+use Rattle.message.specs.Messages.{AreSizedBytes}
 use Rattle.message.specs.Replies.{has_file}
 use Rattle.message.specs.declared.Block.{Block}
 use Rattle.plain.specs.Serial.{file_bits, no_label}
@@ -17,8 +17,8 @@ use Rattle.image.specs.Pieces.{volume_piece, label_bytes, bytes_at, is_made_in, 
 use Rattle.image.proofs.Measures.{all-take, all-drop, all-zeros}
 use Rattle.parcel.specs.Fits.{FitsLogical, FitsVolume, IsWholeChild, IsWholeLogical, IsWholeVolume}
 use Rattle.parcel.specs.Nodes.{in_child, in_logical, files_bits}
-use Rattle.parcel.specs.Pieces.{HasFacts, spelled, said_label, said_piece, piece_in, volume_with, with_files, facts_with}
-use Rattle.parcel.specs.Shown.{by_volume, files_in, blocks_below}
+use Rattle.parcel.specs.Pieces.{HasFacts, spelled, said_label, said_piece, volume_piece_of, volume_with, with_files, facts_with}
+use Rattle.parcel.specs.Shown.{volume_facts, files_in, blocks_below}
 use Rattle.parcel.specs.declared.parts.Logical.{Logical}
 use Rattle.parcel.specs.declared.parts.Vol.{Vol}
 use Rattle.parcel.specs.declared.pieces.volumes.VolumePiece.{VolumePiece}
@@ -46,9 +46,9 @@ files_are g x a v None fits whole has = absurd whole
 files_are g x a v (Some l) fits whole has = (λ i. sum_below g.files (λ f. if has f i then 2 ^ f else 0)) ∙ bits_back g.files l.files fits.files
 
 -- the piece of a volume of the tree is that of each state in which a volume has the same
-pub volume_written : (g : Geometry) (x : State) (a v : ℕ) (w : Vol) → FitsVolume g w → IsWholeVolume w → HasFacts x a v (by_volume g w) → volume_piece 2 g x a v ≡ spelled (piece_in w)
+pub volume_written : (g : Geometry) (x : State) (a v : ℕ) (w : Vol) → FitsVolume g w → IsWholeVolume w → HasFacts x a v (volume_facts g w) → volume_piece 2 g x a v ≡ spelled (volume_piece_of w)
 volume_written g x a v w fits whole has =
-    volume_spelled 2 g x a v (piece_in w) has.made has.sealed (files_are g x a v w.logical fits.logical whole.0 has.files)
+    volume_spelled 2 g x a v (volume_piece_of w) has.made has.sealed (files_are g x a v w.logical fits.logical whole.0 has.files)
     (λ on. ap (λ (o : Option (List ℕ)). unwrap_or o no_label) has.label)
 
 here : (a v : ℕ) → is_volume a v (a, v) ≡ true
@@ -128,7 +128,7 @@ module _ (version : ℕ) (g : Geometry) (bytes : List ℕ) (good : bytes ≡ spe
       (cases_lt f g.files)
 
   -- what the volume has then
-  pub facts_said : (w : Vol) → IsWholeVolume w → by_volume g (volume_with (said_piece version g bytes) w) ≡ facts_with version g (by_volume g w) zero bytes
+  pub facts_said : (w : Vol) → IsWholeVolume w → volume_facts g (volume_with (said_piece version g bytes) w) ≡ facts_with version g (volume_facts g w) zero bytes
   facts_said w whole = λ i. record {
     made = is_made_in bytes;
     sealed = is_sealed_in bytes;
@@ -147,10 +147,10 @@ module _ (version : ℕ) (g : Geometry) (bytes : List ℕ) (good : bytes ≡ spe
 
   -- ---- the state that they lead to
 
-  label_said : AreBytes 64 bytes → IfSome (said_label_in version bytes) (AreBytes 32)
+  label_said : AreSizedBytes 64 bytes → IfSome (said_label_in version bytes) (AreSizedBytes 32)
   label_said are = by (is_made_in bytes) (version == 2)
     where
-      by : (made told : Bool) → IfSome (if made then Some (if told then bytes_at 16 32 bytes else no_label) else None) (AreBytes 32)
+      by : (made told : Bool) → IfSome (if made then Some (if told then bytes_at 16 32 bytes else no_label) else None) (AreSizedBytes 32)
       by true true = (
         omega (arith, are.0, length-drop 16 bytes, length-take 32 (drop 16 bytes)),
         all-take (λ b. b < 256) 32 (drop 16 bytes) (all-drop (λ b. b < 256) 16 bytes are.1),
@@ -158,7 +158,7 @@ module _ (version : ℕ) (g : Geometry) (bytes : List ℕ) (good : bytes ≡ spe
       by true false = (refl, all-zeros 32)
       by false told = tt
 
-  module _ (x : State) (is : IsState g x) (a v : ℕ) (aggregate : a < g.aggregates) (volume : v < g.volumes) (empty : (f b : ℕ) → x.blocks (a, v, f, b) ≡ None) (are : AreBytes 64 bytes) where
+  module _ (x : State) (is : IsState g x) (a v : ℕ) (aggregate : a < g.aggregates) (volume : v < g.volumes) (empty : (f b : ℕ) → x.blocks (a, v, f, b) ≡ None) (are : AreSizedBytes 64 bytes) where
     abbrev taken : State
     taken = with_volume_piece version x a v bytes
 
@@ -210,9 +210,9 @@ module _ (version : ℕ) (g : Geometry) (bytes : List ℕ) (good : bytes ≡ spe
         by true false = refl
         by false made = is.labels k
 
-    label_bounds : (k : VolumeKey) → IfSome (taken.labels k) (AreBytes 32)
+    label_bounds : (k : VolumeKey) → IfSome (taken.labels k) (AreSizedBytes 32)
     label_bounds k =
-        elim (is_volume a v k) as (λ (t : Bool). IfSome (if t then said_label_in version bytes else x.labels k) (AreBytes 32)) [
+        elim (is_volume a v k) as (λ (t : Bool). IfSome (if t then said_label_in version bytes else x.labels k) (AreSizedBytes 32)) [
           | true ↦ label_said are
           | false ↦ is.label_content k
         ]

@@ -8,7 +8,7 @@ use Rattle.message.specs.declared.Msg.TheVariants.{MakeVol, DropVol}
 use Rattle.message.specs.declared.Refusal.TheVariants.{Range, Exists}
 use Rattle.message.specs.Messages.{is_in_range}
 use Rattle.plain.specs.Serial.{refusal, effect, no_label}
-use Rattle.parcel.specs.Shown.{by_aggregate, by_child, by_volume}
+use Rattle.parcel.specs.Shown.{by_aggregate, by_child, volume_facts}
 use Rattle.parcel.specs.Steps.{unless, unless_closed, at_aggregate}
 use Rattle.parcel.specs.Totals.{with_made}
 use Rattle.parcel.specs.Volume.{Facts, nothing, facts_if, state_by}
@@ -21,19 +21,19 @@ abbrev pub changed_if : (Facts → Facts) → Bool → Facts → Facts
 changed_if change true h = change h
 changed_if change false h = h
 
-pub set_changes : (g : Geometry) (change : Facts → Facts) (xs : List (Option Vol)) (v : ℕ) (y : Option Vol) → v < length xs → by_child (by_volume g) y ≡ change (by_child (by_volume g) (slice_index_or xs v None))
-    → (q : ℕ) → by_child (by_volume g) (slice_index_or (slice_set xs v y) q None) ≡ changed_if change (v == q) (by_child (by_volume g) (slice_index_or xs q None))
+pub set_changes : (g : Geometry) (change : Facts → Facts) (xs : List (Option Vol)) (v : ℕ) (y : Option Vol) → v < length xs → by_child (volume_facts g) y ≡ change (by_child (volume_facts g) (slice_index_or xs v None))
+    → (q : ℕ) → by_child (volume_facts g) (slice_index_or (slice_set xs v y) q None) ≡ changed_if change (v == q) (by_child (volume_facts g) (slice_index_or xs q None))
 set_changes g change xs v y lt e q =
     ⊎_elim
     (λ is.
-    ap (λ k. by_child (by_volume g) (slice_index_or (slice_set xs v y) k None)) (sym is)
-    ∙ ap (by_child (by_volume g)) (get_or-set_same xs v y None lt)
+    ap (λ k. by_child (volume_facts g) (slice_index_or (slice_set xs v y) k None)) (sym is)
+    ∙ ap (by_child (volume_facts g)) (get_or-set_same xs v y None lt)
     ∙ e
-    ∙ ap (λ k. change (by_child (by_volume g) (slice_index_or xs k None))) is
-    ∙ ap (λ t. changed_if change t (by_child (by_volume g) (slice_index_or xs q None))) (sym (eq-eqb v q is)))
+    ∙ ap (λ k. change (by_child (volume_facts g) (slice_index_or xs k None))) is
+    ∙ ap (λ t. changed_if change t (by_child (volume_facts g) (slice_index_or xs q None))) (sym (eq-eqb v q is)))
     (λ ne.
-    ap (by_child (by_volume g)) (get_or-set_other xs v q y None (λ is. ne (sym is)))
-    ∙ ap (λ t. changed_if change t (by_child (by_volume g) (slice_index_or xs q None))) (sym (ne_eqb v q ne)))
+    ap (by_child (volume_facts g)) (get_or-set_other xs v q y None (λ is. ne (sym is)))
+    ∙ ap (λ t. changed_if change t (by_child (volume_facts g) (slice_index_or xs q None))) (sym (ne_eqb v q ne)))
     (cases_eq v q)
 
 -- ---- tests and effects

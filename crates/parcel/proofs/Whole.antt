@@ -7,7 +7,7 @@ use Rattle.affinity.specs.Path.{Path}
 use Rattle.affinity.specs.declared.geometry.Geometry.{Geometry}
 use Rattle.stripe.specs.Stripe.{StripePart}
 use Rattle.parcel.specs.Fits.{EachFits, FitsLogical, FitsVolume, FitsAggregate, FitsRoot, IsWholeChild, IsWholeLogical, IsWholeVolume, IsWholeAggregate, IsWholeRoot}
-use Rattle.parcel.specs.Levels.{IsLeafPath, IsRowPath, IsLogicalPath, IsVolumePath, IsAggregatePath, IsRootPath, is_whole_logical, is_whole_volume, is_whole_aggregate, is_whole_root, Takes, Refuses}
+use Rattle.parcel.specs.Levels.{IsLeafPath, IsRowPath, IsLogicalPath, IsVolumePath, IsAggregatePath, IsRootPath, is_whole_logical, is_whole_volume, is_whole_aggregate, is_whole_root, TakesParcels, Refuses}
 use Rattle.parcel.specs.Nodes.{Node, Nodes, in_child, in_row, in_parcels, in_stripe, in_label, in_logical, in_volume, in_aggregate, in_root}
 use Rattle.parcel.specs.declared.parts.Label.{Label}
 use Rattle.parcel.specs.declared.parts.Logical.{Logical}
@@ -158,7 +158,7 @@ module _ (g : Geometry) where
 -- ---- taking a place itself
 
 pub taken_itself : {X : Type 0} (IsThere : Path → Type 0) (nodes : X → Nodes) (lent : Parcels) (x : X) (old new : Option X) → old ≡ Some x → new ≡ None → IsAllIn IsThere (in_child nodes old)
-    → ((q : Path) → nodes x q ≡ in_parcels lent q) → Takes IsThere [] lent (in_child nodes old) (in_child nodes new)
+    → ((q : Path) → nodes x q ≡ in_parcels lent q) → TakesParcels IsThere [] lent (in_child nodes old) (in_child nodes new)
 taken_itself IsThere nodes lent x old new was now all same = record {
   all_in = λ q path related. all q path;
   parcels = λ q. ap (λ o. in_child nodes o q) was ∙ same q;

@@ -6,7 +6,7 @@ use Rattle.affinity.specs.Path.{Path, begins, are_related}
 use Rattle.plain.specs.Shares.{AgreeOn}
 use Rattle.plain.specs.State.{State, IsState}
 use Rattle.parcel.specs.Nodes.{Nodes, tree_state}
-use Rattle.parcel.specs.Run.{Asked}
+use Rattle.parcel.specs.Run.{JobView}
 use Rattle.parcel.specs.RunLaws.{IsLentOf, job_place}
 
 -- the set of no path
@@ -29,7 +29,7 @@ pub record TreeHolds (g : Geometry) (out : Path → Bool) (n : Nodes) (x : State
   pub state : IsState g x
 
 -- A job is out of a tree that holds a state, beside others at unrelated places: it shows that state.
-pub record IsJobOut (out : Path → Bool) (job : Asked) (n : Nodes) (x : State) : Type 0 where
+pub record IsJobOut (out : Path → Bool) (job : JobView) (n : Nodes) (x : State) : Type 0 where
   pub holds : TreeHolds job.geometry (with_place (job_place job) out) n x
   pub apart : IsApart (job_place job) out
   pub shows : IsLentOf job x

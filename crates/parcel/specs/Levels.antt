@@ -47,7 +47,7 @@ pub record Refuses (IsThere : Path → Type 0) (p : Path) (old new : Nodes) : Ty
   pub same : SameNodes old new
 
 -- These parcels were taken out at the path: they are what was there, whole, and the rest stays.
-pub record Takes (IsThere : Path → Type 0) (p : Path) (lent : Parcels) (old new : Nodes) : Type 0 where
+pub record TakesParcels (IsThere : Path → Type 0) (p : Path) (lent : Parcels) (old new : Nodes) : Type 0 where
   pub all_in : (q : Path) → IsThere q → are_related p q ≡ true → is_some (old q) ≡ true
   pub parcels : (q : Path) → old (p ++ q) ≡ in_parcels lent q
   pub rest : TakesOut p old new
@@ -70,13 +70,13 @@ is_whole_root None = false
 is_whole_root (Some r) = list_all is_whole_aggregate r.aggregates.items
 
 -- a volume, where it and its aggregate are in
-abbrev pub volume_of : Option Aggr → ℕ → Option Vol
-volume_of None v = None
-volume_of (Some r) v = slice_index_or r.volumes.items v None
+abbrev pub volume_below : Option Aggr → ℕ → Option Vol
+volume_below None v = None
+volume_below (Some r) v = slice_index_or r.volumes.items v None
 
 abbrev pub volume_in : Option Root → ℕ → ℕ → Option Vol
 volume_in None a v = None
-volume_in (Some r) a v = volume_of (slice_index_or r.aggregates.items a None) v
+volume_in (Some r) a v = volume_below (slice_index_or r.aggregates.items a None) v
 
 -- ---- putting back
 

@@ -6,7 +6,7 @@ use Rattle.affinity.specs.Path.{Path, begins, volume, logical, stripe, label}
 use Rattle.message.specs.declared.Block.{Block}
 use Rattle.plain.specs.State.{State}
 use Rattle.stripe.specs.Stripe.{StripePart, content_at}
-use Rattle.parcel.specs.Shown.{has_bit}
+use Rattle.parcel.specs.Shown.{has_file}
 use Rattle.parcel.specs.declared.parts.Label.{Label}
 use Rattle.parcel.specs.declared.parts.Logical.{Logical}
 use Rattle.parcel.specs.declared.parts.Vol.{Vol}
@@ -97,7 +97,7 @@ marks_sealed (Some (Marks made sealed)) = sealed
 marks_sealed _ = false
 
 abbrev pub files_have : Option Node → ℕ → Bool
-files_have (Some (Files bits)) f = has_bit bits f
+files_have (Some (Files bits)) f = has_file bits f
 files_have _ f = false
 
 abbrev pub files_bits : Option Node → ℕ

@@ -11,7 +11,7 @@ use Rattle.plain.specs.Serial.{no_label}
 use Rattle.image.specs.Pieces.{is_made_in, is_sealed_in, has_file_in, label_in as said_label_in, block_in, bytes_at, part_piece, with_part}
 use Rattle.parcel.specs.Fits.{FitsStripe, FitsVolume, IsWholeChild, IsWholeVolume}
 use Rattle.parcel.specs.Nodes.{Nodes, in_volume, files_bits, PutsBack}
-use Rattle.parcel.specs.Shown.{blocks_in, by_volume, label_in}
+use Rattle.parcel.specs.Shown.{blocks_in, volume_facts, shown_label}
 use Rattle.parcel.specs.Volume.{Facts}
 use Rattle.parcel.specs.declared.parts.Logical.{Logical}
 use Rattle.parcel.specs.declared.parts.Vol.{Vol}
@@ -34,8 +34,8 @@ said_piece version g bytes =
     record { made = is_made_in bytes; sealed = is_sealed_in bytes; files = little_number 8 (bytes_at 8 8 bytes) % 2 ^ g.files; label = said_label version bytes }
 
 -- the piece of a volume of the tree
-abbrev pub piece_in : Vol → VolumePiece
-piece_in w = record { made = w.made; sealed = w.sealed; files = files_bits (in_volume w (0 ∷ [])); label = unwrap_or (label_in w.label) no_label }
+abbrev pub volume_piece_of : Vol → VolumePiece
+volume_piece_of w = record { made = w.made; sealed = w.sealed; files = files_bits (in_volume w (0 ∷ [])); label = unwrap_or (shown_label w.label) no_label }
 
 abbrev pub with_files : ℕ → Option Logical → Option Logical
 with_files files None = None
@@ -64,8 +64,8 @@ facts_with version g h (suc s) bytes = record h { blocks = λ f b. if group g f 
 pub record IsPartRead (version : ℕ) (g : Geometry) (part : ℕ) (bytes : List ℕ) (good : Bool) (old new : Vol) : Type 0 where
   pub fits : FitsVolume g new
   pub whole : IsWholeVolume new
-  pub spelled : (x : State) (a v : ℕ) → IsState g x → HasFacts x a v (by_volume g old) → IsTrue good ↔ (bytes ≡ part_piece version g (with_part version g x a v part bytes) a v part)
-  pub facts : IsTrue good → by_volume g new ≡ facts_with version g (by_volume g old) part bytes
+  pub spelled : (x : State) (a v : ℕ) → IsState g x → HasFacts x a v (volume_facts g old) → IsTrue good ↔ (bytes ≡ part_piece version g (with_part version g x a v part bytes) a v part)
+  pub facts : IsTrue good → volume_facts g new ≡ facts_with version g (volume_facts g old) part bytes
 
 -- They were read at a path, at which this volume was: the nodes there are those of the volume now, and the rest stays.
 pub record IsRead (version : ℕ) (g : Geometry) (part : ℕ) (bytes : List ℕ) (good : Bool) (p : Path) (found : Option Vol) (old new : Nodes) : Type 0 where

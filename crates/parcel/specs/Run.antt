@@ -15,7 +15,7 @@ use Rattle.parcel.specs.declared.parts.Standing.{Standing}
 use Rattle.parcel.specs.declared.job.Done.{Done}
 
 -- a message, with a ticket, and what it runs on
-pub record Asked : Type 0 where
+pub record JobView : Type 0 where
   pub geometry : Geometry
   pub ticket : ℕ
   pub message : Msg
@@ -23,7 +23,7 @@ pub record Asked : Type 0 where
   pub parcels : Parcels
 
 -- The step of a message leads from one state to another, and this is its reply.
-pub record IsStep (g : Geometry) (x : State) (m : Msg) (told : Reply) (y : State) : Type 0 where
+pub record IsSerialStep (g : Geometry) (x : State) (m : Msg) (told : Reply) (y : State) : Type 0 where
   pub reply : told ≡ reply_to g x m
   pub state : y ≡ next_state g x m
 
@@ -32,9 +32,9 @@ abbrev pub Shows : Geometry → Path → Standing → Parcels → State → Type
 Shows g p t parcels x = AgreeOn g (are_related p) (shown_state g p t parcels) x
 
 -- The job was run: in the state that its parcels and standing show, the reply is that of the serial step, and the parcels show the state after it.
-pub record IsRun (job : Asked) (done : Done) : Type 0 where
+pub record IsJobRun (job : JobView) (done : Done) : Type 0 where
   pub ticket : done.ticket ≡ job.ticket
   pub message : done.message ≡ job.message
   pub suits : Suits job.geometry job.message done.parcels
   pub step : let p = place job.geometry job.message in
-      IsStep job.geometry (shown_state job.geometry p job.standing job.parcels) job.message done.reply (shown_state job.geometry p job.standing done.parcels)
+      IsSerialStep job.geometry (shown_state job.geometry p job.standing job.parcels) job.message done.reply (shown_state job.geometry p job.standing done.parcels)

@@ -7,32 +7,32 @@ use Rattle.affinity.specs.declared.geometry.Geometry.{Geometry}
 use Rattle.affinity.specs.Path.{Path}
 use Rattle.parcel.specs.Fits.{Fits, IsKindOf}
 use Rattle.parcel.specs.Nodes.{Nodes}
-use Rattle.parcel.specs.Run.{Asked, IsRun, Shows}
+use Rattle.parcel.specs.Run.{JobView, IsJobRun, Shows}
 use Rattle.parcel.specs.Tree.{LendsAt, IsOut, RestoresAt}
 use Rattle.parcel.specs.declared.job.Done.{Done}
 use Rattle.parcel.specs.declared.parts.Parcels.{Parcels}
 
 -- the place of the message of a job
-abbrev pub job_place : Asked → Path
+abbrev pub job_place : JobView → Path
 job_place job = place job.geometry job.message
 
 -- The job was lent from a state: its parcels and standing show what lies there at the message's place, below it and above it.
-abbrev pub IsLentOf : Asked → State → Type 0
+abbrev pub IsLentOf : JobView → State → Type 0
 IsLentOf job x = Shows job.geometry (job_place job) job.standing job.parcels x
 
 -- The job was made of what a tree lent at the message's place.
-abbrev pub LendsJob : Asked → Nodes → Nodes → Type 0
+abbrev pub LendsJob : JobView → Nodes → Nodes → Type 0
 LendsJob job old lent = LendsAt job.geometry (job_place job) job.standing job.parcels old lent
 
 -- The reply is that of the serial step from the state, and with the standing the parcels show the state after it.
-pub record IsSerialStepOf (job : Asked) (done : Done) (x : State) : Type 0 where
+pub record IsSerialStepOf (job : JobView) (done : Done) (x : State) : Type 0 where
   pub reply : done.reply ≡ reply_to job.geometry x job.message
   pub shows : Shows job.geometry (job_place job) job.standing done.parcels (next_state job.geometry x job.message)
 
 -- The job was made of what a tree lent at the message's place, it was run, and what it left was put back there.
-pub record LendsRunsRestores (job : Asked) (done : Done) (old lent new : Nodes) : Type 0 where
+pub record LendsRunsRestores (job : JobView) (done : Done) (old lent new : Nodes) : Type 0 where
   pub taken : LendsJob job old lent
-  pub ran : IsRun job done
+  pub ran : IsJobRun job done
   pub put : RestoresAt job.geometry (job_place job) done.parcels lent new
 
 -- Parcels can be put back at a path: it is out, and they are of its kind and fit there.

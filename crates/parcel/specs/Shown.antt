@@ -4,7 +4,7 @@ use Rattle.affinity.specs.declared.geometry.Geometry.{Geometry}
 use Rattle.affinity.specs.Geometry.{group}
 use Rattle.affinity.specs.Path.{Path}
 use Rattle.message.specs.declared.Block.{Block}
-pub use Rattle.message.specs.Replies.{has_file as has_bit}
+pub use Rattle.message.specs.Replies.{has_file}
 use Rattle.plain.specs.State.{State}
 use Rattle.stripe.specs.Stripe.{StripePart, content_at}
 use Rattle.parcel.specs.Volume.{Facts, nothing, facts_if, state_by, only}
@@ -29,28 +29,28 @@ blocks_of g row f b = blocks_in (slice_index_or row (group g f b) None) f b
 -- ---- one volume, by a parcel of it and the standing
 
 abbrev pub by_stripe : Standing → StripePart → Facts
-by_stripe t p = record { made = t.made; sealed = t.sealed; files = has_bit t.files; blocks = content_at p.entries; label = None }
+by_stripe t p = record { made = t.made; sealed = t.sealed; files = has_file t.files; blocks = content_at p.entries; label = None }
 
 abbrev pub by_logical : Geometry → Standing → Logical → Facts
-by_logical g t l = record { made = t.made; sealed = t.sealed; files = has_bit l.files; blocks = blocks_of g l.stripes.items; label = None }
+by_logical g t l = record { made = t.made; sealed = t.sealed; files = has_file l.files; blocks = blocks_of g l.stripes.items; label = None }
 
 abbrev pub by_label : Standing → Label → Facts
 by_label t l = record { made = t.made; sealed = t.sealed; files = λ f. false; blocks = λ f b. None; label = l.bytes }
 
 abbrev pub files_in : Option Logical → ℕ → Bool
 files_in None f = false
-files_in (Some l) f = has_bit l.files f
+files_in (Some l) f = has_file l.files f
 
 abbrev pub blocks_below : Geometry → Option Logical → ℕ → ℕ → Option Block
 blocks_below g None f b = None
 blocks_below g (Some l) f b = blocks_of g l.stripes.items f b
 
-abbrev pub label_in : Option Label → Option (List ℕ)
-label_in None = None
-label_in (Some l) = l.bytes
+abbrev pub shown_label : Option Label → Option (List ℕ)
+shown_label None = None
+shown_label (Some l) = l.bytes
 
-abbrev pub by_volume : Geometry → Vol → Facts
-by_volume g w = record { made = w.made; sealed = w.sealed; files = files_in w.logical; blocks = blocks_below g w.logical; label = label_in w.label }
+abbrev pub volume_facts : Geometry → Vol → Facts
+volume_facts g w = record { made = w.made; sealed = w.sealed; files = files_in w.logical; blocks = blocks_below g w.logical; label = shown_label w.label }
 
 abbrev pub by_child : {X : Type 0} → (X → Facts) → Option X → Facts
 by_child facts None = nothing
@@ -58,7 +58,7 @@ by_child facts (Some x) = facts x
 
 -- volume v of an aggregate, and of aggregate a
 abbrev pub by_aggregate : Geometry → Aggr → ℕ → Facts
-by_aggregate g r v = by_child (by_volume g) (slice_index_or r.volumes.items v None)
+by_aggregate g r v = by_child (volume_facts g) (slice_index_or r.volumes.items v None)
 
 abbrev pub by_root : Geometry → Root → ℕ → ℕ → Facts
 by_root g r a v = by_child (λ x. by_aggregate g x v) (slice_index_or r.aggregates.items a None)
@@ -66,18 +66,18 @@ by_root g r a v = by_child (λ x. by_aggregate g x v) (slice_index_or r.aggregat
 -- ---- the state
 
 -- the first two numbers of a path, the aggregate and the volume
-abbrev pub first_of : Path → ℕ
-first_of [] = 0
-first_of (a ∷ p) = a
+abbrev pub path_aggregate : Path → ℕ
+path_aggregate [] = 0
+path_aggregate (a ∷ p) = a
 
-abbrev pub second_of : Path → ℕ
-second_of [] = 0
-second_of (a ∷ p) = first_of p
+abbrev pub path_volume : Path → ℕ
+path_volume [] = 0
+path_volume (a ∷ p) = path_aggregate p
 
 abbrev pub shown_state : Geometry → Path → Standing → Parcels → State
-shown_state g p t (parcels.Stripe s) = only (first_of p) (second_of p) (by_stripe t s)
-shown_state g p t (parcels.Label l) = only (first_of p) (second_of p) (by_label t l)
-shown_state g p t (parcels.Logical l) = only (first_of p) (second_of p) (by_logical g t l)
-shown_state g p t (parcels.Vol w) = only (first_of p) (second_of p) (by_volume g w)
-shown_state g p t (parcels.Aggr r) = state_by (λ a v. facts_if (first_of p == a) (by_aggregate g r v))
+shown_state g p t (parcels.Stripe s) = only (path_aggregate p) (path_volume p) (by_stripe t s)
+shown_state g p t (parcels.Label l) = only (path_aggregate p) (path_volume p) (by_label t l)
+shown_state g p t (parcels.Logical l) = only (path_aggregate p) (path_volume p) (by_logical g t l)
+shown_state g p t (parcels.Vol w) = only (path_aggregate p) (path_volume p) (volume_facts g w)
+shown_state g p t (parcels.Aggr r) = state_by (λ a v. facts_if (path_aggregate p == a) (by_aggregate g r v))
 shown_state g p t (parcels.Root r) = state_by (by_root g r)

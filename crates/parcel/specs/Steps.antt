@@ -7,7 +7,7 @@ use Rattle.message.specs.declared.Refusal.TheVariants.{Volume, Sealed}
 use Rattle.message.specs.declared.Reply.{Reply}
 use Rattle.message.specs.Messages.{is_in_range}
 use Rattle.plain.specs.State.{State}
-use Rattle.parcel.specs.Run.{IsStep}
+use Rattle.parcel.specs.Run.{IsSerialStep}
 use Rattle.parcel.specs.Shown.{by_aggregate}
 use Rattle.parcel.specs.Volume.{Facts, facts_if, only, state_by}
 use Rattle.parcel.specs.declared.parts.Aggr.{Aggr}
@@ -22,7 +22,7 @@ unless_closed made sealed later = unless made Volume (unless (not sealed) Sealed
 
 -- Whichever volume it is, this is the step of the message where that volume alone has anything.
 abbrev pub IsStepWithin : Geometry → (ℕ → ℕ → Msg) → Facts → Reply → Facts → Type 0
-IsStepWithin g m old told new = (a v : ℕ) → is_in_range g (m a v) ≡ true → IsStep g (only a v old) (m a v) told (only a v new)
+IsStepWithin g m old told new = (a v : ℕ) → is_in_range g (m a v) ≡ true → IsSerialStep g (only a v old) (m a v) told (only a v new)
 
 -- the state in which aggregate a alone has anything
 abbrev pub at_aggregate : Geometry → ℕ → Aggr → State

@@ -18,10 +18,10 @@ pub struct Job {
 }
 
 impl Model for Job {
-    ghost use Rattle.parcel.specs.Run.{Asked};
+    ghost use Rattle.parcel.specs.Run.{JobView};
     ghost use Rattle.parcel.specs.Fits.{Suits};
 
-    ghost Value = { Asked };
+    ghost Value = { JobView };
 
     ghost view = { λ j. record { geometry = j.geometry; ticket = j.ticket; message = j.message; standing = j.standing; parcels = j.parcels } };
 
@@ -29,7 +29,7 @@ impl Model for Job {
 }
 
 impl Job {
-    ghost use Rattle.parcel.specs.Run.{Asked};
+    ghost use Rattle.parcel.specs.Run.{JobView};
 
     /// The job of a message that is in range, on the parcels of its place, with what the message sees of those above.
     pub fn new(g: Geometry, ticket: u64, msg: Msg, s: Standing, p: Parcels) -> Job

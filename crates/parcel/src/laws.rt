@@ -14,7 +14,7 @@ ghost use Rattle.plain.specs.State.{State, IsState};
 ghost use Rattle.parcel.specs.Fits.{Fits, IsKindOf};
 ghost use Rattle.parcel.specs.Holding.{IsApart, IsJobOut, TreeHolds, nowhere, with_place};
 ghost use Rattle.parcel.specs.Nodes.{Nodes, in_parcels, tree_state, TakesOut, PutsBack};
-ghost use Rattle.parcel.specs.Run.{Asked, IsRun, IsStep, Shows};
+ghost use Rattle.parcel.specs.Run.{JobView, IsJobRun, IsSerialStep, Shows};
 ghost use Rattle.parcel.specs.RunLaws.{CanBePutBack, LendsJob, IsLentOf, IsSerialStepOf, LendsRunsRestores, job_place};
 ghost use Rattle.parcel.specs.Shown.{shown_state};
 ghost use Rattle.parcel.specs.Tree.{HasGap, IsIn, LendsAt, IsOut, RestoresAt};
@@ -25,7 +25,7 @@ ghost use Rattle.parcel.specs.declared.parts.Standing.{Standing};
 /// A job that ran on the parcels of its place is a serial step of every state from which they can
 /// have been lent, whatever that state has elsewhere.
 pub fn run_is_serial()
-    ensures { (job : Asked) (done : Done) (x : State) → IsRun job done → IsLentOf job x → IsSerialStepOf job done x }
+    ensures { (job : JobView) (done : Done) (x : State) → IsJobRun job done → IsLentOf job x → IsSerialStepOf job done x }
 {}
 
 /// What is taken out or put back at a path leaves the state everywhere outside that path.
@@ -43,11 +43,11 @@ pub fn restored_parcels_are_in()
 /// step of the tree's state, whatever is out elsewhere: the reply is that of the step. Where all was
 /// in, all is in again, and where the tree held a state of its geometry, it holds one again.
 pub fn lent_run_and_restored_is_a_step()
-    ensures step { (job : Asked) (done : Done) (old lent new : Nodes) → LendsRunsRestores job done old lent new
-        → IsStep job.geometry (tree_state job.geometry old) job.message done.reply (tree_state job.geometry new) }
-    ensures all_in { (job : Asked) (done : Done) (old lent new : Nodes) → LendsRunsRestores job done old lent new
+    ensures step { (job : JobView) (done : Done) (old lent new : Nodes) → LendsRunsRestores job done old lent new
+        → IsSerialStep job.geometry (tree_state job.geometry old) job.message done.reply (tree_state job.geometry new) }
+    ensures all_in { (job : JobView) (done : Done) (old lent new : Nodes) → LendsRunsRestores job done old lent new
         → IsIn job.geometry [] old → IsIn job.geometry [] new }
-    ensures state { (job : Asked) (done : Done) (old lent new : Nodes) → LendsRunsRestores job done old lent new
+    ensures state { (job : JobView) (done : Done) (old lent new : Nodes) → LendsRunsRestores job done old lent new
         → IsMessage job.message → IsState job.geometry (tree_state job.geometry old) → IsState job.geometry (tree_state job.geometry new) }
 {}
 
@@ -68,8 +68,8 @@ pub fn lent_and_run_can_be_put_back()
     ensures out { (g : Geometry) (p : Path) (t : Standing) (l : Parcels) (old lent : Nodes) →
         IsPath g p → LendsAt g p t l old lent → IsOut p lent }
     ensures kind { (g : Geometry) (p : Path) (l : Parcels) → Fits g p l → IsKindOf p l }
-    ensures ran { (job : Asked) (done : Done) (old lent : Nodes) → LendsJob job old lent →
-        IsRun job done → CanBePutBack job.geometry (job_place job) done.parcels lent }
+    ensures ran { (job : JobView) (done : Done) (old lent : Nodes) → LendsJob job old lent →
+        IsJobRun job done → CanBePutBack job.geometry (job_place job) done.parcels lent }
 {}
 
 /// A tree of which nothing is out holds the state of its nodes, and no other.
@@ -106,14 +106,14 @@ pub fn step_elsewhere_is_shown()
 /// it ran: its reply is that of the serial step of that state, and then the tree holds the state
 /// after the step, with one place fewer out.
 pub fn job_back_is_a_step()
-    ensures ok { (out : Path → Bool) (job : Asked) (done : Done) (n : Nodes) (x : State) →
-        IsJobOut out job n x → IsRun job done →
+    ensures ok { (out : Path → Bool) (job : JobView) (done : Done) (n : Nodes) (x : State) →
+        IsJobOut out job n x → IsJobRun job done →
         CanBePutBack job.geometry (job_place job) done.parcels n }
-    ensures reply { (out : Path → Bool) (job : Asked) (done : Done) (n : Nodes) (x : State) →
-        IsJobOut out job n x → IsRun job done →
+    ensures reply { (out : Path → Bool) (job : JobView) (done : Done) (n : Nodes) (x : State) →
+        IsJobOut out job n x → IsJobRun job done →
         done.reply ≡ reply_to job.geometry x job.message }
-    ensures holds { (out : Path → Bool) (job : Asked) (done : Done) (n new : Nodes) (x : State) →
-        IsJobOut out job n x → IsRun job done → IsMessage job.message →
+    ensures holds { (out : Path → Bool) (job : JobView) (done : Done) (n new : Nodes) (x : State) →
+        IsJobOut out job n x → IsJobRun job done → IsMessage job.message →
         RestoresAt job.geometry (job_place job) done.parcels n new →
         TreeHolds job.geometry out new (next_state job.geometry x job.message) }
 {}

@@ -1,15 +1,15 @@
 //! The pieces of an image: what the tree holds, written as the bytes of its pieces and taken in from
 //! them, one at a time and with no memory of their own.
 ghost use Rattle.std.specs.Prelude.{◌≡◌, ◌↔◌, ◌<◌, ◌≤◌, ℕ, length, [], ◌∷◌, None, IfSome, IsOk, OnOk};
-ghost use Rattle.image.specs.Pieces.{aggregate_of, volume_of, part_of, part_piece, part_size};
+ghost use Rattle.image.specs.Pieces.{aggregate_of, volume_of, part_of, part_piece, piece_part_size};
 ghost use Rattle.image.specs.Pieces.{piece_count, piece_of, piece_size, with_piece};
 ghost use Rattle.plain.specs.State.{State, IsState};
 ghost use Rattle.parcel.specs.Fits.{FitsAggregate, FitsRoot, FitsVolume};
 ghost use Rattle.parcel.specs.Fits.{IsWholeAggregate, IsWholeChild, IsWholeRoot, IsWholeVolume};
 ghost use Rattle.parcel.specs.Pieces.{HasFacts, IsPartRead, IsRead};
-ghost use Rattle.parcel.specs.Levels.{volume_of as volume_at, volume_in};
+ghost use Rattle.parcel.specs.Levels.{volume_below as volume_at, volume_in};
 ghost use Rattle.parcel.specs.Nodes.{in_aggregate, in_child, in_root, in_volume};
-ghost use Rattle.parcel.specs.Shown.{by_volume};
+ghost use Rattle.parcel.specs.Shown.{volume_facts};
 ghost use Rattle.parcel.specs.Tree.{IsWholeTree, state_in};
 
 mod stripes;
@@ -84,9 +84,9 @@ fn write_part(volume: &Vol, g: &Geometry, part: usize, out: &mut [u8])
     requires fits { FitsVolume g.now volume.now }
     requires whole { IsWholeVolume volume.now }
     requires part { part ≤ g.now.stripes }
-    requires size { length out.old ≡ part_size g.now part }
+    requires size { length out.old ≡ piece_part_size g.now part }
     ensures { (x : State) (a v : ℕ) → IsState g.now x
-        → HasFacts x a v (by_volume g.now volume.now) → out.new ≡ part_piece 2 g.now x a v part }
+        → HasFacts x a v (volume_facts g.now volume.now) → out.new ≡ part_piece 2 g.now x a v part }
 {
     if part == 0 {
         return write_volume(volume, out);
@@ -174,7 +174,7 @@ fn read_in_root(
     requires aggregate { place.aggregate < g.now.aggregates }
     requires volume { place.volume < g.now.volumes }
     requires part { place.part ≤ g.now.stripes }
-    requires size { length bytes.now ≡ part_size g.now place.part }
+    requires size { length bytes.now ≡ piece_part_size g.now place.part }
     ensures fits { IfSome tree.new (FitsRoot g.now) }
     ensures read { IsRead version g.now place.part bytes.now result
         (place.aggregate ∷ place.volume ∷ []) (volume_in tree.old place.aggregate place.volume)
@@ -204,7 +204,7 @@ fn read_in_aggregate(
     requires whole { IsWholeChild IsWholeAggregate at.old }
     requires volume { place.volume < g.now.volumes }
     requires part { place.part ≤ g.now.stripes }
-    requires size { length bytes.now ≡ part_size g.now place.part }
+    requires size { length bytes.now ≡ piece_part_size g.now place.part }
     ensures fits { IfSome at.new (FitsAggregate g.now) }
     ensures read { IsRead version g.now place.part bytes.now result
         (place.volume ∷ []) (volume_at at.old place.volume)
@@ -233,7 +233,7 @@ fn read_in_volume(
     requires fits { IfSome at.old (FitsVolume g.now) }
     requires whole { IsWholeChild IsWholeVolume at.old }
     requires part { part ≤ g.now.stripes }
-    requires size { length bytes.now ≡ part_size g.now part }
+    requires size { length bytes.now ≡ piece_part_size g.now part }
     ensures fits { IfSome at.new (FitsVolume g.now) }
     ensures read { IsRead version g.now part bytes.now result
         [] at.old (in_child in_volume at.old) (in_child in_volume at.new) }
@@ -249,7 +249,7 @@ fn read_part(volume: &mut Vol, g: &Geometry, part: usize, version: u8, bytes: &[
     requires fits { FitsVolume g.now volume.old }
     requires whole { IsWholeVolume volume.old }
     requires part { part ≤ g.now.stripes }
-    requires size { length bytes.now ≡ part_size g.now part }
+    requires size { length bytes.now ≡ piece_part_size g.now part }
     ensures { IsPartRead version g.now part bytes.now result volume.old volume.new }
 {
     if part == 0 {

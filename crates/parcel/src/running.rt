@@ -3,7 +3,7 @@
 ghost use Rattle.std.specs.Prelude.{◌≡◌};
 ghost use Rattle.message.specs.Messages.{place};
 ghost use Rattle.parcel.specs.Fits.{Suits};
-ghost use Rattle.parcel.specs.Run.{IsRun, IsStep};
+ghost use Rattle.parcel.specs.Run.{IsJobRun, IsSerialStep};
 ghost use Rattle.parcel.specs.Shown.{shown_state};
 
 mod at_aggregate;
@@ -29,7 +29,7 @@ use message::{Msg, Reply};
 /// the standing show, and they show the state after it.
 #[inline(always)]
 pub fn run(job: Job) -> Done
-    ensures { IsRun job result }
+    ensures { IsJobRun job result }
 {
     let Job {
         geometry,
@@ -51,7 +51,7 @@ pub fn run(job: Job) -> Done
 #[inline(never)]
 fn run_on(parcels: &mut Parcels, g: &Geometry, standing: Standing, message: &Msg) -> Reply
     requires { Suits g.now message.now parcels.old }
-    ensures step { IsStep g.now (shown_state g.now (place g.now message.now) standing parcels.old) message.now result (shown_state g.now (place g.now message.now) standing parcels.new) }
+    ensures step { IsSerialStep g.now (shown_state g.now (place g.now message.now) standing parcels.old) message.now result (shown_state g.now (place g.now message.now) standing parcels.new) }
     ensures suits { Suits g.now message.now parcels.new }
 {
     match parcels {

@@ -3,18 +3,18 @@ use Rattle.std.proofs.Common.{◌≡◌, ℕ, zero, suc, ◌*◌, ◌<◌, ◌�
 use Rattle.std.specs.List.{AllByRecursion, flat_map}
 use Rattle.std.proofs.lemmas.List.{take_at, drop_at, append_assoc}
 use Rattle.byteorder.specs.Endian.{little_bytes, little_number}
-use Rattle.stripe.specs.Stripe.{Entry}
+use Rattle.stripe.specs.Stripe.{BlockEntry}
 use Rattle.stripe.specs.Entries.{entry_bytes, entry_in, entries_in}
 
 -- An entry has room for its block's number, and a whole block.
-pub record IsSpellable (e : Entry) : Type 0 where
+pub record IsSpellable (e : BlockEntry) : Type 0 where
   pub long : length e.content.0 ≡ 512
   pub small : e.block < 65536
 
-pub length-entry : (e : Entry) → IsSpellable e → length (entry_bytes e) ≡ 520
+pub length-entry : (e : BlockEntry) → IsSpellable e → length (entry_bytes e) ≡ 520
 length-entry e is = omega (arith, is.long)
 
-pub length-entries : (es : List Entry) → AllByRecursion IsSpellable es → length (flat_map entry_bytes es) ≡ length es * 520
+pub length-entries : (es : List BlockEntry) → AllByRecursion IsSpellable es → length (flat_map entry_bytes es) ≡ length es * 520
 length-entries [] all = refl
 length-entries (e ∷ es) all = omega (arith, length-append (entry_bytes e) (flat_map entry_bytes es), length-entry e all.0, length-entries es all.1)
 
@@ -22,7 +22,7 @@ two_bytes : (b : ℕ) → b < 65536 → little_number 2 (little_bytes 2 b) ≡ b
 two_bytes b small = omega (arith, small)
 
 -- an entry is read as it was written
-pub entry_again : (e : Entry) → IsSpellable e → entry_in (entry_bytes e) ≡ e
+pub entry_again : (e : BlockEntry) → IsSpellable e → entry_in (entry_bytes e) ≡ e
 entry_again e is = λ i. record { file = e.file; block = two_bytes e.block is.small i; content = e.content }
 
 none_there : (n k : ℕ) → entries_in n (replicate k 0) ≡ []
@@ -31,7 +31,7 @@ none_there (suc n) zero = refl
 none_there (suc n) (suc k) = refl
 
 -- entries that were put in a row, with zeros behind
-pub entries_again : (es : List Entry) → AllByRecursion IsSpellable es → (n k : ℕ) → length es ≤ n → entries_in n (flat_map entry_bytes es ++ replicate k 0) ≡ es
+pub entries_again : (es : List BlockEntry) → AllByRecursion IsSpellable es → (n k : ℕ) → length es ≤ n → entries_in n (flat_map entry_bytes es ++ replicate k 0) ≡ es
 entries_again [] all n k fits = none_there n k
 entries_again (e ∷ es) all zero k fits = absurd (omega (arith, fits))
 entries_again (e ∷ es) all (suc n) k fits =

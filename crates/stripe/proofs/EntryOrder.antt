@@ -3,12 +3,12 @@ use Rattle.std.proofs.Common.{◌≡◌, ℕ, ◌<◌, ◌≤◌, Bool, true, fa
 use Rattle.std.specs.Prelude.{◌==◌, if◌then◌else◌}
 use Rattle.std.specs.List.{AllByRecursion}
 use Rattle.std.proofs.lemmas.Bool.{cases_lt, eq-eqb, eqb-true, ne_eqb, and_from, and_parts}
-use Rattle.stripe.specs.Stripe.{Entry, content_at, ComesBefore, IsAscending}
-use Rattle.stripe.specs.Index.{IsBefore}
+use Rattle.stripe.specs.Stripe.{BlockEntry, content_at, ComesBefore, IsAscending}
+use Rattle.stripe.specs.Index.{PrecedesEntry}
 
 -- ---- what entries hold
 
-no_block_of : (f b : ℕ) (e : Entry) → IsBefore f b e.file e.block → ((f == e.file) && (b == e.block)) ≡ false
+no_block_of : (f b : ℕ) (e : BlockEntry) → PrecedesEntry f b e.file e.block → ((f == e.file) && (b == e.block)) ≡ false
 no_block_of f b e = ⊎_elim
     (λ (file : f < e.file). ap (λ (t : Bool). t && (b == e.block)) (ne_eqb f e.file (λ same. omega (arith, same, file))))
     (λ (block : (f ≡ e.file) × (b < e.block)). other_half (f == e.file) (b == e.block) (ne_eqb b e.block (λ same. omega (arith, same, block.1))))
@@ -18,14 +18,14 @@ no_block_of f b e = ⊎_elim
     other_half false q off = refl
 
 -- Nothing is held of a block that comes before all entries.
-pub content-before : (f b : ℕ) (es : List Entry) → AllByRecursion (λ e. IsBefore f b e.file e.block) es → content_at es f b ≡ None
+pub content-before : (f b : ℕ) (es : List BlockEntry) → AllByRecursion (λ e. PrecedesEntry f b e.file e.block) es → content_at es f b ≡ None
 content-before f b [] before = refl
 content-before f b (e ∷ es) before = ap (λ (t : Bool). if t then Some e.content else content_at es f b) (no_block_of f b e before.0) ∙ content-before f b es before.1
 
-content-head : (e : Entry) (es : List Entry) → content_at (e ∷ es) e.file e.block ≡ Some e.content
+content-head : (e : BlockEntry) (es : List BlockEntry) → content_at (e ∷ es) e.file e.block ≡ Some e.content
 content-head e es = ap (λ (t : Bool). if t then Some e.content else content_at es e.file e.block) (and_from (e.file == e.file) (e.block == e.block) (eq-eqb e.file e.file refl) (eq-eqb e.block e.block refl))
 
-before_both : (f b i j k l : ℕ) → IsBefore f b i j → IsBefore i j k l → IsBefore f b k l
+before_both : (f b i j k l : ℕ) → PrecedesEntry f b i j → PrecedesEntry i j k l → PrecedesEntry f b k l
 before_both f b i j k l first second =
     ⊎_elim
     (λ (file : f < i). inl (⊎_elim (λ (more : i < k). omega (arith, file, more)) (λ (same : (i ≡ k) × (j < l)). omega (arith, file, same.0)) second))
@@ -36,11 +36,11 @@ before_both f b i j k l first second =
     second)
     first
 
-all_behind : (f b : ℕ) (e : Entry) (es : List Entry) → IsBefore f b e.file e.block → AllByRecursion (ComesBefore e) es → AllByRecursion (λ d. IsBefore f b d.file d.block) es
+all_behind : (f b : ℕ) (e : BlockEntry) (es : List BlockEntry) → PrecedesEntry f b e.file e.block → AllByRecursion (ComesBefore e) es → AllByRecursion (λ d. PrecedesEntry f b d.file d.block) es
 all_behind f b e [] before rest = tt
 all_behind f b e (d ∷ es) before rest = (before_both f b e.file e.block d.file d.block before rest.0, all_behind f b e es before rest.1)
 
-which_first : (f b i j : ℕ) → IsBefore f b i j ⊎ (IsBefore i j f b ⊎ ((f ≡ i) × (b ≡ j)))
+which_first : (f b i j : ℕ) → PrecedesEntry f b i j ⊎ (PrecedesEntry i j f b ⊎ ((f ≡ i) × (b ≡ j)))
 which_first f b i j =
     ⊎_elim
     (λ (less : f < i). inl (inl less))
@@ -69,17 +69,17 @@ some_same x y same = cc
 
 -- ---- ascending lists that hold the same are the same
 
-pub ascending_same : (ds es : List Entry) → IsAscending ds → IsAscending es → ((f b : ℕ) → content_at ds f b ≡ content_at es f b) → ds ≡ es
+pub ascending_same : (ds es : List BlockEntry) → IsAscending ds → IsAscending es → ((f b : ℕ) → content_at ds f b ≡ content_at es f b) → ds ≡ es
 ascending_same [] [] up rising same = refl
 ascending_same [] (e ∷ es) up rising same = absurd (some_is_not_none e.content (content_at (e ∷ es) e.file e.block) (content-head e es) (sym (same e.file e.block)))
 ascending_same (d ∷ ds) [] up rising same = absurd (some_is_not_none d.content (content_at (d ∷ ds) d.file d.block) (content-head d ds) (same d.file d.block))
 ascending_same (d ∷ ds) (e ∷ es) up rising same =
     ⊎_elim
-    (λ (first : IsBefore d.file d.block e.file e.block).
+    (λ (first : PrecedesEntry d.file d.block e.file e.block).
     absurd (some_is_not_none d.content (content_at (d ∷ ds) d.file d.block) (content-head d ds)
     (same d.file d.block ∙ content-before d.file d.block (e ∷ es) (first, all_behind d.file d.block e es first rising.0))))
     (⊎_elim
-    (λ (second : IsBefore e.file e.block d.file d.block).
+    (λ (second : PrecedesEntry e.file e.block d.file d.block).
     absurd (some_is_not_none e.content (content_at (e ∷ es) e.file e.block) (content-head e es)
     (sym (same e.file e.block) ∙ content-before e.file e.block (d ∷ ds) (second, all_behind e.file e.block d ds second up.0))))
     (λ (both : (d.file ≡ e.file) × (d.block ≡ e.block)).
@@ -105,10 +105,10 @@ ascending_same (d ∷ ds) (e ∷ es) up rising same =
 
 -- ---- joining
 
-pub ascending-append : (ds es : List Entry) → IsAscending ds → IsAscending es → AllByRecursion (λ d. AllByRecursion (ComesBefore d) es) ds → IsAscending (ds ++ es)
+pub ascending-append : (ds es : List BlockEntry) → IsAscending ds → IsAscending es → AllByRecursion (λ d. AllByRecursion (ComesBefore d) es) ds → IsAscending (ds ++ es)
 ascending-append [] es up rising apart = rising
 ascending-append (d ∷ ds) es up rising apart = (all_both ds up.0 apart.0, ascending-append ds es up.1 rising apart.1)
   where
-    all_both : (cs : List Entry) → AllByRecursion (ComesBefore d) cs → AllByRecursion (ComesBefore d) es → AllByRecursion (ComesBefore d) (cs ++ es)
+    all_both : (cs : List BlockEntry) → AllByRecursion (ComesBefore d) cs → AllByRecursion (ComesBefore d) es → AllByRecursion (ComesBefore d) (cs ++ es)
     all_both [] first second = second
     all_both (c ∷ cs) first second = (first.0, all_both cs first.1 second)

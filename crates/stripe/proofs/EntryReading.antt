@@ -9,29 +9,29 @@ use Rattle.std.proofs.Math.Seq.{take-add}
 use Rattle.affinity.specs.declared.geometry.Geometry.{Geometry}
 use Rattle.stripe.specs.Entries.{entry_bytes, stripe_bytes, entry_in, entries_in, can_stand, IsStripePiece}
 use Rattle.stripe.specs.Index.{IsNextEntry}
-use Rattle.stripe.specs.Stripe.{Entry, ComesBefore, IsAscending}
+use Rattle.stripe.specs.Stripe.{BlockEntry, ComesBefore, IsAscending}
 use Rattle.stripe.proofs.EntryOrder.{ascending-append}
 
 -- ---- lists
 
-pub all_split : (P : Entry → Type 0) (es : List Entry) (n : ℕ) → n ≤ length es → AllByRecursion P es → AllByRecursion (λ e. P e → ⊥) (drop n es) → n ≡ length es
+pub all_split : (P : BlockEntry → Type 0) (es : List BlockEntry) (n : ℕ) → n ≤ length es → AllByRecursion P es → AllByRecursion (λ e. P e → ⊥) (drop n es) → n ≡ length es
 all_split P [] n few all none = omega (arith, few)
 all_split P (e ∷ es) zero few all none = absurd (none.0 all.0)
 all_split P (e ∷ es) (suc n) few all none = ap suc (all_split P es n (omega (arith, few)) all.1 none)
 
-all_back : (P : Entry → Type 0) (xs ys : List Entry) → AllByRecursion P (xs ++ ys) → AllByRecursion P ys
+all_back : (P : BlockEntry → Type 0) (xs ys : List BlockEntry) → AllByRecursion P (xs ++ ys) → AllByRecursion P ys
 all_back P [] ys all = all
 all_back P (x ∷ xs) ys all = all_back P xs ys all.1
 
-all_push : (P : Entry → Type 0) (xs : List Entry) (e : Entry) → AllByRecursion P xs → P e → AllByRecursion P (xs ++ e ∷ [])
+all_push : (P : BlockEntry → Type 0) (xs : List BlockEntry) (e : BlockEntry) → AllByRecursion P xs → P e → AllByRecursion P (xs ++ e ∷ [])
 all_push P [] e all is = (is, tt)
 all_push P (x ∷ xs) e all is = (all.0, all_push P xs e all.1 is)
 
-all_one : (e : Entry) (es : List Entry) → AllByRecursion (λ d. ComesBefore d e) es → AllByRecursion (λ d. AllByRecursion (ComesBefore d) (e ∷ [])) es
+all_one : (e : BlockEntry) (es : List BlockEntry) → AllByRecursion (λ d. ComesBefore d e) es → AllByRecursion (λ d. AllByRecursion (ComesBefore d) (e ∷ [])) es
 all_one e [] all = tt
 all_one e (d ∷ es) all = ((all.0, tt), all_one e es all.1)
 
-ascending_before : (es rest : List Entry) (e : Entry) → IsAscending (es ++ e ∷ rest) → AllByRecursion (λ d. ComesBefore d e) es
+ascending_before : (es rest : List BlockEntry) (e : BlockEntry) → IsAscending (es ++ e ∷ rest) → AllByRecursion (λ d. ComesBefore d e) es
 ascending_before [] rest e up = tt
 ascending_before (d ∷ es) rest e up = ((all_back (ComesBefore d) es (e ∷ rest) up.0).0, ascending_before es rest e up.1)
 
@@ -71,9 +71,6 @@ row_spelled (m ∷ f ∷ l ∷ h ∷ p ∷ []) long marked blank l_small h_small
 row_spelled (m ∷ f ∷ l ∷ h ∷ p ∷ q ∷ []) long marked blank l_small h_small = absurd (omega (arith, long))
 row_spelled (m ∷ f ∷ l ∷ h ∷ p ∷ q ∷ r ∷ []) long marked blank l_small h_small = absurd (omega (arith, long))
 
-length-entry_bytes : (e : Entry) → length (entry_bytes e) ≡ 8 + length e.content.0
-length-entry_bytes e = omega arith
-
 length-entry_in : (row : List ℕ) → length row ≡ 520 → length (entry_bytes (entry_in row)) ≡ 520
 length-entry_in row long = omega (arith, length-drop 8 row, long)
 
@@ -83,7 +80,7 @@ abbrev pub row_at : List ℕ → ℕ → List ℕ
 row_at bytes n = take 520 (drop (n * 520) bytes)
 
 -- The first entries were read: they fill the front of the bytes, and the others are still there.
-pub record HasRead (g : Geometry) (files s : ℕ) (bytes : List ℕ) (es : List Entry) (n : ℕ) : Type 0 where
+pub record HasRead (g : Geometry) (files s : ℕ) (bytes : List ℕ) (es : List BlockEntry) (n : ℕ) : Type 0 where
   pub front : take (n * 520) bytes ≡ flat_map entry_bytes es
   pub ascending : IsAscending es
   pub fit : AllByRecursion (λ e. can_stand g files s e.file e.block ≡ true) es
@@ -101,13 +98,13 @@ module _ (g : Geometry) (files s : ℕ) (bytes : List ℕ) (long : length bytes 
         rest = λ i. entries_in (all i) (drop (none i) bytes);
       }
 
-  length-front : (es : List Entry) (n : ℕ) → n ≤ g.quota → HasRead g files s bytes es n → length (flat_map entry_bytes es) ≡ n * 520
+  length-front : (es : List BlockEntry) (n : ℕ) → n ≤ g.quota → HasRead g files s bytes es n → length (flat_map entry_bytes es) ≡ n * 520
   length-front es n few has =
       let fits : n * 520 ≤ length bytes = omega (arith, few, long) in
       ap length (sym has.front) ∙ length-take-le (n * 520) bytes fits
 
   -- all of them
-  pub all_read : (es : List Entry) → HasRead g files s bytes es g.quota → IsStripePiece g files s bytes × (es ≡ entries_in g.quota bytes)
+  pub all_read : (es : List BlockEntry) → HasRead g files s bytes es g.quota → IsStripePiece g files s bytes × (es ≡ entries_in g.quota bytes)
   all_read es has =
       let none : g.quota - g.quota ≡ 0 = omega arith in
       let same : es ≡ entries_in g.quota bytes = sym (append-nil es) ∙ sym (ap (λ (k : ℕ). es ++ entries_in k (drop (g.quota * 520) bytes)) none) ∙ has.rest in
@@ -121,14 +118,14 @@ module _ (g : Geometry) (files s : ℕ) (bytes : List ℕ) (long : length bytes 
         same,
       )
 
-  module _ (n : ℕ) (few : n < g.quota) (es : List Entry) (has : HasRead g files s bytes es n) where
+  module _ (n : ℕ) (few : n < g.quota) (es : List BlockEntry) (has : HasRead g files s bytes es n) where
     unmarked : get_or (drop (n * 520) bytes) 0 0 ≢ 1 → entries_in (g.quota - n) (drop (n * 520) bytes) ≡ []
     unmarked off =
         let more : g.quota - n ≡ suc (g.quota - suc n) = omega (arith, few) in
         ap (λ (k : ℕ). entries_in k (drop (n * 520) bytes)) more ∙ ap (λ (t : Bool). if t then entry_in (take 520 (drop (n * 520) bytes)) ∷ entries_in (g.quota - suc n) (drop 520 (drop (n * 520) bytes)) else []) (ne_eqb (get_or (drop (n * 520) bytes) 0 0) 1 off)
 
     these : get_or (drop (n * 520) bytes) 0 0 ≢ 1 → es ≡ entries_in g.quota bytes
-    these off = sym (append-nil es) ∙ sym (ap (λ (l : List Entry). es ++ l) (unmarked off)) ∙ has.rest
+    these off = sym (append-nil es) ∙ sym (ap (λ (l : List BlockEntry). es ++ l) (unmarked off)) ∙ has.rest
 
     -- Behind the last one only zeros may stand.
     pub zeros_behind : get_or (drop (n * 520) bytes) 0 0 ≢ 1 → AllByRecursion (λ (b : ℕ). b ≡ 0) (drop (n * 520) bytes) → IsStripePiece g files s bytes × (es ≡ entries_in g.quota bytes)
@@ -164,11 +161,11 @@ module _ (g : Geometry) (files s : ℕ) (bytes : List ℕ) (long : length bytes 
         ap (λ (k : ℕ). entries_in k (drop (n * 520) bytes)) more
         ∙ ap (λ (t : Bool). if t then entry_in (take 520 (drop (n * 520) bytes)) ∷ entries_in (g.quota - suc n) (drop 520 (drop (n * 520) bytes)) else []) (eq-eqb (get_or (drop (n * 520) bytes) 0 0) 1 on)
         ∙ ap (λ (l : List ℕ). entry_in (row_at bytes n) ∷ entries_in (g.quota - suc n) l) next_at in
-        sym (ap (λ (l : List Entry). es ++ l) here) ∙ has.rest
+        sym (ap (λ (l : List BlockEntry). es ++ l) here) ∙ has.rest
 
     pub next_read : get_or (drop (n * 520) bytes) 0 0 ≡ 1 → IsNextEntry g files s es (row_at bytes n) → HasRead g files s bytes (es ++ entry_in (row_at bytes n) ∷ []) (suc n)
     next_read on next =
-        let e : Entry = entry_in (row_at bytes n) in
+        let e : BlockEntry = entry_in (row_at bytes n) in
         let place : suc n * 520 ≡ n * 520 + 520 = omega arith in
         record {
           front = ap (λ (k : ℕ). take k bytes) place ∙ take-add (n * 520) 520 bytes ∙ (λ i. has.front i ++ next.spelled i)
@@ -180,8 +177,8 @@ module _ (g : Geometry) (files s : ℕ) (bytes : List ℕ) (long : length bytes 
 
     pub is_next : get_or (drop (n * 520) bytes) 0 0 ≡ 1 → IsStripePiece g files s bytes → IsNextEntry g files s es (row_at bytes n)
     is_next on is =
-        let e : Entry = entry_in (row_at bytes n) in
-        let others : List Entry = entries_in (g.quota - suc n) (drop (suc n * 520) bytes) in
+        let e : BlockEntry = entry_in (row_at bytes n) in
+        let others : List BlockEntry = entries_in (g.quota - suc n) (drop (suc n * 520) bytes) in
         let all : entries_in g.quota bytes ≡ es ++ e ∷ others = sym (marked on) in
         let back : List ℕ = replicate (g.quota * 520 - length (flat_map entry_bytes (es ++ e ∷ others))) 0 in
         let spelled : bytes ≡ flat_map entry_bytes (es ++ e ∷ others) ++ back = is.spelled ∙ ap (stripe_bytes g.quota) all in

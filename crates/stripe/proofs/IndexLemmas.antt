@@ -8,10 +8,10 @@ use Rattle.arena.specs.Lists.{times, without}
 use Rattle.arena.proofs.Parts.{times-tail, value-same, value-other, held-within, held-not_free, parted-restore}
 use Rattle.std.proofs.lemmas.List.{length-replicate, length-set, take-map, drop-map, map-append}
 use Rattle.arena.proofs.Times.{length-numbers, times-append, times-cons_same, times-cons_is, times-cons_other}
-use Rattle.arena.specs.Row.{Row, value_at, holds, IsParted, with_value, slot_from, put_answer, put_into, after_put, after_take, empty_row}
+use Rattle.arena.specs.Row.{Row, value_at, holds_value, IsParted, with_value, slot_from, put_answer, put_into, after_put, after_take, empty_row}
 use Rattle.stripe.specs.declared.blocks.IndexEntry.{IndexEntry}
-use Rattle.stripe.specs.Stripe.{Entry, StripePart, content_at, ComesBefore, IsAscending}
-use Rattle.stripe.specs.Index.{no_block, entry_at, entries_of, slots_of, IsStored, no_entry, IsBefore, IsSplit, IsAt, IsGap, rewritten}
+use Rattle.stripe.specs.Stripe.{BlockEntry, StripePart, content_at, ComesBefore, IsAscending}
+use Rattle.stripe.specs.Index.{no_block, entry_at, entries_of, slots_of, IsStored, no_entry, PrecedesEntry, IsSplit, IsAt, IsGap, rewritten}
 use Rattle.stripe.proofs.EntryLemmas.{before-before, content-at, ascending-rewritten, ascending-inserted, ascending-removed}
 
 -- ---- the search
@@ -20,7 +20,7 @@ use Rattle.stripe.proofs.EntryLemmas.{before-before, content-at, ascending-rewri
 abbrev pub is_before : IndexEntry → ℕ → ℕ → Bool
 is_before p f b = nat_lt p.file f || ((p.file == f) && nat_lt p.block b)
 
-is_before-true : (p : IndexEntry) (f b : ℕ) → is_before p f b ≡ true → IsBefore p.file p.block f b
+is_before-true : (p : IndexEntry) (f b : ℕ) → is_before p f b ≡ true → PrecedesEntry p.file p.block f b
 is_before-true p f b passes = elim (leb_tells (suc p.file) f) [
   | inl e ↦ inl e.1
   | inr n ↦ elim (eqb_tells p.file f) [
@@ -32,7 +32,7 @@ is_before-true p f b passes = elim (leb_tells (suc p.file) f) [
   ]
 ]
 
-is_before-from : (p : IndexEntry) (f b : ℕ) → IsBefore p.file p.block f b → is_before p f b ≡ true
+is_before-from : (p : IndexEntry) (f b : ℕ) → PrecedesEntry p.file p.block f b → is_before p f b ≡ true
 is_before-from p f b before = elim (leb_tells (suc p.file) f) [
   | inl e ↦ rw e.0 refl
   | inr n ↦ elim (eqb_tells p.file f) [
@@ -44,18 +44,18 @@ is_before-from p f b before = elim (leb_tells (suc p.file) f) [
   ]
 ]
   where
-    no_way : f < suc p.file → b < suc p.block → IsBefore p.file p.block f b → ⊥
+    no_way : f < suc p.file → b < suc p.block → PrecedesEntry p.file p.block f b → ⊥
     no_way high over (inl low) = omega arith
     no_way high over (inr same) = omega (arith, same.1)
 
-    apart : f < suc p.file → p.file ≢ f → IsBefore p.file p.block f b → ⊥
+    apart : f < suc p.file → p.file ≢ f → PrecedesEntry p.file p.block f b → ⊥
     apart high other (inl low) = omega arith
     apart high other (inr same) = other same.0
 
-is_before-not : (p : IndexEntry) (f b : ℕ) → is_before p f b ≡ false → IsBefore p.file p.block f b → ⊥
+is_before-not : (p : IndexEntry) (f b : ℕ) → is_before p f b ≡ false → PrecedesEntry p.file p.block f b → ⊥
 is_before-not p f b fails before = let passes = is_before-from p f b before in let lost : true ≡ false = sym passes ∙ fails in cc
 
-all-index : (values : List (Option Block)) (P : Entry → Type 0) (index : List IndexEntry) (n : ℕ) (d : IndexEntry) → n < length index
+all-index : (values : List (Option Block)) (P : BlockEntry → Type 0) (index : List IndexEntry) (n : ℕ) (d : IndexEntry) → n < length index
     → AllByRecursion P (entries_of values index) → P (entry_at values (slice_index_or index n d))
 all-index values P [] n d within all = absurd (omega arith)
 all-index values P (p ∷ index) zero d within all = all.0
@@ -75,7 +75,7 @@ is_before-parted values (p ∷ index) f b up (suc i) (suc j) d order within pass
 
 before-from : (values : List (Option Block)) (index : List IndexEntry) (f b n : ℕ)
     → ((k : ℕ) (d : IndexEntry) → k < n → k < length index → is_before (slice_index_or index k d) f b ≡ true)
-    → AllByRecursion (λ e. IsBefore e.file e.block f b) (take n (entries_of values index))
+    → AllByRecursion (λ e. PrecedesEntry e.file e.block f b) (take n (entries_of values index))
 before-from values index f b zero all = tt
 before-from values [] f b (suc n) all = tt
 before-from values (p ∷ index) f b (suc n) all = (
@@ -85,7 +85,7 @@ before-from values (p ∷ index) f b (suc n) all = (
 
 behind-from : (values : List (Option Block)) (index : List IndexEntry) (f b n : ℕ)
     → ((k : ℕ) (d : IndexEntry) → n ≤ k → k < length index → is_before (slice_index_or index k d) f b ≡ false)
-    → AllByRecursion (λ e. IsBefore e.file e.block f b → ⊥) (drop n (entries_of values index))
+    → AllByRecursion (λ e. PrecedesEntry e.file e.block f b → ⊥) (drop n (entries_of values index))
 behind-from values [] f b zero all = tt
 behind-from values [] f b (suc n) all = tt
 behind-from values (p ∷ index) f b zero all = (
@@ -137,19 +137,19 @@ pub held-content : (row : Row Block) (index : List IndexEntry) (n : ℕ) (p : In
 held-content row index n p stored within here =
     unwrapped (value_at row p.slot) no_block (stored.hold p.slot (times-place index n p within here))
 
-pub found-value : (row : Row Block) (index : List IndexEntry) (es : List Entry) (f b n : ℕ) (p : IndexEntry) → IsStored row index
+pub found-value : (row : Row Block) (index : List IndexEntry) (es : List BlockEntry) (f b n : ℕ) (p : IndexEntry) → IsStored row index
     → entries_of row.values index ≡ es → IsAt es f b n → p ≡ slice_index_or index n p → value_at row p.slot ≡ content_at es f b
 found-value row index es f b n p stored same at here =
     let within : n < length (entries_of row.values index) = rw (← same) at at.within in
     let up : IsAscending es = rw same at stored.ascending in
     let there : slice_index_or es n no_entry ≡ entry_at row.values p = rw (← same) (place-entry row.values index n p within here) in
     held-content row index n p stored (let long = length-entries row.values index in omega arith) here
-    ∙ ap (λ (e : Entry). Some e.content) (sym there)
+    ∙ ap (λ (e : BlockEntry). Some e.content) (sym there)
     ∙ sym (content-at es f b n up at)
 
 -- ---- a write to a value
 
-pub part_same : (q r : ℕ) (ds es : List Entry) → q ≡ r → ds ≡ es
+pub part_same : (q r : ℕ) (ds es : List BlockEntry) → q ≡ r → ds ≡ es
     → ◌≡◌ {A = StripePart} (record { quota = q; entries = ds }) (record { quota = r; entries = es })
 part_same q r ds es quota entries = rw (quota, entries) refl
 
@@ -163,7 +163,7 @@ entry-other : (values : List (Option Block)) (q : IndexEntry) (slot : ℕ) (w : 
 entry-other values q slot w other =
     ap (λ (o : Option Block). record { file = q.file; block = q.block; content = unwrap_or o no_block }) (value-other values slot q.slot w other)
 
-both_same : (d e : Entry) (ds es : List Entry) → d ≡ e → ds ≡ es → d ∷ ds ≡ e ∷ es
+both_same : (d e : BlockEntry) (ds es : List BlockEntry) → d ≡ e → ds ≡ es → d ∷ ds ≡ e ∷ es
 both_same d e ds es head tail = cc
 
 entries-other : (values : List (Option Block)) (slot : ℕ) (w : Option Block) (index : List IndexEntry) → times slot (slots_of index) ≡ 0
@@ -355,19 +355,19 @@ times-next i (q ∷ run) (suc k) p within here =
     under_times i q.slot (slots_of (take (suc k) run)) (p.slot ∷ slots_of (take k run)) (times-next i run k p (omega arith) here)
     ∙ times-swapped i q.slot p.slot (slots_of (take k run))
 
-after_take-is : (row : Row Block) (i : ℕ) → holds row i ≡ true
+after_take-is : (row : Row Block) (i : ℕ) → holds_value row i ≡ true
     → after_take row i ≡ record { values = slice_set row.values i None; free = i ∷ row.free; chains = map (without i) row.chains }
 after_take-is row i held = rw held refl
 
 pub taken-more : (before now : Row Block) (run : List IndexEntry) (k : ℕ) (p : IndexEntry) → IsTaken before now run k → ((i : ℕ) → times i (slots_of run) ≤ 1)
-    → ((i : ℕ) → 0 < times i (slots_of run) → holds before i ≡ true) → k < length run → p ≡ slice_index_or run k p
+    → ((i : ℕ) → 0 < times i (slots_of run) → holds_value before i ≡ true) → k < length run → p ≡ slice_index_or run k p
     → IsParted (after_take now p.slot) → IsTaken before (after_take now p.slot) run (k + 1)
 taken-more before now run k p taken once hold within here parted =
     let next = λ (i : ℕ). times-next i run k p within here in
     let one = times-cons_same p.slot (slots_of (take k run)) in
     let fresh : times p.slot (slots_of (take k run)) ≡ 0 =
     (let all = times-taken p.slot run (suc k) in let most = once p.slot in let step = next p.slot in omega arith) in
-    let held : holds now p.slot ≡ true =
+    let held : holds_value now p.slot ≡ true =
     ap is_some (taken.others p.slot fresh)
     ∙ hold p.slot (let all = times-taken p.slot run (suc k) in let step = next p.slot in omega arith) in
     let is = after_take-is now p.slot held in

@@ -5,26 +5,22 @@ use Rattle.affinity.specs.Geometry.{group}
 use Rattle.affinity.specs.declared.geometry.Geometry.{Geometry}
 use Rattle.byteorder.specs.Endian.{little_bytes, little_number}
 use Rattle.message.specs.Replies.{has_file}
-use Rattle.stripe.specs.Stripe.{Entry, IsAscending}
-
--- how many bytes an entry has
-abbrev pub entry_size : ℕ
-entry_size = 520
+use Rattle.stripe.specs.Stripe.{BlockEntry, IsAscending}
 
 -- an entry: 1, the file, the block with the lower byte first, four zeros, the content
-abbrev pub entry_bytes : Entry → List ℕ
+abbrev pub entry_bytes : BlockEntry → List ℕ
 entry_bytes e = 1 ∷ e.file ∷ [] ++ little_bytes 2 e.block ++ 0 ∷ 0 ∷ 0 ∷ 0 ∷ [] ++ e.content.0
 
 -- entries one after the other, and zeros behind them where there could be more
-abbrev pub stripe_bytes : ℕ → List Entry → List ℕ
+abbrev pub stripe_bytes : ℕ → List BlockEntry → List ℕ
 stripe_bytes quota es = flat_map entry_bytes es ++ replicate (quota * 520 - length (flat_map entry_bytes es)) 0
 
 -- what a row of 520 bytes says, where it is an entry
-abbrev pub entry_in : List ℕ → Entry
+abbrev pub entry_in : List ℕ → BlockEntry
 entry_in row = record { file = get_or row 1 0; block = little_number 2 (drop 2 row); content = record { 0 = drop 8 row } }
 
 -- the entries that bytes begin with, at most n, each marked by 1
-abbrev pub entries_in : ℕ → List ℕ → List Entry
+abbrev pub entries_in : ℕ → List ℕ → List BlockEntry
 entries_in zero bytes = []
 entries_in (suc n) bytes = if get_or bytes 0 0 == 1 then entry_in (take 520 bytes) ∷ entries_in n (drop 520 bytes) else []
 

@@ -4,7 +4,7 @@ use Rattle.std.specs.List.{AllByRecursion}
 use Rattle.message.specs.declared.Block.{Block}
 
 -- a block of a file, and what it holds
-pub record Entry : Type 0 where
+pub record BlockEntry : Type 0 where
   pub file : ℕ
   pub block : ℕ
   pub content : Block
@@ -12,24 +12,24 @@ pub record Entry : Type 0 where
 -- the blocks of a stripe, and how many it may have
 pub record StripePart : Type 0 where
   pub quota : ℕ
-  pub entries : List Entry
+  pub entries : List BlockEntry
 
 -- what a block holds, if it is there
-abbrev pub content_at : List Entry → ℕ → ℕ → Option Block
+abbrev pub content_at : List BlockEntry → ℕ → ℕ → Option Block
 content_at [] f b = None
 content_at (e ∷ es) f b = if (f == e.file) && (b == e.block) then Some e.content else content_at es f b
 
 -- the blocks of a file come in their order, and the files in theirs
-abbrev pub ComesBefore : Entry → Entry → Type 0
+abbrev pub ComesBefore : BlockEntry → BlockEntry → Type 0
 ComesBefore d e = (d.file < e.file) ⊎ ((d.file ≡ e.file) × (d.block < e.block))
 
 -- each entry comes before those behind it, so no block stands there twice
-abbrev pub IsAscending : List Entry → Type 0
+abbrev pub IsAscending : List BlockEntry → Type 0
 IsAscending [] = Unit {0}
 IsAscending (e ∷ es) = AllByRecursion (ComesBefore e) es × IsAscending es
 
 -- what every stripe keeps
-pub record IsKept (p : StripePart) : Type 0 where
+pub record StripeRule (p : StripePart) : Type 0 where
   pub ascending : IsAscending p.entries
   pub within : length p.entries ≤ p.quota
 

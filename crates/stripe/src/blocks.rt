@@ -1,7 +1,7 @@
 //! A stripe: a row of buffers, and an index that says which block lies in which of them.
 ghost use Rattle.std.specs.Prelude.{◌≡◌, ℕ, ◌<◌, ◌≤◌, ◌&&◌, ◌||◌, ◌==◌, true, is_some, length, nat_lt, [], Some, None, IfOk, MatchResult, option_copied, if◌then◌else◌, insert, vec_capacity};
 ghost use Rattle.std.specs.List.{remove_range};
-ghost use Rattle.stripe.specs.Stripe.{StripePart, IsKept, NowHolds, content_at};
+ghost use Rattle.stripe.specs.Stripe.{StripePart, StripeRule, NowHolds, content_at};
 ghost use Rattle.stripe.specs.Index.{entries_of, IsStored, IsSplit, IsAt, IsGap, rewritten};
 
 use arena::Arena;
@@ -47,7 +47,7 @@ impl StripeParcel {
     /// How many blocks there are.
     pub fn len(&self) -> usize
         ensures count { result ≡ length self.now.entries }
-        ensures kept { IsKept self.now }
+        ensures kept { StripeRule self.now }
     {
         self.index.len()
     }
@@ -55,7 +55,7 @@ impl StripeParcel {
     /// What a block of a file holds, if it is there.
     pub fn get(&self, f: u16, b: u16) -> Option<&Block>
         ensures content { option_copied result ≡ content_at self.now.entries f b }
-        ensures kept { IsKept self.now }
+        ensures kept { StripeRule self.now }
     {
         match self.find(f, b) {
             Ok(n) => self.blocks.get(usize::from(self.index[n].slot)),
@@ -68,7 +68,7 @@ impl StripeParcel {
         requires room { (is_some (content_at self.old.entries f b) || nat_lt (length self.old.entries) self.old.quota) ≡ true }
         ensures holds { NowHolds self.old self.new
             (λ i j. if (f == i) && (b == j) then Some content.now else content_at self.old.entries i j) }
-        ensures kept { IsKept self.new }
+        ensures kept { StripeRule self.new }
     {
         match self.find(f, b) {
             Ok(n) => self.write(n, content),
@@ -79,7 +79,7 @@ impl StripeParcel {
     /// Removes a block, if it is there.
     pub fn clear(&mut self, f: u16, b: u16)
         ensures holds { NowHolds self.old self.new (λ i j. if (f == i) && (b == j) then None else content_at self.old.entries i j) }
-        ensures kept { IsKept self.new }
+        ensures kept { StripeRule self.new }
     {
         if let Ok(n) = self.find(f, b) {
             self.cut(n, n + 1);
@@ -89,7 +89,7 @@ impl StripeParcel {
     /// Removes the blocks of a file.
     pub fn drop_file(&mut self, f: u16)
         ensures holds { NowHolds self.old self.new (λ i j. if f == i then None else content_at self.old.entries i j) }
-        ensures kept { IsKept self.new }
+        ensures kept { StripeRule self.new }
     {
         let first = self.split(usize::from(f), 0);
         let end = self.split(usize::from(f) + 1, 0);
@@ -108,7 +108,7 @@ impl StripeParcel {
     fn split(&self, f: usize, b: usize) -> usize
         ensures parts { IsSplit self.now.entries f b result }
         ensures most { length self.now.entries ≤ 64 }
-        ensures kept { IsKept self.now }
+        ensures kept { StripeRule self.now }
     {
         self.index.partition_point(|place| {
             let file = usize::from(place.file);
@@ -120,7 +120,7 @@ impl StripeParcel {
     fn find(&self, f: u16, b: u16) -> Result<usize, usize>
         ensures found { MatchResult result (IsAt self.now.entries f b) (IsGap self.now.entries f b) }
         ensures most { length self.now.entries ≤ 64 }
-        ensures kept { IsKept self.now }
+        ensures kept { StripeRule self.now }
     {
         let n = self.split(usize::from(f), usize::from(b));
         match self.index.get(n) {

@@ -4,21 +4,21 @@ use Rattle.std.specs.Prelude.{if◌then◌else◌, nat_lt}
 use Rattle.std.specs.List.{list_any, find, AllByRecursion}
 use Rattle.std.proofs.lemmas.Bool.{ltb-true, lt-ltb, false_from_ne_true}
 use Rattle.std.proofs.lemmas.List.Folds.{list_any-append}
-use Rattle.turns.specs.Turns.{overlap, is_free_of, has_room, first_to_go, next_turn, CameBefore}
+use Rattle.turns.specs.Turns.{are_related_intervals, is_free_of, has_room, first_to_go, next_turn, CameBefore}
 pub use Rattle.turns.specs.Order.{Ascend, comes_first, is_clear}
 use Rattle.turns.specs.declared.entries.Turn.{Turn}
 
 -- those that came before it count by their affinities alone
 all_early : (t : Turn) (ts : List Turn) → CameBefore t.ticket ts
-    → list_any (comes_first t) ts ≡ list_any (λ d. overlap t.affinity d.affinity) ts
+    → list_any (comes_first t) ts ≡ list_any (λ d. are_related_intervals t.affinity d.affinity) ts
 all_early t [] before = refl
 all_early t (d ∷ ts) before =
-    ap (λ b. (b && overlap t.affinity d.affinity) || list_any (comes_first t) ts) (lt-ltb d.ticket t.ticket before.0)
-    ∙ ap (λ b. overlap t.affinity d.affinity || b) (all_early t ts before.1)
+    ap (λ b. (b && are_related_intervals t.affinity d.affinity) || list_any (comes_first t) ts) (lt-ltb d.ticket t.ticket before.0)
+    ∙ ap (λ b. are_related_intervals t.affinity d.affinity || b) (all_early t ts before.1)
 
 -- no later one counts, nor does it itself
 not_less : (t d : Turn) → (d.ticket < t.ticket → ⊥) → comes_first t d ≡ false
-not_less t d h = ap (λ b. b && overlap t.affinity d.affinity)
+not_less t d h = ap (λ b. b && are_related_intervals t.affinity d.affinity)
     (false_from_ne_true (nat_lt d.ticket t.ticket) (λ less. h (ltb-true d.ticket t.ticket less)))
 
 none_late : (t : Turn) (ts : List Turn) → AllByRecursion (λ d. t.ticket < d.ticket) ts → list_any (comes_first t) ts ≡ false
@@ -32,7 +32,7 @@ or_nothing true = refl
 or_nothing false = refl
 
 only_early : (t : Turn) (earlier later : List Turn) → CameBefore t.ticket earlier → AllByRecursion (λ d. t.ticket < d.ticket) later
-    → list_any (comes_first t) (earlier ++ t ∷ later) ≡ list_any (λ d. overlap t.affinity d.affinity) earlier
+    → list_any (comes_first t) (earlier ++ t ∷ later) ≡ list_any (λ d. are_related_intervals t.affinity d.affinity) earlier
 only_early t earlier later before after =
     list_any-append (comes_first t) earlier (t ∷ later)
     ∙ ap (λ b. list_any (comes_first t) earlier || (b || list_any (comes_first t) later)) (not_less t t (λ less. omega (arith, less)))

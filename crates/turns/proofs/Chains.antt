@@ -12,7 +12,7 @@ use Rattle.arena.specs.Row.{Row, IsParted, capacity_of, value_at, chain_at, fron
 use Rattle.arena.proofs.Times.{times-append as on-append, times-cons_is as on-cons_is, times-cons_other as on-cons_other, times-at as on-at, without-absent as on-absent}
 use Rattle.arena.proofs.RowLemmas.{chain-without, chain-moved_same, chain-moved_other, length-moved, chained-holds, chained-apart, front-chained, chain-front}
 use Rattle.turns.specs.Turns.{has_slot, has_number, without_slot, CameBefore}
-use Rattle.turns.specs.Seats.{times}
+use Rattle.turns.specs.Seats.{times_seated}
 use Rattle.turns.specs.Order.{Ascend}
 use Rattle.turns.specs.Queues.{Waiting, present, by_ticket, waiting_in, turns_in, IsQueued}
 use Rattle.turns.specs.declared.entries.Turn.{Turn}
@@ -246,7 +246,7 @@ filters-turned p r (t ∷ ts) = elim (cases_Bool (p t)) [
 ]
 
 -- two queues together have a slot no more often than all
-times-two : (s n m : ℕ) (ts : List Turn) → n ≢ m → times s (filter (has_number n) ts) + times s (filter (has_number m) ts) ≤ times s ts
+times-two : (s n m : ℕ) (ts : List Turn) → n ≢ m → times_seated s (filter (has_number n) ts) + times_seated s (filter (has_number m) ts) ≤ times_seated s ts
 times-two s n m [] other = omega arith
 times-two s n m (t ∷ ts) other =
     let rest = times-two s n m ts other in
@@ -269,7 +269,7 @@ times-two s n m (t ∷ ts) other =
     ]
 
 module _ (row : Row Turn) (n i : ℕ) (t : Turn) (q : IsQueued row) (first : front_of row n ≡ Some i) (is : value_at row i ≡ Some t)
-    (once : (s : ℕ) → times s (waiting_in row) ≤ 1) where
+    (once : (s : ℕ) → times_seated s (waiting_in row) ≤ 1) where
   abbrev later : Row Turn
   later = popped row i
 
@@ -313,14 +313,14 @@ module _ (row : Row Turn) (n i : ℕ) (t : Turn) (q : IsQueued row) (first : fro
         | inr k ↦ rw k.0 (omega (arith, gone is, on-cons_other i j (without i is) k.1))
       ]
 
-  in_queue : 1 ≤ times t.slot (filter (has_number n) (waiting_in row))
-  in_queue = subst (λ (ts : List Turn). 1 ≤ times t.slot ts) (sym parts)
+  in_queue : 1 ≤ times_seated t.slot (filter (has_number n) (waiting_in row))
+  in_queue = subst (λ (ts : List Turn). 1 ≤ times_seated t.slot ts) (sym parts)
       (omega (arith, times-cons_is t.slot t (turns_in row (without i (chain_at row n))) refl))
 
   pop-queued_at : (m : ℕ) → turns_in later (chain_at later m) ≡ filter (has_number m) (without_slot t.slot (waiting_in row))
   pop-queued_at m = elim (cases_eq m n) [
     | inl e ↦ subst (λ k. turns_in later (chain_at later k) ≡ filter (has_number k) (without_slot t.slot (waiting_in row))) (sym e) here
-    | inr other ↦ (let none : times t.slot (filter (has_number m) (waiting_in row)) ≡ 0 =
+    | inr other ↦ (let none : times_seated t.slot (filter (has_number m) (waiting_in row)) ≡ 0 =
         omega (arith, times-two t.slot m n (waiting_in row) other, once t.slot, in_queue) in
         let off = chained-apart row i n m q.parted (λ same. other (sym same)) on_chain in
         left_on m
@@ -330,12 +330,12 @@ module _ (row : Row Turn) (n i : ℕ) (t : Turn) (q : IsQueued row) (first : fro
         ∙ sym (filters-turned (has_number m) (λ u. not (has_slot t.slot u)) (waiting_in row)))
   ]
     where
-      few : times t.slot (filter (has_number n) (waiting_in row)) ≤ 1
+      few : times_seated t.slot (filter (has_number n) (waiting_in row)) ≤ 1
       few = omega (arith, times-filter (has_number n) t.slot (waiting_in row), once t.slot)
 
-      rest_without : times t.slot (turns_in row (without i (chain_at row n))) ≡ 0
+      rest_without : times_seated t.slot (turns_in row (without i (chain_at row n))) ≡ 0
       rest_without =
-          let all = subst (λ (ts : List Turn). times t.slot ts ≤ 1) parts few in
+          let all = subst (λ (ts : List Turn). times_seated t.slot ts ≤ 1) parts few in
           omega (arith, all, times-cons_is t.slot t (turns_in row (without i (chain_at row n))) refl)
 
       drops : without_slot t.slot (t ∷ turns_in row (without i (chain_at row n))) ≡ turns_in row (without i (chain_at row n))

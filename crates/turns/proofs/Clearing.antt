@@ -5,7 +5,7 @@ use Rattle.std.specs.List.{list_any, AllByRecursion}
 use Rattle.std.proofs.lemmas.Bool.{eq-eqb, eqb-true, ltb-true, lt-ltb, cases_Bool, and_parts, and_from, or_cases, or_left, or_right, or_parts, true≢false, false_from_ne_true}
 use Rattle.affinity.specs.Interval.{IsAffinity, contains}
 use Rattle.affinity.specs.declared.geometry.Geometry.{Geometry}
-use Rattle.turns.specs.Turns.{overlap, is_free_of, has_number}
+use Rattle.turns.specs.Turns.{are_related_intervals, is_free_of, has_number}
 use Rattle.turns.specs.Order.{Ascend, comes_first, is_clear}
 use Rattle.turns.specs.Near.{AreAbove, is_before, bars}
 use Rattle.turns.specs.declared.entries.Turn.{Turn}
@@ -50,14 +50,14 @@ is_near t above m = contains t.affinity m || list_any (λ n. n == m) above
 -- ---- no one near keeps it back
 
 module _ (g : Geometry) (t : Turn) (above : List ℕ) (are : AreAbove g t.affinity above) where
-  near : (d : Turn) → IsAffinity g d.affinity → overlap t.affinity d.affinity ≡ true → is_near t above d.affinity.number ≡ true
+  near : (d : Turn) → IsAffinity g d.affinity → are_related_intervals t.affinity d.affinity ≡ true → is_near t above d.affinity.number ≡ true
   near d placed h = sym (are d.affinity placed) ∙ h
 
   none_held : (ds : List Turn) → AllByRecursion (λ d. IsAffinity g d.affinity) ds
       → ((m : ℕ) → is_near t above m ≡ true → find (has_number m) ds ≡ None)
-      → list_any (λ other. overlap t.affinity other.affinity) ds ≡ false
+      → list_any (λ other. are_related_intervals t.affinity other.affinity) ds ≡ false
   none_held [] placed none = refl
-  none_held (d ∷ ds) placed none = elim (cases_Bool (overlap t.affinity d.affinity)) [
+  none_held (d ∷ ds) placed none = elim (cases_Bool (are_related_intervals t.affinity d.affinity)) [
     | inl k ↦ absurd (let here = none d.affinity.number (near d placed.0 k) in
         let there = find-cons (has_number d.affinity.number) d ds (has_own d) in cc)
     | inr k ↦ rw k (none_held ds placed.1 (λ m close. elim (cases_Bool (has_number m d)) [
@@ -83,7 +83,7 @@ module _ (g : Geometry) (t : Turn) (above : List ℕ) (are : AreAbove g t.affini
       → list_any (comes_first t) ds ≡ false
   none_waits [] placed ascends none = refl
   none_waits (d ∷ ds) placed ascends none = elim (cases_Bool (comes_first t d)) [
-    | inl k ↦ absurd (let parts = and_parts (nat_lt d.ticket t.ticket) (overlap t.affinity d.affinity) k in
+    | inl k ↦ absurd (let parts = and_parts (nat_lt d.ticket t.ticket) (are_related_intervals t.affinity d.affinity) k in
         let here = none d.affinity.number (near d placed.0 parts.1) in
         let there = ap (λ (o : Option Turn). is_before t.ticket o) (find-cons (has_number d.affinity.number) d ds (has_own d)) in
         true≢false (sym parts.0 ∙ sym there ∙ here))
@@ -109,15 +109,15 @@ module _ (g : Geometry) (t : Turn) (above : List ℕ) (are : AreAbove g t.affini
   -- ---- someone near does
 
   barred-held : (held : List Turn) (m : ℕ) → AllByRecursion (λ d. IsAffinity g d.affinity) held → is_near t above m ≡ true
-      → is_some (find (has_number m) held) ≡ true → list_any (λ other. overlap t.affinity other.affinity) held ≡ true
+      → is_some (find (has_number m) held) ≡ true → list_any (λ other. are_related_intervals t.affinity other.affinity) held ≡ true
   barred-held held m placed close some = by (find (has_number m) held) refl some
     where
-      by : (o : Option Turn) → find (has_number m) held ≡ o → is_some o ≡ true → list_any (λ other. overlap t.affinity other.affinity) held ≡ true
+      by : (o : Option Turn) → find (has_number m) held ≡ o → is_some o ≡ true → list_any (λ other. are_related_intervals t.affinity other.affinity) held ≡ true
       by None is h = absurd (true≢false (sym h))
       by (Some d) is h =
           let at = eqb-true d.affinity.number m (find-passes (has_number m) held d is) in
           let there = find-all (λ u. IsAffinity g u.affinity) (has_number m) held d placed is in
-          any-found (has_number m) (λ other. overlap t.affinity other.affinity) held d is
+          any-found (has_number m) (λ other. are_related_intervals t.affinity other.affinity) held d is
           (are d.affinity there ∙ ap (λ k. is_near t above k) at ∙ close)
 
   barred-waiting : (waiting : List Turn) (m : ℕ) → AllByRecursion (λ d. IsAffinity g d.affinity) waiting → is_near t above m ≡ true

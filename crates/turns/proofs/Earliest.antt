@@ -7,7 +7,7 @@ use Rattle.std.proofs.lemmas.Bool.Decides.{leb_tells}
 use Rattle.std.proofs.Math.Nat.{min-eq_left, min-eq_right, min-le_left, min-le_right}
 use Rattle.affinity.specs.Interval.{IsAffinity, contains, server_size}
 use Rattle.affinity.specs.declared.geometry.Geometry.{Geometry}
-use Rattle.turns.specs.Turns.{overlap, is_free_of, has_room, has_number, next_turn}
+use Rattle.turns.specs.Turns.{are_related_intervals, is_free_of, has_room, has_number, next_turn}
 use Rattle.turns.specs.Marks.{earliest_from, if_passes, last_rank, mark_at, rank_of}
 use Rattle.turns.specs.Order.{Ascend, comes_first, is_clear, may_go_at, earlier}
 use Rattle.turns.specs.declared.entries.Turn.{Turn}
@@ -91,7 +91,7 @@ find-either p q (t ∷ ts) ascends = elim (cases_Bool (p t)) [
 
 -- ---- a clear one is the first at its number
 
-pub own_overlap : (g : Geometry) (t d : Turn) → IsAffinity g t.affinity → t.affinity.number ≡ d.affinity.number → overlap t.affinity d.affinity ≡ true
+pub own_overlap : (g : Geometry) (t d : Turn) → IsAffinity g t.affinity → t.affinity.number ≡ d.affinity.number → are_related_intervals t.affinity d.affinity ≡ true
 own_overlap g t d placed same = or_left _ _ (ap (λ n. contains t.affinity n) (sym same) ∙ contains-own g t.affinity placed)
 
 first_in : (g : Geometry) (t : Turn) (p : Turn → Bool) (ts : List Turn) → IsAffinity g t.affinity → Ascend ts → find p ts ≡ Some t

@@ -3,8 +3,8 @@ use Rattle.std.proofs.Common.{◌≡◌, ℕ, Bool, true, false, [], ◌∷◌, 
 use Rattle.affinity.specs.Geometry.{small}
 use Rattle.affinity.specs.Interval.{interval}
 use Rattle.affinity.specs.Path.{Path, serial, volume, logical, stripe, label}
-use Rattle.turns.specs.Turns.{overlap, next_turn, without_slot, without_number, holds_at}
-use Rattle.turns.specs.Seats.{times}
+use Rattle.turns.specs.Turns.{are_related_intervals, next_turn, without_slot, without_number, holds_at}
+use Rattle.turns.specs.Seats.{times_seated}
 use Rattle.turns.specs.declared.entries.Turn.{Turn}
 
 abbrev turn : ℕ → Path → Bool → ℕ → Turn
@@ -28,25 +28,25 @@ set_label = turn 1 (label 0 0) true 4
 
 -- ---- which affinities are related
 
-same_stripe : overlap (interval small (stripe 0 0 0)) (interval small (stripe 0 0 0)) ≡ true
+same_stripe : are_related_intervals (interval small (stripe 0 0 0)) (interval small (stripe 0 0 0)) ≡ true
 same_stripe = refl
 
-two_stripes : overlap (interval small (stripe 0 0 0)) (interval small (stripe 0 0 1)) ≡ false
+two_stripes : are_related_intervals (interval small (stripe 0 0 0)) (interval small (stripe 0 0 1)) ≡ false
 two_stripes = refl
 
-stripe_below : overlap (interval small (logical 0 0)) (interval small (stripe 0 0 1)) ≡ true
+stripe_below : are_related_intervals (interval small (logical 0 0)) (interval small (stripe 0 0 1)) ≡ true
 stripe_below = refl
 
-logical_above : overlap (interval small (stripe 0 0 1)) (interval small (logical 0 0)) ≡ true
+logical_above : are_related_intervals (interval small (stripe 0 0 1)) (interval small (logical 0 0)) ≡ true
 logical_above = refl
 
-label_beside : overlap (interval small (label 0 0)) (interval small (logical 0 0)) ≡ false
+label_beside : are_related_intervals (interval small (label 0 0)) (interval small (logical 0 0)) ≡ false
 label_beside = refl
 
-volume_above : overlap (interval small (label 0 0)) (interval small (volume 0 0)) ≡ true
+volume_above : are_related_intervals (interval small (label 0 0)) (interval small (volume 0 0)) ≡ true
 volume_above = refl
 
-all_below : overlap (interval small serial) (interval small (stripe 0 0 1)) ≡ true
+all_below : are_related_intervals (interval small serial) (interval small (stripe 0 0 1)) ≡ true
 all_below = refl
 
 -- ---- who may go
@@ -116,7 +116,7 @@ is_below = refl
 other_slot : holds_at 3 5 create ≡ false
 other_slot = refl
 
-twice : times 4 (create ∷ write ∷ create ∷ []) ≡ 2
+twice : times_seated 4 (create ∷ write ∷ create ∷ []) ≡ 2
 twice = refl
 
 -- a wrong order of what waits would give another turn

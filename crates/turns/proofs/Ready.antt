@@ -10,8 +10,8 @@ use Rattle.std.proofs.lemmas.Option.{none-some}
 use Rattle.affinity.specs.Path.{Path}
 use Rattle.affinity.specs.Interval.{Interval, IsAffinity, contains, interval, server_size}
 use Rattle.affinity.specs.declared.geometry.Geometry.{Geometry}
-use Rattle.turns.specs.Turns.{overlap, is_free_of, has_room, has_slot, has_number, without_slot, without_number, CameBefore}
-use Rattle.turns.specs.Seats.{times}
+use Rattle.turns.specs.Turns.{are_related_intervals, is_free_of, has_room, has_slot, has_number, without_slot, without_number, CameBefore}
+use Rattle.turns.specs.Seats.{times_seated}
 use Rattle.turns.specs.Order.{Ascend, comes_first, is_clear, may_go_at}
 use Rattle.turns.specs.Queues.{IsBetween}
 use Rattle.turns.specs.Marks.{if_passes, ready_at, mark_at, IsMarked, StayMarked, AreNearMarked}
@@ -76,20 +76,6 @@ mark-past g held waiting marks n placed all past =
     past-marks marks n past
     ∙ ap (λ (o : Option Turn). if_passes (is_clear held waiting) o) (sym (none-at g waiting n placed (omega (arith, all, past))))
 
-pub mark-set : (held waiting : List Turn) (marks : List (Option Turn)) (n : ℕ) → n < length marks
-    → IsMarked held waiting (slice_set marks n (ready_at held waiting n)) n
-mark-set held waiting marks n below = get_or-set_same marks n (ready_at held waiting n) None below
-
-pub stay-set : (held waiting : List Turn) (marks : List (Option Turn)) (n : ℕ) → n < length marks
-    → StayMarked held waiting marks (slice_set marks n (ready_at held waiting n))
-stay-set held waiting marks n below = (
-  length-set {A = Option Turn} marks n _,
-  λ m right. elim (cases_eq m n) [
-    | inl e ↦ subst (λ k. IsMarked held waiting (slice_set marks n (ready_at held waiting n)) k) (sym e) (mark-set held waiting marks n below)
-    | inr other ↦ get_or-set_other marks n m (ready_at held waiting n) None other ∙ right
-  ],
-)
-
 pub stay-trans : (held waiting : List Turn) (a b c : List (Option Turn)) → StayMarked held waiting a b → StayMarked held waiting b c → StayMarked held waiting a c
 stay-trans held waiting a b c first second = (second.0 ∙ first.0, λ n right. second.1 n (first.1 n right))
 
@@ -116,7 +102,7 @@ or_nothing false = refl
 -- a later one keeps back no one
 later-clear : (held waiting : List Turn) (t f : Turn) → f.ticket < t.ticket → is_clear held (waiting ++ t ∷ []) f ≡ is_clear held waiting f
 later-clear held waiting t f less =
-    let not_first : comes_first f t ≡ false = ap (λ b. b && overlap f.affinity t.affinity)
+    let not_first : comes_first f t ≡ false = ap (λ b. b && are_related_intervals f.affinity t.affinity)
     (false_from_ne_true (nat_lt t.ticket f.ticket) (λ h. let under = ltb-true t.ticket f.ticket h in omega (arith, under, less))) in
     ap (λ b. is_free_of held f && not b)
     (list_any-append (comes_first f) waiting (t ∷ [])
@@ -171,14 +157,14 @@ take-past (suc k) (x ∷ xs) h = ap (λ (r : List ℕ). x ∷ r) (take-past k xs
 -- ---- one that goes
 
 -- no other one has its slot
-none-alone : (t : Turn) (ts : List Turn) → times t.slot ts ≡ 0 → AllByRecursion (λ u. has_slot t.slot u ≡ true → u ≡ t) ts
+none-alone : (t : Turn) (ts : List Turn) → times_seated t.slot ts ≡ 0 → AllByRecursion (λ u. has_slot t.slot u ≡ true → u ≡ t) ts
 none-alone t [] none = tt
 none-alone t (d ∷ ts) none = elim (eqb_tells d.slot t.slot) [
   | inl e ↦ absurd (omega (arith, none, times-cons_is t.slot d ts e.1))
   | inr n ↦ (λ k. absurd (true≢false (sym k ∙ n.0)), none-alone t ts (omega (arith, none, times-cons_other t.slot d ts n.1)))
 ]
 
-there-found : (p : Turn → Bool) (ts : List Turn) (t : Turn) → find p ts ≡ Some t → 1 ≤ times t.slot ts
+there-found : (p : Turn → Bool) (ts : List Turn) (t : Turn) → find p ts ≡ Some t → 1 ≤ times_seated t.slot ts
 there-found p [] t found = absurd (none-some t found)
 there-found p (d ∷ ts) t found = elim (cases_Bool (p d)) [
   | inl k ↦ (let is = sym (find-cons p d ts k) ∙ found in let same : d ≡ t = cc in
@@ -189,12 +175,12 @@ there-found p (d ∷ ts) t found = elim (cases_Bool (p d)) [
   ])
 ]
 
-alone : (p : Turn → Bool) (ts : List Turn) (t : Turn) → find p ts ≡ Some t → times t.slot ts ≤ 1
+alone : (p : Turn → Bool) (ts : List Turn) (t : Turn) → find p ts ≡ Some t → times_seated t.slot ts ≤ 1
     → AllByRecursion (λ u. has_slot t.slot u ≡ true → u ≡ t) ts
 alone p [] t found once = tt
 alone p (d ∷ ts) t found once = elim (cases_Bool (p d)) [
   | inl k ↦ (let is = sym (find-cons p d ts k) ∙ found in let same : d ≡ t = cc in
-      let none : times t.slot ts ≡ 0 = omega (arith, once, times-cons_is t.slot d ts (ap (λ (u : Turn). u.slot) same)) in
+      let none : times_seated t.slot ts ≡ 0 = omega (arith, once, times-cons_is t.slot d ts (ap (λ (u : Turn). u.slot) same)) in
       (λ _. same, none-alone t ts none))
   | inr k ↦ (let later = sym (find-skip p d ts k) ∙ found in let rest = there-found p ts t later in elim (eqb_tells d.slot t.slot) [
     | inl e ↦ absurd (omega (arith, once, rest, times-cons_is t.slot d ts e.1))
@@ -257,22 +243,22 @@ or_both true false = refl
 or_both false true = refl
 or_both false false = refl
 
-overlap-both : (a b : Interval) → overlap a b ≡ overlap b a
+overlap-both : (a b : Interval) → are_related_intervals a b ≡ are_related_intervals b a
 overlap-both a b = or_both (contains a b.number) (contains b a.number)
 
-not_held : (held waiting : List Turn) (u : Turn) → list_any (λ other. overlap u.affinity other.affinity) held ≡ true → is_clear held waiting u ≡ false
+not_held : (held waiting : List Turn) (u : Turn) → list_any (λ other. are_related_intervals u.affinity other.affinity) held ≡ true → is_clear held waiting u ≡ false
 not_held held waiting u near = ap (λ b. not b && not (list_any (comes_first u) waiting)) near
 
 not_first : (held waiting : List Turn) (u : Turn) → list_any (comes_first u) waiting ≡ true → is_clear held waiting u ≡ false
 not_first held waiting u late = ap (λ b. is_free_of held u && not b) late ∙ false_and_right (is_free_of held u)
 
 module _ (held held' waiting : List Turn) (t : Turn) (joined : IsBetween t held held') (ascends : Ascend waiting)
-    (once : times t.slot waiting ≤ 1) (first : find (has_number t.affinity.number) waiting ≡ Some t) (clear : is_clear held waiting t ≡ true) where
+    (once : times_seated t.slot waiting ≤ 1) (first : find (has_number t.affinity.number) waiting ≡ Some t) (clear : is_clear held waiting t ≡ true) where
   it_alone : AllByRecursion (λ u. has_slot t.slot u ≡ true → u ≡ t) waiting
   it_alone = alone (has_number t.affinity.number) waiting t first once
 
   -- a related one was kept back by it before it went
-  kept_before : (n : ℕ) (f : Turn) → find (has_number n) waiting ≡ Some f → t.affinity.number ≢ n → overlap f.affinity t.affinity ≡ true
+  kept_before : (n : ℕ) (f : Turn) → find (has_number n) waiting ≡ Some f → t.affinity.number ≢ n → are_related_intervals f.affinity t.affinity ≡ true
       → is_clear held waiting f ≡ false
   kept_before n f found other near = elim (leb_tells (suc t.ticket) f.ticket) [
     | inl e ↦ not_first held waiting f (any-found (has_number t.affinity.number) (comes_first f) waiting t first
@@ -288,12 +274,12 @@ module _ (held held' waiting : List Turn) (t : Turn) (joined : IsBetween t held 
 
   gone-clear : (n : ℕ) (f : Turn) → find (has_number n) waiting ≡ Some f → t.affinity.number ≢ n
       → is_clear held' (without_slot t.slot waiting) f ≡ is_clear held waiting f
-  gone-clear n f found other = elim (cases_Bool (overlap f.affinity t.affinity)) [
+  gone-clear n f found other = elim (cases_Bool (are_related_intervals f.affinity t.affinity)) [
     | inl near ↦ not_held held' (without_slot t.slot waiting) f
-        (any-between (λ u. overlap f.affinity u.affinity) t held held' joined ∙ or_left _ _ near)
+        (any-between (λ u. are_related_intervals f.affinity u.affinity) t held held' joined ∙ or_left _ _ near)
         ∙ sym (kept_before n f found other near)
-    | inr far ↦ (let same = any-between (λ u. overlap f.affinity u.affinity) t held held' joined
-        ∙ ap (λ b. b || list_any (λ u. overlap f.affinity u.affinity) held) far in
+    | inr far ↦ (let same = any-between (λ u. are_related_intervals f.affinity u.affinity) t held held' joined
+        ∙ ap (λ b. b || list_any (λ u. are_related_intervals f.affinity u.affinity) held) far in
         let left = any-without (comes_first f) waiting t it_alone
         (ap (λ b. nat_lt t.ticket f.ticket && b) far ∙ false_and_right (nat_lt t.ticket f.ticket)) in
         ap (λ b. not b && not (list_any (comes_first f) (without_slot t.slot waiting))) same
@@ -325,15 +311,15 @@ same_affinity g a b h k same =
     ∙ sym k.1.interval
 
 module _ (g : Geometry) (t : Turn) (placed : IsAffinity g t.affinity) where
-  any-freed : (u : Turn) (ds : List Turn) → AllByRecursion (λ d. IsAffinity g d.affinity) ds → overlap t.affinity u.affinity ≡ false
-      → list_any (λ other. overlap u.affinity other.affinity) (without_number t.affinity.number ds)
-      ≡ list_any (λ other. overlap u.affinity other.affinity) ds
+  any-freed : (u : Turn) (ds : List Turn) → AllByRecursion (λ d. IsAffinity g d.affinity) ds → are_related_intervals t.affinity u.affinity ≡ false
+      → list_any (λ other. are_related_intervals u.affinity other.affinity) (without_number t.affinity.number ds)
+      ≡ list_any (λ other. are_related_intervals u.affinity other.affinity) ds
   any-freed u [] all far = refl
   any-freed u (d ∷ ds) all far = elim (cases_Bool (has_number t.affinity.number d)) [
     | inl k ↦ (let same = same_affinity g d.affinity t.affinity all.0 placed (eqb-true d.affinity.number t.affinity.number k) in
-        let none = ap (λ (a : Interval). overlap u.affinity a) same ∙ overlap-both u.affinity t.affinity ∙ far in
-        rw k (any-freed u ds all.1 far ∙ ap (λ b. b || list_any (λ other. overlap u.affinity other.affinity) ds) (sym none)))
-    | inr k ↦ rw k (ap (λ b. overlap u.affinity d.affinity || b) (any-freed u ds all.1 far))
+        let none = ap (λ (a : Interval). are_related_intervals u.affinity a) same ∙ overlap-both u.affinity t.affinity ∙ far in
+        rw k (any-freed u ds all.1 far ∙ ap (λ b. b || list_any (λ other. are_related_intervals u.affinity other.affinity) ds) (sym none)))
+    | inr k ↦ rw k (ap (λ b. are_related_intervals u.affinity d.affinity || b) (any-freed u ds all.1 far))
   ]
 
   pub marked-freed : (held waiting : List Turn) (before after : List (Option Turn)) → AllByRecursion (λ d. IsAffinity g d.affinity) held
@@ -343,17 +329,17 @@ module _ (g : Geometry) (t : Turn) (placed : IsAffinity g t.affinity) where
       → (n : ℕ) → IsMarked (without_number t.affinity.number held) waiting after n
   marked-freed held waiting before after held_placed waiting_placed marked near stay n = by (find (has_number n) waiting) refl
     where
-      stays : ((f : Turn) → find (has_number n) waiting ≡ Some f → overlap t.affinity f.affinity ≡ false)
+      stays : ((f : Turn) → find (has_number n) waiting ≡ Some f → are_related_intervals t.affinity f.affinity ≡ false)
           → IsMarked (without_number t.affinity.number held) waiting after n
       stays far = stay.1 n (marked n ∙ sym (ready-same held waiting (without_number t.affinity.number held) waiting n refl (λ f found.
           ap (λ b. not b && not (list_any (comes_first f) waiting)) (any-freed f held held_placed (far f found)))))
 
       by : (o : Option Turn) → find (has_number n) waiting ≡ o → IsMarked (without_number t.affinity.number held) waiting after n
       by None is = stays (λ f found. absurd (none-some f (sym is ∙ found)))
-      by (Some f) is = elim (cases_Bool (overlap t.affinity f.affinity)) [
+      by (Some f) is = elim (cases_Bool (are_related_intervals t.affinity f.affinity)) [
         | inl close ↦ (let f_placed = find-all (λ d. IsAffinity g d.affinity) (has_number n) waiting f waiting_placed is in
             subst (λ m. IsMarked (without_number t.affinity.number held) waiting after m)
             (eqb-true f.affinity.number n (find-passes (has_number n) waiting f is)) (near f.affinity f_placed close))
         | inr far ↦ stays (λ u found. (let both = sym is ∙ found in let same : f ≡ u = cc in
-            subst (λ (v : Turn). overlap t.affinity v.affinity ≡ false) same far))
+            subst (λ (v : Turn). are_related_intervals t.affinity v.affinity ≡ false) same far))
       ]

@@ -6,39 +6,39 @@ use Rattle.std.proofs.lemmas.Bool.{eq-eqb, ne_eqb, lt-ltb, cases_eq, cases_Bool,
 use Rattle.std.proofs.lemmas.Bool.Decides.{eqb_tells, leb_tells}
 use Rattle.std.proofs.lemmas.List.{length-append}
 use Rattle.turns.specs.Turns.{has_slot, without_slot}
-use Rattle.turns.specs.Seats.{times, AreSeated}
+use Rattle.turns.specs.Seats.{times_seated, AreSeated}
 use Rattle.turns.specs.declared.entries.Turn.{Turn}
 
 -- ---- how often a slot stands in a row
 
-pub times-cons_is : (s : ℕ) (t : Turn) (ts : List Turn) → t.slot ≡ s → times s (t ∷ ts) ≡ suc (times s ts)
+pub times-cons_is : (s : ℕ) (t : Turn) (ts : List Turn) → t.slot ≡ s → times_seated s (t ∷ ts) ≡ suc (times_seated s ts)
 times-cons_is s t ts same = rw (eq-eqb t.slot s same) refl
 
-pub times-cons_other : (s : ℕ) (t : Turn) (ts : List Turn) → t.slot ≢ s → times s (t ∷ ts) ≡ times s ts
+pub times-cons_other : (s : ℕ) (t : Turn) (ts : List Turn) → t.slot ≢ s → times_seated s (t ∷ ts) ≡ times_seated s ts
 times-cons_other s t ts other = rw (ne_eqb t.slot s other) refl
 
-pub times-append : (s : ℕ) (ts us : List Turn) → times s (ts ++ us) ≡ times s ts + times s us
+pub times-append : (s : ℕ) (ts us : List Turn) → times_seated s (ts ++ us) ≡ times_seated s ts + times_seated s us
 times-append s [] us = omega arith
 times-append s (t ∷ ts) us = elim (eqb_tells t.slot s) [
   | inl e ↦ rw e.0 (omega (arith, times-append s ts us))
   | inr n ↦ rw n.0 (omega (arith, times-append s ts us))
 ]
 
-pub times-without_same : (s : ℕ) (ts : List Turn) → times s (without_slot s ts) ≡ 0
+pub times-without_same : (s : ℕ) (ts : List Turn) → times_seated s (without_slot s ts) ≡ 0
 times-without_same s [] = refl
 times-without_same s (t ∷ ts) = elim (eqb_tells t.slot s) [
   | inl e ↦ rw e.0 (times-without_same s ts)
   | inr n ↦ rw n.0 (times-cons_other s t (without_slot s ts) n.1 ∙ times-without_same s ts)
 ]
 
-pub times-without_other : (s r : ℕ) (ts : List Turn) → s ≢ r → times s (without_slot r ts) ≡ times s ts
+pub times-without_other : (s r : ℕ) (ts : List Turn) → s ≢ r → times_seated s (without_slot r ts) ≡ times_seated s ts
 times-without_other s r [] other = refl
 times-without_other s r (t ∷ ts) other = elim (eqb_tells t.slot r) [
   | inl e ↦ rw e.0 (times-without_other s r ts other ∙ sym (times-cons_other s t ts (λ same. other (sym same ∙ e.1))))
   | inr n ↦ rw (n.0, times-without_other s r ts other) refl
 ]
 
-pub times-filter : (p : Turn → Bool) (s : ℕ) (ts : List Turn) → times s (filter p ts) ≤ times s ts
+pub times-filter : (p : Turn → Bool) (s : ℕ) (ts : List Turn) → times_seated s (filter p ts) ≤ times_seated s ts
 times-filter p s [] = omega arith
 times-filter p s (t ∷ ts) = elim (cases_eq t.slot s) [
   | inl e ↦ elim (cases_Bool (p t)) [
@@ -51,11 +51,11 @@ times-filter p s (t ∷ ts) = elim (cases_eq t.slot s) [
   ]
 ]
 
-pub times-absent : (s : ℕ) (ts : List Turn) → list_any (has_slot s) ts ≡ false → times s ts ≡ 0
+pub times-absent : (s : ℕ) (ts : List Turn) → list_any (has_slot s) ts ≡ false → times_seated s ts ≡ 0
 times-absent s [] none = refl
 times-absent s (t ∷ ts) none = let k = or_parts (has_slot s t) (list_any (has_slot s) ts) none in rw k.0 (times-absent s ts k.1)
 
-pub times-there : (s : ℕ) (ts : List Turn) → list_any (has_slot s) ts ≡ true → 1 ≤ times s ts
+pub times-there : (s : ℕ) (ts : List Turn) → list_any (has_slot s) ts ≡ true → 1 ≤ times_seated s ts
 times-there s [] some = absurd (true≢false (sym some))
 times-there s (t ∷ ts) some = elim (eqb_tells t.slot s) [
   | inl e ↦ rw e.0 (omega arith)
@@ -64,7 +64,7 @@ times-there s (t ∷ ts) some = elim (eqb_tells t.slot s) [
 
 -- ---- how long rows are
 
-length-without : (s : ℕ) (ts : List Turn) → length ts ≡ length (without_slot s ts) + times s ts
+length-without : (s : ℕ) (ts : List Turn) → length ts ≡ length (without_slot s ts) + times_seated s ts
 length-without s [] = refl
 length-without s (t ∷ ts) = elim (eqb_tells t.slot s) [
   | inl e ↦ rw e.0 (omega (arith, length-without s ts))
@@ -88,7 +88,7 @@ limit-most s n = elim (leb_tells (suc s) n) [
 ]
 
 -- slots below n that stand once at most are at most n
-few : (n : ℕ) (ts : List Turn) → ((s : ℕ) → times s ts ≤ (if nat_lt s n then 1 else 0)) → length ts ≤ n
+few : (n : ℕ) (ts : List Turn) → ((s : ℕ) → times_seated s ts ≤ (if nat_lt s n then 1 else 0)) → length ts ≤ n
 few zero [] once = omega arith
 few zero (t ∷ ts) once =
     absurd (omega (arith, limit-out t.slot 0 (omega arith), once t.slot, times-cons_is t.slot t ts refl))
@@ -100,9 +100,9 @@ few (suc n) ts once =
     ]) in
     omega (arith, rest, length-without n ts, once n, limit-most n (suc n))
   where
-    gone : (s : ℕ) → n ≤ s → times s (without_slot n ts) ≤ (if nat_lt s n then 1 else 0)
+    gone : (s : ℕ) → n ≤ s → times_seated s (without_slot n ts) ≤ (if nat_lt s n then 1 else 0)
     gone s above = elim (cases_eq s n) [
-      | inl e ↦ subst (λ k. times k (without_slot n ts) ≤ (if nat_lt k n then 1 else 0)) (sym e)
+      | inl e ↦ subst (λ k. times_seated k (without_slot n ts) ≤ (if nat_lt k n then 1 else 0)) (sym e)
           (rw (times-without_same n ts) (omega arith))
       | inr other ↦ (let behind : suc n ≤ s = omega (arith, above, other) in
           omega (arith, times-without_other s n ts other, once s, limit-out s (suc n) behind))
@@ -119,14 +119,14 @@ fits n ws hs seated =
 pub seated-arrived : (n : ℕ) (ws hs : List Turn) (t : Turn) → AreSeated n ws hs → t.slot < n
     → list_any (has_slot t.slot) (ws ++ hs) ≡ false → AreSeated n (ws ++ t ∷ []) hs
 seated-arrived n ws hs t seated there new s = elim (cases_eq t.slot s) [
-  | inl e ↦ subst (λ k. times k (ws ++ t ∷ []) + times k hs ≤ (if nat_lt k n then 1 else 0)) e here
+  | inl e ↦ subst (λ k. times_seated k (ws ++ t ∷ []) + times_seated k hs ≤ (if nat_lt k n then 1 else 0)) e here
   | inr k ↦ omega (arith, seated s, times-append s ws (t ∷ []), times-cons_other s t [] k)
 ]
   where
-    none : times t.slot ws + times t.slot hs ≡ 0
+    none : times_seated t.slot ws + times_seated t.slot hs ≡ 0
     none = sym (times-append t.slot ws hs) ∙ times-absent t.slot (ws ++ hs) new
 
-    here : times t.slot (ws ++ t ∷ []) + times t.slot hs ≤ (if nat_lt t.slot n then 1 else 0)
+    here : times_seated t.slot (ws ++ t ∷ []) + times_seated t.slot hs ≤ (if nat_lt t.slot n then 1 else 0)
     here = omega (arith, none, times-append t.slot ws (t ∷ []), times-cons_is t.slot t [] refl, limit-in t.slot n there)
 
 -- so there is a seat for it
@@ -138,21 +138,16 @@ room-arrived n ws hs t seated there new =
 pub seated-gone : (n : ℕ) (ws hs : List Turn) (t : Turn) → AreSeated n ws hs → list_any (has_slot t.slot) ws ≡ true
     → AreSeated n (without_slot t.slot ws) (hs ++ t ∷ [])
 seated-gone n ws hs t seated waits s = elim (cases_eq t.slot s) [
-  | inl e ↦ subst (λ k. times k (without_slot t.slot ws) + times k (hs ++ t ∷ []) ≤ (if nat_lt k n then 1 else 0)) e here
+  | inl e ↦ subst (λ k. times_seated k (without_slot t.slot ws) + times_seated k (hs ++ t ∷ []) ≤ (if nat_lt k n then 1 else 0)) e here
   | inr k ↦ (let other = times-without_other s t.slot ws (λ same. k (sym same)) in
       omega (arith, seated s, other, times-append s hs (t ∷ []), times-cons_other s t [] k))
 ]
   where
-    here : times t.slot (without_slot t.slot ws) + times t.slot (hs ++ t ∷ []) ≤ (if nat_lt t.slot n then 1 else 0)
+    here : times_seated t.slot (without_slot t.slot ws) + times_seated t.slot (hs ++ t ∷ []) ≤ (if nat_lt t.slot n then 1 else 0)
     here =
         let one = times-append t.slot hs (t ∷ []) in
         let last = times-cons_is t.slot t [] refl in
         omega (arith, seated t.slot, times-there t.slot ws waits, times-without_same t.slot ws, one, last)
-
-pub room-gone : (n : ℕ) (ws hs : List Turn) (t : Turn) → AreSeated n ws hs → list_any (has_slot t.slot) ws ≡ true
-    → length hs < n
-room-gone n ws hs t seated waits =
-    omega (arith, fits n (without_slot t.slot ws) (hs ++ t ∷ []) (seated-gone n ws hs t seated waits), length-append hs (t ∷ []))
 
 pub seated-freed : (n : ℕ) (ws hs : List Turn) (p : Turn → Bool) → AreSeated n ws hs → AreSeated n ws (filter p hs)
 seated-freed n ws hs p seated s = omega (arith, seated s, times-filter p s hs)

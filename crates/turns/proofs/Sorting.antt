@@ -5,7 +5,7 @@ use Rattle.std.specs.List.{AllByRecursion}
 use Rattle.std.proofs.lemmas.Bool.{eq-eqb, lt-ltb, cases_Bool}
 use Rattle.std.proofs.lemmas.Bool.Decides.{eqb_tells, leb_tells}
 use Rattle.turns.specs.Turns.{has_slot, without_slot, CameBefore}
-use Rattle.turns.specs.Seats.{times}
+use Rattle.turns.specs.Seats.{times_seated}
 use Rattle.turns.specs.Order.{Ascend}
 use Rattle.turns.specs.Queues.{present, insert, by_ticket}
 use Rattle.turns.specs.declared.entries.Turn.{Turn}
@@ -73,7 +73,7 @@ pub length-all : (places : List (Option Turn)) → ((i : ℕ) → i < length pla
     → length (by_ticket (present places)) ≡ length places
 length-all places full = length-by_ticket (present places) ∙ length-full places full
 
-times-insert : (s : ℕ) (t : Turn) (ts : List Turn) → times s (insert t ts) ≡ times s (t ∷ ts)
+times-insert : (s : ℕ) (t : Turn) (ts : List Turn) → times_seated s (insert t ts) ≡ times_seated s (t ∷ ts)
 times-insert s t [] = refl
 times-insert s t (d ∷ ts) = elim (leb_tells (suc t.ticket) d.ticket) [
   | inl e ↦ rw e.0 refl
@@ -117,14 +117,14 @@ order-come (Some x ∷ places) (suc i) t below empty before =
 
 -- ---- one less
 
-pub without-absent : (s : ℕ) (ts : List Turn) → times s ts ≡ 0 → without_slot s ts ≡ ts
+pub without-absent : (s : ℕ) (ts : List Turn) → times_seated s ts ≡ 0 → without_slot s ts ≡ ts
 without-absent s [] none = refl
 without-absent s (t ∷ ts) none = elim (eqb_tells t.slot s) [
   | inl e ↦ absurd (omega (arith, none, times-cons_is s t ts e.1))
   | inr n ↦ rw n.0 (ap (λ (us : List Turn). t ∷ us) (without-absent s ts (omega (arith, none, times-cons_other s t ts n.1))))
 ]
 
-without-insert_same : (s : ℕ) (x : Turn) (ts : List Turn) → x.slot ≡ s → times s ts ≡ 0 → without_slot s (insert x ts) ≡ ts
+without-insert_same : (s : ℕ) (x : Turn) (ts : List Turn) → x.slot ≡ s → times_seated s ts ≡ 0 → without_slot s (insert x ts) ≡ ts
 without-insert_same s x [] same none = rw (eq-eqb x.slot s same) refl
 without-insert_same s x (d ∷ ts) same none = elim (eqb_tells d.slot s) [
   | inl e ↦ absurd (omega (arith, none, times-cons_is s d ts e.1))
@@ -157,7 +157,7 @@ filter-insert p x (d ∷ ts) ascends k = elim (leb_tells (suc x.ticket) d.ticket
 ]
 
 there-at : (places : List (Option Turn)) (i : ℕ) (t : Turn) → slice_index_or places i None ≡ Some t
-    → 1 ≤ times t.slot (by_ticket (present places))
+    → 1 ≤ times_seated t.slot (by_ticket (present places))
 there-at [] i t h = absurd (cc)
 there-at (None ∷ places) zero t h = absurd (cc)
 there-at (Some x ∷ places) zero t h =
@@ -175,7 +175,7 @@ there-at (Some x ∷ places) (suc i) t h =
 
 -- one whose place is emptied is gone, and the others stay
 pub order-leave : (places : List (Option Turn)) (i : ℕ) (t : Turn) → slice_index_or places i None ≡ Some t
-    → times t.slot (by_ticket (present places)) ≤ 1 → Ascend (by_ticket (present places))
+    → times_seated t.slot (by_ticket (present places)) ≤ 1 → Ascend (by_ticket (present places))
     → by_ticket (present (slice_set places i None)) ≡ without_slot t.slot (by_ticket (present places))
 order-leave [] i t there once ascends = absurd (cc)
 order-leave (None ∷ places) zero t there once ascends = absurd (cc)
@@ -192,7 +192,7 @@ order-leave (Some x ∷ places) (suc i) t there once ascends =
     let rest = there-at places i t there in
     elim (eqb_tells x.slot t.slot) [
       | inl e ↦ absurd (omega (arith, once, count, rest, times-cons_is t.slot x ws e.1))
-      | inr n ↦ (let few : times t.slot ws ≤ 1 = omega (arith, once, count, times-cons_other t.slot x ws n.1) in
+      | inr n ↦ (let few : times_seated t.slot ws ≤ 1 = omega (arith, once, count, times-cons_other t.slot x ws n.1) in
           let order = ascend-insert x ws ascends in
           ap (λ (us : List Turn). insert x us) (order-leave places i t there few order)
           ∙ sym (filter-insert (λ u. not (has_slot t.slot u)) x ws order (rw n.0 refl)))

@@ -4,11 +4,11 @@ use Rattle.std.specs.Prelude.{slice_set, replicate}
 use Rattle.std.proofs.lemmas.Bool.{eq-eqb, ne_eqb, cases_Bool}
 use Rattle.std.proofs.lemmas.List.{length-set, length-replicate}
 use Rattle.turns.specs.Turns.{has_number, without_number}
-use Rattle.turns.specs.Queues.{Held, present, StandFrom, IsBetween}
+use Rattle.turns.specs.Queues.{HeldTurns, present, StandFrom, IsBetween}
 use Rattle.turns.specs.declared.entries.Turn.{Turn}
 
 held-same : (a b : ℕ) (ts us : List Turn) → a ≡ b → ts ≡ us
-    → ◌≡◌ {A = Held} (record { numbers = a; turns = ts }) (record { numbers = b; turns = us })
+    → ◌≡◌ {A = HeldTurns} (record { numbers = a; turns = ts }) (record { numbers = b; turns = us })
 held-same a b ts us e f = rw (e, f) refl
 
 -- ---- at the start
@@ -21,7 +21,7 @@ none_held : (n : ℕ) → present (replicate n None) ≡ []
 none_held zero = refl
 none_held (suc n) = none_held n
 
-pub start-view : (n : ℕ) → ◌≡◌ {A = Held}
+pub start-view : (n : ℕ) → ◌≡◌ {A = HeldTurns}
     (record { numbers = length {A = Option Turn} (replicate n None); turns = present (replicate n None) }) (record { numbers = n; turns = [] })
 start-view n = held-same _ _ _ _ (length-replicate {A = Option Turn} n None) (none_held n)
 
@@ -106,7 +106,7 @@ free-from (Some t ∷ places) k (suc i) n stand is =
     rw (ne_eqb t.affinity.number n (λ same. omega (arith, at, same, is)))
     (ap (λ (us : List Turn). t ∷ us) (free-from places (suc k) i n stand.1 (omega arith)))
 
-pub free-view : (places : List (Option Turn)) (n : ℕ) → StandFrom 0 places → ◌≡◌ {A = Held}
+pub free-view : (places : List (Option Turn)) (n : ℕ) → StandFrom 0 places → ◌≡◌ {A = HeldTurns}
     (record { numbers = length (slice_set places n None); turns = present (slice_set places n None) })
     (record { numbers = length places; turns = without_number n (present places) })
 free-view places n stand = held-same _ _ _ _ (length-set {A = Option Turn} places n None) (free-from places 0 n n stand (omega arith))

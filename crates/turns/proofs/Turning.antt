@@ -8,12 +8,12 @@ use Rattle.std.proofs.lemmas.List.{length-replicate}
 use Rattle.std.proofs.lemmas.Nat.{mul-le}
 use Rattle.affinity.specs.Interval.{IsAffinity, server_size}
 use Rattle.affinity.specs.declared.geometry.Geometry.{Geometry}
-use Rattle.turns.specs.Turns.{IsNext, overlap, is_free_of, has_room, has_slot, has_number, holds_at, without_slot, without_number, next_turn, CameBefore}
-use Rattle.turns.specs.Seats.{times}
+use Rattle.turns.specs.Turns.{IsNext, are_related_intervals, is_free_of, has_room, has_slot, has_number, holds_at, without_slot, without_number, next_turn, CameBefore}
+use Rattle.turns.specs.Seats.{times_seated}
 use Rattle.turns.specs.Order.{is_clear}
-use Rattle.turns.specs.Queues.{Waiting, Held, IsBetween, IsFirstGone}
+use Rattle.turns.specs.Queues.{Waiting, HeldTurns, IsBetween, IsFirstGone}
 use Rattle.turns.specs.Marks.{IsMarked, StayMarked, AreNearMarked}
-use Rattle.turns.specs.Kept.{AreTurns, AreMarked, AreKept}
+use Rattle.turns.specs.Kept.{AreTurns, AreMarked, TurnsRule}
 use Rattle.turns.specs.declared.entries.Turn.{Turn}
 use Rattle.turns.proofs.ByTicket.{next_is_first}
 use Rattle.turns.proofs.Seating.{limit-most, times-append, times-cons_is, times-cons_other, seated-arrived, room-arrived, seated-gone, seated-freed}
@@ -33,7 +33,7 @@ all_below g =
     omega (arith, aggregates)
 
 pub kept-start : (g : Geometry) (slots numbers : ℕ) → 357 ≤ numbers
-    → AreKept g slots (record { numbers = numbers; seats = slots; turns = [] }) (record { numbers = numbers; turns = [] }) (replicate numbers None)
+    → TurnsRule g slots (record { numbers = numbers; seats = slots; turns = [] }) (record { numbers = numbers; turns = [] }) (replicate numbers None)
 kept-start g slots numbers most = record {
   rows = record {
     queues = λ any. (let all = all_below any in omega (arith, all, most));
@@ -50,7 +50,7 @@ kept-start g slots numbers most = record {
   };
 }
 
-pub turns-begun : (g next : Geometry) (slots : ℕ) (w : Waiting) (h : Held) → AreTurns g slots w h → w.turns ≡ [] → h.turns ≡ [] → AreTurns next slots w h
+pub turns-begun : (g next : Geometry) (slots : ℕ) (w : Waiting) (h : HeldTurns) → AreTurns g slots w h → w.turns ≡ [] → h.turns ≡ [] → AreTurns next slots w h
 turns-begun g next slots w h are none_waits none_held = record {
   queues = are.queues;
   places = are.places;
@@ -63,7 +63,7 @@ turns-begun g next slots w h are none_waits none_held = record {
 
 -- ---- one that arrives
 
-pub turns-arrived : (g : Geometry) (slots : ℕ) (w : Waiting) (h : Held) (t : Turn) → AreTurns g slots w h → IsAffinity g t.affinity
+pub turns-arrived : (g : Geometry) (slots : ℕ) (w : Waiting) (h : HeldTurns) (t : Turn) → AreTurns g slots w h → IsAffinity g t.affinity
     → CameBefore t.ticket w.turns → t.slot < slots → list_any (has_slot t.slot) (w.turns ++ h.turns) ≡ false
     → AreTurns g slots (record w { turns = w.turns ++ t ∷ [] }) h
 turns-arrived g slots w h t are placed later there new = record {
@@ -76,17 +76,17 @@ turns-arrived g slots w h t are placed later there new = record {
   held_placed = are.held_placed;
 }
 
-pub seat-arrived : (g : Geometry) (slots : ℕ) (w : Waiting) (h : Held) (t : Turn) → AreTurns g slots w h → t.slot < slots
+pub seat-arrived : (g : Geometry) (slots : ℕ) (w : Waiting) (h : HeldTurns) (t : Turn) → AreTurns g slots w h → t.slot < slots
     → list_any (has_slot t.slot) (w.turns ++ h.turns) ≡ false → length w.turns < w.seats
 seat-arrived g slots w h t are there new =
     let room = room-arrived slots w.turns h.turns t are.seated there new in
     let all = are.seats in
     omega (arith, room, all)
 
-pub kept-arrived : (g : Geometry) (slots : ℕ) (w v : Waiting) (h : Held) (t : Turn) (before after : List (Option Turn))
-    → AreKept g slots w h before → AreTurns g slots v h → v ≡ record w { turns = w.turns ++ t ∷ [] } → CameBefore t.ticket w.turns
+pub kept-arrived : (g : Geometry) (slots : ℕ) (w v : Waiting) (h : HeldTurns) (t : Turn) (before after : List (Option Turn))
+    → TurnsRule g slots w h before → AreTurns g slots v h → v ≡ record w { turns = w.turns ++ t ∷ [] } → CameBefore t.ticket w.turns
     → StayMarked h.turns v.turns before after
-    → (find (has_number t.affinity.number) w.turns ≡ None → IsMarked h.turns v.turns after t.affinity.number) → AreKept g slots v h after
+    → (find (has_number t.affinity.number) w.turns ≡ None → IsMarked h.turns v.turns after t.affinity.number) → TurnsRule g slots v h after
 kept-arrived g slots w v h t before after are rows came later stay here = record {
   rows = rows;
   marked = record {
@@ -103,7 +103,7 @@ kept-arrived g slots w v h t before after are rows came later stay here = record
 
 -- ---- what is freed
 
-pub turns-freed : (g : Geometry) (slots : ℕ) (w : Waiting) (h : Held) (n : ℕ) → AreTurns g slots w h
+pub turns-freed : (g : Geometry) (slots : ℕ) (w : Waiting) (h : HeldTurns) (n : ℕ) → AreTurns g slots w h
     → AreTurns g slots w (record h { turns = without_number n h.turns })
 turns-freed g slots w h n are = record {
   queues = are.queues;
@@ -115,11 +115,11 @@ turns-freed g slots w h n are = record {
   held_placed = all-filter (λ d. IsAffinity g d.affinity) (λ t. not (has_number n t)) h.turns are.held_placed;
 }
 
-pub kept-freed : (g : Geometry) (slots : ℕ) (w : Waiting) (h k : Held) (t : Turn) (n : ℕ) (before after : List (Option Turn))
-    → AreKept g slots w h before → find (has_number n) h.turns ≡ Some t → k ≡ record h { turns = without_number n h.turns }
-    → AreNearMarked g t.affinity k.turns w.turns after → StayMarked k.turns w.turns before after → AreKept g slots w k after
+pub kept-freed : (g : Geometry) (slots : ℕ) (w : Waiting) (h k : HeldTurns) (t : Turn) (n : ℕ) (before after : List (Option Turn))
+    → TurnsRule g slots w h before → find (has_number n) h.turns ≡ Some t → k ≡ record h { turns = without_number n h.turns }
+    → AreNearMarked g t.affinity k.turns w.turns after → StayMarked k.turns w.turns before after → TurnsRule g slots w k after
 kept-freed g slots w h k t n before after are found freed near stay = record {
-  rows = subst (λ (x : Held). AreTurns g slots w x) (sym freed) (turns-freed g slots w h n are.rows);
+  rows = subst (λ (x : HeldTurns). AreTurns g slots w x) (sym freed) (turns-freed g slots w h n are.rows);
   marked = record {
     numbers = λ any. (let all = are.marked.numbers any in let same = stay.0 in omega (arith, all, same));
     marked = λ m. subst (λ (ts : List Turn). IsMarked ts w.turns after m) (sym is)
@@ -134,11 +134,11 @@ kept-freed g slots w h k t n before after are found freed near stay = record {
     number = sym (eqb-true t.affinity.number n (find-passes (has_number n) h.turns t found))
 
     is : k.turns ≡ without_number t.affinity.number h.turns
-    is = ap (λ (x : Held). x.turns) freed ∙ ap (λ m. without_number m h.turns) number
+    is = ap (λ (x : HeldTurns). x.turns) freed ∙ ap (λ m. without_number m h.turns) number
 
 -- ---- the one whose turn it is
 
-module _ (g : Geometry) (slots : ℕ) (w : Waiting) (h : Held) (are : AreTurns g slots w h) (t : Turn) (room : Bool)
+module _ (g : Geometry) (slots : ℕ) (w : Waiting) (h : HeldTurns) (are : AreTurns g slots w h) (t : Turn) (room : Bool)
     (next : next_turn room h.turns w.turns ≡ Some t) where
   found : find (λ u. has_room room u && is_clear h.turns w.turns u) w.turns ≡ Some t
   found = sym (next_is_first room h.turns w.turns are.ascends) ∙ next
@@ -153,7 +153,7 @@ module _ (g : Geometry) (slots : ℕ) (w : Waiting) (h : Held) (are : AreTurns g
   next-first = clear-first g h.turns w.turns t (λ u. has_room room u && is_clear h.turns w.turns u) are.waiting_placed are.ascends found next-clear
 
   -- no other one that waits has its slot
-  pub next-once : times t.slot w.turns ≤ 1
+  pub next-once : times_seated t.slot w.turns ≤ 1
   next-once = omega (arith, are.seated t.slot, limit-most t.slot slots)
 
   not_true : (b : Bool) → not b ≡ true → b ≡ false
@@ -163,7 +163,7 @@ module _ (g : Geometry) (slots : ℕ) (w : Waiting) (h : Held) (are : AreTurns g
   pub next-free : find (has_number t.affinity.number) h.turns ≡ None
   next-free = by (find (has_number t.affinity.number) h.turns) refl
     where
-      none : list_any (λ other. overlap t.affinity other.affinity) h.turns ≡ false
+      none : list_any (λ other. are_related_intervals t.affinity other.affinity) h.turns ≡ false
       none = not_true _ (and_parts (is_free_of h.turns t) _ next-clear).0
 
       by : (o : Option Turn) → find (has_number t.affinity.number) h.turns ≡ o → find (has_number t.affinity.number) h.turns ≡ None
@@ -172,13 +172,13 @@ module _ (g : Geometry) (slots : ℕ) (w : Waiting) (h : Held) (are : AreTurns g
           let at = eqb-true d.affinity.number t.affinity.number (find-passes (has_number t.affinity.number) h.turns d is) in
           let near = own_overlap g t d next-placed (sym at) in
           absurd (true≢false
-          (sym (any-found (has_number t.affinity.number) (λ other. overlap t.affinity other.affinity) h.turns d is near) ∙ none))
+          (sym (any-found (has_number t.affinity.number) (λ other. are_related_intervals t.affinity other.affinity) h.turns d is near) ∙ none))
 
 all-between : (P : Turn → Type 0) (low high : List Turn) (t : Turn) → AllByRecursion P (low ++ high) → P t → AllByRecursion P (low ++ t ∷ high)
 all-between P [] high t all here = (here, all)
 all-between P (d ∷ low) high t all here = (all.0, all-between P low high t all.1 here)
 
-times-between : (s : ℕ) (low high : List Turn) (t : Turn) → times s (low ++ t ∷ high) ≡ times s ((low ++ high) ++ t ∷ [])
+times-between : (s : ℕ) (low high : List Turn) (t : Turn) → times_seated s (low ++ t ∷ high) ≡ times_seated s ((low ++ high) ++ t ∷ [])
 times-between s low high t = elim (eqb_tells t.slot s) [
   | inl e ↦ omega (
     arith,
@@ -198,17 +198,17 @@ times-between s low high t = elim (eqb_tells t.slot s) [
   )
 ]
 
-pub turns-gone : (g : Geometry) (slots : ℕ) (w : Waiting) (h k : Held) (t : Turn) → AreTurns g slots w h → IsAffinity g t.affinity
+pub turns-gone : (g : Geometry) (slots : ℕ) (w : Waiting) (h k : HeldTurns) (t : Turn) → AreTurns g slots w h → IsAffinity g t.affinity
     → list_any (has_slot t.slot) w.turns ≡ true → k ≡ record h { turns = k.turns } → IsBetween t h.turns k.turns
     → AreTurns g slots (record w { turns = without_slot t.slot w.turns }) k
 turns-gone g slots w h k t are placed waits same between = record {
   queues = are.queues;
-  places = subst (λ (l : Held). (any : Geometry) → server_size any ≤ l.numbers) (sym same) are.places;
+  places = subst (λ (l : HeldTurns). (any : Geometry) → server_size any ≤ l.numbers) (sym same) are.places;
   seats = are.seats;
   seated = λ s.
       let all = seated-gone slots w.turns h.turns t are.seated waits s in
-      let count = ap (λ (ts : List Turn). times s ts) between.3 ∙ times-between s between.0 between.1 t
-      ∙ ap (λ (ts : List Turn). times s (ts ++ t ∷ [])) (sym between.2) in
+      let count = ap (λ (ts : List Turn). times_seated s ts) between.3 ∙ times-between s between.0 between.1 t
+      ∙ ap (λ (ts : List Turn). times_seated s (ts ++ t ∷ [])) (sym between.2) in
       omega (arith, all, count);
   ascends = ascend-filter (λ d. not (has_slot t.slot d)) w.turns are.ascends;
   waiting_placed = all-filter (λ d. IsAffinity g d.affinity) (λ d. not (has_slot t.slot d)) w.turns are.waiting_placed;
@@ -217,7 +217,7 @@ turns-gone g slots w h k t are placed waits same between = record {
       (subst (λ (ts : List Turn). AllByRecursion (λ d. IsAffinity g d.affinity) ts) between.2 are.held_placed) placed);
 }
 
-module _ (g : Geometry) (slots : ℕ) (w v : Waiting) (h k : Held) (t : Turn) (are : AreTurns g slots w h)
+module _ (g : Geometry) (slots : ℕ) (w v : Waiting) (h k : HeldTurns) (t : Turn) (are : AreTurns g slots w h)
     (next : IsNext (record { geometry = g; waiting = w.turns; held = h.turns; slots = slots }) t) (n : ℕ) (number : n ≡ t.affinity.number)
     (popped : IsFirstGone n w v) (same : k ≡ record h { turns = k.turns }) (joined : IsBetween t h.turns k.turns) where
   first : find (has_number t.affinity.number) w.turns ≡ Some t
@@ -232,7 +232,7 @@ module _ (g : Geometry) (slots : ℕ) (w v : Waiting) (h k : Held) (t : Turn) (a
       (next_waits (record { geometry = g; waiting = w.turns; held = h.turns; slots = slots }) t next) same joined)
 
   pub kept-gone : (before after : List (Option Turn)) → AreMarked h.turns w.turns before → StayMarked k.turns v.turns before after
-      → IsMarked k.turns v.turns after n → AreKept g slots v k after
+      → IsMarked k.turns v.turns after n → TurnsRule g slots v k after
   kept-gone before after marked stay here = record {
     rows = rows-gone;
     marked = record {

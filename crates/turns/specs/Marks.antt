@@ -3,7 +3,7 @@ use Rattle.std.specs.Prelude.{◌≡◌, ◌+◌, ◌*◌, ◌<◌, ◌≤◌, �
 use Rattle.std.specs.List.{find}
 use Rattle.affinity.specs.Interval.{Interval, IsAffinity}
 use Rattle.affinity.specs.declared.geometry.Geometry.{Geometry}
-use Rattle.turns.specs.Turns.{overlap, has_number}
+use Rattle.turns.specs.Turns.{are_related_intervals, has_number}
 use Rattle.turns.specs.Order.{earlier, is_clear}
 use Rattle.turns.specs.declared.entries.Turn.{Turn}
 
@@ -30,7 +30,7 @@ StayMarked held waiting before after =
 
 -- The marks at all affinities related to this one are right.
 abbrev pub AreNearMarked : Geometry → Interval → List Turn → List Turn → List (Option Turn) → Type 0
-AreNearMarked g a held waiting marks = (b : Interval) → IsAffinity g b → overlap a b ≡ true → IsMarked held waiting marks b.number
+AreNearMarked g a held waiting marks = (b : Interval) → IsAffinity g b → are_related_intervals a b ≡ true → IsMarked held waiting marks b.number
 
 -- the last rank of one that is there
 abbrev pub last_rank : ℕ

@@ -4,7 +4,7 @@ use Rattle.std.specs.List.{list_any, find}
 use Rattle.affinity.specs.Path.{Path}
 use Rattle.affinity.specs.Interval.{Interval, IsAffinity, contains, number}
 use Rattle.affinity.specs.declared.geometry.Geometry.{Geometry}
-use Rattle.turns.specs.Turns.{overlap, has_number}
+use Rattle.turns.specs.Turns.{are_related_intervals, has_number}
 use Rattle.turns.specs.declared.entries.Turn.{Turn}
 
 -- the numbers of the affinities above the one with this path, and, where they are fewer than four, its own
@@ -13,7 +13,7 @@ numbers_above g p = number g (take 0 p) ∷ number g (take 1 p) ∷ number g (ta
 
 -- A related affinity is one of those below it, itself, or one of those above it, whose numbers these are.
 abbrev pub AreAbove : Geometry → Interval → List ℕ → Type 0
-AreAbove g a above = (b : Interval) → IsAffinity g b → overlap a b ≡ (contains a b.number || list_any (λ n. n == b.number) above)
+AreAbove g a above = (b : Interval) → IsAffinity g b → are_related_intervals a b ≡ (contains a b.number || list_any (λ n. n == b.number) above)
 
 -- whether it came before this ticket
 abbrev pub is_before : ℕ → Option Turn → Bool

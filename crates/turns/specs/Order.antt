@@ -1,7 +1,7 @@
 -- Those that wait, by their tickets.
 use Rattle.std.specs.Prelude.{ℕ, ◌<◌, Bool, true, not, ◌&&◌, nat_lt, if◌then◌else◌, List, [], ◌∷◌, Option, Some, None}
 use Rattle.std.specs.List.{list_any, find, AllByRecursion}
-use Rattle.turns.specs.Turns.{overlap, is_free_of, has_room, has_number}
+use Rattle.turns.specs.Turns.{are_related_intervals, is_free_of, has_room, has_number}
 use Rattle.turns.specs.declared.entries.Turn.{Turn}
 
 abbrev pub Ascend : List Turn → Type 0
@@ -10,7 +10,7 @@ Ascend (t ∷ turns) = AllByRecursion (λ d. t.ticket < d.ticket) turns × Ascen
 
 -- whether the second came before the first, at a related affinity
 abbrev pub comes_first : Turn → Turn → Bool
-comes_first t d = nat_lt d.ticket t.ticket && overlap t.affinity d.affinity
+comes_first t d = nat_lt d.ticket t.ticket && are_related_intervals t.affinity d.affinity
 
 -- whether no held one is at a related affinity, and no waiting one with a smaller ticket
 abbrev pub is_clear : List Turn → List Turn → Turn → Bool

@@ -48,7 +48,7 @@ IsFirstGone n before after =
     (t : Turn) → find (has_number n) before.turns ≡ Some t → after ≡ record before { turns = without_slot t.slot before.turns }
 
 -- what contracts see of those that are held: how many numbers there are, and who is held, by numbers
-pub record Held : Type 0 where
+pub record HeldTurns : Type 0 where
   pub numbers : ℕ
   pub turns : List Turn
 

@@ -13,16 +13,16 @@ pub record Queuing : Type 0 where
   pub slots : ℕ
 
 -- no one waits, and no one is held
-abbrev pub at_start : Geometry → ℕ → Queuing
-at_start geometry slots = record { geometry = geometry; waiting = []; held = []; slots = slots }
+abbrev pub turns_at_start : Geometry → ℕ → Queuing
+turns_at_start geometry slots = record { geometry = geometry; waiting = []; held = []; slots = slots }
 
 -- whether the number of one is among those of the other: of two affinities one is the other, or lies above it
-abbrev pub overlap : Interval → Interval → Bool
-overlap a b = contains a b.number || contains b a.number
+abbrev pub are_related_intervals : Interval → Interval → Bool
+are_related_intervals a b = contains a b.number || contains b a.number
 
 -- whether no one of the others is at a related affinity
 abbrev pub is_free_of : List Turn → Turn → Bool
-is_free_of others t = not (list_any (λ other. overlap t.affinity other.affinity) others)
+is_free_of others t = not (list_any (λ other. are_related_intervals t.affinity other.affinity) others)
 
 -- Only what may change something needs room.
 abbrev pub has_room : Bool → Turn → Bool

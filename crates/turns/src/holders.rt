@@ -17,9 +17,9 @@ pub(crate) struct Holders {
 
 impl Model for Holders {
     ghost use Rattle.std.specs.Prelude.{length};
-    ghost use Rattle.turns.specs.Queues.{Held, present, StandFrom};
+    ghost use Rattle.turns.specs.Queues.{HeldTurns, present, StandFrom};
 
-    ghost Value = { Held };
+    ghost Value = { HeldTurns };
 
     ghost view = { λ h. record { numbers = length h.places.items; turns = present h.places.items } };
 

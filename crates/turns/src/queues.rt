@@ -2,7 +2,7 @@
 ghost use Rattle.std.specs.Prelude.{◌≡◌, ℕ, ◌<◌, ◌≤◌, ◌++◌, ◌∷◌, [], length, IfOk};
 ghost use Rattle.std.specs.List.{find};
 ghost use Rattle.turns.specs.Turns.{has_number, CameBefore};
-ghost use Rattle.turns.specs.Seats.{times};
+ghost use Rattle.turns.specs.Seats.{times_seated};
 ghost use Rattle.turns.specs.Order.{Ascend};
 
 use crate::Turn;
@@ -72,7 +72,7 @@ impl Queues {
 
     /// The first one at a number waits no longer. Waiting messages have slots of their own.
     pub(crate) fn pop(&mut self, number: usize)
-        requires once { (slot : ℕ) → times slot self.old.turns ≤ 1 }
+        requires once { (slot : ℕ) → times_seated slot self.old.turns ≤ 1 }
         ensures { IsFirstGone number self.old self.new }
     {
         if let Some(i) = self.turns.front(number) {

@@ -32,7 +32,7 @@ pub struct Turns {
 impl Model for Turns {
     ghost use Rattle.std.specs.Prelude.{◌≡◌};
     ghost use Rattle.turns.specs.Turns.{Queuing};
-    ghost use Rattle.turns.specs.Kept.{AreKept};
+    ghost use Rattle.turns.specs.Kept.{TurnsRule};
 
     ghost Value = { Queuing };
 
@@ -43,18 +43,18 @@ impl Model for Turns {
       slots = t.slots;
     } };
 
-    ghost invariant = { λ t. AreKept t.geometry t.slots t.waiting t.held t.marks };
+    ghost invariant = { λ t. TurnsRule t.geometry t.slots t.waiting t.held t.marks };
 }
 
 impl Turns {
-    ghost use Rattle.turns.specs.Turns.{at_start, CameBefore, IsNext, HasJoined};
+    ghost use Rattle.turns.specs.Turns.{turns_at_start, CameBefore, IsNext, HasJoined};
 
     /// No one waits and no one is held. Arrivals will be at affinities of the geometry, in
     /// slots below `slots`, which is below the greatest `usize`. There is room for any geometry.
     /// `AllocError` where there is no memory.
     pub fn new(alloc: Global, geometry: &Geometry, slots: usize) -> Result<Turns, AllocError>
         requires { slots < usize.MAX }
-        ensures { IfOk result (λ turns. turns ≡ at_start geometry.now slots) }
+        ensures { IfOk result (λ turns. turns ≡ turns_at_start geometry.now slots) }
     {
         let waiting = Queues::new(alloc, MOST_AFFINITIES, slots)?;
         let held = Holders::new(alloc, MOST_AFFINITIES)?;
@@ -72,7 +72,7 @@ impl Turns {
     pub fn begin(&mut self, geometry: &Geometry)
         requires none_waits { self.old.waiting ≡ [] }
         requires none_held { self.old.held ≡ [] }
-        ensures { self.new ≡ at_start geometry.now self.old.slots }
+        ensures { self.new ≡ turns_at_start geometry.now self.old.slots }
     {
         self.geometry = *geometry;
     }

@@ -7,7 +7,7 @@ use Rattle.std.proofs.lemmas.List.Folds.{list_any-append}
 use Rattle.affinity.specs.declared.geometry.Geometry.{Geometry}
 use Rattle.turns.specs.Turns.{Queuing, CameBefore, has_slot, has_number, without_slot, without_number, HasJoined}
 use Rattle.turns.specs.declared.entries.Turn.{Turn}
-use Rattle.turns_tests.specs.Desk.{is_from, IsDesk}
+use Rattle.turns_tests.specs.Desk.{is_from, IsNumberedQueue}
 
 none_of : (p q : Turn → Bool) → ((t : Turn) → q t ≡ true → p t ≡ true) → (ts : List Turn) → list_any p ts ≡ false → list_any q ts ≡ false
 none_of p q weaker [] none = refl
@@ -42,15 +42,15 @@ not_own : (n : ℕ) (t : Turn) → t.slot ≡ n → is_from (n + 1) t ≡ false
 not_own n t is = false_from_ne_true (is_from (n + 1) t) (λ h. let more = leb-true (n + 1) t.slot h in omega (arith, more, is))
 
 -- no one has the next slot
-pub new-slot : (g : Geometry) (slots n : ℕ) (q : Queuing) → IsDesk g slots n q → list_any (has_slot n) (q.waiting ++ q.held) ≡ false
+pub new-slot : (g : Geometry) (slots n : ℕ) (q : Queuing) → IsNumberedQueue g slots n q → list_any (has_slot n) (q.waiting ++ q.held) ≡ false
 new-slot g slots n q desk =
     let same = λ (t : Turn) (h : has_slot n t ≡ true). (let is = eqb-true t.slot n h in le-leb n t.slot (omega (arith, is))) in
     list_any-append (has_slot n) q.waiting q.held
     ∙ ap (λ b. b || list_any (has_slot n) q.held) (none_of (is_from n) (has_slot n) same q.waiting desk.waiting_below)
     ∙ none_of (is_from n) (has_slot n) same q.held desk.held_below
 
-pub desk-arrived : (g : Geometry) (slots n : ℕ) (q : Queuing) (t : Turn) → IsDesk g slots n q → t.slot ≡ n → t.ticket ≡ n
-    → IsDesk g slots (n + 1) (record q { waiting = q.waiting ++ t ∷ [] })
+pub desk-arrived : (g : Geometry) (slots n : ℕ) (q : Queuing) (t : Turn) → IsNumberedQueue g slots n q → t.slot ≡ n → t.ticket ≡ n
+    → IsNumberedQueue g slots (n + 1) (record q { waiting = q.waiting ++ t ∷ [] })
 desk-arrived g slots n q t desk slot ticket = record {
   geometry = desk.geometry;
   slots_are = desk.slots_are;
@@ -68,9 +68,9 @@ below n s (d ∷ ts) some none = elim (cases_Bool (has_slot s d)) [
   | inr k ↦ below n s ts (ap (λ b. b || list_any (has_slot s) ts) (sym k) ∙ some) (or_parts _ _ none).1
 ]
 
-pub desk-gone : (g : Geometry) (slots n : ℕ) (q r : Queuing) (t : Turn) → IsDesk g slots n q
+pub desk-gone : (g : Geometry) (slots n : ℕ) (q r : Queuing) (t : Turn) → IsNumberedQueue g slots n q
     → r ≡ record q { waiting = without_slot t.slot q.waiting; held = r.held } → HasJoined t q.held r.held → list_any (has_slot t.slot) q.waiting ≡ true
-    → IsDesk g slots n r
+    → IsNumberedQueue g slots n r
 desk-gone g slots n q r t desk is joined waits = record {
   geometry = ap (λ (s : Queuing). s.geometry) is ∙ desk.geometry;
   slots_are = ap (λ (s : Queuing). s.slots) is ∙ desk.slots_are;
@@ -79,7 +79,7 @@ desk-gone g slots n q r t desk is joined waits = record {
   held_below = joined (is_from n) ∙ ap (λ b. b || list_any (is_from n) q.held) (below n t.slot q.waiting waits desk.waiting_below) ∙ desk.held_below;
 }
 
-pub desk-freed : (g : Geometry) (slots n : ℕ) (q : Queuing) (k : ℕ) → IsDesk g slots n q → IsDesk g slots n (record q { held = without_number k q.held })
+pub desk-freed : (g : Geometry) (slots n : ℕ) (q : Queuing) (k : ℕ) → IsNumberedQueue g slots n q → IsNumberedQueue g slots n (record q { held = without_number k q.held })
 desk-freed g slots n q k desk = record {
   geometry = desk.geometry;
   slots_are = desk.slots_are;

@@ -10,7 +10,7 @@ abbrev pub is_from : ℕ → Turn → Bool
 is_from n t = nat_le n t.slot
 
 -- So many came, each in the next slot and with the next ticket.
-pub record IsDesk (g : Geometry) (slots count : ℕ) (q : Queuing) : Type 0 where
+pub record IsNumberedQueue (g : Geometry) (slots count : ℕ) (q : Queuing) : Type 0 where
   pub geometry : q.geometry ≡ g
   pub slots_are : q.slots ≡ slots
   pub came : CameBefore count q.waiting

@@ -16,13 +16,13 @@ pub struct Desk {
 
 impl Model for Desk {
     ghost use Rattle.std.specs.Prelude.{ℕ};
-    ghost use Rattle.turns_tests.specs.Desk.{IsDesk};
+    ghost use Rattle.turns_tests.specs.Desk.{IsNumberedQueue};
 
     ghost Value = { ℕ };
 
     ghost view = { λ d. d.count };
 
-    ghost invariant = { λ d. IsDesk d.geometry d.slots d.count d.turns };
+    ghost invariant = { λ d. IsNumberedQueue d.geometry d.slots d.count d.turns };
 }
 
 impl Desk {

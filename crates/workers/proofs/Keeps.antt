@@ -6,9 +6,9 @@ use lib.ListN.{get_elem?}
 use prog.Atomic.{either}
 use Rattle.atomic_table.specs.Table.{Step, step, Act, keeps, takes, gives, Valid, carried_after, stepped, opening, Allows, Splits}
 use Rattle.atomic_table.proofs.Lists.{at_set, at_longer, at_snoc, set_else, set_again, exchanged}
-use Rattle.parcel.specs.Run.{Asked, IsRun}
+use Rattle.parcel.specs.Run.{JobView, IsJobRun}
 use Rattle.parcel.specs.declared.job.Done.{Done}
-use Rattle.workers.specs.Rule.{Board, Home, Row, lent_at, word_of, Stands, is_empty, is_offered, is_claimed, is_answered, Kept}
+use Rattle.workers.specs.Rule.{Board, Home, LentRow, lent_at, word_of, Stands, is_empty, is_offered, is_claimed, is_answered, BenchRule}
 use Rattle.workers.specs.Steps.{Sat, Readies, Offers, Claims, Delivers, Collects, OfPlace}
 use Rattle.workers.specs.Desk.{idle}
 use Rattle.workers.specs.declared.tray.Load.{Load}
@@ -18,29 +18,29 @@ use Rattle.workers.specs.declared.seats.View.TheVariants.{Dispatcher, Idle, Clai
 use Rattle.workers.proofs.Rows.{set_at, there}
 
 -- The kinds of view are told apart.
-desk_is_no_claim : (r k : ℕ) (l : Row) (job : Asked) → Dispatcher r l ≡ Claimed k job → ⊥
+desk_is_no_claim : (r k : ℕ) (l : LentRow) (job : JobView) → Dispatcher r l ≡ Claimed k job → ⊥
 desk_is_no_claim r k l job e = cc
 
-idle_is_no_desk : (r : ℕ) (l : Row) → Idle ≡ Dispatcher r l → ⊥
+idle_is_no_desk : (r : ℕ) (l : LentRow) → Idle ≡ Dispatcher r l → ⊥
 idle_is_no_desk r l e = cc
 
-claim_is_no_desk : (r k : ℕ) (l : Row) (job : Asked) → Claimed k job ≡ Dispatcher r l → ⊥
+claim_is_no_desk : (r k : ℕ) (l : LentRow) (job : JobView) → Claimed k job ≡ Dispatcher r l → ⊥
 claim_is_no_desk r k l job e = cc
 
-idle_is_no_claim : (k : ℕ) (job : Asked) → Idle ≡ Claimed k job → ⊥
+idle_is_no_claim : (k : ℕ) (job : JobView) → Idle ≡ Claimed k job → ⊥
 idle_is_no_claim k job e = cc
 
-one_claimed : (k i : ℕ) (job other : Asked) → Claimed k job ≡ Claimed i other → (k ≡ i) × (job ≡ other)
+one_claimed : (k i : ℕ) (job other : JobView) → Claimed k job ≡ Claimed i other → (k ≡ i) × (job ≡ other)
 one_claimed k i job other e = ((cc), (cc))
 
-one_desk : (r q : ℕ) (l m : Row) → Dispatcher r l ≡ Dispatcher q m → (r ≡ q) × (l ≡ m)
+one_desk : (r q : ℕ) (l m : LentRow) → Dispatcher r l ≡ Dispatcher q m → (r ≡ q) × (l ≡ m)
 one_desk r q l m e = ((cc), (cc))
 
-one_job : (a b : Asked) → Some a ≡ Some b → a ≡ b
+one_job : (a b : JobView) → Some a ≡ Some b → a ≡ b
 one_job a b e = cc
 
 -- A place stands as before where its word, what is lent and whether it was readied are as before.
-stands_still : (r q k word word' : ℕ) (o o' : Option Asked) (home : Home) → Stands r k word o home
+stands_still : (r q k word word' : ℕ) (o o' : Option JobView) (home : Home) → Stands r k word o home
     → (k < q → k < r) → (q ≤ k → r ≤ k) → word' ≡ word → o' ≡ o → Stands q k word' o' home
 stands_still r q k word word' o o' home (is_empty w l before after) less more ew eo = is_empty (ew ∙ w) (eo ∙ l) (λ h. before (less h)) (λ h. after (more h))
 stands_still r q k word word' o o' home (is_offered job w l at) less more ew eo = is_offered job (ew ∙ w) (eo ∙ l) at
@@ -48,18 +48,18 @@ stands_still r q k word word' o o' home (is_claimed job w l at) less more ew eo 
 stands_still r q k word word' o o' home (is_answered job done w l at run) less more ew eo = is_answered job done (ew ∙ w) (eo ∙ l) at run
 
 -- the dispatcher's seat knows what the rule says
-the_desk : (s : Board) (h : Kept s) (id r : ℕ) (l : Row) → get_elem? s.views id ≡ some (Dispatcher r l) → (id ≡ h.desk) × (r ≡ h.resting) × (l ≡ h.lent)
+the_desk : (s : Board) (h : BenchRule s) (id r : ℕ) (l : LentRow) → get_elem? s.views id ≡ some (Dispatcher r l) → (id ≡ h.desk) × (r ≡ h.resting) × (l ≡ h.lent)
 the_desk s h id r l me = let same = h.no_other id r l me in
     let e = one_desk r h.resting l h.lent (some-injective _ _ (sym me ∙ (ap (λ i. get_elem? s.views i) same ∙ h.dispatcher))) in
     (same, e.0, e.1)
 
 -- The dispatcher changes place k, which nobody has claimed.
-pub desk_moves : (s : Board) (h : Kept s) (id k n r q : ℕ) (o : Option Asked) (l : Row) (home : Home)
+pub desk_moves : (s : Board) (h : BenchRule s) (id k n r q : ℕ) (o : Option JobView) (l : LentRow) (home : Home)
     → get_elem? s.views id ≡ some (Dispatcher r l) → k < length s.homes
-    → ((seat : ℕ) (job : Asked) → get_elem? s.views seat ≡ some (Claimed k job) → ⊥)
+    → ((seat : ℕ) (job : JobView) → get_elem? s.views seat ≡ some (Claimed k job) → ⊥)
     → ((i : ℕ) → i ≢ k → ((i < q → i < r) × (q ≤ i → r ≤ i)))
     → Stands q k n o home
-    → Kept record { words = set s.words (k + 3) n; homes = set s.homes k home; views = set s.views id (Dispatcher q (set l k o)) }
+    → BenchRule record { words = set s.words (k + 3) n; homes = set s.homes k home; views = set s.views id (Dispatcher q (set l k o)) }
 desk_moves s h id k n r q o l home me near free readied stands =
     let d = the_desk s h id r l me in
     let row : length l ≡ length s.homes = ap length d.2 ∙ h.row in
@@ -95,13 +95,13 @@ desk_moves s h id k n r q o l home me near free readied stands =
     }
 
 -- A worker changes place k, which no other has claimed. Afterwards it has no claim but one of k.
-pub worker_moves : (s : Board) (h : Kept s) (id k n : ℕ) (v w : View) (home : Home)
+pub worker_moves : (s : Board) (h : BenchRule s) (id k n : ℕ) (v w : View) (home : Home)
     → get_elem? s.views id ≡ some v → k < length s.homes
-    → ((r : ℕ) (l : Row) → v ≡ Dispatcher r l → ⊥) → ((r : ℕ) (l : Row) → w ≡ Dispatcher r l → ⊥)
-    → ((seat : ℕ) (job : Asked) → seat ≢ id → get_elem? s.views seat ≡ some (Claimed k job) → ⊥)
-    → ((i : ℕ) (job : Asked) → w ≡ Claimed i job → (i ≡ k) × (n ≡ 2) × (lent_at h.lent k ≡ Some job))
+    → ((r : ℕ) (l : LentRow) → v ≡ Dispatcher r l → ⊥) → ((r : ℕ) (l : LentRow) → w ≡ Dispatcher r l → ⊥)
+    → ((seat : ℕ) (job : JobView) → seat ≢ id → get_elem? s.views seat ≡ some (Claimed k job) → ⊥)
+    → ((i : ℕ) (job : JobView) → w ≡ Claimed i job → (i ≡ k) × (n ≡ 2) × (lent_at h.lent k ≡ Some job))
     → Stands h.resting k n (lent_at h.lent k) home
-    → Kept record { words = set s.words (k + 3) n; homes = set s.homes k home; views = set s.views id w }
+    → BenchRule record { words = set s.words (k + 3) n; homes = set s.homes k home; views = set s.views id w }
 worker_moves s h id k n v w home me near was_none is_none free mine stands =
     let wide : k + 3 < length s.words = let e = h.words in omega arith in
     let not_desk : h.desk ≢ id = λ e. was_none h.resting h.lent (some-injective _ _ (sym me ∙ (ap (λ i. get_elem? s.views i) (sym e) ∙ h.dispatcher))) in
@@ -139,10 +139,10 @@ worker_moves s h id k n v w home me near was_none is_none free mine stands =
     }
 
 -- A step that leaves each place's word as it is keeps the rule.
-aside : (s : Board) (h : Kept s) (id : ℕ) (v : View) (ws : List ℕ) → get_elem? s.views id ≡ some v
+aside : (s : Board) (h : BenchRule s) (id : ℕ) (v : View) (ws : List ℕ) → get_elem? s.views id ≡ some v
     → length ws ≡ length s.words → ((k : ℕ) → get_or ws (k + 3) 0 ≡ get_or s.words (k + 3) 0)
-    → Kept record { words = ws; homes = s.homes; views = set s.views id v }
-aside s h id v ws me long same = subst (λ vs. Kept record { words = ws; homes = s.homes; views = vs }) (sym (set_again s.views id v me)) record {
+    → BenchRule record { words = ws; homes = s.homes; views = set s.views id v }
+aside s h id v ws me long same = subst (λ vs. BenchRule record { words = ws; homes = s.homes; views = vs }) (sym (set_again s.views id v me)) record {
   desk = h.desk;
   resting = h.resting;
   lent = h.lent;
@@ -156,34 +156,34 @@ aside s h id v ws me long same = subst (λ vs. Kept record { words = ws; homes =
 }
 
 -- a bell is rung, or the bench is closed
-pub rings : (slots id : ℕ) (me : Sat) (i : ℕ) (f : ℕ → ℕ) → i < 3 → Allows Kept slots id me i f (λ n w. w ≡ me)
+pub rings : (slots id : ℕ) (me : Sat) (i : ℕ) (f : ℕ → ℕ) → i < 3 → Allows BenchRule slots id me i f (λ n w. w ≡ me)
 rings slots id me i f low s h long at fits =
     (me.0, keeps, tt, aside s h id me.0 _ at (length-set s.words i _) (λ k. get_or-set_other s.words i (k + 3) _ 0 (λ e. omega arith)), refl)
 
 -- a try that found another number than it looked for
-fails : (s : Board) (h : Kept s) (id i : ℕ) (v : View) → get_elem? s.views id ≡ some v → Kept (stepped s i (get_or s.words i 0) id [] v keeps)
+fails : (s : Board) (h : BenchRule s) (id i : ℕ) (v : View) → get_elem? s.views id ≡ some v → BenchRule (stepped s i (get_or s.words i 0) id [] v keeps)
 fails s h id i v me = aside s h id v _ me (length-set s.words i _) (λ k. ap (λ ws. get_or ws (k + 3) 0) (set-get_or s.words i 0))
 
 -- what stands at a place whose word is 0, 1 or 3
-at_offered : (r k word : ℕ) (o : Option Asked) (home : Home) → Stands r k word o home → word ≡ 1
-    → (job : Asked) × (o ≡ Some job) × (home ≡ some (Some (Offered job)))
+at_offered : (r k word : ℕ) (o : Option JobView) (home : Home) → Stands r k word o home → word ≡ 1
+    → (job : JobView) × (o ≡ Some job) × (home ≡ some (Some (Offered job)))
 at_offered r k word o home (is_empty w l b a) e = absurd (omega arith)
 at_offered r k word o home (is_offered job w l at) e = (job, l, at)
 at_offered r k word o home (is_claimed job w l at) e = absurd (omega arith)
 at_offered r k word o home (is_answered job done w l at run) e = absurd (omega arith)
 
-at_answered : (r k word : ℕ) (o : Option Asked) (home : Home) → Stands r k word o home → word ≡ 3
-    → (job : Asked) × (done : Done) × (o ≡ Some job) × (home ≡ some (Some (Answered done))) × IsRun job done
+at_answered : (r k word : ℕ) (o : Option JobView) (home : Home) → Stands r k word o home → word ≡ 3
+    → (job : JobView) × (done : Done) × (o ≡ Some job) × (home ≡ some (Some (Answered done))) × IsJobRun job done
 at_answered r k word o home (is_empty w l b a) e = absurd (omega arith)
 at_answered r k word o home (is_offered job w l at) e = absurd (omega arith)
 at_answered r k word o home (is_claimed job w l at) e = absurd (omega arith)
 at_answered r k word o home (is_answered job done w l at run) e = (job, done, l, at, run)
 
-none_is_no_job : (o : Option Asked) (job : Asked) → o ≡ None → o ≡ Some job → ⊥
+none_is_no_job : (o : Option JobView) (job : JobView) → o ≡ None → o ≡ Some job → ⊥
 none_is_no_job o job e f = cc
 
 -- where nothing is lent
-at_empty : (r k word : ℕ) (o : Option Asked) (home : Home) → Stands r k word o home → o ≡ None
+at_empty : (r k word : ℕ) (o : Option JobView) (home : Home) → Stands r k word o home → o ≡ None
     → (word ≡ 0) × (k < r → home ≡ some (None))
 at_empty r k word o home (is_empty w l b a) e = (w, b)
 at_empty r k word o home (is_offered job w l at) e = absurd (none_is_no_job o job e l)
@@ -191,18 +191,18 @@ at_empty r k word o home (is_claimed job w l at) e = absurd (none_is_no_job o jo
 at_empty r k word o home (is_answered job done w l at run) e = absurd (none_is_no_job o job e l)
 
 -- nobody has claimed a place whose word isn't 2
-unclaimed : (s : Board) (h : Kept s) (k n : ℕ) → get_or s.words (k + 3) 0 ≡ n → n ≢ 2 → (seat : ℕ) (job : Asked) → get_elem? s.views seat ≡ some (Claimed k job) → ⊥
+unclaimed : (s : Board) (h : BenchRule s) (k n : ℕ) → get_or s.words (k + 3) 0 ≡ n → n ≢ 2 → (seat : ℕ) (job : JobView) → get_elem? s.views seat ≡ some (Claimed k job) → ⊥
 unclaimed s h k n e ne seat job at = ne (sym e ∙ (h.claims seat k job at).0)
 
 -- what a step on the word of place k tells of that place, it tells as its kind
 of_place : (told : ℕ → Sat → ℕ → Sat → Type 0) (slots id k : ℕ) (me : Sat) (f : ℕ → ℕ) (st : Step (Option Load)) → st.word ≡ k + 3
-    → Allows Kept slots id me (k + 3) f (λ n w. told k me n w) → Allows Kept slots id me (k + 3) f (λ n w. OfPlace told st me n w)
+    → Allows BenchRule slots id me (k + 3) f (λ n w. told k me n w) → Allows BenchRule slots id me (k + 3) f (λ n w. OfPlace told st me n w)
 of_place told slots id k me f st here allowed s h long at fits =
     let a = allowed s h long at fits in
     (a.0, a.1, a.2, a.3, λ i e. let same : k ≡ i = omega arith in subst (λ j. told j me (get_or s.words (k + 3) 0) (a.0, carried_after me.1 a.1)) same a.4)
 
-readies_at : (slots id k : ℕ) (lent : Row) (held : List (ℕ × Option Load)) → k < slots → lent_at lent k ≡ None
-    → Allows Kept slots id (Dispatcher (k + 1) lent, held) (k + 3) (λ _. 0) (λ n w. Readies k (Dispatcher (k + 1) lent, held) w)
+readies_at : (slots id k : ℕ) (lent : LentRow) (held : List (ℕ × Option Load)) → k < slots → lent_at lent k ≡ None
+    → Allows BenchRule slots id (Dispatcher (k + 1) lent, held) (k + 3) (λ _. 0) (λ n w. Readies k (Dispatcher (k + 1) lent, held) w)
 readies_at slots id k lent held near empty s h long at fits =
     let d = the_desk s h id (k + 1) lent at in let t = there s.homes k (omega arith) in
     let e = at_empty h.resting k _ _ t.0 (h.places k t.0 t.1) (ap (λ l. lent_at l k) (sym d.2) ∙ empty) in
@@ -210,20 +210,20 @@ readies_at slots id k lent held near empty s h long at fits =
       Dispatcher k lent,
       takes k None,
       t.1 ∙ ap some (e.1 (let r = d.1 in omega arith)),
-      subst (λ l. Kept record { words = set s.words (k + 3) 0; homes = set s.homes k none; views = set s.views id (Dispatcher k l) }) same
+      subst (λ l. BenchRule record { words = set s.words (k + 3) 0; homes = set s.homes k none; views = set s.views id (Dispatcher k l) }) same
           (desk_moves s h id k 0 (k + 1) k None lent none at (omega arith) (unclaimed s h k 0 e.0 (λ x. omega arith))
           (λ i apart. ((λ a. omega arith), (λ a. omega arith)))
           (is_empty refl refl (λ a. absurd (omega arith)) (λ a. refl))),
       refl,
     )
 
-pub readies : (slots id k : ℕ) (me : Sat) (lent : Row) (held : List (ℕ × Option Load)) → me ≡ (Dispatcher (k + 1) lent, held) → k < slots → lent_at lent k ≡ None
-    → Allows Kept slots id me (k + 3) (λ _. 0) (λ n w. OfPlace {F = Option Load} (λ i m _. Readies i m) (step slots (k + 3) 0 0 none) me 0 w)
+pub readies : (slots id k : ℕ) (me : Sat) (lent : LentRow) (held : List (ℕ × Option Load)) → me ≡ (Dispatcher (k + 1) lent, held) → k < slots → lent_at lent k ≡ None
+    → Allows BenchRule slots id me (k + 3) (λ _. 0) (λ n w. OfPlace {F = Option Load} (λ i m _. Readies i m) (step slots (k + 3) 0 0 none) me 0 w)
 readies slots id k me lent held is near empty = of_place (λ i m _. Readies i m) slots id k me (λ _. 0) (step slots (k + 3) 0 0 none) refl
-    (subst (λ m. Allows Kept slots id m (k + 3) (λ _. 0) (λ n w. Readies k m w)) (sym is) (readies_at slots id k lent held near empty))
+    (subst (λ m. Allows BenchRule slots id m (k + 3) (λ _. 0) (λ n w. Readies k m w)) (sym is) (readies_at slots id k lent held near empty))
 
-offers_at : (slots id k : ℕ) (lent : Row) (job : Asked) (held : List (ℕ × Option Load)) → k < slots → lent_at lent k ≡ None
-    → Allows Kept slots id (Dispatcher 0 lent, (k, Some (Offered job)) ∷ held) (k + 3) (λ _. 1) (λ n w. Offers k (Dispatcher 0 lent, (k, Some (Offered job)) ∷ held) w)
+offers_at : (slots id k : ℕ) (lent : LentRow) (job : JobView) (held : List (ℕ × Option Load)) → k < slots → lent_at lent k ≡ None
+    → Allows BenchRule slots id (Dispatcher 0 lent, (k, Some (Offered job)) ∷ held) (k + 3) (λ _. 1) (λ n w. Offers k (Dispatcher 0 lent, (k, Some (Offered job)) ∷ held) w)
 offers_at slots id k lent job held near empty s h long at fits =
     let d = the_desk s h id 0 lent at in let t = there s.homes k (omega arith) in
     let e = at_empty h.resting k _ _ t.0 (h.places k t.0 t.1) (ap (λ l. lent_at l k) (sym d.2) ∙ empty) in (
@@ -235,15 +235,15 @@ offers_at slots id k lent job held near empty s h long at fits =
       refl,
     )
 
-pub offers : (slots id k : ℕ) (me : Sat) (lent : Row) (job : Asked) (held : List (ℕ × Option Load)) → me ≡ (Dispatcher 0 lent, (k, Some (Offered job)) ∷ held) → k < slots → lent_at lent k ≡ None
-    → Allows Kept slots id me (k + 3) (λ _. 1) (λ n w. OfPlace {F = Option Load} (λ i m _. Offers i m) (step slots (k + 3) 1 0 none) me 1 w)
+pub offers : (slots id k : ℕ) (me : Sat) (lent : LentRow) (job : JobView) (held : List (ℕ × Option Load)) → me ≡ (Dispatcher 0 lent, (k, Some (Offered job)) ∷ held) → k < slots → lent_at lent k ≡ None
+    → Allows BenchRule slots id me (k + 3) (λ _. 1) (λ n w. OfPlace {F = Option Load} (λ i m _. Offers i m) (step slots (k + 3) 1 0 none) me 1 w)
 offers slots id k me lent job held is near empty = of_place (λ i m _. Offers i m) slots id k me (λ _. 1) (step slots (k + 3) 1 0 none) refl
-    (subst (λ m. Allows Kept slots id m (k + 3) (λ _. 1) (λ n w. Offers k m w)) (sym is) (offers_at slots id k lent job held near empty))
+    (subst (λ m. Allows BenchRule slots id m (k + 3) (λ _. 1) (λ n w. Offers k m w)) (sym is) (offers_at slots id k lent job held near empty))
 
-claims_at : (slots id k : ℕ) → k < slots → Allows Kept slots id idle (k + 3) (λ n. either (eqb n 1) 2 n) (λ n w. Claims k idle n w)
+claims_at : (slots id k : ℕ) → k < slots → Allows BenchRule slots id idle (k + 3) (λ n. either (eqb n 1) 2 n) (λ n w. Claims k idle n w)
 claims_at slots id k near s h long at fits =
     let n = get_or s.words (k + 3) 0 in let t = there s.homes k (omega arith) in
-    let F : ℕ → Type 0 = λ m. (w : View) × (a : Act (Option Load)) × Valid s.homes [] a × Kept (stepped s (k + 3) m id [] w a) × Claims k idle n (w, carried_after [] a) in
+    let F : ℕ → Type 0 = λ m. (w : View) × (a : Act (Option Load)) × Valid s.homes [] a × BenchRule (stepped s (k + 3) m id [] w a) × Claims k idle n (w, carried_after [] a) in
     exchanged n 1 2 F
     (λ e. let o = at_offered h.resting k n _ t.0 (h.places k t.0 t.1) e in (
       Claimed k o.0,
@@ -257,12 +257,12 @@ claims_at slots id k near s h long at fits =
     (λ ne. (Idle, keeps, tt, fails s h id (k + 3) Idle at, ((λ e. absurd (ne e)), (λ _. refl))))
 
 pub claims : (slots id k : ℕ) (me : Sat) → me ≡ idle → k < slots
-    → Allows Kept slots id me (k + 3) (λ n. either (eqb n 1) 2 n) (λ n w. OfPlace {F = Option Load} Claims (step slots (k + 3) 1 2 none) me n w)
+    → Allows BenchRule slots id me (k + 3) (λ n. either (eqb n 1) 2 n) (λ n w. OfPlace {F = Option Load} Claims (step slots (k + 3) 1 2 none) me n w)
 claims slots id k me is near = of_place Claims slots id k me (λ n. either (eqb n 1) 2 n) (step slots (k + 3) 1 2 none) refl
-    (subst (λ m. Allows Kept slots id m (k + 3) (λ n. either (eqb n 1) 2 n) (λ n w. Claims k m n w)) (sym is) (claims_at slots id k near))
+    (subst (λ m. Allows BenchRule slots id m (k + 3) (λ n. either (eqb n 1) 2 n) (λ n w. Claims k m n w)) (sym is) (claims_at slots id k near))
 
-delivers_at : (slots id k : ℕ) (job : Asked) (done : Done) → k < slots → IsRun job done
-    → Allows Kept slots id (Claimed k job, (k, Some (Answered done)) ∷ []) (k + 3) (λ _. 3) (λ n w. Delivers (Claimed k job, (k, Some (Answered done)) ∷ []) w)
+delivers_at : (slots id k : ℕ) (job : JobView) (done : Done) → k < slots → IsJobRun job done
+    → Allows BenchRule slots id (Claimed k job, (k, Some (Answered done)) ∷ []) (k + 3) (λ _. 3) (λ n w. Delivers (Claimed k job, (k, Some (Answered done)) ∷ []) w)
 delivers_at slots id k job done near run s h long at fits =
     let c = h.claims id k job at in (
       Idle,
@@ -274,16 +274,16 @@ delivers_at slots id k job done near run s h long at fits =
       refl,
     )
 
-pub delivers : (slots id k : ℕ) (me : Sat) (job : Asked) (done : Done) → me ≡ (Claimed k job, (k, Some (Answered done)) ∷ []) → k < slots → IsRun job done
-    → Allows Kept slots id me (k + 3) (λ _. 3) (λ n w. OfPlace {F = Option Load} (λ _ m _. Delivers m) (step slots (k + 3) 3 0 none) me 3 w)
+pub delivers : (slots id k : ℕ) (me : Sat) (job : JobView) (done : Done) → me ≡ (Claimed k job, (k, Some (Answered done)) ∷ []) → k < slots → IsJobRun job done
+    → Allows BenchRule slots id me (k + 3) (λ _. 3) (λ n w. OfPlace {F = Option Load} (λ _ m _. Delivers m) (step slots (k + 3) 3 0 none) me 3 w)
 delivers slots id k me job done is near run = of_place (λ _ m _. Delivers m) slots id k me (λ _. 3) (step slots (k + 3) 3 0 none) refl
-    (subst (λ m. Allows Kept slots id m (k + 3) (λ _. 3) (λ n w. Delivers m w)) (sym is) (delivers_at slots id k job done near run))
+    (subst (λ m. Allows BenchRule slots id m (k + 3) (λ _. 3) (λ n w. Delivers m w)) (sym is) (delivers_at slots id k job done near run))
 
-collects_at : (slots id k : ℕ) (lent : Row) (held : List (ℕ × Option Load)) → k < slots
-    → Allows Kept slots id (Dispatcher 0 lent, held) (k + 3) (λ n. either (eqb n 3) 0 n) (λ n w. Collects k (Dispatcher 0 lent, held) n w)
+collects_at : (slots id k : ℕ) (lent : LentRow) (held : List (ℕ × Option Load)) → k < slots
+    → Allows BenchRule slots id (Dispatcher 0 lent, held) (k + 3) (λ n. either (eqb n 3) 0 n) (λ n w. Collects k (Dispatcher 0 lent, held) n w)
 collects_at slots id k lent held near s h long at fits =
     let n = get_or s.words (k + 3) 0 in let t = there s.homes k (omega arith) in let d = the_desk s h id 0 lent at in
-    let F : ℕ → Type 0 = λ m. (w : View) × (a : Act (Option Load)) × Valid s.homes held a × Kept (stepped s (k + 3) m id held w a) × Collects k (Dispatcher 0 lent, held) n (w, carried_after held a) in
+    let F : ℕ → Type 0 = λ m. (w : View) × (a : Act (Option Load)) × Valid s.homes held a × BenchRule (stepped s (k + 3) m id held w a) × Collects k (Dispatcher 0 lent, held) n (w, carried_after held a) in
     exchanged n 3 0 F
     (λ e. let o = at_answered h.resting k n _ t.0 (h.places k t.0 t.1) e in (
       Dispatcher 0 (set lent k None),
@@ -295,14 +295,14 @@ collects_at slots id k lent held near s h long at fits =
     ))
     (λ ne. (Dispatcher 0 lent, keeps, tt, fails s h id (k + 3) (Dispatcher 0 lent) at, ((λ e. absurd (ne e)), (λ _. refl))))
 
-pub collects : (slots id k : ℕ) (me : Sat) (lent : Row) (held : List (ℕ × Option Load)) → me ≡ (Dispatcher 0 lent, held) → k < slots
-    → Allows Kept slots id me (k + 3) (λ n. either (eqb n 3) 0 n) (λ n w. OfPlace {F = Option Load} Collects (step slots (k + 3) 3 0 none) me n w)
+pub collects : (slots id k : ℕ) (me : Sat) (lent : LentRow) (held : List (ℕ × Option Load)) → me ≡ (Dispatcher 0 lent, held) → k < slots
+    → Allows BenchRule slots id me (k + 3) (λ n. either (eqb n 3) 0 n) (λ n w. OfPlace {F = Option Load} Collects (step slots (k + 3) 3 0 none) me n w)
 collects slots id k me lent held is near = of_place Collects slots id k me (λ n. either (eqb n 3) 0 n) (step slots (k + 3) 3 0 none) refl
-    (subst (λ m. Allows Kept slots id m (k + 3) (λ n. either (eqb n 3) 0 n) (λ n w. Collects k m n w)) (sym is) (collects_at slots id k lent held near))
+    (subst (λ m. Allows BenchRule slots id m (k + 3) (λ n. either (eqb n 3) 0 n) (λ n w. Collects k m n w)) (sym is) (collects_at slots id k lent held near))
 
 -- A worker's seat is split off.
-pub splits : (id : ℕ) (v : View) → Splits Kept id v v Idle
-splits id v s h me = subst (λ vs. Kept record { words = s.words; homes = s.homes; views = vs ++ Idle ∷ [] }) (sym (set_again s.views id v me)) record {
+pub splits : (id : ℕ) (v : View) → Splits BenchRule id v v Idle
+splits id v s h me = subst (λ vs. BenchRule record { words = s.words; homes = s.homes; views = vs ++ Idle ∷ [] }) (sym (set_again s.views id v me)) record {
   desk = h.desk;
   resting = h.resting;
   lent = h.lent;
@@ -339,7 +339,7 @@ vacant_length : (n : ℕ) → length (map some (replicate {A = Option Load} n No
 vacant_length zero = refl
 vacant_length (suc n) = ap suc (vacant_length n)
 
-opens : (n : ℕ) (ws : List ℕ) → length ws ≡ n + 3 → ((i : ℕ) → get_or ws i 0 ≡ 0) → Kept (opening ws (replicate n None) (Dispatcher n (replicate n None)))
+opens : (n : ℕ) (ws : List ℕ) → length ws ≡ n + 3 → ((i : ℕ) → get_or ws i 0 ≡ 0) → BenchRule (opening ws (replicate n None) (Dispatcher n (replicate n None)))
 opens n ws long zeros =
     let slots = vacant_length n in
     record {
@@ -356,6 +356,6 @@ opens n ws long zeros =
           is_empty (zeros (k + 3)) (get_or-replicate n k None None t.1) (λ _. t.0) (λ more. absurd (let less = t.1 in omega arith));
     }
 
-pub opens_empty : (n : ℕ) (ws : List ℕ) → ws ≡ replicate (n + 3) 0 → Kept (opening ws (replicate n None) (Dispatcher n (replicate n None)))
-opens_empty n ws e = subst (λ vs. Kept (opening vs (replicate n None) (Dispatcher n (replicate n None)))) (sym e)
+pub opens_empty : (n : ℕ) (ws : List ℕ) → ws ≡ replicate (n + 3) 0 → BenchRule (opening ws (replicate n None) (Dispatcher n (replicate n None)))
+opens_empty n ws e = subst (λ vs. BenchRule (opening vs (replicate n None) (Dispatcher n (replicate n None)))) (sym e)
     (opens n (zeros (n + 3)) (length-replicate (n + 3) 0) (zero_at (n + 3)))

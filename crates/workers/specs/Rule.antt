@@ -3,7 +3,7 @@ use Rattle.std.specs.Prelude.{◌≡◌, ℕ, ◌+◌, ◌<◌, ◌≤◌, List,
 use mathlib.Core.Option.{none, some}
 use lib.ListN.{get_elem?}
 use Rattle.atomic_table.specs.Table.{State}
-use Rattle.parcel.specs.Run.{Asked, IsRun}
+use Rattle.parcel.specs.Run.{JobView, IsJobRun}
 use Rattle.parcel.specs.declared.job.Done.{Done}
 use Rattle.workers.specs.declared.tray.Load.{Load}
 use Rattle.workers.specs.declared.tray.Load.TheVariants.{Offered, Answered}
@@ -19,10 +19,10 @@ abbrev pub Home : Type 0
 Home = mathlib.Core.Option.Option (Option Load)
 
 -- the job that is lent at each place
-abbrev pub Row : Type 0
-Row = List (Option Asked)
+abbrev pub LentRow : Type 0
+LentRow = List (Option JobView)
 
-abbrev pub lent_at : Row → ℕ → Option Asked
+abbrev pub lent_at : LentRow → ℕ → Option JobView
 lent_at lent k = slice_index_or lent k None
 
 -- Word 0 is the stop word, and 1 and 2 are the bells, of which nothing is said. Behind them each place has its word.
@@ -30,21 +30,21 @@ abbrev pub word_of : ℕ → ℕ
 word_of k = k + 3
 
 -- How place k stands, by its word, by what is lent there and by its slot. The places below `resting` are yet to be readied: there the slot is still at home.
-pub data Stands (resting k word : ℕ) (lent : Option Asked) (home : Home) : Type 0 where
+pub data Stands (resting k word : ℕ) (lent : Option JobView) (home : Home) : Type 0 where
   is_empty : word ≡ 0 → lent ≡ None → (k < resting → home ≡ some None) → (resting ≤ k → home ≡ none) → Stands resting k word lent home
-  is_offered : (job : Asked) → word ≡ 1 → lent ≡ Some job → home ≡ some (Some (Offered job)) → Stands resting k word lent home
-  is_claimed : (job : Asked) → word ≡ 2 → lent ≡ Some job → home ≡ none → Stands resting k word lent home
-  is_answered : (job : Asked) (done : Done) → word ≡ 3 → lent ≡ Some job → home ≡ some (Some (Answered done)) → IsRun job done → Stands resting k word lent home
+  is_offered : (job : JobView) → word ≡ 1 → lent ≡ Some job → home ≡ some (Some (Offered job)) → Stands resting k word lent home
+  is_claimed : (job : JobView) → word ≡ 2 → lent ≡ Some job → home ≡ none → Stands resting k word lent home
+  is_answered : (job : JobView) (done : Done) → word ≡ 3 → lent ≡ Some job → home ≡ some (Some (Answered done)) → IsJobRun job done → Stands resting k word lent home
 
 -- There is one dispatcher, which knows what is lent. A worker that has claimed a place has the job that is lent there, and no other has claimed it.
-pub record Kept (s : Board) : Type 0 where
+pub record BenchRule (s : Board) : Type 0 where
   pub desk : ℕ
   pub resting : ℕ
-  pub lent : Row
+  pub lent : LentRow
   pub words : length s.words ≡ word_of (length s.homes)
   pub row : length lent ≡ length s.homes
   pub dispatcher : get_elem? s.views desk ≡ some (Dispatcher resting lent)
-  pub no_other : (seat r : ℕ) (l : Row) → get_elem? s.views seat ≡ some (Dispatcher r l) → seat ≡ desk
-  pub claims : (seat k : ℕ) (job : Asked) → get_elem? s.views seat ≡ some (Claimed k job) → (slice_index s.words (word_of k) ≡ 2) × (lent_at lent k ≡ Some job)
-  pub one_claim : (seat other k : ℕ) (job job' : Asked) → get_elem? s.views seat ≡ some (Claimed k job) → get_elem? s.views other ≡ some (Claimed k job') → seat ≡ other
+  pub no_other : (seat r : ℕ) (l : LentRow) → get_elem? s.views seat ≡ some (Dispatcher r l) → seat ≡ desk
+  pub claims : (seat k : ℕ) (job : JobView) → get_elem? s.views seat ≡ some (Claimed k job) → (slice_index s.words (word_of k) ≡ 2) × (lent_at lent k ≡ Some job)
+  pub one_claim : (seat other k : ℕ) (job job' : JobView) → get_elem? s.views seat ≡ some (Claimed k job) → get_elem? s.views other ≡ some (Claimed k job') → seat ≡ other
   pub places : (k : ℕ) (home : Home) → get_elem? s.homes k ≡ some home → Stands resting k (slice_index s.words (word_of k)) (lent_at lent k) home

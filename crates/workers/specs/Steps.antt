@@ -1,7 +1,7 @@
 -- What each kind of step tells the seat that makes it: of the seat before, the number found and the seat after.
 use Rattle.std.specs.Prelude.{◌≡◌, ◌≢◌, ℕ, List, ◌∷◌, slice_set, Option, None, Some}
 use Rattle.atomic_table.specs.Table.{Me, Step, rest}
-use Rattle.parcel.specs.Run.{Asked, IsRun}
+use Rattle.parcel.specs.Run.{JobView, IsJobRun}
 use Rattle.parcel.specs.declared.job.Done.{Done}
 use Rattle.workers.specs.Rule.{lent_at, word_of}
 use Rattle.workers.specs.Desk.{lent_of}
@@ -15,7 +15,7 @@ abbrev pub Sat : Type 0
 Sat = Me (Option Load) View
 
 -- the job in the slot that a seat took last
-abbrev pub job_on : List (ℕ × Option Load) → Option Asked
+abbrev pub job_on : List (ℕ × Option Load) → Option JobView
 job_on ((k, Some (Offered job)) ∷ _) = Some job
 job_on _ = None
 
@@ -30,7 +30,7 @@ Offers k m w = w ≡ (Dispatcher 0 (slice_set (lent_of m.0) k (job_on m.1)), res
 -- a try: the slot of a job that nobody had claimed is taken, or nothing changes
 abbrev pub Claims : ℕ → Sat → ℕ → Sat → Type 0
 Claims k m found w =
-    (found ≡ 1 → (job : Asked) × (w ≡ (Claimed k job, (k, Some (Offered job)) ∷ m.1)))
+    (found ≡ 1 → (job : JobView) × (w ≡ (Claimed k job, (k, Some (Offered job)) ∷ m.1)))
     × (found ≢ 1 → w ≡ m)
 
 -- the slot goes home
@@ -40,7 +40,7 @@ Delivers m w = w ≡ (Idle, rest m.1)
 -- a try: the slot with the result of the job that is lent is taken, or nothing changes
 abbrev pub Collects : ℕ → Sat → ℕ → Sat → Type 0
 Collects k m found w =
-    (found ≡ 3 → (job : Asked) × (done : Done) × (lent_at (lent_of m.0) k ≡ Some job) × IsRun job done × (w ≡ (Dispatcher 0 (slice_set (lent_of m.0) k None), (k, Some (Answered done)) ∷ m.1)))
+    (found ≡ 3 → (job : JobView) × (done : Done) × (lent_at (lent_of m.0) k ≡ Some job) × IsJobRun job done × (w ≡ (Dispatcher 0 (slice_set (lent_of m.0) k None), (k, Some (Answered done)) ∷ m.1)))
     × (found ≢ 3 → w ≡ m)
 
 -- a step on the word of a place tells what its kind tells of that place

@@ -1,8 +1,8 @@
 //! The bench: its table, and what the dispatcher does there.
 ghost use Rattle.std.specs.Prelude.{◌≡◌, ℕ, ◌+◌, ◌<◌, ◌≤◌, [], ◌∷◌, map, replicate, is_some, slice_set, Option, None, Some, IfOk, IfSome, IfNone, All, MatchOption, IsTrue, IsFalse, length, vec_len, Ok, Err};
 ghost use Rattle.atomic_table.specs.Table.{rest};
-ghost use Rattle.parcel.specs.Run.{Asked, IsRun};
-ghost use Rattle.workers.specs.Rule.{Row, lent_at};
+ghost use Rattle.parcel.specs.Run.{JobView, IsJobRun};
+ghost use Rattle.workers.specs.Rule.{LentRow, lent_at};
 ghost use Rattle.workers.specs.Desk.{IsBench, IsDesk, IsWon, lent_of, spare};
 ghost use Rattle.workers.specs.declared.tray.Load.TheVariants.{Answered};
 ghost use Rattle.workers.specs.declared.seats.View.TheVariants.{Dispatcher};
@@ -79,7 +79,7 @@ impl Bench {
     pub fn collect(&self, seat: &mut DispatchSeat, k: usize) -> Option<Done>
         requires { (seat.old.bench ≡ self.now) × (k < self.now.slots) }
         ensures bench { seat.new.bench ≡ seat.old.bench }
-        ensures some { IfSome result (λ done. (job : Asked) × (lent_at seat.old.lent k ≡ Some job) × IsRun job done × (seat.new.lent ≡ slice_set seat.old.lent k None)) }
+        ensures some { IfSome result (λ done. (job : JobView) × (lent_at seat.old.lent k ≡ Some job) × IsJobRun job done × (seat.new.lent ≡ slice_set seat.old.lent k None)) }
         ensures none { IfNone result (seat.new ≡ seat.old) }
     {
         let words = &self.table.shared;
@@ -203,7 +203,7 @@ fn win(words: &Words, seat: &mut Seat, lent: &[bool], k: usize) -> bool
 // Takes the result out of the slot of a place that was won.
 fn take_back(words: &Words, seat: &mut Seat, lent: &mut [bool], k: usize) -> Done
     requires bench { (seat.old.table_id ≡ words.now.table_id) × (k < words.now.table_id.slots) × IsBench words.now.table_id }
-    requires won { (row : Row) × IsWon k row seat.old.me × (lent.old ≡ map is_some row) × (length lent.old ≡ words.now.table_id.slots) }
+    requires won { (row : LentRow) × IsWon k row seat.old.me × (lent.old ≡ map is_some row) × (length lent.old ≡ words.now.table_id.slots) }
     ensures bench { seat.new.table_id ≡ seat.old.table_id }
     ensures desk { IsDesk words.now.table_id seat.new.me lent.new }
     ensures lent { lent_of seat.new.me.0 ≡ lent_of seat.old.me.0 }

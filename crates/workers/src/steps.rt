@@ -2,9 +2,9 @@
 //! A slot is filled between them.
 ghost use Rattle.std.specs.Prelude.{◌≡◌, ℕ, ◌+◌, ◌<◌, ◌≤◌, List, [], ◌∷◌, replicate, slice_set, Option, None, Some, IsTrue, IsFalse};
 ghost use Rattle.atomic_table.specs.Table.{rest};
-ghost use Rattle.parcel.specs.Run.{Asked, IsRun};
+ghost use Rattle.parcel.specs.Run.{JobView, IsJobRun};
 ghost use Rattle.parcel.specs.declared.job.Done.{Done as TheDone};
-ghost use Rattle.workers.specs.Rule.{Row, Kept, lent_at};
+ghost use Rattle.workers.specs.Rule.{LentRow, BenchRule, lent_at};
 ghost use Rattle.workers.specs.Desk.{IsBench, lent_of, idle};
 ghost use Rattle.workers.specs.Steps.{job_on, Readies, Offers, Claims, Delivers, Collects, OfPlace};
 ghost use Rattle.workers.specs.declared.tray.Load.TheVariants.{Offered, Answered};
@@ -25,7 +25,7 @@ pub type Words = Shared<Tray, View, usize, Handoff>;
 pub struct Handoff;
 
 impl TableRule<Tray, View, usize> for Handoff {
-    ghost holds = { λ _. Kept };
+    ghost holds = { λ _. BenchRule };
 
     ghost first = { λ places. Dispatcher places (replicate places None) };
 }
@@ -88,7 +88,7 @@ pub fn split(words: &Words, seat: &mut Seat) -> Seat
 pub fn ready(words: &Words, seat: &mut Seat, k: usize)
     requires bench { (seat.old.table_id ≡ words.now.table_id) × IsBench words.now.table_id }
     requires place { k < words.now.table_id.slots }
-    requires resting { (lent : Row) × (held : _) × (seat.old.me ≡ (Dispatcher (k + 1) lent, held)) × (lent_at lent k ≡ None) }
+    requires resting { (lent : LentRow) × (held : _) × (seat.old.me ≡ (Dispatcher (k + 1) lent, held)) × (lent_at lent k ≡ None) }
     ensures bench { seat.new.table_id ≡ seat.old.table_id }
     ensures ready { Readies k seat.old.me seat.new.me }
 {
@@ -99,7 +99,7 @@ pub fn ready(words: &Words, seat: &mut Seat, k: usize)
 pub fn offer(words: &Words, seat: &mut Seat, k: usize)
     requires bench { (seat.old.table_id ≡ words.now.table_id) × IsBench words.now.table_id }
     requires place { k < words.now.table_id.slots }
-    requires job { (lent : Row) × (job : Asked) × (held : _) × (seat.old.me ≡ (Dispatcher 0 lent, (k, Some (Offered job)) ∷ held)) × (lent_at lent k ≡ None) }
+    requires job { (lent : LentRow) × (job : JobView) × (held : _) × (seat.old.me ≡ (Dispatcher 0 lent, (k, Some (Offered job)) ∷ held)) × (lent_at lent k ≡ None) }
     ensures bench { seat.new.table_id ≡ seat.old.table_id }
     ensures lent { Offers k seat.old.me seat.new.me }
 {
@@ -112,7 +112,7 @@ pub fn claim(words: &Words, seat: &mut Seat, k: usize) -> bool
     requires place { k < words.now.table_id.slots }
     requires idle { seat.old.me ≡ idle }
     ensures bench { seat.new.table_id ≡ seat.old.table_id }
-    ensures won { IsTrue result → (job : Asked) × (seat.new.me ≡ (Claimed k job, (k, Some (Offered job)) ∷ [])) }
+    ensures won { IsTrue result → (job : JobView) × (seat.new.me ≡ (Claimed k job, (k, Some (Offered job)) ∷ [])) }
     ensures lost { IsFalse result → seat.new.me ≡ seat.old.me }
 {
     words.compare_exchange::<Claiming>(seat, k + FIRST_PLACE, OFFERED, CLAIMED) == OFFERED
@@ -122,7 +122,7 @@ pub fn claim(words: &Words, seat: &mut Seat, k: usize) -> bool
 pub fn deliver(words: &Words, seat: &mut Seat, k: usize)
     requires bench { (seat.old.table_id ≡ words.now.table_id) × IsBench words.now.table_id }
     requires place { k < words.now.table_id.slots }
-    requires result { (job : Asked) × (done : TheDone) × (seat.old.me ≡ (Claimed k job, (k, Some (Answered done)) ∷ [])) × IsRun job done }
+    requires result { (job : JobView) × (done : TheDone) × (seat.old.me ≡ (Claimed k job, (k, Some (Answered done)) ∷ [])) × IsJobRun job done }
     ensures bench { seat.new.table_id ≡ seat.old.table_id }
     ensures idle { seat.new.me ≡ idle }
 {
@@ -133,9 +133,9 @@ pub fn deliver(words: &Words, seat: &mut Seat, k: usize)
 pub fn collect(words: &Words, seat: &mut Seat, k: usize) -> bool
     requires bench { (seat.old.table_id ≡ words.now.table_id) × IsBench words.now.table_id }
     requires place { k < words.now.table_id.slots }
-    requires desk { (lent : Row) × (held : _) × (seat.old.me ≡ (Dispatcher 0 lent, held)) }
+    requires desk { (lent : LentRow) × (held : _) × (seat.old.me ≡ (Dispatcher 0 lent, held)) }
     ensures bench { seat.new.table_id ≡ seat.old.table_id }
-    ensures won { IsTrue result → (job : Asked) × (done : TheDone) × (lent_at (lent_of seat.old.me.0) k ≡ Some job) × IsRun job done × (seat.new.me ≡ (Dispatcher 0 (slice_set (lent_of seat.old.me.0) k None), (k, Some (Answered done)) ∷ seat.old.me.1)) }
+    ensures won { IsTrue result → (job : JobView) × (done : TheDone) × (lent_at (lent_of seat.old.me.0) k ≡ Some job) × IsJobRun job done × (seat.new.me ≡ (Dispatcher 0 (slice_set (lent_of seat.old.me.0) k None), (k, Some (Answered done)) ∷ seat.old.me.1)) }
     ensures lost { IsFalse result → seat.new.me ≡ seat.old.me }
 {
     words.compare_exchange::<Collecting>(seat, k + FIRST_PLACE, ANSWERED, EMPTY) == ANSWERED
@@ -188,7 +188,7 @@ pub fn lay_job(words: &Words, seat: &mut Seat, k: usize, job: Job)
 /// Takes the job out of the slot that the seat took last.
 #[inline(always)]
 pub fn take_job(words: &Words, seat: &mut Seat, k: usize) -> Job
-    requires { (seat.old.table_id ≡ words.now.table_id) × ((job : Asked) × (seat.old.me.1 ≡ (k, Some (Offered job)) ∷ rest seat.old.me.1)) }
+    requires { (seat.old.table_id ≡ words.now.table_id) × ((job : JobView) × (seat.old.me.1 ≡ (k, Some (Offered job)) ∷ rest seat.old.me.1)) }
     ensures bench { seat.new.table_id ≡ seat.old.table_id }
     ensures job { seat.old.me.1 ≡ (k, Some (Offered result)) ∷ rest seat.old.me.1 }
     ensures slot { seat.new.me ≡ (seat.old.me.0, (k, None) ∷ rest seat.old.me.1) }

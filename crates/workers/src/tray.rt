@@ -1,6 +1,6 @@
 //! What lies at a place: a job, or the result of one. Neither is copied where it may be moved.
 ghost use Rattle.std.specs.Prelude.{◌≡◌, Option, None, Some, IfOk};
-ghost use Rattle.parcel.specs.Run.{Asked};
+ghost use Rattle.parcel.specs.Run.{JobView};
 ghost use Rattle.parcel.specs.declared.job.Done.{Done as TheDone};
 ghost use Rattle.workers.specs.declared.tray.Load.TheVariants.{Offered, Answered};
 
@@ -60,7 +60,7 @@ impl Tray {
     /// Takes the job out.
     #[inline(always)]
     pub fn take_job(&mut self) -> Job
-        requires { (job : Asked) × (self.old ≡ Some (Offered job)) }
+        requires { (job : JobView) × (self.old ≡ Some (Offered job)) }
         ensures job { self.old ≡ Some (Offered result) }
         ensures empty { self.new ≡ None }
     {

@@ -1,6 +1,6 @@
 //! What a worker does.
 ghost use Rattle.std.specs.Prelude.{◌≡◌, ℕ, ◌<◌, [], ◌∷◌, Some, All};
-ghost use Rattle.parcel.specs.Run.{Asked};
+ghost use Rattle.parcel.specs.Run.{JobView};
 ghost use Rattle.workers.specs.Desk.{IsBench, idle};
 ghost use Rattle.workers.specs.declared.tray.Load.TheVariants.{Offered};
 ghost use Rattle.workers.specs.declared.seats.View.TheVariants.{Claimed};
@@ -149,7 +149,7 @@ fn serve_place<G: Gate>(
 fn answer<G: Gate>(words: &Words, seat: &mut Seat, k: usize, gate: &G) -> bool
     requires bench { (seat.old.table_id ≡ words.now.table_id) × IsBench words.now.table_id }
     requires place { k < words.now.table_id.slots }
-    requires claimed { (job : Asked) × (seat.old.me ≡ (Claimed k job, (k, Some (Offered job)) ∷ [])) }
+    requires claimed { (job : JobView) × (seat.old.me ≡ (Claimed k job, (k, Some (Offered job)) ∷ [])) }
     ensures { (seat.new.table_id ≡ seat.old.table_id) × (seat.new.me ≡ idle) }
 {
     let job = steps::take_job(words, seat, k);

@@ -1,8 +1,8 @@
 //! A volume's piece of an image: its marks, its files and its label, in 64 bytes.
 ghost use Rattle.std.specs.Prelude.{◌≡◌, ◌↔◌, ◌^◌, ◌-◌, length, unwrap_or, if◌then◌else◌, Some, None, IsTrue, IsFalse};
 ghost use Rattle.plain.specs.Serial.{no_label};
-ghost use Rattle.parcel.specs.Pieces.{piece_in, said_label, said_piece, spelled, volume_with};
-ghost use Rattle.parcel.specs.Shown.{label_in};
+ghost use Rattle.parcel.specs.Pieces.{volume_piece_of, said_label, said_piece, spelled, volume_with};
+ghost use Rattle.parcel.specs.Shown.{shown_label};
 
 use crate::parts::files_of;
 use crate::{Label, Vol};
@@ -34,7 +34,7 @@ pub(crate) struct VolumePiece {
 
 /// The label of a volume, or zeros where it has none.
 fn label_of(volume: &Vol) -> [u8; 32]
-    ensures { result ≡ unwrap_or (label_in volume.now.label) no_label }
+    ensures { result ≡ unwrap_or (shown_label volume.now.label) no_label }
 {
     match &volume.label {
         Some(label) => label.bytes.unwrap_or([0; 32]),
@@ -64,7 +64,7 @@ fn label_said(version: u8, bytes: &[u8]) -> [u8; 32]
 impl VolumePiece {
     /// The piece of a volume.
     fn of(volume: &Vol) -> VolumePiece
-        ensures { result ≡ piece_in volume.now }
+        ensures { result ≡ volume_piece_of volume.now }
     {
         VolumePiece {
             made: volume.made,
@@ -128,7 +128,7 @@ impl VolumePiece {
 /// Writes the piece of a volume.
 pub(super) fn write_volume(volume: &Vol, out: &mut [u8])
     requires size { length out.old ≡ 64 }
-    ensures { out.new ≡ spelled (piece_in volume.now) }
+    ensures { out.new ≡ spelled (volume_piece_of volume.now) }
 {
     VolumePiece::of(volume).write(out);
 }

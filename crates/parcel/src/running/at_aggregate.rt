@@ -7,8 +7,8 @@ ghost use Rattle.message.specs.Messages.{is_in_range, place};
 ghost use Rattle.parcel.specs.Dropping.{Empties};
 ghost use Rattle.plain.specs.Serial.{tests};
 ghost use Rattle.parcel.specs.Fits.{FitsAggregate, FitsLogical, FitsVolume, IsWholeAggregate, IsWholeChild, IsWholeLogical, IsWholeVolume, Suits};
-ghost use Rattle.parcel.specs.Run.{IsStep};
-ghost use Rattle.parcel.specs.Shown.{blocks_of, by_child, by_volume, has_bit, shown_state};
+ghost use Rattle.parcel.specs.Run.{IsSerialStep};
+ghost use Rattle.parcel.specs.Shown.{blocks_of, by_child, volume_facts, has_file, shown_state};
 ghost use Rattle.parcel.specs.Steps.{at_aggregate};
 ghost use Rattle.parcel.specs.Totals.{with_made};
 ghost use Rattle.parcel.specs.Volume.{nothing};
@@ -22,8 +22,8 @@ use message::{Msg, Reply};
 
 // Whether the volume at one place is made, and whether it is sealed.
 fn marks(place: &Option<Vol>) -> (bool, bool)
-    ensures made { (g : Geometry) → result.0 ≡ (by_child (by_volume g) place.now).made }
-    ensures sealed { (g : Geometry) → result.1 ≡ (by_child (by_volume g) place.now).sealed }
+    ensures made { (g : Geometry) → result.0 ≡ (by_child (volume_facts g) place.now).made }
+    ensures sealed { (g : Geometry) → result.1 ≡ (by_child (volume_facts g) place.now).sealed }
 {
     match place {
         Some(volume) => (volume.made, volume.sealed),
@@ -34,7 +34,7 @@ fn marks(place: &Option<Vol>) -> (bool, bool)
 // Makes the volume at one place, with a label of zeros.
 fn make(place: &mut Option<Vol>)
     requires { IsWholeChild IsWholeVolume place.old }
-    ensures facts { (g : Geometry) → by_child (by_volume g) place.new ≡ with_made (by_child (by_volume g) place.old) }
+    ensures facts { (g : Geometry) → by_child (volume_facts g) place.new ≡ with_made (by_child (volume_facts g) place.old) }
     ensures whole { IsWholeChild IsWholeVolume place.new }
     ensures fits { (g : Geometry) → IfSome place.old (FitsVolume g) → IfSome place.new (FitsVolume g) }
 {
@@ -79,7 +79,7 @@ fn clear_files(logical: &mut Logical)
 // Removes the volume at one place, with all that it has.
 fn clear(place: &mut Option<Vol>)
     requires { IsWholeChild IsWholeVolume place.old }
-    ensures facts { (g : Geometry) → by_child (by_volume g) place.new ≡ nothing }
+    ensures facts { (g : Geometry) → by_child (volume_facts g) place.new ≡ nothing }
     ensures whole { IsWholeChild IsWholeVolume place.new }
     ensures fits { (g : Geometry) → IfSome place.old (FitsVolume g) → IfSome place.new (FitsVolume g) }
 {
@@ -99,7 +99,7 @@ fn make_volume(aggregate: &mut Aggr, g: &Geometry, message: &Msg, v: u16) -> Rep
     requires volume { v < g.now.volumes }
     requires fits { FitsAggregate g.now aggregate.old }
     requires whole { IsWholeAggregate aggregate.old }
-    ensures step { (a : ℕ) → is_in_range g.now (Msg.MakeVol a v) ≡ true → IsStep g.now (at_aggregate g.now a aggregate.old) (Msg.MakeVol a v) result (at_aggregate g.now a aggregate.new) }
+    ensures step { (a : ℕ) → is_in_range g.now (Msg.MakeVol a v) ≡ true → IsSerialStep g.now (at_aggregate g.now a aggregate.old) (Msg.MakeVol a v) result (at_aggregate g.now a aggregate.new) }
     ensures fits { FitsAggregate g.now aggregate.new }
     ensures whole { IsWholeAggregate aggregate.new }
 {
@@ -118,7 +118,7 @@ fn drop_volume(aggregate: &mut Aggr, g: &Geometry, message: &Msg, v: u16) -> Rep
     requires volume { v < g.now.volumes }
     requires fits { FitsAggregate g.now aggregate.old }
     requires whole { IsWholeAggregate aggregate.old }
-    ensures step { (a : ℕ) → is_in_range g.now (Msg.DropVol a v) ≡ true → IsStep g.now (at_aggregate g.now a aggregate.old) (Msg.DropVol a v) result (at_aggregate g.now a aggregate.new) }
+    ensures step { (a : ℕ) → is_in_range g.now (Msg.DropVol a v) ≡ true → IsSerialStep g.now (at_aggregate g.now a aggregate.old) (Msg.DropVol a v) result (at_aggregate g.now a aggregate.new) }
     ensures fits { FitsAggregate g.now aggregate.new }
     ensures whole { IsWholeAggregate aggregate.new }
 {
@@ -134,7 +134,7 @@ fn drop_volume(aggregate: &mut Aggr, g: &Geometry, message: &Msg, v: u16) -> Rep
 /// Runs a message at an aggregate. It sees nothing of what lies above.
 pub(crate) fn run_at_aggregate(aggregate: &mut Aggr, g: &Geometry, message: &Msg) -> Reply
     requires { Suits g.now message.now (Parcels.Aggr aggregate.old) }
-    ensures step { (t : Standing) → IsStep g.now (shown_state g.now (place g.now message.now) t (Parcels.Aggr aggregate.old)) message.now result (shown_state g.now (place g.now message.now) t (Parcels.Aggr aggregate.new)) }
+    ensures step { (t : Standing) → IsSerialStep g.now (shown_state g.now (place g.now message.now) t (Parcels.Aggr aggregate.old)) message.now result (shown_state g.now (place g.now message.now) t (Parcels.Aggr aggregate.new)) }
     ensures suits { Suits g.now message.now (Parcels.Aggr aggregate.new) }
 {
     match message {

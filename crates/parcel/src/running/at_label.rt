@@ -5,7 +5,7 @@ ghost use Rattle.message.specs.declared.Msg.{Msg};
 ghost use Rattle.message.specs.Messages.{place};
 ghost use Rattle.plain.specs.Serial.{tests};
 ghost use Rattle.parcel.specs.Fits.{Suits};
-ghost use Rattle.parcel.specs.Run.{IsStep};
+ghost use Rattle.parcel.specs.Run.{IsSerialStep};
 ghost use Rattle.parcel.specs.Shown.{by_label, shown_state};
 ghost use Rattle.parcel.specs.Steps.{IsStepWithin};
 ghost use Rattle.parcel.specs.declared.parts.Parcels.{Parcels};
@@ -52,7 +52,7 @@ pub(crate) fn run_at_label(
     message: &Msg,
 ) -> Reply
     requires { Suits g.now message.now (Parcels.Label label.old) }
-    ensures step { IsStep g.now (shown_state g.now (place g.now message.now) standing (Parcels.Label label.old)) message.now result (shown_state g.now (place g.now message.now) standing (Parcels.Label label.new)) }
+    ensures step { IsSerialStep g.now (shown_state g.now (place g.now message.now) standing (Parcels.Label label.old)) message.now result (shown_state g.now (place g.now message.now) standing (Parcels.Label label.new)) }
     ensures suits { Suits g.now message.now (Parcels.Label label.new) }
 {
     match message {

@@ -6,7 +6,7 @@ ghost use Rattle.message.specs.Messages.{place};
 ghost use Rattle.parcel.specs.Dropping.{DropsFile};
 ghost use Rattle.plain.specs.Serial.{tests};
 ghost use Rattle.parcel.specs.Fits.{FitsLogical, IsWholeLogical, Suits};
-ghost use Rattle.parcel.specs.Run.{IsStep};
+ghost use Rattle.parcel.specs.Run.{IsSerialStep};
 ghost use Rattle.parcel.specs.Shown.{by_logical, shown_state};
 ghost use Rattle.parcel.specs.Steps.{IsStepWithin};
 ghost use Rattle.parcel.specs.declared.parts.Parcels.{Parcels};
@@ -91,7 +91,7 @@ pub(crate) fn run_at_logical(
     message: &Msg,
 ) -> Reply
     requires { Suits g.now message.now (Parcels.Logical logical.old) }
-    ensures step { IsStep g.now (shown_state g.now (place g.now message.now) standing (Parcels.Logical logical.old)) message.now result (shown_state g.now (place g.now message.now) standing (Parcels.Logical logical.new)) }
+    ensures step { IsSerialStep g.now (shown_state g.now (place g.now message.now) standing (Parcels.Logical logical.old)) message.now result (shown_state g.now (place g.now message.now) standing (Parcels.Logical logical.new)) }
     ensures suits { Suits g.now message.now (Parcels.Logical logical.new) }
 {
     match message {

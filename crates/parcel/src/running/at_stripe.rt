@@ -7,10 +7,10 @@ ghost use Rattle.message.specs.declared.Msg.{Msg};
 ghost use Rattle.message.specs.Messages.{place};
 ghost use Rattle.plain.specs.Serial.{tests};
 ghost use Rattle.parcel.specs.Fits.{FitsStripe, Suits};
-ghost use Rattle.parcel.specs.Run.{IsStep};
+ghost use Rattle.parcel.specs.Run.{IsSerialStep};
 ghost use Rattle.parcel.specs.Shown.{by_stripe, shown_state};
 ghost use Rattle.parcel.specs.Steps.{IsStepWithin};
-ghost use Rattle.stripe.specs.Stripe.{IsKept, content_at};
+ghost use Rattle.stripe.specs.Stripe.{StripeRule, content_at};
 ghost use Rattle.parcel.specs.declared.parts.Parcels.{Parcels};
 
 use super::refusals::{file_change_refusal, read_refusal, write_refusal};
@@ -21,7 +21,7 @@ use message::{Block, Msg, Reply};
 // Whether a block is there already, or there is room for one more.
 fn has_room(stripe: &StripeParcel, g: &Geometry, f: u16, b: u16) -> bool
     ensures room { result ≡ (is_some (content_at stripe.now.entries f b) || nat_lt (length stripe.now.entries) g.now.quota) }
-    ensures kept { IsKept stripe.now }
+    ensures kept { StripeRule stripe.now }
 {
     stripe.get(f, b).is_some() || stripe.len() < usize::from(g.quota)
 }
@@ -98,7 +98,7 @@ pub(crate) fn run_at_stripe(
     message: &Msg,
 ) -> Reply
     requires { Suits g.now message.now (Parcels.Stripe stripe.old) }
-    ensures step { IsStep g.now (shown_state g.now (place g.now message.now) standing (Parcels.Stripe stripe.old)) message.now result (shown_state g.now (place g.now message.now) standing (Parcels.Stripe stripe.new)) }
+    ensures step { IsSerialStep g.now (shown_state g.now (place g.now message.now) standing (Parcels.Stripe stripe.old)) message.now result (shown_state g.now (place g.now message.now) standing (Parcels.Stripe stripe.new)) }
     ensures suits { Suits g.now message.now (Parcels.Stripe stripe.new) }
 {
     match message {

@@ -6,8 +6,8 @@ ghost use Rattle.message.specs.declared.Msg.{Msg};
 ghost use Rattle.message.specs.Messages.{place};
 ghost use Rattle.plain.specs.Serial.{tests};
 ghost use Rattle.parcel.specs.Fits.{FitsVolume, Suits};
-ghost use Rattle.parcel.specs.Run.{IsStep};
-ghost use Rattle.parcel.specs.Shown.{by_volume, shown_state};
+ghost use Rattle.parcel.specs.Run.{IsSerialStep};
+ghost use Rattle.parcel.specs.Shown.{volume_facts, shown_state};
 ghost use Rattle.parcel.specs.Steps.{IsStepWithin};
 ghost use Rattle.parcel.specs.declared.parts.Parcels.{Parcels};
 ghost use Rattle.parcel.specs.declared.parts.Standing.{Standing};
@@ -21,7 +21,7 @@ use message::{Msg, Reply};
 // Seals the volume, whether it was sealed or not.
 fn seal(volume: &mut Vol, message: &Msg) -> Reply
     requires { tests message.now ≡ tests (Msg.Seal 0 0) }
-    ensures step { (g : Geometry) → IsStepWithin g Msg.Seal (by_volume g volume.old) result (by_volume g volume.new) }
+    ensures step { (g : Geometry) → IsStepWithin g Msg.Seal (volume_facts g volume.old) result (volume_facts g volume.new) }
     ensures logical { volume.new.logical ≡ volume.old.logical }
     ensures label { volume.new.label ≡ volume.old.label }
 {
@@ -35,7 +35,7 @@ fn seal(volume: &mut Vol, message: &Msg) -> Reply
 // Unseals the volume, whether it was sealed or not.
 fn unseal(volume: &mut Vol, message: &Msg) -> Reply
     requires { tests message.now ≡ tests (Msg.Unseal 0 0) }
-    ensures step { (g : Geometry) → IsStepWithin g Msg.Unseal (by_volume g volume.old) result (by_volume g volume.new) }
+    ensures step { (g : Geometry) → IsStepWithin g Msg.Unseal (volume_facts g volume.old) result (volume_facts g volume.new) }
     ensures logical { volume.new.logical ≡ volume.old.logical }
     ensures label { volume.new.label ≡ volume.old.label }
 {
@@ -50,7 +50,7 @@ fn unseal(volume: &mut Vol, message: &Msg) -> Reply
 fn usage(volume: &Vol, g: &Geometry, message: &Msg) -> Reply
     requires fits { FitsVolume g.now volume.now }
     requires tests { tests message.now ≡ tests (Msg.Usage 0 0) }
-    ensures { IsStepWithin g.now Msg.Usage (by_volume g.now volume.now) result (by_volume g.now volume.now) }
+    ensures { IsStepWithin g.now Msg.Usage (volume_facts g.now volume.now) result (volume_facts g.now volume.now) }
 {
     if let Some(why) = volume_refusal(message, volume.made) {
         return Reply::Refused(why);
@@ -66,7 +66,7 @@ fn usage(volume: &Vol, g: &Geometry, message: &Msg) -> Reply
 /// Runs a message at a volume. It sees nothing of what lies above.
 pub(crate) fn run_at_volume(volume: &mut Vol, g: &Geometry, message: &Msg) -> Reply
     requires { Suits g.now message.now (Parcels.Vol volume.old) }
-    ensures step { (t : Standing) → IsStep g.now (shown_state g.now (place g.now message.now) t (Parcels.Vol volume.old)) message.now result (shown_state g.now (place g.now message.now) t (Parcels.Vol volume.new)) }
+    ensures step { (t : Standing) → IsSerialStep g.now (shown_state g.now (place g.now message.now) t (Parcels.Vol volume.old)) message.now result (shown_state g.now (place g.now message.now) t (Parcels.Vol volume.new)) }
     ensures suits { Suits g.now message.now (Parcels.Vol volume.new) }
 {
     match message {

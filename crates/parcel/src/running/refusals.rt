@@ -3,7 +3,7 @@
 ghost use Rattle.std.specs.Prelude.{◌≡◌, ◌<◌, ◌∷◌, [], not, find, None};
 ghost use Rattle.message.specs.declared.Refusal.TheVariants.{Range, Volume, Exists, Sealed, File, Space};
 ghost use Rattle.plain.specs.Serial.{tests};
-ghost use Rattle.parcel.specs.Shown.{has_bit};
+ghost use Rattle.parcel.specs.Shown.{has_file};
 ghost use Rattle.parcel.specs.Steps.{unless, unless_closed};
 
 use message::{Msg, Refusal};
@@ -60,7 +60,7 @@ impl Seen {
 /// Whether a volume with these files has a file.
 pub(crate) fn has_file(files: u64, f: u16) -> bool
     requires { f < 64 }
-    ensures { result ≡ has_bit files f }
+    ensures { result ≡ has_file files f }
 {
     (files >> f) & 1 == 1
 }
@@ -109,7 +109,7 @@ pub(crate) fn create_refusal(
 ) -> Option<Refusal>
     requires file { f < 64 }
     requires tests { tests message.now ≡ Range ∷ Volume ∷ Sealed ∷ Exists ∷ [] }
-    ensures { result ≡ unless_closed made sealed (unless (not (has_bit files f)) Exists None) }
+    ensures { result ≡ unless_closed made sealed (unless (not (has_file files f)) Exists None) }
 {
     let exists = has_file(files, f);
     let seen = Seen {
@@ -131,7 +131,7 @@ pub(crate) fn file_change_refusal(
 ) -> Option<Refusal>
     requires file { f < 64 }
     requires tests { tests message.now ≡ Range ∷ Volume ∷ Sealed ∷ File ∷ [] }
-    ensures { result ≡ unless_closed made sealed (unless (has_bit files f) File None) }
+    ensures { result ≡ unless_closed made sealed (unless (has_file files f) File None) }
 {
     let file = has_file(files, f);
     let seen = Seen {
@@ -154,7 +154,7 @@ pub(crate) fn write_refusal(
 ) -> Option<Refusal>
     requires file { f < 64 }
     requires tests { tests message.now ≡ Range ∷ Volume ∷ Sealed ∷ File ∷ Space ∷ [] }
-    ensures { result ≡ unless_closed made sealed (unless (has_bit files f) File (unless room Space None)) }
+    ensures { result ≡ unless_closed made sealed (unless (has_file files f) File (unless room Space None)) }
 {
     let file = has_file(files, f);
     let seen = Seen {
@@ -171,7 +171,7 @@ pub(crate) fn write_refusal(
 pub(crate) fn read_refusal(message: &Msg, made: bool, files: u64, f: u16) -> Option<Refusal>
     requires file { f < 64 }
     requires tests { tests message.now ≡ Range ∷ Volume ∷ File ∷ [] }
-    ensures { result ≡ unless made Volume (unless (has_bit files f) File None) }
+    ensures { result ≡ unless made Volume (unless (has_file files f) File None) }
 {
     let file = has_file(files, f);
     let seen = Seen {

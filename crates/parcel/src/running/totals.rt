@@ -2,8 +2,8 @@
 
 ghost use Rattle.std.specs.Prelude.{◌≡◌, ◌+◌, ◌<◌, ◌≤◌, ◌^◌, IfSome};
 ghost use Rattle.parcel.specs.Fits.{FitsAggregate, FitsLogical, FitsRoot, FitsVolume};
-ghost use Rattle.parcel.specs.Shown.{blocks_of, by_aggregate, by_child, by_root, by_volume, has_bit};
-ghost use Rattle.stripe.specs.Stripe.{IsKept};
+ghost use Rattle.parcel.specs.Shown.{blocks_of, by_aggregate, by_child, by_root, volume_facts, has_file};
+ghost use Rattle.stripe.specs.Stripe.{StripeRule};
 ghost use Rattle.parcel.specs.Totals.{block_total, entry_count, file_total, sum_totals, totals_of};
 ghost use Rattle.plain.specs.State.{sum_below};
 
@@ -42,7 +42,7 @@ impl Totals {
 
 // How many files there are.
 fn file_count(files: u64, g: &Geometry) -> u32
-    ensures { result ≡ file_total g.now (has_bit files) }
+    ensures { result ≡ file_total g.now (has_file files) }
 {
     let mut total = 0;
     for f in 0..g.files {
@@ -57,7 +57,7 @@ fn file_count(files: u64, g: &Geometry) -> u32
 fn entry_count(place: &Option<StripeParcel>) -> u32
     requires { IfSome place.now (λ p. p.quota ≤ 64) }
     ensures count { result ≡ entry_count place.now }
-    ensures kept { IfSome place.now IsKept }
+    ensures kept { IfSome place.now StripeRule }
 {
     match place {
         Some(stripe) => stripe.len() as u32,
@@ -80,7 +80,7 @@ fn block_count(logical: &Logical, g: &Geometry) -> u32
 /// How much a volume holds.
 pub(crate) fn volume_totals(volume: &Vol, g: &Geometry) -> Totals
     requires { FitsVolume g.now volume.now }
-    ensures { result ≡ totals_of g.now (by_volume g.now volume.now) }
+    ensures { result ≡ totals_of g.now (volume_facts g.now volume.now) }
 {
     let (files, blocks) = match &volume.logical {
         Some(logical) => (file_count(logical.files, g), block_count(logical, g)),
@@ -96,7 +96,7 @@ pub(crate) fn volume_totals(volume: &Vol, g: &Geometry) -> Totals
 // How much the volume at one place holds, where it is in.
 fn volume_in(place: &Option<Vol>, g: &Geometry) -> Totals
     requires { IfSome place.now (FitsVolume g.now) }
-    ensures { result ≡ totals_of g.now (by_child (by_volume g.now) place.now) }
+    ensures { result ≡ totals_of g.now (by_child (volume_facts g.now) place.now) }
 {
     match place {
         Some(volume) => volume_totals(volume, g),

@@ -2,7 +2,7 @@ use Rattle.std.proofs.Common.{◌≡◌, ℕ, ◌+◌, ◌<◌, ◌≤◌, lengt
 use Rattle.std.proofs.lemmas.Result.{err_from_is_err_and}
 use Rattle.affinity.specs.declared.geometry.Geometry.{Geometry}
 use Rattle.image.specs.Pieces.{piece_count}
-use Rattle.oplog.specs.Layout.{image, layout_of, part, part_at}
+use Rattle.oplog.specs.Layout.{image, layout_of, part_bytes, part_at}
 use Rattle.parcel.specs.Tree.{state_in}
 use Rattle.checkpoint.proofs.Replays.{same_bytes}
 use Rattle.checkpoint.proofs.Walked.{all_read, bad_turn, free_at_first, free_turn, good_turn, next_place, no_bad_piece, read_there, room_left, said_turn}
@@ -51,7 +51,7 @@ returns-in_err-take_piece-clause-refused g c =
     read_there c.args.tree.now.geometry c.geometry-g.result c.geometry-g.ensures c.args.number c.loop-n.n c.loop-n.at c.piece_size.result c.loop-n.buffer c.requires.number below
     c.loop-n.invariant.at c.piece_size.ensures.size few now (g.D.Disk.medium c.loop-n.disk).now c.read.new.out
     (same_bytes (g.D.Disk.medium c.args.disk.now) (g.D.Disk.medium c.loop-n.disk) (c.loop-n.invariant.untouched k)) (c.in_ok-read.ensures.bytes k) in
-    bad_turn c.args.tree.now.geometry c.loop-n.tree.geometry c.loop-n.invariant.geometry (part (layout_of c.args.tree.now.geometry) (image c.args.number) now) c.args.version c.loop-n.n
+    bad_turn c.args.tree.now.geometry c.loop-n.tree.geometry c.loop-n.invariant.geometry (part_bytes (layout_of c.args.tree.now.geometry) (image c.args.number) now) c.args.version c.loop-n.n
     (c.requires.version k) below (state_in c.loop-n.tree) (c.loop-n.invariant.said k) c.read.new.out there c.in_err-take_piece.ensures.good.1 (c.loop-n.invariant.good k) _ c.in_err-take_piece.ensures.bad)
 
 pub loop-n-preserved : goal.loop-n-preserved
@@ -71,14 +71,14 @@ loop-n-preserved g c =
       faults = c.in_ok-read.ensures.counts ∙ c.loop-n.invariant.faults;
       untouched = λ k. c.read.ensures.untouched k ∙ c.loop-n.invariant.untouched k;
       said = λ k.
-          said_turn c.args.tree.now.geometry c.loop-n.tree.geometry c.loop-n.invariant.geometry (part (layout_of c.args.tree.now.geometry) (image c.args.number) now) c.args.version c.loop-n.n
+          said_turn c.args.tree.now.geometry c.loop-n.tree.geometry c.loop-n.invariant.geometry (part_bytes (layout_of c.args.tree.now.geometry) (image c.args.number) now) c.args.version c.loop-n.n
           (c.requires.version k) below (state_in c.loop-n.tree) (c.loop-n.invariant.said k) c.read.new.out
           (read_there c.args.tree.now.geometry c.geometry-g.result c.geometry-g.ensures c.args.number c.loop-n.n c.loop-n.at c.piece_size.result c.loop-n.buffer c.requires.number below
           c.loop-n.invariant.at c.piece_size.ensures.size few now (g.D.Disk.medium c.loop-n.disk).now c.read.new.out
           (same_bytes (g.D.Disk.medium c.args.disk.now) (g.D.Disk.medium c.loop-n.disk) (c.loop-n.invariant.untouched k)) (c.in_ok-read.ensures.bytes k))
           (state_in c.take_piece.new.tree) c.in_ok-take_piece.ensures.taken;
       good = λ k.
-          good_turn c.args.tree.now.geometry c.loop-n.tree.geometry c.loop-n.invariant.geometry (part (layout_of c.args.tree.now.geometry) (image c.args.number) now) c.args.version c.loop-n.n
+          good_turn c.args.tree.now.geometry c.loop-n.tree.geometry c.loop-n.invariant.geometry (part_bytes (layout_of c.args.tree.now.geometry) (image c.args.number) now) c.args.version c.loop-n.n
           (c.requires.version k) below (state_in c.loop-n.tree) (c.loop-n.invariant.said k) c.read.new.out
           (read_there c.args.tree.now.geometry c.geometry-g.result c.geometry-g.ensures c.args.number c.loop-n.n c.loop-n.at c.piece_size.result c.loop-n.buffer c.requires.number below
           c.loop-n.invariant.at c.piece_size.ensures.size few now (g.D.Disk.medium c.loop-n.disk).now c.read.new.out
@@ -95,5 +95,5 @@ returns-clause-read g c = λ k.
 pub returns-clause-good : goal.returns-clause-good
 returns-clause-good g c = λ k.
     let all : c.loop-n.n ≡ piece_count c.args.tree.now.geometry = omega (arith, c.loop-n-test.false, c.loop-n.auto.n-end, c.piece_count-n-end.ensures.count ∙ ap piece_count c.geometry-g.ensures) in
-    no_bad_piece c.args.tree.now.geometry (part (layout_of c.args.tree.now.geometry) (image c.args.number) (g.D.Disk.medium c.args.disk.now).now)
+    no_bad_piece c.args.tree.now.geometry (part_bytes (layout_of c.args.tree.now.geometry) (image c.args.number) (g.D.Disk.medium c.args.disk.now).now)
     (λ i below. c.loop-n.invariant.good k i (omega (arith, below, all)))

@@ -3,12 +3,12 @@ use Rattle.std.proofs.lemmas.Result.{err_from_is_err_and}
 use Rattle.affinity.specs.declared.geometry.Geometry.{Geometry}
 use Rattle.checkpoint.specs.declared.fault.OpenFault.{OpenFault}
 use Rattle.checkpoint.specs.declared.fault.OpenFault.TheVariants.{BadChain}
-use Rattle.checkpoint.specs.Loading.{IsFault, IsOfHalf, are_chained, image_fault, records_fault}
+use Rattle.checkpoint.specs.Loading.{IsFaultOfBytes, IsOfHalf, are_chained, image_fault, records_fault}
 use Rattle.checkpoint.specs.Recovery.{means}
 use Rattle.checkpoint.specs.Refusals.{fault_if}
 use Rattle.image.specs.Image.{read}
 use Rattle.oplog.specs.Front.{chain, front}
-use Rattle.oplog.specs.Layout.{image, layout_of, part}
+use Rattle.oplog.specs.Layout.{image, layout_of, part_bytes}
 use Rattle.oplog.specs.Log.{Log}
 use Rattle.oplog.specs.Stands.{named_area, run}
 use Rattle.parcel.specs.Tree.{state_in}
@@ -26,7 +26,7 @@ returns-in_err-version-clause-refused g c =
     let first = same_bytes (g.D.Disk.medium c.args.disk.now) (g.D.Disk.medium c.named_area.new.disk) (c.named_area.ensures.untouched k) in
     let names = c.in_ok-area.ensures.area k ∙ ap (λ (h : Geometry). named_area (layout_of h) now) c.geometry-g.ensures in
     image_refused geometry now (c.requires.header k) c.requires.parts c.in_ok-area.area names _
-    (subst (λ (l : List ℕ). IsFault (image_fault geometry (part (layout_of geometry) (image c.in_ok-area.area) l)) c.in_err-version.field-0.0) first (c.in_err-version.ensures.refused k)))
+    (subst (λ (l : List ℕ). IsFaultOfBytes (image_fault geometry (part_bytes (layout_of geometry) (image c.in_ok-area.area) l)) c.in_err-version.field-0.0) first (c.in_err-version.ensures.refused k)))
 
 pub returns-in_err-chained-clause-refused : goal.returns-in_err-chained-clause-refused
 returns-in_err-chained-clause-refused g c =
@@ -38,9 +38,9 @@ returns-in_err-chained-clause-refused g c =
     let first = same_bytes (g.D.Disk.medium c.args.disk.now) (g.D.Disk.medium c.named_area.new.disk) (c.named_area.ensures.untouched k) in
     let names = c.in_ok-area.ensures.area k ∙ ap (λ (h : Geometry). named_area (layout_of h) now) c.geometry-g.ensures in
     let second = same_bytes (g.D.Disk.medium c.args.disk.now) (g.D.Disk.medium c.read_image.new.disk) (c.read_image.ensures.untouched k ∙ c.named_area.ensures.untouched k) in
-    let good = sym (ap (λ (l : List ℕ). image_fault geometry (part (layout_of geometry) (image c.in_ok-area.area) l)) first) ∙ c.in_ok-version.ensures.sound k in
+    let good = sym (ap (λ (l : List ℕ). image_fault geometry (part_bytes (layout_of geometry) (image c.in_ok-area.area) l)) first) ∙ c.in_ok-version.ensures.sound k in
     chain_refused geometry now (c.requires.header k) c.requires.parts c.in_ok-area.area names good _
-    (subst (λ (o : Option OpenFault). IsFault o c.in_err-chained.field-0.0) (λ i. fault_if (are_chained (layout_of (c.geometry-g.ensures i)) (second i)) BadChain None) (c.in_err-chained.ensures.refused k)))
+    (subst (λ (o : Option OpenFault). IsFaultOfBytes o c.in_err-chained.field-0.0) (λ i. fault_if (are_chained (layout_of (c.geometry-g.ensures i)) (second i)) BadChain None) (c.in_err-chained.ensures.refused k)))
 
 pub returns-in_err-records-clause-refused : goal.returns-in_err-records-clause-refused
 returns-in_err-records-clause-refused g c =
@@ -53,15 +53,15 @@ returns-in_err-records-clause-refused g c =
     let names = c.in_ok-area.ensures.area k ∙ ap (λ (h : Geometry). named_area (layout_of h) now) c.geometry-g.ensures in
     let second = same_bytes (g.D.Disk.medium c.args.disk.now) (g.D.Disk.medium c.read_image.new.disk) (c.read_image.ensures.untouched k ∙ c.named_area.ensures.untouched k) in
     let third = same_bytes (g.D.Disk.medium c.args.disk.now) (g.D.Disk.medium c.chain_of.new.disk) (c.chain_of.ensures.untouched k ∙ c.read_image.ensures.untouched k ∙ c.named_area.ensures.untouched k) in
-    let good = sym (ap (λ (l : List ℕ). image_fault geometry (part (layout_of geometry) (image c.in_ok-area.area) l)) first) ∙ c.in_ok-version.ensures.sound k in
+    let good = sym (ap (λ (l : List ℕ). image_fault geometry (part_bytes (layout_of geometry) (image c.in_ok-area.area) l)) first) ∙ c.in_ok-version.ensures.sound k in
     let state = state_in c.read_image.new.tree in
-    let said : read geometry (part (layout_of geometry) (image c.in_ok-area.area) now) ≡ Some state =
-    sym (ap (λ (l : List ℕ). read geometry (part (layout_of geometry) (image c.in_ok-area.area) l)) first) ∙ c.in_ok-version.ensures.read k in
+    let said : read geometry (part_bytes (layout_of geometry) (image c.in_ok-area.area) now) ≡ Some state =
+    sym (ap (λ (l : List ℕ). read geometry (part_bytes (layout_of geometry) (image c.in_ok-area.area) l)) first) ∙ c.in_ok-version.ensures.read k in
     let one = sym (λ i. are_chained (layout_of (c.geometry-g.ensures i)) (second i)) ∙ c.in_ok-chained.ensures.sound k in
     let log = ap (λ (l : Log). l.geometry) c.name.ensures ∙ ap (λ (l : Log). l.geometry) c.requires.log in
     records_refused geometry now (c.requires.header k) c.requires.parts c.in_ok-area.area names good state said one _
     (named_refused geometry state c.in_ok-area.area now _
-    (subst (λ (o : Option OpenFault). IsFault o c.in_err-records.field-0.0)
+    (subst (λ (o : Option OpenFault). IsFaultOfBytes o c.in_err-records.field-0.0)
     (λ i. records_fault (c.in_ok-version.ensures.geometry i) state c.in_ok-area.area (front (layout_of (log i)) c.in_ok-area.area (third i)))
     (c.in_err-records.ensures.refused k))))
 
@@ -80,9 +80,9 @@ returns-clause-loaded g c = λ k.
       named = c.in_ok-area.ensures.area k ∙ ap (λ (h : Geometry). named_area (layout_of h) now) c.geometry-g.ensures;
       chain = c.in_ok-chained.ensures.chained k ∙ (λ i. chain (layout_of (c.geometry-g.ensures i)) c.in_ok-area.area (second i) == 1);
       one = sym (λ i. are_chained (layout_of (c.geometry-g.ensures i)) (second i)) ∙ c.in_ok-chained.ensures.sound k;
-      sound = sym (ap (λ (l : List ℕ). image_fault geometry (part (layout_of geometry) (image c.in_ok-area.area) l)) first) ∙ c.in_ok-version.ensures.sound k;
+      sound = sym (ap (λ (l : List ℕ). image_fault geometry (part_bytes (layout_of geometry) (image c.in_ok-area.area) l)) first) ∙ c.in_ok-version.ensures.sound k;
       first = state;
-      said = sym (ap (λ (l : List ℕ). read geometry (part (layout_of geometry) (image c.in_ok-area.area) l)) first) ∙ c.in_ok-version.ensures.read k;
+      said = sym (ap (λ (l : List ℕ). read geometry (part_bytes (layout_of geometry) (image c.in_ok-area.area) l)) first) ∙ c.in_ok-version.ensures.read k;
       ran = sym (λ i. run (means (c.in_ok-version.ensures.geometry i)) (Some state) (front (layout_of (log i)) c.in_ok-area.area (third i))) ∙ c.in_ok-records.ensures.done k;
     }
 

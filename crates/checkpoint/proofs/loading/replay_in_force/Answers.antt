@@ -1,7 +1,7 @@
 use Rattle.std.proofs.Common.{◌≡◌, ◌==◌, length, Some, sym, ◌∙◌, ap, subst, arith}
 use Rattle.std.proofs.lemmas.Result.{err_from_is_err_and}
 use Rattle.affinity.specs.declared.geometry.Geometry.{Geometry}
-use Rattle.checkpoint.specs.Loading.{IsFault, records_fault}
+use Rattle.checkpoint.specs.Loading.{IsFaultOfBytes, records_fault}
 use Rattle.checkpoint.specs.Recovery.{means}
 use Rattle.oplog.specs.Front.{chain, front}
 use Rattle.oplog.specs.Layout.{layout_of, other}
@@ -19,7 +19,7 @@ returns-in_err-count-clause-refused g c =
     (λ k.
     let now = (g.D.Disk.medium c.args.disk.now).now in
     named_refused c.args.tree.now.geometry (state_in c.args.tree.now) c.args.area now _
-    (subst (λ (h : Geometry). IsFault (records_fault c.args.tree.now.geometry (state_in c.args.tree.now) c.args.area (front (layout_of h) c.args.area now)) c.in_err-count.field-0.0)
+    (subst (λ (h : Geometry). IsFaultOfBytes (records_fault c.args.tree.now.geometry (state_in c.args.tree.now) c.args.area (front (layout_of h) c.args.area now)) c.in_err-count.field-0.0)
     c.requires.geometry (c.in_err-count.ensures.refused k)))
 
 pub returns-then-not-chained-clause-count : goal.returns-then-not-chained-clause-count
@@ -55,7 +55,7 @@ returns-in_err-more-clause-refused g c =
     other_refused c.args.tree.now.geometry (state_in c.args.tree.now) c.args.area now (state_in c.replay.new.tree)
     (sym (ap (λ (h : Geometry). run (means c.args.tree.now.geometry) (Some (state_in c.args.tree.now)) (front (layout_of h) c.args.area now)) c.requires.geometry) ∙ c.in_ok-count.ensures.done k)
     (sym (ap (λ (h : Geometry). chain (layout_of h) c.args.area now == 1) c.requires.geometry) ∙ sym (c.requires.chained k) ∙ c.if-not-chained.false) _
-    (subst (λ o. IsFault o c.in_err-more.field-0.0)
+    (subst (λ o. IsFaultOfBytes o c.in_err-more.field-0.0)
     (λ i. records_fault (c.in_ok-count.ensures.geometry i) (state_in c.replay.new.tree) (other c.args.area) (front (layout_of (log i)) (other c.args.area) (same i)))
     (c.in_err-more.ensures.refused k)))
 

@@ -4,7 +4,7 @@ use Rattle.std.specs.Prelude.{slice_set}
 use Rattle.std.proofs.lemmas.Option.{slice_get-get_or}
 use Rattle.machine.proofs.Events.{back_holds, back_nowhere, back_step, no_result, taken, was_result}
 use Rattle.machine.specs.Machine.{HoldsJobs}
-use Rattle.machine.specs.Steps.{IsStep}
+use Rattle.machine.specs.Steps.{IsMachineStep}
 use Rattle.machine.specs.declared.hands.Hand.{Hand}
 use Rattle.legal_runs.specs.declared.outcomes.Outcome.TheVariants as outcomes
 use Rattle.legal_runs.specs.declared.outcomes.Step.TheVariants as steps
@@ -40,10 +40,10 @@ returns-clause-step g c =
     let t = taken g.D.Disk.keeps c.args.core.now c.args.hands.now c.stands.ensures.no_doubt c.stands.ensures.now c.requires c.args.hand
     (get_or c.args.hands.now c.args.hand c.index-hands-hand.result) c.take_result.new.hand c.in-Some.done c.in-Some.ensures in
     let read = slice_get-get_or c.args.hands.now c.args.hand c.index-hands-hand.result c.if-hand-hands.false in
-    subst (λ (ticket : ℕ). IsStep g.D.Disk.keeps (record { core = c.args.core.now; hands = c.args.hands.now })
+    subst (λ (ticket : ℕ). IsMachineStep g.D.Disk.keeps (record { core = c.args.core.now; hands = c.args.hands.now })
     (record { core = c.give_back.new.self; hands = slice_set c.args.hands.now c.args.hand c.take_result.new.hand }) (steps.Back c.args.hand)
     (outcomes.Back ticket)) (sym c.ticket-ticket.ensures)
-    (subst (λ (h : Hand). IsStep g.D.Disk.keeps (record { core = c.args.core.now; hands = c.args.hands.now })
+    (subst (λ (h : Hand). IsMachineStep g.D.Disk.keeps (record { core = c.args.core.now; hands = c.args.hands.now })
     (record { core = c.give_back.new.self; hands = slice_set c.args.hands.now c.args.hand h }) (steps.Back c.args.hand)
     (outcomes.Back c.in-Some.done.ticket)) (sym t.1)
     (back_step g.D.Disk.keeps c.args.core.now c.args.hands.now c.stands.ensures.no_doubt c.stands.ensures.now c.requires c.args.hand

@@ -3,7 +3,7 @@ use Rattle.std.proofs.Common.{refl, sym, subst, ℕ}
 use Rattle.std.specs.Prelude.{slice_set}
 use Rattle.legal_runs.specs.declared.outcomes.Outcome.TheVariants as outcomes
 use Rattle.legal_runs.specs.declared.outcomes.Step.TheVariants as steps
-use Rattle.machine.specs.Steps.{IsStep}
+use Rattle.machine.specs.Steps.{IsMachineStep}
 use Rattle.machine.specs.declared.hands.Hand.TheVariants as has
 use Rattle.machine.proofs.Events.{failed_step, grant_holds, grant_step, no_grant_step, no_hand, position_within, still_holds}
 use Rattle.machine.proofs.stepping.grant.Goals as goal
@@ -13,7 +13,7 @@ returns-in_default-clause-step g c = no_hand g.D.Disk.keeps c.args.core.now c.ar
     c.stands.ensures.now refl refl (sym c.in_default.ensures) refl
 
 pub returns-in-Job-clause-step : goal.returns-in-Job-clause-step
-returns-in-Job-clause-step g c = subst (λ (ticket : ℕ). IsStep g.D.Disk.keeps (record { core = c.args.core.now; hands = c.args.hands.now })
+returns-in-Job-clause-step g c = subst (λ (ticket : ℕ). IsMachineStep g.D.Disk.keeps (record { core = c.args.core.now; hands = c.args.hands.now })
     (record { core = c.grant.new.self; hands = slice_set c.args.hands.now c.in-Some.hand (has.Job c.in-Job.job) }) steps.Grant
     (outcomes.Granted c.in-Some.hand ticket)) (sym c.ticket-ticket.ensures)
     (grant_step g.D.Disk.keeps c.args.core.now c.grant.new.self c.args.hands.now c.stands.ensures.no_doubt

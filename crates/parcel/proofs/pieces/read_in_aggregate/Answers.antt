@@ -3,7 +3,7 @@ use Rattle.std.proofs.Common.{◌≡◌, ℕ, ◌<◌, ◌∷◌, [], length, sl
 use Rattle.std.specs.Prelude.{None, IfSome}
 use Rattle.std.proofs.lemmas.List.{get_or_read, length-set}
 use Rattle.parcel.specs.Fits.{FitsAggregate, FitsVolume}
-use Rattle.parcel.specs.Levels.{volume_of, volume_in}
+use Rattle.parcel.specs.Levels.{volume_below, volume_in}
 use Rattle.parcel.specs.Nodes.{in_child, in_volume, in_aggregate, in_root, in_row, PutsBack}
 use Rattle.parcel.specs.Nodes.Node.{Inner}
 use Rattle.parcel.proofs.ChildRows.{each_set, fits_in_place, row_put}
@@ -43,7 +43,7 @@ returns-clause-read c =
     record {
       was = r.was;
       now = r.now;
-      there = ap (λ o. volume_of o i) c.in-Some.is ∙ ap (λ o. o) at ∙ r.there;
+      there = ap (λ o. volume_below o i) c.in-Some.is ∙ ap (λ o. o) at ∙ r.there;
       read = r.read;
       nodes = subst (λ o. PutsBack (i ∷ []) (in_volume r.now) (in_child in_aggregate o) (in_row in_volume Inner (slice_set row.items i c.read_in_volume.new.at))) (sym c.in-Some.is)
           (row_put in_volume Inner row.items i c.read_in_volume.new.at below [] (in_volume r.now)

@@ -1,7 +1,7 @@
 -- The part is the volume itself or one of its stripes.
 use Rattle.std.proofs.Common.{◌≡◌, ℕ, suc, ◌-◌, ◌*◌, sym, ap, subst, arith, ◌∙◌, length, Some}
-use Rattle.message.specs.Messages.{AreBytes}
-use Rattle.image.specs.Pieces.{part_size}
+use Rattle.message.specs.Messages.{AreSizedBytes}
+use Rattle.image.specs.Pieces.{piece_part_size}
 use Rattle.parcel.specs.Pieces.{IsPartRead}
 use Rattle.parcel.proofs.PieceParts.{all_bytes, stripe_is_read, volume_is_read}
 use Rattle.parcel.proofs.pieces.read_part.Goals as goal
@@ -17,7 +17,7 @@ returns c =
     let g = c.args.g.now in
     let s : ℕ = c.args.part - 1 in
     let next : suc s ≡ c.args.part = omega (arith, c.if-part-eq0.false) in
-    let are : AreBytes (g.quota * 520) c.args.bytes.now = (c.requires.size ∙ sym (ap (part_size g) next), all_bytes c.args.bytes.now (λ i. (c.type_inv.bytes i).fits)) in
+    let are : AreSizedBytes (g.quota * 520) c.args.bytes.now = (c.requires.size ∙ sym (ap (piece_part_size g) next), all_bytes c.args.bytes.now (λ i. (c.type_inv.bytes i).fits)) in
     let read = stripe_is_read c.args.version g s c.args.bytes.now c.read_stripe.result c.args.volume.now c.in-Some.logical c.read_stripe.new.logical c.in-Some.is c.requires.whole
     c.read_stripe.ensures.fits c.read_stripe.ensures.whole c.read_stripe.ensures.files c.read_stripe.ensures.piece c.read_stripe.ensures.blocks are in
     subst (λ (part : ℕ). IsPartRead c.args.version g part c.args.bytes.now c.read_stripe.result c.args.volume.now (record c.args.volume.now { logical = Some c.read_stripe.new.logical })) next read

@@ -1,9 +1,9 @@
 -- What was read at the place of the piece.
 use Rattle.std.proofs.Common.{◌≡◌, ℕ, ◌<◌, List, ◌∷◌, length, Bool, true, false, true≢false, None, refl, sym, ◌∙◌, ap, subst}
-use Rattle.message.specs.Messages.{AreBytes}
+use Rattle.message.specs.Messages.{AreSizedBytes}
 use Rattle.affinity.specs.Path.{Path}
 use Rattle.plain.specs.State.{State, IsState}
-use Rattle.image.specs.Pieces.{aggregate_of, volume_of, part_of, piece_count, piece_of, piece_size, part_piece, part_size, with_part, with_piece}
+use Rattle.image.specs.Pieces.{aggregate_of, volume_of, part_of, piece_count, piece_of, piece_size, part_piece, piece_part_size, with_part, with_piece}
 use Rattle.image.proofs.Numbers.{in_aggregates, in_volumes}
 use Rattle.parcel.specs.Levels.{volume_in}
 use Rattle.parcel.specs.Nodes.{Nodes, in_child, in_root, in_volume, tree_state}
@@ -99,7 +99,7 @@ returns-clause-whole c =
     let there : (q : Path) → old (a ∷ v ∷ q) ≡ in_child in_volume (volume_in c.t.inside.root a v) q = nodes_there g a v c.t.inside.root in
     let good = read_good c.args.version g p bytes c.read_in_root.result a v (volume_in c.t.inside.root a v) old new read there whole.state in
     let piece = subst (λ (t : TreeView). n < piece_count t.geometry) (sym c.t.view_is) c.requires.piece in
-    let size : length bytes ≡ part_size g p = subst (λ (t : TreeView). length bytes ≡ piece_size t.geometry n) (sym c.t.view_is) c.requires.size ∙ ap (part_size g) (sym at.ensures.part) in
+    let size : length bytes ≡ piece_part_size g p = subst (λ (t : TreeView). length bytes ≡ piece_size t.geometry n) (sym c.t.view_is) c.requires.size ∙ ap (piece_part_size g) (sym at.ensures.part) in
     let none = subst (λ (t : TreeView). part_of t.geometry n ≡ 0 → (f b : ℕ) → (state_in t).blocks (aggregate_of t.geometry n, volume_of t.geometry n, f, b) ≡ None) (sym c.t.view_is) c.requires.empty in
     let empty : p ≡ 0 → (f b : ℕ) → x.blocks (a, v, f, b) ≡ None = λ first f b. (λ i. x.blocks (at.ensures.aggregate i, at.ensures.volume i, f, b)) ∙ none (sym at.ensures.part ∙ first) f b in
     let taken = read_taken c.args.version g p bytes c.read_in_root.result a v (volume_in c.t.inside.root a v) old new read there c.if-not-read_in_root.false in

@@ -6,7 +6,7 @@ use Rattle.affinity.specs.Path.{Path}
 use Rattle.affinity.specs.Place.{place as place_of}
 use Rattle.message.specs.Messages.{kind, place}
 use Rattle.parcel.specs.Fits.{Fits, IsKindOf, Suits}
-use Rattle.parcel.specs.Run.{Asked}
+use Rattle.parcel.specs.Run.{JobView}
 use Rattle.parcel.proofs.Serving.{fits_where_lent}
 use Rattle.parcel_tests.proofs.lines.serve.Goals as goal
 
@@ -15,7 +15,7 @@ restore-requires-clause-fits c =
     let g = c.geometry-g.result in
     let m = c.args.message.now in
     let same : g ≡ c.lend.new.self.geometry = cc in
-    let suits : Suits g m c.run-done.result.parcels = subst (λ (j : Asked). Suits j.geometry j.message c.run-done.result.parcels) c.new.ensures c.run-done.ensures.suits in
+    let suits : Suits g m c.run-done.result.parcels = subst (λ (j : JobView). Suits j.geometry j.message c.run-done.result.parcels) c.new.ensures c.run-done.ensures.suits in
     let there : IsAffinityOf g (place g m) c.in-Some.a =
     subst (λ n. IsAffinityOf g (place_of g (kind m) n) c.in-Some.a) c.numbers.ensures (subst (λ k. IsAffinityOf g (place_of g k c.numbers.result) c.in-Some.a) c.kind.ensures c.in-Some.ensures.placed) in
     subst (λ l. (q : Path) → IsAffinityOf c.lend.new.self.geometry q c.in-Some.a → IsKindOf q l → Fits c.lend.new.self.geometry q l) (sym c.into_parcels.ensures)

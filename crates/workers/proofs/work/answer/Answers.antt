@@ -1,5 +1,5 @@
 use Rattle.std.proofs.Common.{◌∙◌, ap, subst, [], Some}
-use Rattle.parcel.specs.Run.{IsRun}
+use Rattle.parcel.specs.Run.{IsJobRun}
 use Rattle.workers.specs.Steps.{Sat}
 use Rattle.workers.specs.declared.tray.Load.TheVariants.{Offered}
 use Rattle.workers.proofs.Lending.{headed, same_head, one_job, answered}
@@ -20,5 +20,5 @@ deliver-requires-clause-result g c = let t = c.requires.claimed in let k = c.arg
       t.0,
       c.run-done.result,
       answered k t.0 _ _ _ c.args.seat.now.me c.take_job-job.new.seat.me c.lay_result.new.seat.me t.1 c.take_job-job.ensures.slot c.lay_result.ensures.slot,
-      subst (λ job. IsRun job c.run-done.result) same c.run-done.ensures,
+      subst (λ job. IsJobRun job c.run-done.result) same c.run-done.ensures,
     )

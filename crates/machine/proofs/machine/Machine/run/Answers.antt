@@ -3,20 +3,20 @@ use Rattle.std.proofs.Common.{◌≡◌, ◌+◌, ◌<◌, ◌≤◌, List, [], 
 use Rattle.std.specs.Prelude.{slice_set}
 use Rattle.std.specs.Vec.{with_items}
 use Rattle.std.proofs.lemmas.List.{take_all, with_items_is}
-use Rattle.legal_runs.specs.Laws.{IsSound}
+use Rattle.legal_runs.specs.Laws.{IsSoundWorld}
 use Rattle.legal_runs.specs.declared.outcomes.Outcome.{Outcome}
 use Rattle.legal_runs.specs.declared.outcomes.Step.{Step}
 use Rattle.machine.proofs.Running.{has_run, next_stages, no_stages}
-use Rattle.machine.specs.Machine.{Handed, HasStages, HoldsJobs}
+use Rattle.machine.specs.Machine.{MachineView, HasStages, HoldsJobs}
 use Rattle.machine.specs.declared.hands.Hand.{Hand}
 use Rattle.scheduler.specs.Kept.{world_of}
 use Rattle.machine.proofs.machine.Machine.run.Goals as goal
 
 pub loop-i-init : goal.loop-i-init
 loop-i-init g c =
-    let here : Handed = record { core = c.self.inside.core; hands = c.self.inside.hands.items } in
+    let here : MachineView = record { core = c.self.inside.core; hands = c.self.inside.hands.items } in
     record {
-      ran = subst (λ (m : Handed). HasStages g.D.Disk.keeps m here [] []) c.self.view_is (no_stages g.D.Disk.keeps here);
+      ran = subst (λ (m : MachineView). HasStages g.D.Disk.keeps m here [] []) c.self.view_is (no_stages g.D.Disk.keeps here);
       holds = c.self.invariant;
     }
 
@@ -26,7 +26,7 @@ make_step-requires g c = subst (HoldsJobs c.loop-i.self-inside.core.geometry (wo
 
 pub loop-i-preserved : goal.loop-i-preserved
 loop-i-preserved g c =
-    let new : Handed = record { core = c.make_step.new.core; hands = c.make_step.new.hands } in
+    let new : MachineView = record { core = c.make_step.new.core; hands = c.make_step.new.hands } in
     let within : c.loop-i.i < length c.loop-i.outcomes = omega (arith, c.requires, c.loop-i.auto.outcomes, c.loop-i-test.true) in
     let more : HasStages g.D.Disk.keeps c.args.self.now new (take (c.loop-i.i + 1) c.args.steps.now)
     (take (c.loop-i.i + 1) (slice_set c.loop-i.outcomes c.loop-i.i c.make_step.result)) =
@@ -47,11 +47,11 @@ invariant_of-self g c = c.loop-i.invariant.holds
 
 pub returns : goal.returns
 returns g c =
-    let now : Handed = record { core = c.loop-i.self-inside.core; hands = c.loop-i.self-inside.hands.items } in
+    let now : MachineView = record { core = c.loop-i.self-inside.core; hands = c.loop-i.self-inside.hands.items } in
     let all : take c.loop-i.i c.args.steps.now ≡ c.args.steps.now = take_all c.loop-i.i c.args.steps.now c.loop-i-test.false in
     let long : length c.loop-i.outcomes ≤ c.loop-i.i = omega (arith, c.requires, c.loop-i.auto.outcomes, c.loop-i-test.false) in
     has_run g.D.Disk.keeps c.args.self.now now c.args.steps.now c.loop-i.outcomes
-    (subst (λ (m : Handed). IsSound m.core.geometry (world_of m.core)) c.self.view_is c.self.invariant.sound)
+    (subst (λ (m : MachineView). IsSoundWorld m.core.geometry (world_of m.core)) c.self.view_is c.self.invariant.sound)
     (subst (λ (os : List Outcome). HasStages g.D.Disk.keeps c.args.self.now now c.args.steps.now os) (take_all c.loop-i.i c.loop-i.outcomes long)
     (subst (λ (ss : List Step). HasStages g.D.Disk.keeps c.args.self.now now ss (take c.loop-i.i c.loop-i.outcomes)) all c.loop-i.invariant.ran))
     c.stands.ensures.no_doubt c.stands.ensures.now

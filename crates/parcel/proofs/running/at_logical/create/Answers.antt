@@ -1,6 +1,6 @@
 use Rattle.std.proofs.Common.{◌<◌, refl, sym, ◌∙◌, arith}
 use Rattle.message.specs.declared.Msg.TheVariants.{Create}
-use Rattle.parcel.specs.Shown.{by_logical, has_bit}
+use Rattle.parcel.specs.Shown.{by_logical, has_file}
 use Rattle.parcel.specs.Volume.{only}
 use Rattle.parcel.proofs.FileBits.{with_bit, with_bit_has, with_bit_below}
 use Rattle.parcel.proofs.OneVolume.{passed, create_tests, effect_create}
@@ -13,7 +13,7 @@ returns-clause-step c =
     let most = g.files_range.1 in
     let below : c.args.f < 64 = omega (arith, most, c.requires.file) in
     λ a v range. passed g (only a v h) (Create a v c.args.f) _ _ (create_tests g a v c.args.f h range ∙ sym c.create_refusal.ensures ∙ c.in_default.is) refl
-    (effect_create h a v (has_bit (with_bit c.args.logical.now.files c.args.f)) c.args.f (with_bit_has c.args.logical.now.files c.args.f below))
+    (effect_create h a v (has_file (with_bit c.args.logical.now.files c.args.f)) c.args.f (with_bit_has c.args.logical.now.files c.args.f below))
 
 pub returns-clause-fits : goal.returns-clause-fits
 returns-clause-fits c = record {

@@ -4,7 +4,7 @@ use Rattle.affinity.proofs.Placed.{group_below}
 use Rattle.message.specs.declared.Msg.TheVariants.{Delete}
 use Rattle.parcel.specs.Dropping.{DropsFile}
 use Rattle.parcel.specs.Fits.{FitsStripe}
-use Rattle.parcel.specs.Shown.{by_logical, blocks_of, has_bit}
+use Rattle.parcel.specs.Shown.{by_logical, blocks_of, has_file}
 use Rattle.parcel.specs.Volume.{only}
 use Rattle.parcel.proofs.FileBits.{few_bits, without_bit, without_bit_has, without_bit_below}
 use Rattle.parcel.proofs.OneVolume.{passed, delete_tests, effect_delete}
@@ -20,7 +20,7 @@ returns-clause-step c =
     let most = g.files_range.1 in
     let below : c.args.f < 64 = omega (arith, most, c.requires.file) in
     λ a v range. passed g (only a v h) (Delete a v c.args.f) _ _ (delete_tests g a v c.args.f h range ∙ sym c.file_change_refusal.ensures ∙ c.in_default.is) refl
-    (effect_delete h a v (has_bit (without_bit c.args.logical.now.files c.args.f)) (blocks_of g new.items) c.args.f
+    (effect_delete h a v (has_file (without_bit c.args.logical.now.files c.args.f)) (blocks_of g new.items) c.args.f
     (without_bit_has c.args.logical.now.files c.args.f below (few_bits g.files c.args.logical.now.files c.requires.fits.files most))
     (λ i j. blocks_without_file c.args.f _ _ (c.drop_file.ensures.each (group g i j) (omega (arith, group_below g i j, c.requires.fits.count, old.ok.0))) i j))
 

@@ -4,7 +4,7 @@ use Rattle.message.specs.declared.Msg.TheVariants.{Write}
 use Rattle.plain.specs.State.{group_count}
 use Rattle.std.specs.Prelude.{None}
 use Rattle.message.specs.declared.Refusal.TheVariants.{File, Space}
-use Rattle.parcel.specs.Shown.{by_stripe, has_bit}
+use Rattle.parcel.specs.Shown.{by_stripe, has_file}
 use Rattle.parcel.specs.Steps.{unless, unless_closed}
 use Rattle.stripe.specs.Stripe.{content_at}
 use Rattle.parcel.specs.Volume.{only}
@@ -20,7 +20,7 @@ returns-in-Some-clause-step c =
     let h = by_stripe c.args.standing p in
     λ a v range.
     let count : group_count g (only a v h) a v s ≡ length p.entries = count_is_length g s (only a v h) a v p c.has_room-room.ensures.kept c.requires.fits (λ i j _. ap (λ h. h.blocks i j) (at_volume a v h)) in
-    refused g (only a v h) (Write a v c.args.f c.args.b c.args.content.now) _ (write_tests g a v c.args.f c.args.b c.args.content.now h _ range count ∙ (λ i. unless_closed c.args.standing.made c.args.standing.sealed (unless (has_bit c.args.standing.files c.args.f) File (unless (sym c.has_room-room.ensures.room i) Space None))) ∙ sym c.write_refusal.ensures ∙ c.in-Some.is)
+    refused g (only a v h) (Write a v c.args.f c.args.b c.args.content.now) _ (write_tests g a v c.args.f c.args.b c.args.content.now h _ range count ∙ (λ i. unless_closed c.args.standing.made c.args.standing.sealed (unless (has_file c.args.standing.files c.args.f) File (unless (sym c.has_room-room.ensures.room i) Space None))) ∙ sym c.write_refusal.ensures ∙ c.in-Some.is)
 
 pub returns-clause-step : goal.returns-clause-step
 returns-clause-step c =
@@ -30,5 +30,5 @@ returns-clause-step c =
     let h = by_stripe c.args.standing p in
     λ a v range.
     let count : group_count g (only a v h) a v s ≡ length p.entries = count_is_length g s (only a v h) a v p c.has_room-room.ensures.kept c.requires.fits (λ i j _. ap (λ h. h.blocks i j) (at_volume a v h)) in
-    passed g (only a v h) (Write a v c.args.f c.args.b c.args.content.now) _ _ (write_tests g a v c.args.f c.args.b c.args.content.now h _ range count ∙ (λ i. unless_closed c.args.standing.made c.args.standing.sealed (unless (has_bit c.args.standing.files c.args.f) File (unless (sym c.has_room-room.ensures.room i) Space None))) ∙ sym c.write_refusal.ensures ∙ c.in_default.is) refl
+    passed g (only a v h) (Write a v c.args.f c.args.b c.args.content.now) _ _ (write_tests g a v c.args.f c.args.b c.args.content.now h _ range count ∙ (λ i. unless_closed c.args.standing.made c.args.standing.sealed (unless (has_file c.args.standing.files c.args.f) File (unless (sym c.has_room-room.ensures.room i) Space None))) ∙ sym c.write_refusal.ensures ∙ c.in_default.is) refl
     (effect_write h a v (content_at c.set.new.self.entries) c.args.f c.args.b c.args.content.now c.set.ensures.holds.content)

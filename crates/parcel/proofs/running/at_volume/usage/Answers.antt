@@ -1,7 +1,7 @@
 use Rattle.std.proofs.Common.{refl, sym, ◌∙◌}
 use Rattle.message.specs.declared.Msg.TheVariants.{Usage as AskUsage}
 use Rattle.message.specs.declared.Reply.TheVariants.{Usage}
-use Rattle.parcel.specs.Shown.{by_volume}
+use Rattle.parcel.specs.Shown.{volume_facts}
 use Rattle.parcel.specs.Totals.{file_total, block_total}
 use Rattle.parcel.specs.Volume.{only}
 use Rattle.parcel.proofs.OneVolume.{at_volume, passed, usage_tests}
@@ -11,7 +11,7 @@ pub returns : goal.returns
 returns c =
     let g = c.args.g.now in
     let w = c.args.volume.now in
-    let h = by_volume g w in
+    let h = volume_facts g w in
     let e = c.volume_totals-totals.ensures in
     λ a v range. passed g (only a v h) (AskUsage a v) _ _ (usage_tests g a v h range ∙ sym c.volume_refusal.ensures ∙ c.in_default.is)
     ((λ i. Usage (e i).files (e i).blocks w.sealed) ∙ (λ i. Usage (file_total g (sym (at_volume a v h) i).files) (block_total g (sym (at_volume a v h) i).blocks) (sym (at_volume a v h) i).sealed)) refl

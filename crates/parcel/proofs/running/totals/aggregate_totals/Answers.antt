@@ -2,7 +2,7 @@ use Rattle.std.proofs.Common.{◌≡◌, ◌*◌, ◌<◌, sym, subst, length, s
 use Rattle.std.specs.Prelude.{None}
 use Rattle.std.proofs.lemmas.List.{get_or_read}
 use Rattle.parcel.specs.Fits.{FitsVolume}
-use Rattle.parcel.specs.Shown.{by_aggregate, by_child, by_volume}
+use Rattle.parcel.specs.Shown.{by_aggregate, by_child, volume_facts}
 use Rattle.parcel.specs.Totals.{totals_of}
 use Rattle.parcel.proofs.ChildRows.{fits_in_place}
 use Rattle.parcel.proofs.Summing.{IsFew, few_of_one, few_of_sum}
@@ -19,7 +19,7 @@ pub plus-totals-requires-clause-volumes : goal.plus-totals-requires-clause-volum
 plus-totals-requires-clause-volumes c =
     let g = c.args.g.now in
     let so_far : IsFew (c.loop-v.v * 8) c.loop-v.totals = subst (IsFew (c.loop-v.v * 8)) (sym c.loop-v.invariant) (few_of_sum c.loop-v.v 1 (λ v. totals_of g (by_aggregate g c.args.aggregate.now v)) (omega arith) (λ v. few_of_one g (by_aggregate g c.args.aggregate.now v))) in
-    let here : IsFew 1 c.volume_in.result = subst (IsFew 1) (sym c.volume_in.ensures) (few_of_one g (by_child (by_volume g) c.index.result.now)) in
+    let here : IsFew 1 c.volume_in.result = subst (IsFew 1) (sym c.volume_in.ensures) (few_of_one g (by_child (volume_facts g) c.index.result.now)) in
     let range = g.volumes_range.1 in
     let row = c.args.aggregate.now.volumes in
     omega (arith, so_far.volumes, here.volumes, row.ok.0, c.requires.count)
@@ -28,7 +28,7 @@ pub plus-totals-requires-clause-files : goal.plus-totals-requires-clause-files
 plus-totals-requires-clause-files c =
     let g = c.args.g.now in
     let so_far : IsFew (c.loop-v.v * 8) c.loop-v.totals = subst (IsFew (c.loop-v.v * 8)) (sym c.loop-v.invariant) (few_of_sum c.loop-v.v 1 (λ v. totals_of g (by_aggregate g c.args.aggregate.now v)) (omega arith) (λ v. few_of_one g (by_aggregate g c.args.aggregate.now v))) in
-    let here : IsFew 1 c.volume_in.result = subst (IsFew 1) (sym c.volume_in.ensures) (few_of_one g (by_child (by_volume g) c.index.result.now)) in
+    let here : IsFew 1 c.volume_in.result = subst (IsFew 1) (sym c.volume_in.ensures) (few_of_one g (by_child (volume_facts g) c.index.result.now)) in
     let range = g.volumes_range.1 in
     let row = c.args.aggregate.now.volumes in
     omega (arith, so_far.files, here.files, row.ok.0, c.requires.count)
@@ -37,7 +37,7 @@ pub plus-totals-requires-clause-blocks : goal.plus-totals-requires-clause-blocks
 plus-totals-requires-clause-blocks c =
     let g = c.args.g.now in
     let so_far : IsFew (c.loop-v.v * 8) c.loop-v.totals = subst (IsFew (c.loop-v.v * 8)) (sym c.loop-v.invariant) (few_of_sum c.loop-v.v 1 (λ v. totals_of g (by_aggregate g c.args.aggregate.now v)) (omega arith) (λ v. few_of_one g (by_aggregate g c.args.aggregate.now v))) in
-    let here : IsFew 1 c.volume_in.result = subst (IsFew 1) (sym c.volume_in.ensures) (few_of_one g (by_child (by_volume g) c.index.result.now)) in
+    let here : IsFew 1 c.volume_in.result = subst (IsFew 1) (sym c.volume_in.ensures) (few_of_one g (by_child (volume_facts g) c.index.result.now)) in
     let range = g.volumes_range.1 in
     let row = c.args.aggregate.now.volumes in
     omega (arith, so_far.blocks, here.blocks, row.ok.0, c.requires.count)

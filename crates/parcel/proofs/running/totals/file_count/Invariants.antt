@@ -1,7 +1,7 @@
 use Rattle.std.proofs.Common.{◌≡◌}
 use Rattle.plain.specs.State.{count_below}
-use Rattle.parcel.specs.Shown.{has_bit}
+use Rattle.parcel.specs.Shown.{has_file}
 use Rattle.parcel.proofs.running.totals.file_count.Given as goal
 
 abbrev pub invariant-loop-f : goal.invariant-loop-f
-invariant-loop-f l = l.total ≡ count_below l.f (has_bit l.files)
+invariant-loop-f l = l.total ≡ count_below l.f (has_file l.files)

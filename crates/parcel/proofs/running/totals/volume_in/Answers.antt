@@ -1,8 +1,8 @@
 use Rattle.std.proofs.Common.{ap, sym, ◌∙◌}
-use Rattle.parcel.specs.Shown.{by_child, by_volume}
+use Rattle.parcel.specs.Shown.{by_child, volume_facts}
 use Rattle.parcel.specs.Totals.{totals_of}
 use Rattle.parcel.proofs.StripeTotals.{no_totals}
 use Rattle.parcel.proofs.running.totals.volume_in.Goals as goal
 
 pub returns-in-None : goal.returns-in-None
-returns-in-None c = let g = c.args.g.now in no_totals g ∙ ap (λ o. totals_of g (by_child (by_volume g) o)) (sym c.in-None.is)
+returns-in-None c = let g = c.args.g.now in no_totals g ∙ ap (λ o. totals_of g (by_child (volume_facts g) o)) (sym c.in-None.is)

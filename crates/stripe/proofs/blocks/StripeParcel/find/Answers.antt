@@ -1,6 +1,6 @@
 -- The split is at the block, or at a gap.
 use Rattle.std.proofs.Common.{◌≡◌, ap, sym, ◌∙◌, slice_index_or}
-use Rattle.stripe.specs.Stripe.{StripePart, Entry}
+use Rattle.stripe.specs.Stripe.{StripePart, BlockEntry}
 use Rattle.stripe.specs.Index.{IsSplit, entries_of}
 use Rattle.stripe.proofs.EntryLemmas.{gap-from_split}
 use Rattle.stripe.proofs.IndexLemmas.{place-entry}
@@ -14,7 +14,7 @@ returns-in_default-clause-found c =
     let here : c.in-Some.place.now ≡ slice_index_or index c.split-n.result c.in-Some.place.now = rw c.deref.ensures.value at c.in-Some.ensures.lookup.1 in
     gap-from_split c.args.self.now.entries c.args.f c.args.b c.split-n.result c.split-n.ensures.kept.ascending split
     (λ within file block. c.if-place-b.false
-    (ap (λ (e : Entry). e.block) (sym (place-entry _ index c.split-n.result c.in-Some.place.now (rw (← same) at within) here))
+    (ap (λ (e : BlockEntry). e.block) (sym (place-entry _ index c.split-n.result c.in-Some.place.now (rw (← same) at within) here))
     ∙ rw (← same) at block))
 
 pub returns-in_default-2-clause-found : goal.returns-in_default-2-clause-found
@@ -25,5 +25,5 @@ returns-in_default-2-clause-found c =
     let here : c.in-Some.place.now ≡ slice_index_or index c.split-n.result c.in-Some.place.now = rw c.deref.ensures.value at c.in-Some.ensures.lookup.1 in
     gap-from_split c.args.self.now.entries c.args.f c.args.b c.split-n.result c.split-n.ensures.kept.ascending split
     (λ within file block. c.if-place-f.false
-    (ap (λ (e : Entry). e.file) (sym (place-entry _ index c.split-n.result c.in-Some.place.now (rw (← same) at within) here))
+    (ap (λ (e : BlockEntry). e.file) (sym (place-entry _ index c.split-n.result c.in-Some.place.now (rw (← same) at within) here))
     ∙ rw (← same) at file))

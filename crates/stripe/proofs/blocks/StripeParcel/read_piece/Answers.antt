@@ -5,7 +5,7 @@ use Rattle.std.specs.List.{list_all}
 use Rattle.std.proofs.lemmas.List.{take_all, get_or-drop, length-drop, length-append}
 use Rattle.stripe.specs.Entries.{entry_in}
 use Rattle.stripe.specs.Index.{IsNextEntry}
-use Rattle.stripe.specs.Stripe.{Entry, StripePart}
+use Rattle.stripe.specs.Stripe.{BlockEntry, StripePart}
 use Rattle.stripe.proofs.EntryReading.{HasRead, zeros_behind, are_zeros, next_read, is_next, zeros_by_test, test_of_zeros}
 use Rattle.stripe.proofs.blocks.StripeParcel.read_piece.Goals as goal
 
@@ -55,7 +55,7 @@ loop-n-preserved c =
     let at : ℕ = c.loop-n.n * 520 in
     let few : c.loop-n.n < c.args.g.now.quota = subst (λ (k : ℕ). c.loop-n.n < k) c.from-n-end.ensures c.loop-n-test.true in
     let pushed = c.push.ensures.pushed c.if-not-push.false in
-    let e : Entry = entry_in (take 520 (drop at bytes)) in
+    let e : BlockEntry = entry_in (take 520 (drop at bytes)) in
     let entries_are : c.push.new.self.entries ≡ c.loop-n.self.entries ++ e ∷ [] =
     ap (λ (p : StripePart). p.entries) pushed.1 ∙ ap (λ (row : List ℕ). c.loop-n.self.entries ++ entry_in row ∷ []) (one_row bytes at) in
     let next = subst (IsNextEntry c.args.g.now c.args.files c.args.s c.loop-n.self.entries) (one_row bytes at) pushed.0 in
@@ -64,5 +64,5 @@ loop-n-preserved c =
       ap (λ (p : StripePart). p.quota) pushed.1 ∙ c.loop-n.invariant.0,
       ap length entries_are ∙ length-append c.loop-n.self.entries (e ∷ []) ∙ ap (λ (k : ℕ). k + 1) c.loop-n.invariant.1,
       subst (λ (k : ℕ). HasRead c.args.g.now c.args.files c.args.s bytes c.push.new.self.entries k) more
-          (subst (λ (es : List Entry). HasRead c.args.g.now c.args.files c.args.s bytes es (suc c.loop-n.n)) (sym entries_are) read),
+          (subst (λ (es : List BlockEntry). HasRead c.args.g.now c.args.files c.args.s bytes es (suc c.loop-n.n)) (sym entries_are) read),
     )

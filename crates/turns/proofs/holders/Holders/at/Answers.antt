@@ -2,7 +2,7 @@
 use Rattle.std.proofs.Common.{◌∙◌, sym, ap, find, length, refl, None, arith}
 use Rattle.std.proofs.lemmas.Option.{slice_get_read, get_or_from_slice_get}
 use Rattle.turns.specs.Turns.{has_number}
-use Rattle.turns.specs.Queues.{Held}
+use Rattle.turns.specs.Queues.{HeldTurns}
 use Rattle.turns.proofs.Standing.{found-at, found-past}
 use Rattle.turns.proofs.holders.Holders.at.Goals as goal
 
@@ -13,9 +13,9 @@ returns-then-number-len c =
     let read = slice_get_read places (length places) c.args.number here refl (omega arith) c.index.ensures in
     sym (get_or_from_slice_get places c.args.number here None read)
     ∙ sym (found-at places c.args.number c.self.invariant)
-    ∙ ap (λ (h : Held). find (has_number c.args.number) h.turns) c.self.view_is
+    ∙ ap (λ (h : HeldTurns). find (has_number c.args.number) h.turns) c.self.view_is
 
 pub returns-else-number-len : goal.returns-else-number-len
 returns-else-number-len c =
     let past = found-past c.self.inside.places.items c.args.number c.self.invariant (omega arith) in
-    sym past ∙ ap (λ (h : Held). find (has_number c.args.number) h.turns) c.self.view_is
+    sym past ∙ ap (λ (h : HeldTurns). find (has_number c.args.number) h.turns) c.self.view_is

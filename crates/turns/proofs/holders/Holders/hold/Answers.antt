@@ -2,7 +2,7 @@
 use Rattle.std.proofs.Common.{◌≡◌, ◌∙◌, ◌<◌, sym, ap, subst, find, Some, None}
 use Rattle.std.specs.Prelude.{slice_set}
 use Rattle.turns.specs.Turns.{has_number}
-use Rattle.turns.specs.Queues.{Held, present}
+use Rattle.turns.specs.Queues.{HeldTurns, present}
 use Rattle.turns.proofs.Standing.{stand-hold, between-hold, found-at}
 use Rattle.turns.proofs.holders.Holders.hold.Goals as goal
 
@@ -11,7 +11,7 @@ invariant_of-self c =
     let places = c.self.inside.places.items in
     let t = c.args.turn in
     let number = c.from-number.ensures ∙ c.number.ensures in
-    let there = subst (λ (h : Held). t.affinity.number < h.numbers) (sym c.self.view_is) c.requires.number in
+    let there = subst (λ (h : HeldTurns). t.affinity.number < h.numbers) (sym c.self.view_is) c.requires.number in
     rw number (stand-hold places t c.self.invariant there)
 
 pub returns-clause-turns : goal.returns-clause-turns
@@ -19,12 +19,12 @@ returns-clause-turns c =
     let places = c.self.inside.places.items in
     let t = c.args.turn in
     let number = c.from-number.ensures ∙ c.number.ensures in
-    let there = subst (λ (h : Held). t.affinity.number < h.numbers) (sym c.self.view_is) c.requires.number in
-    let none = subst (λ (h : Held). find (has_number t.affinity.number) h.turns ≡ None) (sym c.self.view_is) c.requires.free in
+    let there = subst (λ (h : HeldTurns). t.affinity.number < h.numbers) (sym c.self.view_is) c.requires.number in
+    let none = subst (λ (h : HeldTurns). find (has_number t.affinity.number) h.turns ≡ None) (sym c.self.view_is) c.requires.free in
     let empty = sym (found-at places t.affinity.number c.self.invariant) ∙ none in
     let between = between-hold places t.affinity.number t there empty in (
       between.0,
       between.1,
-      ap (λ (h : Held). h.turns) (sym c.self.view_is) ∙ between.2,
+      ap (λ (h : HeldTurns). h.turns) (sym c.self.view_is) ∙ between.2,
       ap (λ k. present (slice_set places k (Some t))) number ∙ between.3,
     )

@@ -3,7 +3,7 @@ use Rattle.std.proofs.Common.{◌≡◌, ◌∙◌, ◌≤◌, ℕ, sym, subst, 
 use Rattle.std.proofs.lemmas.Option.{none-some}
 use Rattle.arena.specs.Row.{Row, IsParted}
 use Rattle.turns.specs.Turns.{has_number}
-use Rattle.turns.specs.Seats.{times}
+use Rattle.turns.specs.Seats.{times_seated}
 use Rattle.turns.specs.Queues.{Waiting, IsQueued}
 use Rattle.turns.specs.declared.entries.Turn.{Turn}
 use Rattle.turns.proofs.Chains.{front-none, front-some, chained-some, pop-row, pop-view, pop-queued}
@@ -14,7 +14,7 @@ invariant_of-self c =
     let row = c.self.inside.turns in
     let first = sym c.front.ensures.slot ∙ c.in-Some.is in
     let some = chained-some row c.args.number c.in-Some.i c.self.invariant first in
-    let once = subst (λ (q : Waiting). (s : ℕ) → times s q.turns ≤ 1) (sym c.self.view_is) c.requires.once in
+    let once = subst (λ (q : Waiting). (s : ℕ) → times_seated s q.turns ≤ 1) (sym c.self.view_is) c.requires.once in
     let is = c.take.ensures.row ∙ pop-row row c.args.number c.in-Some.i some.0 c.self.invariant first some.1 once in
     subst (λ (r : Row Turn). IsQueued r) (sym is)
     (pop-queued row c.args.number c.in-Some.i some.0 c.self.invariant first some.1 once (subst (λ (r : Row Turn). IsParted r) is c.take.ensures.parted))
@@ -23,7 +23,7 @@ pub returns-in-Some : goal.returns-in-Some
 returns-in-Some c = λ t found.
     let row = c.self.inside.turns in
     let first = sym c.front.ensures.slot ∙ c.in-Some.is in
-    let once = subst (λ (q : Waiting). (s : ℕ) → times s q.turns ≤ 1) (sym c.self.view_is) c.requires.once in
+    let once = subst (λ (q : Waiting). (s : ℕ) → times_seated s q.turns ≤ 1) (sym c.self.view_is) c.requires.once in
     let found' = subst (λ (q : Waiting). find (has_number c.args.number) q.turns ≡ Some t) (sym c.self.view_is) found in
     let some = sym (front-some row c.args.number c.in-Some.i c.self.invariant first) ∙ found' in
     let is = c.take.ensures.row ∙ pop-row row c.args.number c.in-Some.i t c.self.invariant first some once in

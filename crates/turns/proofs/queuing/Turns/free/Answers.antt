@@ -2,7 +2,7 @@
 use Rattle.std.proofs.Common.{◌≡◌, ◌∙◌, None, find, arith, sym, subst, refl}
 use Rattle.affinity.specs.Interval.{IsAffinity}
 use Rattle.turns.specs.Turns.{has_number}
-use Rattle.turns.specs.Queues.{Held}
+use Rattle.turns.specs.Queues.{HeldTurns}
 use Rattle.turns.specs.Kept.{AreTurns}
 use Rattle.turns.proofs.Clearing.{find-all}
 use Rattle.turns.proofs.Standing.{without-none}
@@ -16,7 +16,7 @@ mark_near-requires-clause-placed c =
 
 pub mark_near-requires-clause-held_placed : goal.mark_near-requires-clause-held_placed
 mark_near-requires-clause-held_placed c =
-    let rows = subst (λ (h : Held). AreTurns c.self.inside.geometry c.self.inside.slots c.self.inside.waiting h) (sym c.free.ensures)
+    let rows = subst (λ (h : HeldTurns). AreTurns c.self.inside.geometry c.self.inside.slots c.self.inside.waiting h) (sym c.free.ensures)
     (turns-freed c.self.inside.geometry c.self.inside.slots c.self.inside.waiting c.self.inside.held c.from-number.result c.self.invariant.rows) in
     rows.held_placed
 

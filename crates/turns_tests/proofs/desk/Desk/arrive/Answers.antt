@@ -1,7 +1,7 @@
 -- The next slot is a new one.
 use Rattle.std.proofs.Common.{◌+◌, refl, sym, subst}
 use Rattle.turns.specs.Turns.{Queuing}
-use Rattle.turns_tests.specs.Desk.{IsDesk}
+use Rattle.turns_tests.specs.Desk.{IsNumberedQueue}
 use Rattle.turns_tests.proofs.Counting.{new-slot, desk-arrived}
 use Rattle.turns_tests.proofs.desk.Desk.arrive.Goals as goal
 
@@ -13,5 +13,5 @@ arrive-requires-clause-new_slot c =
 pub invariant_of-self : goal.invariant_of-self
 invariant_of-self c =
     let d = c.self.inside in
-    subst (λ (q : Queuing). IsDesk d.geometry d.slots (d.count + 1) q) (sym c.arrive.ensures)
+    subst (λ (q : Queuing). IsNumberedQueue d.geometry d.slots (d.count + 1) q) (sym c.arrive.ensures)
     (desk-arrived d.geometry d.slots d.count d.turns _ c.self.invariant refl refl)

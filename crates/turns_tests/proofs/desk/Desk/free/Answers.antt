@@ -1,11 +1,11 @@
 use Rattle.std.proofs.Common.{sym, subst}
 use Rattle.turns.specs.Turns.{Queuing}
-use Rattle.turns_tests.specs.Desk.{IsDesk}
+use Rattle.turns_tests.specs.Desk.{IsNumberedQueue}
 use Rattle.turns_tests.proofs.Counting.{desk-freed}
 use Rattle.turns_tests.proofs.desk.Desk.free.Goals as goal
 
 pub invariant_of-self : goal.invariant_of-self
 invariant_of-self c =
     let d = c.self.inside in
-    subst (λ (q : Queuing). IsDesk d.geometry d.slots d.count q) (sym c.free.ensures)
+    subst (λ (q : Queuing). IsNumberedQueue d.geometry d.slots d.count q) (sym c.free.ensures)
     (desk-freed d.geometry d.slots d.count d.turns c.args.a.number c.self.invariant)

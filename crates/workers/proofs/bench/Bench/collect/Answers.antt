@@ -1,7 +1,7 @@
 use Rattle.std.proofs.Common.{rules, ◌≡◌, length, ap, sym, ◌∙◌, subst, set, None, Some}
 use Rattle.atomic_table.specs.Seated.{TableId}
-use Rattle.parcel.specs.Run.{Asked, IsRun}
-use Rattle.workers.specs.Rule.{Row, lent_at}
+use Rattle.parcel.specs.Run.{JobView, IsJobRun}
+use Rattle.workers.specs.Rule.{LentRow, lent_at}
 use Rattle.workers.specs.Steps.{Sat}
 use Rattle.workers.specs.Desk.{Desk, lent_of}
 use Rattle.workers.specs.declared.tray.Load.TheVariants.{Answered}
@@ -17,5 +17,5 @@ take_back-requires-clause-won c = let won = c.win.ensures.won c.if-not-win.false
 pub returns-clause-some : goal.returns-clause-some
 returns-clause-some c = let won = c.win.ensures.won c.if-not-win.false in let done = c.take_back.result in
     let same = one_result done won.done (same_head c.win.new.seat.me.1 _ _ c.args.k (Some (Answered done)) (Some (Answered won.done)) c.take_back.ensures.result (ap (λ (n : Sat). n.1) won.seat)) in
-    subst (λ (row : Row). (job : Asked) × (lent_at row c.args.k ≡ Some job) × IsRun job done × (lent_of c.take_back.new.seat.me.0 ≡ set row c.args.k None)) (ap (λ (d : Desk). d.lent) c.seat.view_is)
-    (won.job, won.asked, subst (λ d. IsRun won.job d) (sym same) won.run, c.take_back.ensures.lent ∙ ap (λ (n : Sat). lent_of n.0) won.seat)
+    subst (λ (row : LentRow). (job : JobView) × (lent_at row c.args.k ≡ Some job) × IsJobRun job done × (lent_of c.take_back.new.seat.me.0 ≡ set row c.args.k None)) (ap (λ (d : Desk). d.lent) c.seat.view_is)
+    (won.job, won.asked, subst (λ d. IsJobRun won.job d) (sym same) won.run, c.take_back.ensures.lent ∙ ap (λ (n : Sat). lent_of n.0) won.seat)
