@@ -16,9 +16,6 @@ byte-get_or xs i d inside are = All-get_or (λ b. b < 256) xs i d inside are
 pub bytes_fit : (xs : List ℕ) → ((i : ℕ) → get_or xs i 0 < 256) → AreBytes xs
 bytes_fit xs fits = All-from_get_or (λ b. b < 256) xs 0 (λ i inside. fits i)
 
-pub bytes-zeros : (n : ℕ) → AreBytes (replicate n 0)
-bytes-zeros n = All-replicate (λ b. b < 256) n 0 (omega arith)
-
 -- the same, by recursion on the list
 pub bytes_by_recursion : (xs : List ℕ) → AreBytes xs → AllByRecursion (λ b. b < 256) xs
 bytes_by_recursion xs are = recursion_from_All (λ b. b < 256) xs are

@@ -74,10 +74,3 @@ some_bytes (m ∷ earlier) t c since =
 -- what a crash leaves at any moment are bytes
 pub bytes_since : (m : Medium) (t : ℕ) (c : List ℕ) → left_since m t c → AreBytes c
 bytes_since m t c since = some_bytes (moments m) t c since
-
-pub with_bytes : (old new : Medium) (P : List ℕ → Type 0) → LeavesOnly old new P → LeavesOnly old new (λ c. AreBytes c × P c)
-with_bytes old new P so_far = record {
-  later = so_far.later;
-  each = λ c left. (bytes_since new (moment old) c left, so_far.each c left);
-  before = λ t c early left. ⊎_elim (λ (was : left_since old t c). inl was) (λ p. inr (bytes_since new t c left, p)) (so_far.before t c early left);
-}

@@ -14,7 +14,7 @@ use crate::torn::tear;
 use crate::{Disk, DiskFault, Torn};
 use std::alloc::{AllocError, Global};
 
-/// A device in memory, that can fail and crash on purpose. Only `new` and `of_bytes` take memory.
+/// A device in memory, that can fail and crash on purpose. Only `new`, `of_bytes` and `crashed` take memory.
 #[derive(Drop)]
 pub struct MemDisk {
     bytes: Vec<u8>,
@@ -38,7 +38,7 @@ pub struct MemDisk {
 }
 
 impl MemDisk {
-    ghost use Rattle.disk.specs.Memory.{memory_of, medium_of, made, after_crash};
+    ghost use Rattle.disk.specs.Memory.{memory_of, medium_of, made, after_crash, crashed};
 
     /// A device of `len` zeros. `AllocError` where there is no memory.
     pub fn new(alloc: Global, len: u64) -> Result<MemDisk, AllocError>
@@ -119,6 +119,19 @@ impl MemDisk {
             meter: Meter::new(),
             shadow,
         }
+    }
+
+    /// A device as a crash would leave this one now, with its fuses off and no calls. This one goes on. `AllocError` where there is no
+    /// memory.
+    pub fn crashed(&self, alloc: Global, torn: &Torn) -> Result<MemDisk, AllocError>
+        requires { HasBytes torn.now }
+        ensures after { IfOk result (λ d. memory_of d ≡ made (crashed torn.now (memory_of self.now))) }
+        ensures may { IfOk result (λ d. Leaves (medium_of self.now) (medium_of d).now) }
+    {
+        let mut bytes = self.bytes.to_vec(alloc)?;
+        tear(torn, &self.kept, &self.asked, &self.loose, &mut bytes);
+        let after = MemDisk::of_bytes(alloc, bytes)?;
+        Ok(after)
     }
 
     /// The reads, writes and syncs since it was made, up to the greatest `u64`. A call that answered `OutOfRange`
