@@ -19,7 +19,7 @@ use Rattle.journal.proofs.Standing.{as_other, both_of, chain_other, half_same, h
 use Rattle.oplog.specs.Changes.{ChangesOnly, Chained, Cleared, Flipped, IsReady, IsSameButChain, IsSameButGates, IsSameButRoot}
 use Rattle.oplog.specs.Crash.{StandsBy, StandsEitherWay}
 use Rattle.oplog.specs.Front.{chain, front}
-use Rattle.oplog.specs.Layout.{layout_of, device_size, part, half, image, root, other}
+use Rattle.oplog.specs.Layout.{layout_of, device_size, part_bytes, half, image, root, other}
 use Rattle.oplog.specs.Stands.{in_force, stands_as}
 use Rattle.oplog.proofs.AfterCrash.{chain_by_area, chained_by_area, flip_by_area, torn_root_stands}
 use Rattle.oplog.proofs.Kept.{front_beside, named_area-below}
@@ -69,7 +69,7 @@ module _ (g : Geometry) (n : ℕ) (x : Option State) (is_area : n < 2) (w0 w1 w2
 
     first_same : front (layout_of g) n w2.now ≡ front (layout_of g) n w0.now
     first_same =
-        front_beside g.half (part (layout_of g) (half n) w1.now) (part (layout_of g) (half n) w2.now) chained.same.beside
+        front_beside g.half (part_bytes (layout_of g) (half n) w1.now) (part_bytes (layout_of g) (half n) w2.now) chained.same.beside
         ∙ (half_same (layout_of g) n w0.now w1.now (cleared.same.same.others (half n) (λ is. omega (arith, is, is_area)))).0
 
     pub begun_forced : AreBytes w0.now → AreBytes w2.now → records_in g w2.now ≡ records_in g w0.now
@@ -95,7 +95,7 @@ module _ (g : Geometry) (n used : ℕ) (x : Option State) (bytes : List ℕ) (w0
     own_stands c same stood =
         let laid = laid_by g n x c stood.is some in
         let shut = chain_other g n c is_area laid stood.current in (
-          as_other g (other n) x bytes c (front (layout_of g) (other n) w0.now) laid (ap (λ (l : List ℕ). part (layout_of g) (image (other n)) l) same ∙ is)
+          as_other g (other n) x bytes c (front (layout_of g) (other n) w0.now) laid (ap (λ (l : List ℕ). part_bytes (layout_of g) (image (other n)) l) same ∙ is)
               (shut_force (layout_of g) (other n) c shut ∙ ap (λ (l : List ℕ). front (layout_of g) (other n) l) same) behind,
           shut,
         )

@@ -3,7 +3,7 @@ use Rattle.std.proofs.Common.{◌≡◌, ℕ, Bool, List, length, Option, Some, 
 use Rattle.checkpoint.specs.Recovery.{holds}
 use Rattle.disk.specs.Device.{AreBytes, Medium}
 use Rattle.image.specs.Pieces.{piece_count}
-use Rattle.journal.specs.Keeping.{IsFresh, IsPlaced, IsSound}
+use Rattle.journal.specs.Keeping.{IsFresh, IsCutState, IsSoundJournal}
 use Rattle.journal.specs.Steps.{IsFlipped, IsStanding, IsWritten, named_now}
 use Rattle.journal.specs.Stretches.{image_in}
 use Rattle.journal.proofs.Cutting.{named_below}
@@ -18,10 +18,10 @@ use Rattle.oplog.specs.Log.{Log}
 use Rattle.plain.specs.State.{State}
 
 module _ (log : Log) (frozen : List ℕ) (named others due : List Bool) (left : Option ℕ) (w0 : Medium) (none_left : left ≡ Some 0) where
-  pub flip_asks : HasParts log w0 → length frozen ≡ image_size log.geometry → length due ≡ piece_count log.geometry → AreBytes w0.now → IsPlaced log due left → IsSound log frozen named others due left w0 → IsWritten log frozen w0
+  pub flip_asks : HasParts log w0 → length frozen ≡ image_size log.geometry → length due ≡ piece_count log.geometry → AreBytes w0.now → IsCutState log due left → IsSoundJournal log frozen named others due left w0 → IsWritten log frozen w0
   flip_asks whole size size' are placed' sound =
-      let placed = subst (λ (l : Option ℕ). IsPlaced log due l) none_left placed' in
-      let sound' = subst (λ (l : Option ℕ). IsSound log frozen named others due l w0) none_left sound in
+      let placed = subst (λ (l : Option ℕ). IsCutState log due l) none_left placed' in
+      let sound' = subst (λ (l : Option ℕ). IsSoundJournal log frozen named others due l w0) none_left sound in
       record {
         some = sound'.some;
         stands = subst (λ (h : ℕ). IsStanding log.geometry log.named h (holds log.geometry w0.now) w0) placed.0 sound'.stands;
@@ -31,10 +31,10 @@ module _ (log : Log) (frozen : List ℕ) (named others due : List Bool) (left : 
         behind = sound'.by_cut.behind;
       }
 
-  pub flip_sound : (w1 : Medium) → AreBytes w0.now → AreBytes w1.now → IsPlaced log due left → IsWritten log frozen w0 → IsSound log frozen named others due left w0 → IsFlipped log w0 w1 → IsSound (named_now log) frozen others named due None w1
+  pub flip_sound : (w1 : Medium) → AreBytes w0.now → AreBytes w1.now → IsCutState log due left → IsWritten log frozen w0 → IsSoundJournal log frozen named others due left w0 → IsFlipped log w0 w1 → IsSoundJournal (named_now log) frozen others named due None w1
   flip_sound w1 are are' placed' written sound flipped =
-      let placed = subst (λ (l : Option ℕ). IsPlaced log due l) none_left placed' in
-      let sound' = subst (λ (l : Option ℕ). IsSound log frozen named others due l w0) none_left sound in
+      let placed = subst (λ (l : Option ℕ). IsCutState log due l) none_left placed' in
+      let sound' = subst (λ (l : Option ℕ). IsSoundJournal log frozen named others due l w0) none_left sound in
       let is_area = named_below log.geometry log.named log.current (holds log.geometry w0.now) w0 are sound.stands in
       let same = holds_now log.geometry (other log.named) (other log.named) (holds log.geometry w0.now) w1 are' flipped.stands in
       let back : other (other log.named) ≡ log.named = omega (arith, is_area) in
@@ -59,9 +59,9 @@ module _ (log : Log) (frozen : List ℕ) (named others due : List Bool) (left : 
       }
 
 -- the same of rows that were exchanged
-pub flip_kept : (log new : Log) (frozen : List ℕ) (named others due named' others' : List Bool) (left : Option ℕ) (w0 w1 : Medium) → left ≡ Some 0 → new ≡ named_now log → named' ≡ others → others' ≡ named → AreBytes w0.now → AreBytes w1.now → IsPlaced log due left → IsWritten log frozen w0
-    → IsSound log frozen named others due left w0 → IsFlipped log w0 w1 → IsSound new frozen named' others' due None w1
+pub flip_kept : (log new : Log) (frozen : List ℕ) (named others due named' others' : List Bool) (left : Option ℕ) (w0 w1 : Medium) → left ≡ Some 0 → new ≡ named_now log → named' ≡ others → others' ≡ named → AreBytes w0.now → AreBytes w1.now → IsCutState log due left → IsWritten log frozen w0
+    → IsSoundJournal log frozen named others due left w0 → IsFlipped log w0 w1 → IsSoundJournal new frozen named' others' due None w1
 flip_kept log new frozen named others due named' others' left w0 w1 none is same same' are are' placed written sound flipped =
-    subst (λ (l : Log). IsSound l frozen named' others' due None w1) (sym is)
-    (subst (λ (row : List Bool). IsSound (named_now log) frozen row others' due None w1) (sym same)
-    (subst (λ (row : List Bool). IsSound (named_now log) frozen others row due None w1) (sym same') (flip_sound log frozen named others due left w0 none w1 are are' placed written sound flipped)))
+    subst (λ (l : Log). IsSoundJournal l frozen named' others' due None w1) (sym is)
+    (subst (λ (row : List Bool). IsSoundJournal (named_now log) frozen row others' due None w1) (sym same)
+    (subst (λ (row : List Bool). IsSoundJournal (named_now log) frozen others row due None w1) (sym same') (flip_sound log frozen named others due left w0 none w1 are are' placed written sound flipped)))

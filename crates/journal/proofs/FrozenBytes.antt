@@ -3,7 +3,7 @@ use Rattle.std.proofs.Common.{◌≡◌, ℕ, zero, suc, ◌+◌, ◌-◌, ◌<�
 use Rattle.std.proofs.lemmas.List.{append_assoc, append-nil, drop-drop, drop-take, drop_at, length-take-le, take_all, take_at}
 use Rattle.std.proofs.Math.Seq.{take-add}
 use Rattle.affinity.specs.declared.geometry.Geometry.{Geometry}
-use Rattle.image.specs.Image.{head_of, image_of}
+use Rattle.image.specs.Image.{image_head, image_of}
 use Rattle.image.specs.Pieces.{joined_below, piece_at, piece_count, piece_of, piece_size}
 use Rattle.image.proofs.Joining.{length-pieces}
 use Rattle.journal.proofs.Places.{image_size_is}
@@ -34,7 +34,7 @@ piece_inside g n few =
 
 -- the first pieces of a state, behind the head
 abbrev pub first_pieces : Geometry → State → ℕ → List ℕ
-first_pieces g x n = head_of 2 ++ joined_below n (piece_of 2 g x)
+first_pieces g x n = image_head 2 ++ joined_below n (piece_of 2 g x)
 
 pub piece_put : (at k : ℕ) (bytes part : List ℕ) → at ≤ length bytes → length part ≡ k → take (at + k) (take at bytes ++ (part ++ drop k (drop at bytes))) ≡ take at bytes ++ part
 piece_put at k bytes part inside size =
@@ -44,10 +44,10 @@ piece_put at k bytes part inside size =
 pub one_more : (g : Geometry) (x : State) (n : ℕ) (bytes part : List ℕ) → bytes ≡ first_pieces g x n → part ≡ piece_of 2 g x n → bytes ++ part ≡ first_pieces g x (n + 1)
 one_more g x n bytes part is is' =
     let next : n + 1 ≡ suc n = omega arith in
-    (λ i. is i ++ is' i) ∙ append_assoc (head_of 2) (joined_below n (piece_of 2 g x)) (piece_of 2 g x n) ∙ ap (first_pieces g x) (sym next)
+    (λ i. is i ++ is' i) ∙ append_assoc (image_head 2) (joined_below n (piece_of 2 g x)) (piece_of 2 g x n) ∙ ap (first_pieces g x) (sym next)
 
-pub none_behind : (g : Geometry) (x : State) (bytes : List ℕ) → take 64 bytes ≡ head_of 2 → take 64 bytes ≡ first_pieces g x 0
-none_behind g x bytes head = head ∙ sym (append-nil (head_of 2))
+pub none_behind : (g : Geometry) (x : State) (bytes : List ℕ) → take 64 bytes ≡ image_head 2 → take 64 bytes ≡ first_pieces g x 0
+none_behind g x bytes head = head ∙ sym (append-nil (image_head 2))
 
 pub all_put : (g : Geometry) (x : State) (n at : ℕ) (bytes : List ℕ) → n ≡ piece_count g → at ≡ piece_at g n → length bytes ≡ image_size g → take at bytes ≡ first_pieces g x n → bytes ≡ image_of 2 g x
 all_put g x n at bytes all place size so_far =
@@ -73,7 +73,7 @@ rest_more at k now old same = sym (drop-drop k at now) ∙ ap (drop k) same ∙ 
 
 -- what a stretch that isn't marked says of its piece
 pub piece_there : (g : Geometry) (x : State) (n : ℕ) (bytes : List ℕ) → stretch_in g bytes n ≡ stretch_of g x n → slice bytes (piece_at g n) (piece_size g n) ≡ piece_of 2 g x n
-piece_there g x zero bytes is = sym (drop-take 64 (piece_size g 0) bytes) ∙ ap (drop 64) is ∙ drop_at (head_of 2) (piece_of 2 g x 0) 64 refl
+piece_there g x zero bytes is = sym (drop-take 64 (piece_size g 0) bytes) ∙ ap (drop 64) is ∙ drop_at (image_head 2) (piece_of 2 g x 0) 64 refl
 piece_there g x (suc n) bytes is = is
 
 pub one_there : (g : Geometry) (x : State) (n at k : ℕ) (bytes old : List ℕ) → at ≡ piece_at g n → k ≡ piece_size g n → take at bytes ≡ first_pieces g x n → drop at bytes ≡ drop at old
@@ -83,9 +83,9 @@ one_there g x n at k bytes old place size so_far rest is =
     take-add at k bytes ∙ one_more g x n (take at bytes) (take k (drop at bytes)) so_far piece
 
 -- An image with its head has the stretches that it had.
-pub headed : (g : Geometry) (x : State) (marks : List Bool) (old new : List ℕ) → take 64 new ≡ head_of 2 → drop 64 new ≡ drop 64 old → AreSpelled g x marks old → AreSpelled g x marks new
+pub headed : (g : Geometry) (x : State) (marks : List Bool) (old new : List ℕ) → take 64 new ≡ image_head 2 → drop 64 new ≡ drop 64 old → AreSpelled g x marks old → AreSpelled g x marks new
 headed g x marks old new head rest right zero few unmarked =
-    take-add 64 (piece_size g 0) new ∙ (λ i. head i ++ take (piece_size g 0) (rest i)) ∙ ap (λ (l : List ℕ). head_of 2 ++ l) (piece_there g x 0 old (right 0 few unmarked))
+    take-add 64 (piece_size g 0) new ∙ (λ i. head i ++ take (piece_size g 0) (rest i)) ∙ ap (λ (l : List ℕ). image_head 2 ++ l) (piece_there g x 0 old (right 0 few unmarked))
 headed g x marks old new head rest right (suc n) few unmarked =
     ap (take (piece_size g (suc n))) (rest_more 64 (sum_below (suc n) (piece_size g)) new old rest) ∙ right (suc n) few unmarked
 

@@ -6,7 +6,7 @@ use Rattle.std.proofs.lemmas.Slice.Eq.{bytes_eq-Decides}
 use Rattle.affinity.specs.declared.geometry.Geometry.{Geometry}
 use Rattle.checkpoint.specs.declared.fault.OpenFault.{OpenFault}
 use Rattle.checkpoint.specs.Header.{HasHeader, header_of, is_header}
-use Rattle.checkpoint.specs.Loading.{IsFault, NamedHolds, records_fault}
+use Rattle.checkpoint.specs.Loading.{IsFaultOfBytes, NamedHolds, records_fault}
 use Rattle.checkpoint.specs.Recovery.{holds, means}
 use Rattle.checkpoint.specs.Refusals.{IsRefused, refused}
 use Rattle.checkpoint.proofs.Replays.{same_bytes}
@@ -16,8 +16,8 @@ use Rattle.disk.proofs.Leaves.{calm_left}
 use Rattle.image.specs.Image.{image_of, read}
 use Rattle.image.proofs.Reading.{read_again}
 use Rattle.journal.specs.declared.opening.Parts.{Parts}
-use Rattle.journal.specs.Journal.{Held}
-use Rattle.journal.specs.Keeping.{IsSound, held_of}
+use Rattle.journal.specs.Journal.{JournalView}
+use Rattle.journal.specs.Keeping.{IsSoundJournal, held_of}
 use Rattle.journal.specs.Opening.{IsOpened}
 use Rattle.journal.specs.Parts.{IsMade, IsMadeOf}
 use Rattle.journal.specs.Steps.{IsAlone, IsPointed, IsUnfinished, pointed, run_on}
@@ -26,7 +26,7 @@ use Rattle.journal.proofs.Logging.{settled_of}
 use Rattle.journal.proofs.Saving.{opened_sound}
 use Rattle.journal.proofs.Standing.{holds_now, shut_current}
 use Rattle.oplog.specs.Front.{chain, front}
-use Rattle.oplog.specs.Layout.{layout_of, device_size, header, other, part}
+use Rattle.oplog.specs.Layout.{layout_of, device_size, header, other, part_bytes}
 use Rattle.oplog.specs.Log.{Log, new_log, renamed}
 use Rattle.oplog.specs.Stands.{in_force, is_laid_out, named_area, run, stands_as}
 use Rattle.parcel.specs.Tree.{IsWholeTree, state_in}
@@ -64,11 +64,11 @@ module _ (g : Geometry) (c : List ℕ) (n : ℕ) (x : State) (is : NamedHolds g 
 
   pub laid_out : is_laid_out (means g) (layout_of g) c ≡ true
   laid_out =
-      let is_head : is_header g (part (layout_of g) header c) ≡ true = (bytes_eq-Decides (part (layout_of g) header c) (header_of g)).1 is.header in
+      let is_head : is_header g (part_bytes (layout_of g) header c) ≡ true = (bytes_eq-Decides (part_bytes (layout_of g) header c) (header_of g)).1 is.header in
       let whole : nat_le (device_size (layout_of g)) (length c) ≡ true = le-leb (device_size (layout_of g)) (length c) is.whole in
       λ i. is_head i && whole i && not (is.one i)
 
-  pub behind_refused : (e : OpenFault) → IsFault (records_fault g x (other n) (front (layout_of g) (other n) c)) e → IsRefused c e
+  pub behind_refused : (e : OpenFault) → IsFaultOfBytes (records_fault g x (other n) (front (layout_of g) (other n) c)) e → IsRefused c e
   behind_refused e fault =
       records_refused g c is.header is.whole n is.named is.sound is.first is.said is.one e (other_refused g is.first n c x is.ran follows e fault)
 
@@ -112,9 +112,9 @@ held_after g log n t u x w0 w1 is chained only held =
 
 -- ---- in the words of contracts
 
-pub opened : (p : Parts) (old m : Medium) (j : Held) → IsMade p m → IsMadeOf old.now p m → IsWholeTree p.tree → j ≡ held_of p.halves p.named_marks.items p.other_marks.items None false m → IsOpened old j (state_in p.tree)
+pub opened : (p : Parts) (old m : Medium) (j : JournalView) → IsMade p m → IsMadeOf old.now p m → IsWholeTree p.tree → j ≡ held_of p.halves p.named_marks.items p.other_marks.items None false m → IsOpened old j (state_in p.tree)
 opened p old m j made is whole same =
-    subst (λ (h : Held). IsOpened old h (state_in p.tree)) (sym same)
+    subst (λ (h : JournalView). IsOpened old h (state_in p.tree)) (sym same)
     (record {
       header = subst (λ (g : Geometry). HasHeader g old.now) (sym made.geometry) is.header;
       fine = ap (λ (g : Geometry). refused g old.now) made.geometry ∙ is.fine;
@@ -139,7 +139,7 @@ made_of p log old w2 w3 frozen are head fine was is_log geometry items spelled w
       is = ap (λ (g : Geometry). holds g w3.now) same ∙ holds_now log.geometry (other log.named) (other log.named) (holds log.geometry w2.now) w3 are made.stands ∙ held;
       emptied = subst (λ (g : Geometry). in_force (layout_of g) (named_area (layout_of g) w3.now) w3.now ≡ []) (sym same) made.emptied;
       sound =
-          subst (λ (l : List ℕ). IsSound p.halves l p.named_marks.items p.other_marks.items p.due.items None w3) (sym items)
-          (subst (λ (l : Log). IsSound l frozen p.named_marks.items p.other_marks.items p.due.items None w3) (sym is_log)
+          subst (λ (l : List ℕ). IsSoundJournal p.halves l p.named_marks.items p.other_marks.items p.due.items None w3) (sym items)
+          (subst (λ (l : Log). IsSoundJournal l frozen p.named_marks.items p.other_marks.items p.due.items None w3) (sym is_log)
           (opened_sound log frozen p.named_marks.items p.other_marks.items p.due.items w2 w3 (state_in p.tree) alone held is_state (spelled ∙ ap (λ (g : Geometry). image_of 2 g (state_in p.tree)) geometry) all are made));
     }

@@ -9,13 +9,13 @@ use Rattle.disk.specs.Device.{AreBytes, Leaves, Medium}
 use Rattle.disk.specs.Moments.{LeavesOnly}
 use Rattle.disk.proofs.Leaves.{itself}
 use Rattle.disk.proofs.Moments.{weaker}
-use Rattle.image.specs.Image.{head_of, read}
-use Rattle.image.specs.Touched.{touches}
+use Rattle.image.specs.Image.{image_head, read}
+use Rattle.image.specs.Touched.{may_change}
 use Rattle.image.proofs.Untouched.{piece_stays}
 use Rattle.plain.proofs.Kept.{step_kept}
 use Rattle.std.specs.List.{AllByRecursion}
 use Rattle.journal.specs.Journal.{AreCarriedOut, HoldsSome, IsSettled, records_in}
-use Rattle.journal.specs.Keeping.{IsCutOr, IsFresh, IsPlaced, IsSound, coming, held_of}
+use Rattle.journal.specs.Keeping.{IsCutOr, IsFresh, IsCutState, IsSoundJournal, coming, held_of}
 use Rattle.journal.specs.Marks.{MarksTouched}
 use Rattle.journal.specs.Steps.{IsStanding, run_on}
 use Rattle.journal.specs.Stretches.{AgreeUnmarked, image_in, stretch_of}
@@ -73,11 +73,11 @@ half_below g n h x m are stands =
     subst (λ (k : ℕ). k < 2) (stands m.now (itself m.now m.loose are)).current (current_below n (eqb (chain (layout_of g) n m.now) 1) is_area)
 
 -- what none of these messages touches stays, and what they lead to is a state
-one_stays : (g : Geometry) (x : State) (m : Msg) (n : ℕ) → IsState g x → touches g m n ≡ false → stretch_of g (next_state g x m) n ≡ stretch_of g x n
-one_stays g x m zero is off = ap (λ (l : List ℕ). head_of 2 ++ l) (piece_stays 2 g x is m 0 off)
+one_stays : (g : Geometry) (x : State) (m : Msg) (n : ℕ) → IsState g x → may_change g m n ≡ false → stretch_of g (next_state g x m) n ≡ stretch_of g x n
+one_stays g x m zero is off = ap (λ (l : List ℕ). image_head 2 ++ l) (piece_stays 2 g x is m 0 off)
 one_stays g x m (suc n) is off = piece_stays 2 g x is m (suc n) off
 
-all_stay : (g : Geometry) (x : State) (ms : List Msg) (n : ℕ) → IsState g x → AreCarriedOut g x ms → AllByRecursion (λ m. touches g m n ≡ false) ms → stretch_of g (fold g x ms) n ≡ stretch_of g x n
+all_stay : (g : Geometry) (x : State) (ms : List Msg) (n : ℕ) → IsState g x → AreCarriedOut g x ms → AllByRecursion (λ m. may_change g m n ≡ false) ms → stretch_of g (fold g x ms) n ≡ stretch_of g x n
 all_stay g x [] n is out off = refl
 all_stay g x (m ∷ ms) n is out off = all_stay g (next_state g x m) ms n (step_kept g x m is out.0) out.3 off.1 ∙ one_stays g x m n is off.0
 
@@ -91,7 +91,7 @@ fresh_more g x ms old new bytes is_state out touched fresh y is n few unmarked =
     fresh x refl n few kept.0 ∙ sym (all_stay g x ms n is_state out kept.1) ∙ ap (λ (o : Option State). stretch_of g (unwrap_or o x) n) is
 
 -- the journal's facts, in the words of contracts
-pub settled_of : {a b : List Bool} → (log : Log) (frozen : List ℕ) (named others due : List Bool) (left : Option ℕ) (failed : Bool) (m : Medium) → IsSound log frozen named others due left m → IsSettled (held_of log a b left failed m)
+pub settled_of : {a b : List Bool} → (log : Log) (frozen : List ℕ) (named others due : List Bool) (left : Option ℕ) (failed : Bool) (m : Medium) → IsSoundJournal log frozen named others due left m → IsSettled (held_of log a b left failed m)
 settled_of log frozen named others due left failed m sound = record {
   some = sound.some;
   each = λ c gone. holds_by log.geometry log.named log.current (holds log.geometry m.now) c (sound.stands c gone);
@@ -113,7 +113,7 @@ coming_used log used frozen (Some k) m = refl
 
 -- ---- logging
 
-module _ (log : Log) (frozen : List ℕ) (named others due : List Bool) (left : Option ℕ) (ms : List Msg) (w0 w1 : Medium) (are : AreBytes w0.now) (sound : IsSound log frozen named others due left w0) where
+module _ (log : Log) (frozen : List ℕ) (named others due : List Bool) (left : Option ℕ) (ms : List Msg) (w0 w1 : Medium) (are : AreBytes w0.now) (sound : IsSoundJournal log frozen named others due left w0) where
   is_area : log.named < 2
   is_area = named_below log.geometry log.named log.current (holds log.geometry w0.now) w0 are sound.stands
 
@@ -167,7 +167,7 @@ module _ (log : Log) (frozen : List ℕ) (named others due : List Bool) (left : 
     still_coming None = images (other log.named) (omega arith)
     still_coming (Some k) = refl
 
-    cut_more : (left : Option ℕ) → IsPlaced log due left → IsCutOr log frozen due left w0 → IsCutOr log frozen due left w1
+    cut_more : (left : Option ℕ) → IsCutState log due left → IsCutOr log frozen due left w0 → IsCutOr log frozen due left w1
     cut_more None placed cut = tt
     cut_more (Some k) placed cut = record {
       behind =
@@ -178,8 +178,8 @@ module _ (log : Log) (frozen : List ℕ) (named others due : List Bool) (left : 
       written = subst (λ (l : List ℕ). AgreeUnmarked log.geometry due l frozen) (sym (images (other log.named) (omega arith))) cut.written;
     }
 
-    pub log_sound : (named' others' : List Bool) → IsPlaced log due left → MarksTouched log.geometry ms named named' → MarksTouched log.geometry ms others others'
-        → IsSound (record log { used = log.used + length ms }) frozen named' others' due left w1
+    pub log_sound : (named' others' : List Bool) → IsCutState log due left → MarksTouched log.geometry ms named named' → MarksTouched log.geometry ms others others'
+        → IsSoundJournal (record log { used = log.used + length ms }) frozen named' others' due left w1
     log_sound named' others' placed touched touched' =
         let used : log.used + length (records_of ms) ≡ log.used + length ms = ap (λ (n : ℕ). log.used + n) (length-map ms record_of) in
         record {
@@ -209,7 +209,7 @@ module _ (log : Log) (frozen : List ℕ) (named others due : List Bool) (left : 
 
 -- ---- the same in the words of the code
 
-pub placed_used : (log : Log) (used : ℕ) (due : List Bool) (left : Option ℕ) → IsPlaced log due left → IsPlaced (record log { used = used }) due left
+pub placed_used : (log : Log) (used : ℕ) (due : List Bool) (left : Option ℕ) → IsCutState log due left → IsCutState (record log { used = used }) due left
 placed_used log used due None placed = placed
 placed_used log used due (Some k) placed = placed
 
@@ -218,14 +218,14 @@ touched_along g g' ms old old' new new' same was is touched =
     subst (λ (x : Geometry). MarksTouched x ms old' new') same (subst (λ (l : List Bool). MarksTouched g ms l new') was (subst (λ (l : List Bool). MarksTouched g ms old l) (sym is) touched))
 
 pub log_kept : (log new : Log) (frozen : List ℕ) (named others due named' others' : List Bool) (left : Option ℕ) (ms : List Msg) (w0 w1 : Medium) → new ≡ record log { used = log.used + length ms } → AreBytes w0.now → AreBytes w1.now
-    → IsSound log frozen named others due left w0 → ((x : State) → holds log.geometry w0.now ≡ Some x → AreCarriedOut log.geometry x ms) → HasAdded log ms w0 w1 → IsPlaced log due left
-    → MarksTouched log.geometry ms named named' → MarksTouched log.geometry ms others others' → IsSound new frozen named' others' due left w1
+    → IsSoundJournal log frozen named others due left w0 → ((x : State) → holds log.geometry w0.now ≡ Some x → AreCarriedOut log.geometry x ms) → HasAdded log ms w0 w1 → IsCutState log due left
+    → MarksTouched log.geometry ms named named' → MarksTouched log.geometry ms others others' → IsSoundJournal new frozen named' others' due left w1
 log_kept log new frozen named others due named' others' left ms w0 w1 is are are' sound out has placed touched touched' =
     let value = some_value (holds log.geometry w0.now) sound.some in
-    subst (λ (l : Log). IsSound l frozen named' others' due left w1) (sym is)
+    subst (λ (l : Log). IsSoundJournal l frozen named' others' due left w1) (sym is)
     (log_sound log frozen named others due left ms w0 w1 are sound value.0 value.1 (out value.0 value.1) has are' named' others' placed touched touched')
 
-pub log_told : (log : Log) (frozen : List ℕ) (named others due : List Bool) (left : Option ℕ) (ms : List Msg) (w0 w1 : Medium) → AreBytes w0.now → AreBytes w1.now → IsSound log frozen named others due left w0
+pub log_told : (log : Log) (frozen : List ℕ) (named others due : List Bool) (left : Option ℕ) (ms : List Msg) (w0 w1 : Medium) → AreBytes w0.now → AreBytes w1.now → IsSoundJournal log frozen named others due left w0
     → ((x : State) → holds log.geometry w0.now ≡ Some x → AreCarriedOut log.geometry x ms) → HasAdded log ms w0 w1 → holds log.geometry w1.now ≡ option_map (λ x. fold log.geometry x ms) (holds log.geometry w0.now)
 log_told log frozen named others due left ms w0 w1 are are' sound out has =
     let value = some_value (holds log.geometry w0.now) sound.some in

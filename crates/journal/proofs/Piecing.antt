@@ -9,7 +9,7 @@ use Rattle.disk.specs.Moments.{LeavesOnly}
 use Rattle.disk.proofs.Leaves.{itself}
 use Rattle.disk.proofs.Moments.{leaves_now}
 use Rattle.image.specs.Image.{read}
-use Rattle.journal.specs.Keeping.{IsFresh, IsPlaced, IsSound}
+use Rattle.journal.specs.Keeping.{IsFresh, IsCutState, IsSoundJournal}
 use Rattle.journal.specs.Marks.{count_marked}
 use Rattle.journal.specs.Steps.{IsStanding, run_on}
 use Rattle.journal.specs.Stretches.{IsPatchedAt, image_in, stretch_in}
@@ -28,7 +28,7 @@ use Rattle.plain.specs.State.{State}
 
 -- ---- how many are left
 
-pub piece_left : (log : Log) (due : List Bool) (left : Option ℕ) (n count : ℕ) → is_some left ≡ true → IsPlaced log due left → n < length due → get_or due n false ≡ true → count ≡ count_marked (set due n false) → option_map (λ l. l - 1) left ≡ Some count
+pub piece_left : (log : Log) (due : List Bool) (left : Option ℕ) (n count : ℕ) → is_some left ≡ true → IsCutState log due left → n < length due → get_or due n false ≡ true → count ≡ count_marked (set due n false) → option_map (λ l. l - 1) left ≡ Some count
 piece_left log due None n count some placed few marked is = absurd (true≢false (sym some))
 piece_left log due (Some l) n count some placed few marked is =
     let fewer = count_cleared due n few marked in
@@ -36,19 +36,15 @@ piece_left log due (Some l) n count some placed few marked is =
     ap (λ (k : ℕ). Some k) one
 
 -- one fewer, and those are the ones that are due then
-pub piece_counted : (log : Log) (due : List Bool) (left : Option ℕ) (n fewer : ℕ) → is_some left ≡ true → IsPlaced log due left → n < length due → get_or due n false ≡ true → fewer ≡ unwrap_or left 0 - 1 → fewer ≡ count_marked (set due n false)
+pub piece_counted : (log : Log) (due : List Bool) (left : Option ℕ) (n fewer : ℕ) → is_some left ≡ true → IsCutState log due left → n < length due → get_or due n false ≡ true → fewer ≡ unwrap_or left 0 - 1 → fewer ≡ count_marked (set due n false)
 piece_counted log due None n fewer some placed few marked is = absurd (true≢false (sym some))
 piece_counted log due (Some l) n fewer some placed few marked is = let one = count_cleared due n few marked in omega (arith, one, is, placed.1)
 
-pub piece_some : (log : Log) (due : List Bool) (left : Option ℕ) (n : ℕ) → IsPlaced log due left → n < length due → get_or due n false ≡ true → left ≡ Some 0 → ⊥
+pub piece_some : (log : Log) (due : List Bool) (left : Option ℕ) (n : ℕ) → IsCutState log due left → n < length due → get_or due n false ≡ true → left ≡ Some 0 → ⊥
 piece_some log due left n placed few marked none =
-    let placed' = subst (λ (l : Option ℕ). IsPlaced log due l) none placed in
+    let placed' = subst (λ (l : Option ℕ). IsCutState log due l) none placed in
     let fewer = count_cleared due n few marked in
     omega (arith, fewer, placed'.1)
-
-pub piece_none : (log : Log) (due : List Bool) (left : Option ℕ) → is_some left ≡ true → IsPlaced log due left → count_marked due ≡ 0 → left ≡ Some 0
-piece_none log due None some placed none = absurd (true≢false (sym some))
-piece_none log due (Some l) some placed none = ap (λ (k : ℕ). Some k) (sym placed.1 ∙ none)
 
 -- ---- the write of one stretch
 
@@ -62,7 +58,7 @@ pub pieced_along : (g g' : Geometry) (a a' n : ℕ) (bytes bytes' : List ℕ) (w
 pieced_along g g' a a' n bytes bytes' w0 w1 same same' are held =
     subst (λ (l : List ℕ). IsPieced g' (other a') n l w0 w1) are (subst (λ (b : ℕ). IsPieced g' (other b) n bytes w0 w1) same' (subst (λ (x : Geometry). IsPieced x (other a) n bytes w0 w1) same held))
 
-module _ (log : Log) (frozen : List ℕ) (named others due : List Bool) (left : Option ℕ) (w0 w1 : Medium) (are : AreBytes w0.now) (sound : IsSound log frozen named others due left w0) where
+module _ (log : Log) (frozen : List ℕ) (named others due : List Bool) (left : Option ℕ) (w0 w1 : Medium) (are : AreBytes w0.now) (sound : IsSoundJournal log frozen named others due left w0) where
   is_area : log.named < 2
   is_area = named_below log.geometry log.named log.current (holds log.geometry w0.now) w0 are sound.stands
 
@@ -87,10 +83,10 @@ module _ (log : Log) (frozen : List ℕ) (named others due : List Bool) (left : 
     pub piece_records : ChangesOnly w0 w1 (IsSameBut (layout_of log.geometry) (image (other log.named))) → records_in log.geometry w1.now ≡ records_in log.geometry w0.now
     piece_records moments = each_forced moments w1.now (itself w1.now w1.loose are')
 
-    pub piece_sound : (n l count : ℕ) → left ≡ Some l → n < length due → IsPieced log.geometry (other log.named) n frozen w0 w1 → IsSound log frozen named others (set due n false) (Some count) w1
+    pub piece_sound : (n l count : ℕ) → left ≡ Some l → n < length due → IsPieced log.geometry (other log.named) n frozen w0 w1 → IsSoundJournal log frozen named others (set due n false) (Some count) w1
     piece_sound n l count is_left few pieced =
         let same = piece_same pieced.moments in
-        let sound' = subst (λ (o : Option ℕ). IsSound log frozen named others due o w0) is_left sound in
+        let sound' = subst (λ (o : Option ℕ). IsSoundJournal log frozen named others due o w0) is_left sound in
         let other_half = half_same (layout_of log.geometry) (other log.named) w0.now w1.now (pieced.same.others (half (other log.named)) (λ is. omega (arith, is))) in
         record {
           some = ap is_some same ∙ sound.some;

@@ -13,7 +13,7 @@ use Rattle.journal.proofs.Standing.{as_other, both_of, half_same, holds_by, hold
 use Rattle.oplog.specs.Changes.{ChangesOnly, Cleared, Flipped, IsReady, IsSameBut, IsSameButGates, IsSameButRoot}
 use Rattle.oplog.specs.Crash.{StandsBy, StandsEitherWay}
 use Rattle.oplog.specs.Front.{chain, front}
-use Rattle.oplog.specs.Layout.{layout_of, device_size, part, half, image, root, other}
+use Rattle.oplog.specs.Layout.{layout_of, device_size, part_bytes, half, image, root, other}
 use Rattle.oplog.specs.Stands.{in_force, named_area, stands_as}
 use Rattle.oplog.proofs.AfterCrash.{clear_by_area, flip_by_area, image_by_area, torn_root_stands}
 use Rattle.oplog.proofs.Ready.{ready_kept}
@@ -55,7 +55,7 @@ module _ (g : Geometry) (n : ℕ) (x : Option State) (is_area : n < 2) (w0 w1 : 
           as_other g (other n) x bytes c [] laid (ap (λ (l : List ℕ). image_of_area l) is ∙ imaged.is) (ap (λ (l : List ℕ). in_force (layout_of g) (other n) l) is ∙ no_force) (run_none g (read g bytes) ∙ reads)
         where
           image_of_area : List ℕ → List ℕ
-          image_of_area l = part (layout_of g) (image (other n)) l
+          image_of_area l = part_bytes (layout_of g) (image (other n)) l
 
       either_way : StandsEitherWay (means g) (layout_of g) x w2
       either_way c left =

@@ -3,7 +3,7 @@ use Rattle.std.proofs.Common.{◌≡◌, ◌≢◌, ◌↔◌, ⊎_elim, ℕ, ze
 use Rattle.std.specs.List.{AllByRecursion}
 use Rattle.std.proofs.lemmas.Bool.{cases_eq, cases_lt, eqb-true}
 use Rattle.std.specs.Prelude.{◌==◌}
-use Rattle.image.specs.Touched.{touches, touches_part}
+use Rattle.image.specs.Touched.{may_change, may_change_part}
 use Rattle.image.proofs.Numbers.{in_parts, number_there}
 use Rattle.image.proofs.Measures.{all-append}
 use Rattle.message.specs.declared.Msg.{Msg}
@@ -28,12 +28,6 @@ count_next t (false ∷ xs) (suc i) few is = count_next t xs i (omega (arith, fe
 
 pub count_after : (t : Bool) (xs : List Bool) (i : ℕ) → i < length xs → get_or xs i false ≡ t → count_marked (take (i + 1) xs) ≡ one_if t + count_marked (take i xs)
 count_after t xs i few is = let next : i + 1 ≡ suc i = omega arith in ap (λ (n : ℕ). count_marked (take n xs)) next ∙ count_next t xs i few is
-
-pub count_passed : (xs : List Bool) (i : ℕ) → i < length xs → get_or xs i false ≡ false → count_marked (take (i + 1) xs) ≡ count_marked (take i xs)
-count_passed xs i few is = let after = count_after false xs i few is in omega (arith, after)
-
-pub count_all : (xs : List Bool) (n : ℕ) → n ≡ length xs → count_marked (take n xs) ≡ count_marked xs
-count_all xs n all = ap count_marked (take_all n xs (omega (arith, all)))
 
 -- one number more before which no mark is set
 pub clear_next : (n : ℕ) (xs : List Bool) → get_or xs n false ≡ false → AreClearBefore n xs → AreClearBefore (n + 1) xs
@@ -98,7 +92,7 @@ whole_put len new old size size' =
 -- one piece more is looked at: marked where the message touches it, and else as it was
 pub record AreMarked (g : Geometry) (m : Msg) (k : ℕ) (old new : List Bool) : Type 0 where
   pub size : length new ≡ length old
-  pub marked : (i : ℕ) → i < k → (get_or new i true ≡ false) ↔ ((get_or old i true ≡ false) × (touches g m i ≡ false))
+  pub marked : (i : ℕ) → i < k → (get_or new i true ≡ false) ↔ ((get_or old i true ≡ false) × (may_change g m i ≡ false))
   pub rest : (i : ℕ) → k ≤ i → get_or new i true ≡ get_or old i true
 
 three_true : (p q r : Bool) → (p && q && r) ≡ true → (p ≡ true) × (q ≡ true)
@@ -115,9 +109,9 @@ abbrev pub first_of : Geometry → Msg → ℕ
 first_of g m = volume_piece_number g (key m).0 (key m).1
 
 -- what a message touches is of its own volume
-touched_inside : (g : Geometry) (m : Msg) (n : ℕ) → touches g m n ≡ true → (first_of g m ≤ n) × (n < first_of g m + pieces_of_volume g)
+touched_inside : (g : Geometry) (m : Msg) (n : ℕ) → may_change g m n ≡ true → (first_of g m ≤ n) × (n < first_of g m + pieces_of_volume g)
 touched_inside g m n on =
-    let is_volume = three_true ((key m).0 == aggregate_of g n) ((key m).1 == volume_of g n) (touches_part g m (part_of g n)) on in
+    let is_volume = three_true ((key m).0 == aggregate_of g n) ((key m).1 == volume_of g n) (may_change_part g m (part_of g n)) on in
     let a = eqb-true (key m).0 (aggregate_of g n) is_volume.0 in
     let v = eqb-true (key m).1 (volume_of g n) is_volume.1 in
     let at : first_of g m ≡ volume_piece_number g (aggregate_of g n) (volume_of g n) = λ i. volume_piece_number g (a i) (v i) in
@@ -125,11 +119,11 @@ touched_inside g m n on =
     let few = in_parts g n in
     (omega (arith, at, there, few), omega (arith, at, there, few))
 
-untouched_before : (g : Geometry) (m : Msg) (n : ℕ) → n < first_of g m → touches g m n ≡ false
-untouched_before g m n before = off_unless (touches g m n) (λ on. let inside = touched_inside g m n on in omega (arith, before, inside.0))
+untouched_before : (g : Geometry) (m : Msg) (n : ℕ) → n < first_of g m → may_change g m n ≡ false
+untouched_before g m n before = off_unless (may_change g m n) (λ on. let inside = touched_inside g m n on in omega (arith, before, inside.0))
 
-untouched_after : (g : Geometry) (m : Msg) (n : ℕ) → first_of g m + pieces_of_volume g ≤ n → touches g m n ≡ false
-untouched_after g m n after = off_unless (touches g m n) (λ on. let inside = touched_inside g m n on in omega (arith, after, inside.1))
+untouched_after : (g : Geometry) (m : Msg) (n : ℕ) → first_of g m + pieces_of_volume g ≤ n → may_change g m n ≡ false
+untouched_after g m n after = off_unless (may_change g m n) (λ on. let inside = touched_inside g m n on in omega (arith, after, inside.1))
 
 pub none_looked : (g : Geometry) (m : Msg) (k : ℕ) (old : List Bool) → k ≡ first_of g m → AreMarked g m k old old
 none_looked g m k old first = record {
@@ -141,14 +135,14 @@ none_looked g m k old first = record {
 apart : (i k : ℕ) → i ≢ k → i < k + 1 → i < k
 apart i k elsewhere below = ⊎_elim (λ (less : i < k). less) (λ (more : k ≤ i). absurd (elsewhere (omega (arith, below, more)))) (cases_lt i k)
 
-pub one_touched : (g : Geometry) (m : Msg) (k : ℕ) (old new : List Bool) → k < length new → touches g m k ≡ true → AreMarked g m k old new → AreMarked g m (k + 1) old (set new k true)
+pub one_touched : (g : Geometry) (m : Msg) (k : ℕ) (old new : List Bool) → k < length new → may_change g m k ≡ true → AreMarked g m k old new → AreMarked g m (k + 1) old (set new k true)
 one_touched g m k old new few on so_far = record {
   size = length-set new k true ∙ so_far.size;
   marked = λ i below.
       ⊎_elim
       (λ (here : i ≡ k). (
         (λ unmarked. absurd (true≢false (sym (get_or-set_same new k true true few) ∙ sym (ap (λ (j : ℕ). get_or (set new k true) j true) here) ∙ unmarked))),
-        (λ both. absurd (true≢false (sym on ∙ sym (ap (λ (j : ℕ). touches g m j) here) ∙ both.1))),
+        (λ both. absurd (true≢false (sym on ∙ sym (ap (λ (j : ℕ). may_change g m j) here) ∙ both.1))),
       ))
       (λ (elsewhere : i ≢ k).
       let kept = get_or-set_other new k i true true elsewhere in
@@ -158,14 +152,14 @@ one_touched g m k old new few on so_far = record {
   rest = λ i far. get_or-set_other new k i true true (λ here. omega (arith, here, far)) ∙ so_far.rest i (omega (arith, far));
 }
 
-pub one_passed : (g : Geometry) (m : Msg) (k : ℕ) (old new : List Bool) → touches g m k ≡ false → AreMarked g m k old new → AreMarked g m (k + 1) old new
+pub one_passed : (g : Geometry) (m : Msg) (k : ℕ) (old new : List Bool) → may_change g m k ≡ false → AreMarked g m k old new → AreMarked g m (k + 1) old new
 one_passed g m k old new off so_far = record {
   size = so_far.size;
   marked = λ i below.
       ⊎_elim
       (λ (here : i ≡ k).
       let kept : get_or new i true ≡ get_or old i true = so_far.rest i (omega (arith, here)) in (
-        (λ unmarked. (sym kept ∙ unmarked, ap (λ (j : ℕ). touches g m j) here ∙ off)),
+        (λ unmarked. (sym kept ∙ unmarked, ap (λ (j : ℕ). may_change g m j) here ∙ off)),
         (λ both. kept ∙ both.0),
       ))
       (λ (elsewhere : i ≢ k). so_far.marked i (apart i k elsewhere below))
@@ -194,9 +188,9 @@ message_more g ms i d old mid new few so_far more n below =
       (λ unmarked.
           let after = last.0 unmarked in
           let before = first.0 after.0 in
-          (before.0, subst (λ (l : List Msg). AllByRecursion (λ m. touches g m n ≡ false) l) (sym spelled) (all-append (λ m. touches g m n ≡ false) (take i ms) (get_or ms i d ∷ []) before.1 after.1))),
+          (before.0, subst (λ (l : List Msg). AllByRecursion (λ m. may_change g m n ≡ false) l) (sym spelled) (all-append (λ m. may_change g m n ≡ false) (take i ms) (get_or ms i d ∷ []) before.1 after.1))),
       (λ both.
-          let parts = all-parts (λ m. touches g m n ≡ false) (take i ms) (get_or ms i d ∷ []) (subst (λ (l : List Msg). AllByRecursion (λ m. touches g m n ≡ false) l) spelled both.1) in
+          let parts = all-parts (λ m. may_change g m n ≡ false) (take i ms) (get_or ms i d ∷ []) (subst (λ (l : List Msg). AllByRecursion (λ m. may_change g m n ≡ false) l) spelled both.1) in
           last.1 (first.1 (both.0, parts.0), parts.1)),
     )
   where
@@ -216,8 +210,3 @@ same_marks g [] old new none size same touched =
     ext_get_or true new old same
     (λ n few. let looked = touched n (omega (arith, few, same, size)) in by_false _ _ (λ off. (looked.0 off).0) (λ off. looked.1 (off, tt)))
 same_marks g (m ∷ ms) old new none size same touched = absurd (omega (arith, none))
-
--- ---- all of them
-
-pub all_marked : (g : Geometry) (n : ℕ) (marks : List Bool) → n ≡ piece_count g → marks ≡ replicate n true → AreAllMarked g marks
-all_marked g n marks count is i few = ap (λ (l : List Bool). get_or l i true) is ∙ get_or-replicate n i true true (omega (arith, few, count))

@@ -6,7 +6,7 @@ use Rattle.disk.specs.Device.{Medium, SameOutside, overlaid}
 use Rattle.disk.proofs.Moments.{leaves_now, started, then, weaker}
 use Rattle.journal.specs.Stretches.{image_in}
 use Rattle.oplog.specs.Changes.{ChangesOnly, IsReady, IsSameBut}
-use Rattle.oplog.specs.Layout.{Layout, slice, layout_of, part, part_at, image, device_size, image_size}
+use Rattle.oplog.specs.Layout.{Layout, slice, layout_of, part_bytes, part_at, image, device_size, image_size}
 use Rattle.oplog.specs.Store.{Touched}
 use Rattle.oplog.proofs.Ready.{ready_beside}
 use Rattle.oplog.proofs.Slices.{same_but, same_but_both, same_but_none, image_sized, part_overlaid}
@@ -53,7 +53,7 @@ module _ (g : Geometry) (area start from n : ℕ) (is_area : area < 2) (place : 
 pub run_written : (g : Geometry) (area start from : ℕ) (bytes : List ℕ) (w0 w1 : Medium) → area < 2 → start ≡ part_at (layout_of g) (image area) → from + length bytes ≤ image_size g → device_size (layout_of g) ≤ length w0.now
     → w1.now ≡ overlaid w0.now (start + from) bytes → image_in g area w1 ≡ overlaid (image_in g area w0) from bytes
 run_written g area start from bytes w0 w1 is_area place inside whole is =
-    ap (λ (l : List ℕ). part (layout_of g) (image area) l) is
+    ap (λ (l : List ℕ). part_bytes (layout_of g) (image area) l) is
     ∙ part_overlaid (layout_of g) (image area) from (start + from) bytes w0.now (omega (arith, is_area)) (omega (arith, place)) (omega (arith, inside, image_sized (layout_of g) area is_area)) whole
 
 -- an empty run

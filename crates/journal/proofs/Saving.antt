@@ -5,12 +5,12 @@ use Rattle.std.proofs.Math.Seq.{take-add}
 use Rattle.affinity.specs.declared.geometry.Geometry.{Geometry}
 use Rattle.checkpoint.specs.Recovery.{holds}
 use Rattle.disk.specs.Device.{AreBytes, Medium}
-use Rattle.image.specs.Image.{head_of, image_of, read}
+use Rattle.image.specs.Image.{image_head, image_of, read}
 use Rattle.image.specs.Pieces.{joined_below, piece_count, piece_of, piece_size}
 use Rattle.image.proofs.Cuts.{piece_again}
 use Rattle.image.proofs.Measures.{state_is_measured}
 use Rattle.image.proofs.Reading.{read_again}
-use Rattle.journal.specs.Keeping.{IsFresh, IsPlaced, IsSound}
+use Rattle.journal.specs.Keeping.{IsFresh, IsCutState, IsSoundJournal}
 use Rattle.journal.specs.Steps.{IsAlone, IsBegun, IsPointed, IsStanding, cut_now, pointed, run_on}
 use Rattle.journal.specs.Stretches.{AgreeUnmarked, AreAllMarked, AreSpelled, image_in, stretch_in, stretch_of}
 use Rattle.journal.proofs.Cutting.{named_below}
@@ -25,7 +25,7 @@ use Rattle.plain.specs.State.{State, IsState}
 pub frozen_is : (g : Geometry) (y : State) → IsState g y → (n : ℕ) → n < piece_count g → stretch_in g (image_of 2 g y) n ≡ stretch_of g y n
 frozen_is g y is zero few =
     take-add 64 (piece_size g 0) (image_of 2 g y)
-    ∙ (λ i. take_at (head_of 2) (joined_below (piece_count g) (piece_of 2 g y)) 64 refl i ++ piece_again 2 g y (state_is_measured g y is) 0 few i)
+    ∙ (λ i. take_at (image_head 2) (joined_below (piece_count g) (piece_of 2 g y)) 64 refl i ++ piece_again 2 g y (state_is_measured g y is) 0 few i)
 frozen_is g y is (suc n) few = piece_again 2 g y (state_is_measured g y is) (suc n) few
 
 module _ (g : Geometry) (x : Option State) (y : State) (frozen : List ℕ) (is : x ≡ Some y) (is_state : IsState g y) (spelled : frozen ≡ image_of 2 g y) where
@@ -48,19 +48,19 @@ all_right g h y marks bytes same all =
 -- ---- of a journal with no cut in progress
 
 -- what was frozen last, where it isn't marked
-pub frozen_right : (log : Log) (frozen : List ℕ) (named others due : List Bool) (left : Option ℕ) (w0 : Medium) (y : State) → left ≡ None → IsSound log frozen named others due left w0 → holds log.geometry w0.now ≡ Some y
+pub frozen_right : (log : Log) (frozen : List ℕ) (named others due : List Bool) (left : Option ℕ) (w0 : Medium) (y : State) → left ≡ None → IsSoundJournal log frozen named others due left w0 → holds log.geometry w0.now ≡ Some y
     → (g : Geometry) (marks : List Bool) (bytes : List ℕ) → g ≡ log.geometry → marks ≡ named → bytes ≡ frozen → AreSpelled g y marks bytes
 frozen_right log frozen named others due left w0 y alone sound is g marks bytes same same' same'' =
     subst (λ (h : Geometry). AreSpelled h y marks bytes) (sym same) (subst (λ (row : List Bool). AreSpelled log.geometry y row bytes) (sym same')
     (subst (λ (l : List ℕ). AreSpelled log.geometry y named l) (sym same'') (sound.frozen_fresh alone y is)))
 
-module _ (log : Log) (frozen frozen' : List ℕ) (named others due : List Bool) (left : Option ℕ) (w0 : Medium) (y : State) (alone : left ≡ None) (placed' : IsPlaced log due left) (sound' : IsSound log frozen named others due left w0)
+module _ (log : Log) (frozen frozen' : List ℕ) (named others due : List Bool) (left : Option ℕ) (w0 : Medium) (y : State) (alone : left ≡ None) (placed' : IsCutState log due left) (sound' : IsSoundJournal log frozen named others due left w0)
     (is : holds log.geometry w0.now ≡ Some y) (is_state : IsState log.geometry y) (spelled : frozen' ≡ image_of 2 log.geometry y) (are : AreBytes w0.now) where
   pub together : log.current ≡ log.named
-  together = subst (λ (l : Option ℕ). IsPlaced log due l) alone placed'
+  together = subst (λ (l : Option ℕ). IsCutState log due l) alone placed'
 
-  sound : IsSound log frozen named others due None w0
-  sound = subst (λ (l : Option ℕ). IsSound log frozen named others due l w0) alone sound'
+  sound : IsSoundJournal log frozen named others due None w0
+  sound = subst (λ (l : Option ℕ). IsSoundJournal log frozen named others due l w0) alone sound'
 
   is_area : log.named < 2
   is_area = named_below log.geometry log.named log.current (holds log.geometry w0.now) w0 are sound.stands
@@ -81,7 +81,7 @@ module _ (log : Log) (frozen frozen' : List ℕ) (named others due : List Bool) 
     pub point_settled : IsPointed log frozen' w0 w1 → holds log.geometry w1.now ≡ holds log.geometry w0.now
     point_settled made = holds_now log.geometry (other log.named) (other log.named) (holds log.geometry w0.now) w1 are' made.stands
 
-    pub point_sound : (named' others' : List Bool) → others' ≡ named → IsPointed log frozen' w0 w1 → IsSound (pointed log) frozen' named' others' due None w1
+    pub point_sound : (named' others' : List Bool) → others' ≡ named → IsPointed log frozen' w0 w1 → IsSoundJournal (pointed log) frozen' named' others' due None w1
     point_sound named' others' same_marks made =
         let same = point_settled made in
         let back : other (other log.named) ≡ log.named = omega (arith, is_area) in
@@ -108,7 +108,7 @@ module _ (log : Log) (frozen frozen' : List ℕ) (named others due : List Bool) 
     pub cut_settled : IsBegun log w0 w1 → holds log.geometry w1.now ≡ holds log.geometry w0.now
     cut_settled begun = holds_now log.geometry log.named (other log.named) (holds log.geometry w0.now) w1 are' begun.stands
 
-    pub cut_sound : (others' due' : List Bool) (count : ℕ) → due' ≡ others → IsBegun log w0 w1 → IsSound (cut_now log) frozen' named others' due' (Some count) w1
+    pub cut_sound : (others' due' : List Bool) (count : ℕ) → due' ≡ others → IsBegun log w0 w1 → IsSoundJournal (cut_now log) frozen' named others' due' (Some count) w1
     cut_sound others' due' count same_marks begun =
         let same = cut_settled begun in
         record {
@@ -135,7 +135,7 @@ module _ (log : Log) (frozen frozen' : List ℕ) (named others due : List Bool) 
 
 -- The last point of an opening wrote the whole image; nothing is known of the other one, whose pieces are all marked.
 pub opened_sound : (log : Log) (frozen : List ℕ) (named others due : List Bool) (w0 w1 : Medium) (y : State) → IsAlone log w0 → holds log.geometry w0.now ≡ Some y → IsState log.geometry y → frozen ≡ image_of 2 log.geometry y
-    → ((n : ℕ) → n < piece_count log.geometry → get_or others n true ≡ true) → AreBytes w1.now → IsPointed log frozen w0 w1 → IsSound (pointed log) frozen named others due None w1
+    → ((n : ℕ) → n < piece_count log.geometry → get_or others n true ≡ true) → AreBytes w1.now → IsPointed log frozen w0 w1 → IsSoundJournal (pointed log) frozen named others due None w1
 opened_sound log frozen named others due w0 w1 y alone is is_state spelled all are made =
     let same = holds_now log.geometry (other log.named) (other log.named) (holds log.geometry w0.now) w1 are made.stands in
     record {

@@ -5,8 +5,8 @@ use Rattle.checkpoint.specs.declared.fault.OpenFault.{OpenFault}
 use Rattle.checkpoint.specs.declared.fault.OpenFault.TheVariants.{Device, TooShort, NotFormatted, BadGeometry, OutOfMemory, BadVersion, BadPiece, BadChain, BadRecord}
 use Rattle.checkpoint.specs.Header.{HasHeader}
 use Rattle.checkpoint.specs.Recovery.{holds}
-use Rattle.checkpoint.specs.Loading.{IsFault, IsOfHalf}
-use Rattle.checkpoint.specs.Refusals.{IsRefused, fault_of, refused}
+use Rattle.checkpoint.specs.Loading.{IsFaultOfBytes, IsOfHalf}
+use Rattle.checkpoint.specs.Refusals.{IsRefused, fault_or_later, refused}
 use Rattle.checkpoint.proofs.OneGeometry.{one_geometry, same_geometry}
 use Rattle.checkpoint.proofs.Refusing.{records_half}
 use Rattle.checkpoint.proofs.Replays.{same_bytes}
@@ -206,7 +206,7 @@ if_err (Err e) P Q gives held = gives e held
 
 -- A record that can't be run is one of the half whose records are run, once the cut before it is finished: its area is named,
 -- and the device is refused for it as it was.
-pub bad_half : (g : Geometry) (h : ℕ) (o : Option ℕ) (w0 w2 : Medium) (e : OpenFault) → e ≢ OutOfMemory → IsFault (fault_of (BadRecord h) o None) e → HasHeader g w0.now → IsRefused w0.now e → IsRefusedAlike g w0.now w2.now
+pub bad_half : (g : Geometry) (h : ℕ) (o : Option ℕ) (w0 w2 : Medium) (e : OpenFault) → e ≢ OutOfMemory → IsFaultOfBytes (fault_or_later (BadRecord h) o None) e → HasHeader g w0.now → IsRefused w0.now e → IsRefusedAlike g w0.now w2.now
     → named_area (layout_of g) w2.now ≡ h → IsSynced w2 → IsBad g h w2 e
 bad_half g h o w0 w2 Device some is head why alike named calm = tt
 bad_half g h o w0 w2 OutOfMemory some is head why alike named calm = absurd (some refl)

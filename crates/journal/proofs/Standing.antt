@@ -12,7 +12,7 @@ use Rattle.journal.specs.Steps.{IsStanding, run_on}
 use Rattle.oplog.specs.Changes.{IsReady}
 use Rattle.oplog.specs.Crash.{StandsBy}
 use Rattle.oplog.specs.Front.{chain, front, front_in, rows}
-use Rattle.oplog.specs.Layout.{Layout, layout_of, part, device_size, header, half, image, other}
+use Rattle.oplog.specs.Layout.{Layout, layout_of, part_bytes, device_size, header, half, image, other}
 use Rattle.oplog.specs.Stands.{current_of, in_force, is_laid_out, run, stands_as}
 use Rattle.plain.specs.State.{State}
 
@@ -36,7 +36,7 @@ laid_if false y x is some = absurd (true≢false (sym some ∙ ap is_some (sym i
 pub laid_by : (g : Geometry) (n : ℕ) (x : Option State) (c : List ℕ) → stands_as (means g) (layout_of g) n c ≡ x → is_some x ≡ true → is_laid_out (means g) (layout_of g) c ≡ true
 laid_by g n x c is some = laid_if (is_laid_out (means g) (layout_of g) c) _ x is some
 
-pub as_other : (g : Geometry) (q : ℕ) (x : Option State) (bytes c : List ℕ) (rs : List (List ℕ)) → is_laid_out (means g) (layout_of g) c ≡ true → part (layout_of g) (image q) c ≡ bytes → in_force (layout_of g) q c ≡ rs → run_on g (read g bytes) rs ≡ x → stands_as (means g) (layout_of g) q c ≡ x
+pub as_other : (g : Geometry) (q : ℕ) (x : Option State) (bytes c : List ℕ) (rs : List (List ℕ)) → is_laid_out (means g) (layout_of g) c ≡ true → part_bytes (layout_of g) (image q) c ≡ bytes → in_force (layout_of g) q c ≡ rs → run_on g (read g bytes) rs ≡ x → stands_as (means g) (layout_of g) q c ≡ x
 as_other g q x bytes c rs laid is force leads = (λ i. cond (laid i) (run (means g) (read g (is i)) (force i)) None) ∙ leads
 
 -- ---- chains
@@ -74,7 +74,7 @@ and_last false b c is = absurd (true≢false (sym is))
 -- where the named half has a chain, the other one has none
 pub chain_other : (g : Geometry) (n : ℕ) (c : List ℕ) → n < 2 → is_laid_out (means g) (layout_of g) c ≡ true → current_of (layout_of g) n c ≡ other n → eqb (chain (layout_of g) (other n) c) 1 ≡ false
 chain_other g n c is_area laid follows =
-    let one : not (eqb (chain (layout_of g) 0 c) 1 && eqb (chain (layout_of g) 1 c) 1) ≡ true = and_last (is_header g (part (layout_of g) header c)) (nat_le (device_size (layout_of g)) (length c)) _ laid in
+    let one : not (eqb (chain (layout_of g) 0 c) 1 && eqb (chain (layout_of g) 1 c) 1) ≡ true = and_last (is_header g (part_bytes (layout_of g) header c)) (nat_le (device_size (layout_of g)) (length c)) _ laid in
     by n is_area one (open_by n (eqb (chain (layout_of g) n c) 1) is_area follows)
   where
     by : (n : ℕ) → n < 2 → not (eqb (chain (layout_of g) 0 c) 1 && eqb (chain (layout_of g) 1 c) 1) ≡ true → eqb (chain (layout_of g) n c) 1 ≡ true → eqb (chain (layout_of g) (other n) c) 1 ≡ false
@@ -89,10 +89,10 @@ not_one n zero' = ap (λ (m : ℕ). eqb m 1) zero'
 
 -- a half that is ready with no record has none in its front
 pub ready_none : (l : Layout) (h : ℕ) (m : Medium) → IsReady l h 0 m → front l h m.now ≡ []
-ready_none l h m ready = ap (λ (n : ℕ). rows 520 n (drop (64 + l.slots) (part l (half h) m.now))) ready.used
+ready_none l h m ready = ap (λ (n : ℕ). rows 520 n (drop (64 + l.slots) (part_bytes l (half h) m.now))) ready.used
 
 -- what the half holds decides its front and its chain
-pub half_same : (l : Layout) (h : ℕ) (a c : List ℕ) → part l (half h) c ≡ part l (half h) a → (front l h c ≡ front l h a) × (chain l h c ≡ chain l h a)
+pub half_same : (l : Layout) (h : ℕ) (a c : List ℕ) → part_bytes l (half h) c ≡ part_bytes l (half h) a → (front l h c ≡ front l h a) × (chain l h c ≡ chain l h a)
 half_same l h a c same = (ap (λ (bytes : List ℕ). front_in l.slots bytes) same, ap (λ (bytes : List ℕ). get_or bytes 0 0) same)
 
 pub run_none : (g : Geometry) (x : Option State) → run_on g x [] ≡ x

@@ -15,7 +15,7 @@ use Rattle.journal.specs.Parts.{IsRefusedAlike}
 use Rattle.journal.specs.Stretches.{Imaged}
 use Rattle.oplog.specs.Changes.{ChangesOnly, IsSameBut, IsSameButRoot}
 use Rattle.oplog.specs.Front.{chain, chain_in, front, front_in}
-use Rattle.oplog.specs.Layout.{device_size, half, header, image, layout_of, other, part, root}
+use Rattle.oplog.specs.Layout.{device_size, half, header, image, layout_of, other, part_bytes, root}
 use Rattle.oplog.specs.Stands.{named_area, run}
 use Rattle.oplog.proofs.Kept.{named_area-below}
 use Rattle.plain.specs.State.{State}
@@ -23,9 +23,9 @@ use Rattle.plain.specs.State.{State}
 -- Header, halves and one image are the same.
 record AreSame (g : Geometry) (n : ℕ) (a c : List ℕ) : Type 0 where
   size : length c ≡ length a
-  header : part (layout_of g) header c ≡ part (layout_of g) header a
-  halves : (h : ℕ) → h < 2 → part (layout_of g) (half h) c ≡ part (layout_of g) (half h) a
-  image : part (layout_of g) (image n) c ≡ part (layout_of g) (image n) a
+  header : part_bytes (layout_of g) header c ≡ part_bytes (layout_of g) header a
+  halves : (h : ℕ) → h < 2 → part_bytes (layout_of g) (half h) c ≡ part_bytes (layout_of g) (half h) a
+  image : part_bytes (layout_of g) (image n) c ≡ part_bytes (layout_of g) (image n) a
 
 module _ (g : Geometry) (n : ℕ) (is_area : n < 2) (a c : List ℕ) (same : AreSame g n a c) where
   chains_same : are_chained (layout_of g) c ≡ are_chained (layout_of g) a
@@ -124,7 +124,7 @@ module _ (g : Geometry) (n : ℕ) (is_area : n < 2) (x : State) (w0 w1 : Medium)
     by_other : (c : List ℕ) → IsSameButRoot (layout_of g) w1.now c → named_area (layout_of g) c ≡ other n → refused g c ≡ refused g w0.now
     by_other c change names =
         let same = kept (other n) c (omega arith) change in
-        let said : read g (part (layout_of g) (image (other n)) w1.now) ≡ Some x = ap (λ (l : List ℕ). read g l) imaged.is ∙ reads in
+        let said : read g (part_bytes (layout_of g) (image (other n)) w1.now) ≡ Some x = ap (λ (l : List ℕ). read g l) imaged.is ∙ reads in
         let fine = image_fine g (other n) w1.now (omega arith) now_held.whole are (ap is_some said) in
         let shut = other_shut g n w1.now is_area now_held.one (sym now_held.chain) in
         refused_alone g c (other n) x (same.header ∙ now_held.header) (subst (λ (k : ℕ). device_size (layout_of g) ≤ k) (sym same.size) now_held.whole) (sym names)

@@ -12,7 +12,7 @@ use Rattle.oplog.specs.Stands.{in_force, named_area}
 use Rattle.plain.specs.Serial.{fold, is_loggable, next_state, reply_to}
 use Rattle.plain.specs.State.{State}
 
-pub record Held : Type 0 where
+pub record JournalView : Type 0 where
   pub geometry : Geometry
   -- how many records can still be logged before a point is due
   pub room : ℕ
@@ -25,19 +25,19 @@ pub record Held : Type 0 where
   pub medium : Medium
 
 -- what the device stands for
-abbrev pub settled : Held → Option State
+abbrev pub settled : JournalView → Option State
 settled j = holds j.geometry j.medium.now
 
 -- the records in force on a device with these bytes
 abbrev pub records_in : Geometry → List ℕ → List (List ℕ)
 records_in g c = in_force (layout_of g) (named_area (layout_of g) c) c
 
-abbrev pub records : Held → List (List ℕ)
+abbrev pub records : JournalView → List (List ℕ)
 records j = records_in j.geometry j.medium.now
 
 -- It stands for a state, and so does whatever a crash leaves now, with the same records in force. While no cut is in
 -- progress, a half has room for these and for as many more as can still be logged.
-pub record IsSettled (j : Held) : Type 0 where
+pub record IsSettled (j : JournalView) : Type 0 where
   pub some : is_some (settled j) ≡ true
   pub each : (c : List ℕ) → Leaves j.medium c → holds j.geometry c ≡ settled j
   pub forced : (c : List ℕ) → Leaves j.medium c → records_in j.geometry c ≡ records j
@@ -55,6 +55,6 @@ pub record HoldsSome (g : Geometry) (x : State) (ms : List Msg) (c : List ℕ) :
   pub is : holds g c ≡ Some (fold g x (take added ms))
 
 -- after a call with this answer: at `Ok` as given, and else failed
-abbrev pub after_call : {T E : Type 0} → Result T E → Held → Held → Held
+abbrev pub after_call : {T E : Type 0} → Result T E → JournalView → JournalView → JournalView
 after_call (Ok _) done old = done
 after_call (Err _) done old = record old { failed = true; medium = done.medium }

@@ -4,7 +4,7 @@ use Rattle.affinity.specs.declared.geometry.Geometry.{Geometry}
 use Rattle.checkpoint.specs.Recovery.{holds}
 use Rattle.disk.specs.Device.{Leaves, Medium}
 use Rattle.image.specs.Image.{read}
-use Rattle.journal.specs.Journal.{Held, records_in}
+use Rattle.journal.specs.Journal.{JournalView, records_in}
 use Rattle.journal.specs.Marks.{count_marked}
 use Rattle.journal.specs.Steps.{IsStanding, run_on}
 use Rattle.journal.specs.Stretches.{AgreeUnmarked, AreSpelled, image_in}
@@ -38,9 +38,9 @@ IsCutOr log frozen due None m = Unit {0}
 IsCutOr log frozen due (Some left) m = IsCut log frozen due m
 
 -- which half is current, and how many stretches are due
-abbrev pub IsPlaced : Log → List Bool → Option ℕ → Type 0
-IsPlaced log due None = log.current ≡ log.named
-IsPlaced log due (Some left) = (log.current ≡ other log.named) × (count_marked due ≡ left)
+abbrev pub IsCutState : Log → List Bool → Option ℕ → Type 0
+IsCutState log due None = log.current ≡ log.named
+IsCutState log due (Some left) = (log.current ≡ other log.named) × (count_marked due ≡ left)
 
 -- the image that the area that isn't named has, or will have once the cut is written
 abbrev pub coming : Log → List ℕ → Option ℕ → Medium → List ℕ
@@ -51,7 +51,7 @@ coming log frozen (Some left) m = frozen
 
 -- Of a journal whose device has not failed and keeps its bytes: here are the marks of the named area, those of the other
 -- one, and those of what is due.
-pub record IsSound (log : Log) (frozen : List ℕ) (named others due : List Bool) (left : Option ℕ) (m : Medium) : Type 0 where
+pub record IsSoundJournal (log : Log) (frozen : List ℕ) (named others due : List Bool) (left : Option ℕ) (m : Medium) : Type 0 where
   pub some : is_some (holds log.geometry m.now) ≡ true
   pub stands : IsStanding log.geometry log.named log.current (holds log.geometry m.now) m
   pub ready : IsReadyFor log m
@@ -64,7 +64,7 @@ pub record IsSound (log : Log) (frozen : List ℕ) (named others due : List Bool
   pub others_fresh : IsFresh log.geometry (holds log.geometry m.now) others (coming log frozen left m)
   pub by_cut : IsCutOr log frozen due left m
 
-abbrev pub held_of : Log → List Bool → List Bool → Option ℕ → Bool → Medium → Held
+abbrev pub held_of : Log → List Bool → List Bool → Option ℕ → Bool → Medium → JournalView
 held_of log named others left failed m = record {
   geometry = log.geometry;
   room = log.geometry.half - log.used;

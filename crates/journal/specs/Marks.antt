@@ -3,7 +3,7 @@ use Rattle.std.specs.Prelude.{◌≡◌, ◌↔◌, ◌<◌, ℕ, suc, Bool, tru
 use Rattle.std.specs.List.{AllByRecursion}
 use Rattle.affinity.specs.declared.geometry.Geometry.{Geometry}
 use Rattle.image.specs.Pieces.{piece_count}
-use Rattle.image.specs.Touched.{touches}
+use Rattle.image.specs.Touched.{may_change}
 use Rattle.message.specs.declared.Msg.{Msg}
 
 pub record Marks : Type 0 where
@@ -21,7 +21,7 @@ count_marked (false ∷ marks) = count_marked marks
 -- Marks after these messages: a piece isn't marked exactly where it wasn't before and none of the messages touches it.
 abbrev pub MarksTouched : Geometry → List Msg → List Bool → List Bool → Type 0
 MarksTouched g ms old new = (n : ℕ) → n < piece_count g
-    → (get_or new n true ≡ false) ↔ ((get_or old n true ≡ false) × AllByRecursion (λ m. touches g m n ≡ false) ms)
+    → (get_or new n true ≡ false) ↔ ((get_or old n true ≡ false) × AllByRecursion (λ m. may_change g m n ≡ false) ms)
 
 -- the same in both images
 pub record AreBothTouched (g : Geometry) (ms : List Msg) (old new : Marks) : Type 0 where

@@ -8,7 +8,7 @@ use Rattle.checkpoint.specs.Recovery.{holds}
 use Rattle.checkpoint.specs.Refusals.{IsDevice, refused}
 use Rattle.disk.specs.Device.{Medium, Leaves, IsSynced}
 use Rattle.disk.specs.Moments.{LeavesOnly}
-use Rattle.journal.specs.Journal.{Held, IsSettled, records, settled}
+use Rattle.journal.specs.Journal.{JournalView, IsSettled, records, settled}
 use Rattle.journal.specs.Marks.{opened_marks}
 use Rattle.oplog.specs.Layout.{layout_of}
 use Rattle.oplog.specs.Stands.{named_area}
@@ -16,7 +16,7 @@ use Rattle.plain.specs.State.{State, IsState}
 
 -- A device was opened: it isn't refused, and the journal holds the state for which it stood, with no record in force, now
 -- and in whatever a crash leaves now. The named image is that of this state; of the other one nothing is known.
-pub record IsOpened (old : Medium) (j : Held) (x : State) : Type 0 where
+pub record IsOpened (old : Medium) (j : JournalView) (x : State) : Type 0 where
   pub header : HasHeader j.geometry old.now
   pub fine : refused j.geometry old.now ≡ None
   pub was : holds j.geometry old.now ≡ Some x

@@ -9,7 +9,7 @@ use Rattle.checkpoint.specs.Refusals.{refused}
 use Rattle.disk.specs.Device.{Medium}
 use Rattle.image.specs.Pieces.{piece_count}
 use Rattle.journal.specs.declared.opening.Parts.{Parts}
-use Rattle.journal.specs.Keeping.{IsSound}
+use Rattle.journal.specs.Keeping.{IsSoundJournal}
 use Rattle.journal.specs.Marks.{Marks, opened_marks}
 use Rattle.journal.specs.Opening.{IsRefusedBehind}
 use Rattle.oplog.specs.Calls.{HasParts}
@@ -52,4 +52,4 @@ pub record IsMadeOf (c : List ℕ) (p : Parts) (m : Medium) : Type 0 where
   pub was : holds p.tree.geometry c ≡ Some (state_in p.tree)
   pub is : holds p.halves.geometry m.now ≡ Some (state_in p.tree)
   pub emptied : in_force (layout_of p.halves.geometry) (named_area (layout_of p.halves.geometry) m.now) m.now ≡ []
-  pub sound : IsSound p.halves p.frozen.items p.named_marks.items p.other_marks.items p.due.items None m
+  pub sound : IsSoundJournal p.halves p.frozen.items p.named_marks.items p.other_marks.items p.due.items None m

@@ -2,10 +2,10 @@
 use Rattle.std.specs.Prelude.{◌≡◌, ◌≢◌, ◌<◌, ◌+◌, ℕ, zero, suc, Bool, true, false, List, ◌++◌, get_or}
 use Rattle.affinity.specs.declared.geometry.Geometry.{Geometry}
 use Rattle.disk.specs.Device.{Medium, IsSynced}
-use Rattle.image.specs.Image.{head_of}
+use Rattle.image.specs.Image.{image_head}
 use Rattle.image.specs.Pieces.{piece_at, piece_count, piece_of, piece_size}
 use Rattle.oplog.specs.Changes.{IsSameBut}
-use Rattle.oplog.specs.Layout.{slice, layout_of, part, image}
+use Rattle.oplog.specs.Layout.{slice, layout_of, part_bytes, image}
 use Rattle.plain.specs.State.{State}
 
 -- where a stretch begins in its image, and how many bytes it has
@@ -23,7 +23,7 @@ stretch_in g bytes n = slice bytes (stretch_at g n) (stretch_size g n)
 
 -- the stretch of a state
 abbrev pub stretch_of : Geometry → State → ℕ → List ℕ
-stretch_of g x zero = head_of 2 ++ piece_of 2 g x 0
+stretch_of g x zero = image_head 2 ++ piece_of 2 g x 0
 stretch_of g x (suc n) = piece_of 2 g x (suc n)
 
 -- Two rows of bytes have the same in each stretch that isn't marked.
@@ -40,7 +40,7 @@ AreAllMarked g marks = (n : ℕ) → n < piece_count g → get_or marks n true �
 
 -- the bytes of the image of an area
 abbrev pub image_in : Geometry → ℕ → Medium → List ℕ
-image_in g area m = part (layout_of g) (image area) m.now
+image_in g area m = part_bytes (layout_of g) (image area) m.now
 
 -- The image of an area has these bytes, nothing else has changed, and nothing is loose.
 pub record Imaged (g : Geometry) (area : ℕ) (bytes : List ℕ) (old new : Medium) : Type 0 where

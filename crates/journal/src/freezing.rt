@@ -1,6 +1,6 @@
 //! The state of a point or a cut, frozen as the bytes of its image.
 ghost use Rattle.std.specs.Prelude.{◌≡◌, ◌≤◌, drop, length, take};
-ghost use Rattle.image.specs.Image.{head_of, image_of};
+ghost use Rattle.image.specs.Image.{image_head, image_of};
 ghost use Rattle.image.specs.Pieces.{piece_count};
 ghost use Rattle.journal.specs.Stretches.{AreSpelled};
 ghost use Rattle.oplog.specs.Layout.{image_size};
@@ -16,7 +16,7 @@ const VERSION: u8 = 2;
 /// Writes the head of an image.
 fn write_head(bytes: &mut [u8])
     requires { 64 ≤ length bytes.old }
-    ensures head { take 64 bytes.new ≡ head_of 2 }
+    ensures head { take 64 bytes.new ≡ image_head 2 }
     ensures rest { drop 64 bytes.new ≡ drop 64 bytes.old }
     ensures size { length bytes.new ≡ length bytes.old }
 {

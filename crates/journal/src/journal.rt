@@ -3,7 +3,7 @@ ghost use Rattle.std.specs.Prelude.{◌≡◌, ◌-◌, ◌≤◌, ◌++◌, ℕ
 ghost use Rattle.checkpoint.specs.Recovery.{holds};
 ghost use Rattle.disk.specs.Moments.{LeavesOnly};
 ghost use Rattle.image.specs.Pieces.{piece_count};
-ghost use Rattle.journal.specs.Journal.{Held, AreCarriedOut, HoldsSome, IsSettled, after_call, records, settled};
+ghost use Rattle.journal.specs.Journal.{JournalView, AreCarriedOut, HoldsSome, IsSettled, after_call, records, settled};
 ghost use Rattle.journal.specs.Marks.{AreBothTouched, count_marked, cut_marks, flipped_marks, pointed_marks};
 ghost use Rattle.oplog.specs.Log.{CountsLogFault, IsNotBad};
 ghost use Rattle.oplog.specs.Logged.{AreLogged, records_of};
@@ -55,12 +55,12 @@ pub struct Journal<D: Disk> {
 impl<D: Disk> Model for Journal<D> {
     ghost use Rattle.std.specs.Prelude.{◌≡◌, ◌≤◌, ◌*◌, false, length};
     ghost use Rattle.image.specs.Pieces.{piece_count};
-    ghost use Rattle.journal.specs.Journal.{Held};
-    ghost use Rattle.journal.specs.Keeping.{AreClearBefore, IsPlaced, IsSound, held_of};
+    ghost use Rattle.journal.specs.Journal.{JournalView};
+    ghost use Rattle.journal.specs.Keeping.{AreClearBefore, IsCutState, IsSoundJournal, held_of};
     ghost use Rattle.oplog.specs.Calls.{HasParts};
     ghost use Rattle.oplog.specs.Layout.{image_size};
 
-    ghost Value = { Held };
+    ghost Value = { JournalView };
 
     ghost view = { λ j. held_of j.halves j.named_marks.items j.other_marks.items j.left j.failed (D.medium j.disk) };
 
@@ -70,14 +70,14 @@ impl<D: Disk> Model for Journal<D> {
         × (length j.named_marks.items ≡ piece_count j.halves.geometry)
         × (length j.other_marks.items ≡ piece_count j.halves.geometry)
         × (length j.due.items ≡ piece_count j.halves.geometry)
-        × (j.failed ≡ false → (j.halves.failed ≡ false) × IsPlaced j.halves j.due.items j.left)
+        × (j.failed ≡ false → (j.halves.failed ≡ false) × IsCutState j.halves j.due.items j.left)
         × (j.failed ≡ false → D.keeps →
-        IsSound j.halves j.frozen.items j.named_marks.items j.other_marks.items j.due.items j.left (D.medium j.disk))
+        IsSoundJournal j.halves j.frozen.items j.named_marks.items j.other_marks.items j.due.items j.left (D.medium j.disk))
         × (j.looked ≤ length j.due.items) × AreClearBefore j.looked j.due.items };
 }
 
 impl<D: Disk> Journal<D> {
-    ghost use Rattle.journal.specs.Keeping.{IsSound, held_of};
+    ghost use Rattle.journal.specs.Keeping.{IsSoundJournal, held_of};
     ghost use Rattle.oplog.specs.Calls.{HasParts};
     ghost use Rattle.oplog.specs.Layout.{image_size};
 
@@ -98,7 +98,7 @@ impl<D: Disk> Journal<D> {
         requires named_marks { length named_marks.items ≡ piece_count halves.geometry }
         requires other_marks { length other_marks.items ≡ piece_count halves.geometry }
         requires due { length due.items ≡ piece_count halves.geometry }
-        requires sound { D.keeps → IsSound halves frozen.items named_marks.items other_marks.items due.items None (D.medium disk) }
+        requires sound { D.keeps → IsSoundJournal halves frozen.items named_marks.items other_marks.items due.items None (D.medium disk) }
         ensures { result ≡ held_of halves named_marks.items other_marks.items None false (D.medium disk) }
     {
         Journal {

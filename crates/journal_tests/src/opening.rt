@@ -4,7 +4,8 @@ use affinity::Geometry;
 use checkpoint::{OpenFault, inspect};
 use disk::MemDisk;
 use harness::{
-    Ended, Found, Progress, Questions, Server, Trial, Wrong, device_with, expected, find, sweep,
+    Ended, FoundAgain, Progress, Questions, Server, Trial, Wrong, device_with, expected, find,
+    sweep,
 };
 use message::Reply;
 use std::alloc::Global;
@@ -203,13 +204,13 @@ impl Trial for Refusal {
         let progress = Progress {
             answered: 0,
             begun: 0,
-            is_whole: found != Found::Refuses(OpenFault::Device),
+            is_whole: found != FoundAgain::Refuses(OpenFault::Device),
         };
         Ok(Ended { device, progress })
     }
 
-    fn allows(&self, _progress: &Progress, found: &Found) -> bool {
-        *found == Found::Refuses(OpenFault::BadRecord(1, 0))
+    fn allows(&self, _progress: &Progress, found: &FoundAgain) -> bool {
+        *found == FoundAgain::Refuses(OpenFault::BadRecord(1, 0))
     }
 }
 

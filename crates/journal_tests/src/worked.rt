@@ -4,8 +4,8 @@ use affinity::Geometry;
 use checkpoint::{Shown, inspect};
 use disk::MemDisk;
 use harness::{
-    Act, Found, MIXED, OLD, Questions, Server, Wrong, device_with, expected, find, messages_of,
-    torn,
+    Act, FoundAgain, MIXED, OLD, Questions, Server, Wrong, device_with, expected, find,
+    messages_of, torn,
 };
 use message::Reply;
 use std::alloc::Global;
@@ -66,7 +66,7 @@ fn is_found(
     let (found, device) = find(alloc, device, &questions)?;
     holds(
         rt,
-        found == Found::Tells(expected(alloc, &g, lines, &questions)?),
+        found == FoundAgain::Tells(expected(alloc, &g, lines, &questions)?),
     );
     Ok(device)
 }

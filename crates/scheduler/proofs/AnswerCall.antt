@@ -6,7 +6,7 @@ use Rattle.arena.proofs.RowLemmas.{chain-front, chained-listed, front-chained}
 use Rattle.arena.proofs.Times.{times-append}
 use Rattle.arena.specs.Lists.{without}
 use Rattle.arena.specs.Row.{IsParted, Row, after_take, capacity_of, chain_at, front_of, value_at}
-use Rattle.journal.specs.Journal.{Held}
+use Rattle.journal.specs.Journal.{JournalView}
 use Rattle.legal_runs.specs.Events.{answer}
 use Rattle.legal_runs.specs.declared.outcomes.Outcome.TheVariants as outcomes
 use Rattle.message.specs.declared.Msg.{Msg}
@@ -16,7 +16,7 @@ use Rattle.parcel.specs.Tree.{TreeView}
 use Rattle.scheduler.proofs.Answering.{answer_core, answer_front, with_answer}
 use Rattle.scheduler.proofs.Lines.{TakenLines, line_taken}
 use Rattle.scheduler.specs.Parts.{IsCore, Parts, parts, world_in}
-use Rattle.scheduler.specs.Slots.{HasChains, Place, line, no_slot, place_at}
+use Rattle.scheduler.specs.Slots.{HasChains, SlotView, line, no_slot, place_at}
 use Rattle.scheduler.specs.declared.slot.Slot.{Slot}
 use Rattle.turns.specs.Turns.{Queuing, without_number}
 
@@ -27,17 +27,17 @@ front_low row c i parted first =
     let all = times-append i row.free (concat row.chains) in
     parted.within i (omega (arith, some, all))
 
-module _ (keeps : Type 0) (row : Row Slot) (replies : List Reply) (tree : TreeView) (journal : Held) (turns : Queuing) (batch : List Msg) (next flight : ℕ)
+module _ (keeps : Type 0) (row : Row Slot) (replies : List Reply) (tree : TreeView) (journal : JournalView) (turns : Queuing) (batch : List Msg) (next flight : ℕ)
     (opened : TreeView) (since : List Msg) (is : HasChains row)
     (k : IsCore keeps (parts row replies tree journal turns batch next flight opened since)) (slot : ℕ) (first : front_of row 3 ≡ Some slot)
     (taken : Slot) (value : value_at row slot ≡ Some taken) where
   abbrev p : Parts
   p = parts row replies tree journal turns batch next flight opened since
 
-  abbrev x : Place
+  abbrev x : SlotView
   x = (slot, taken, get_or replies slot Done)
 
-  abbrev behind : List Place
+  abbrev behind : List SlotView
   behind = map (place_at row replies) (without slot (chain_at row 3))
 
   whole : p.lines.logged ≡ x ∷ behind

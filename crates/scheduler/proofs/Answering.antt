@@ -12,15 +12,15 @@ use Rattle.legal_runs.proofs.Lists.{all_back, all_front}
 use Rattle.legal_runs.proofs.Moves.{Answers}
 use Rattle.legal_runs.proofs.Sound.{move_sound}
 use Rattle.legal_runs.specs.Laws.{AreApart}
-use Rattle.legal_runs.specs.World.{Entry, entries, touches}
+use Rattle.legal_runs.specs.World.{Entry, entries, are_related_entries}
 use Rattle.message.specs.Messages.{place}
 use Rattle.scheduler.proofs.Tests.{any_answered, any_filter}
 use Rattle.scheduler.specs.Parts.{IsCore, IsPlaced, Parts, entry_of, replied_of, turn_of, world_in}
-use Rattle.scheduler.specs.Slots.{Place}
+use Rattle.scheduler.specs.Slots.{SlotView}
 use Rattle.turns.specs.Turns.{has_number, without_number}
 
 -- Two places at one affinity are related.
-pub same_number : (g : Geometry) (x y : Place) → IsPlaced g x → IsPlaced g y → y.1.affinity.number ≡ x.1.affinity.number → touches g (entry_of x) (entry_of y) ≡ true
+pub same_number : (g : Geometry) (x y : SlotView) → IsPlaced g x → IsPlaced g y → y.1.affinity.number ≡ x.1.affinity.number → are_related_entries g (entry_of x) (entry_of y) ≡ true
 same_number g x y a b same =
     sym (are_related-contains g (place g x.1.message) (place g y.1.message) x.1.affinity y.1.affinity a.affinity b.affinity)
     ∙ (λ i. contains x.1.affinity (same i) || contains y.1.affinity (sym same i))
@@ -33,30 +33,30 @@ same_number g x y a b same =
     itself : contains x.1.affinity x.1.affinity.number ≡ true
     itself = turned _ (are_related-contains g (place g x.1.message) (place g x.1.message) x.1.affinity x.1.affinity a.affinity a.affinity ∙ are_related-refl (place g x.1.message))
 
-other_number : (g : Geometry) (x y : Place) → IsPlaced g x → IsPlaced g y → touches g (entry_of x) (entry_of y) ≡ false → not (has_number x.1.affinity.number (turn_of y)) ≡ true
+other_number : (g : Geometry) (x y : SlotView) → IsPlaced g x → IsPlaced g y → are_related_entries g (entry_of x) (entry_of y) ≡ false → not (has_number x.1.affinity.number (turn_of y)) ≡ true
 other_number g x y a b apart = elim (eqb_tells y.1.affinity.number x.1.affinity.number) [
   | inl e ↦ absurd (true≢false (sym (same_number g x y a b e.1) ∙ apart))
   | inr n ↦ ap not n.0
 ]
 
-pub other_numbers : (g : Geometry) (x : Place) → IsPlaced g x → (ys : List Place) → AllByRecursion (IsPlaced g) ys → AllByRecursion (λ d. touches g (entry_of x) d ≡ false) (map entry_of ys)
+pub other_numbers : (g : Geometry) (x : SlotView) → IsPlaced g x → (ys : List SlotView) → AllByRecursion (IsPlaced g) ys → AllByRecursion (λ d. are_related_entries g (entry_of x) d ≡ false) (map entry_of ys)
     → AllByRecursion (λ y. not (has_number x.1.affinity.number (turn_of y)) ≡ true) ys
 other_numbers g x a [] all apart = tt
 other_numbers g x a (y ∷ ys) all apart = (other_number g x y a all.0 apart.0, other_numbers g x a ys all.1 apart.1)
 
 -- the entries of those that ran or are logged
-pub entries_of : (ys : List Place) → entries (map replied_of ys) ≡ map entry_of ys
+pub entries_of : (ys : List SlotView) → entries (map replied_of ys) ≡ map entry_of ys
 entries_of [] = refl
 entries_of (y ∷ ys) = ap (λ es. entry_of y ∷ es) (entries_of ys)
 
-abbrev pub with_answer : Parts → List Place → ℕ → ℕ → Parts
+abbrev pub with_answer : Parts → List SlotView → ℕ → ℕ → Parts
 with_answer p logged free number = record p {
   lines = record p.lines { logged = logged };
   free = free;
   turns = record p.turns { held = without_number number p.turns.held };
 }
 
-module _ (keeps : Type 0) (p : Parts) (k : IsCore keeps p) (x : Place) (behind : List Place) (whole : p.lines.logged ≡ x ∷ behind) (free : ℕ)
+module _ (keeps : Type 0) (p : Parts) (k : IsCore keeps p) (x : SlotView) (behind : List SlotView) (whole : p.lines.logged ≡ x ∷ behind) (free : ℕ)
     (is_free : free ≡ suc p.free) where
   abbrev after : Parts
   after = with_answer p behind free x.1.affinity.number
@@ -70,22 +70,22 @@ module _ (keeps : Type 0) (p : Parts) (k : IsCore keeps p) (x : Place) (behind :
   pub answer_front : (world_in p).logged ≡ replied_of x ∷ (world_in after).logged
   answer_front = ap (map replied_of) whole
 
-  apart_rest : AllByRecursion (λ d. touches g (entry_of x) d ≡ false) (entries (map replied_of behind) ++ (entries (map replied_of p.lines.ran) ++ map entry_of p.lines.out))
+  apart_rest : AllByRecursion (λ d. are_related_entries g (entry_of x) d ≡ false) (entries (map replied_of behind) ++ (entries (map replied_of p.lines.ran) ++ map entry_of p.lines.out))
   apart_rest = (subst (λ l. AreApart g (entries l ++ (entries (map replied_of p.lines.ran) ++ map entry_of p.lines.out))) answer_front k.sound.apart).0
 
   T : Entry → Type 0
-  T d = touches g (entry_of x) d ≡ false
+  T d = are_related_entries g (entry_of x) d ≡ false
 
   pub answer_core : IsCore keeps after
   answer_core =
       let count = ap length whole in
       let claimed = k.claimed in
-      let rest = all_back (λ d. touches g (entry_of x) d ≡ false) (entries (map replied_of behind)) _ apart_rest in
-      let behinds = subst (AllByRecursion (λ d. touches g (entry_of x) d ≡ false)) (entries_of behind)
-      (all_front (λ d. touches g (entry_of x) d ≡ false) (entries (map replied_of behind)) _ apart_rest) in
-      let rans = subst (AllByRecursion (λ d. touches g (entry_of x) d ≡ false)) (entries_of p.lines.ran)
-      (all_front (λ d. touches g (entry_of x) d ≡ false) (entries (map replied_of p.lines.ran)) _ rest) in
-      let outs = all_back (λ d. touches g (entry_of x) d ≡ false) (entries (map replied_of p.lines.ran)) _ rest in
+      let rest = all_back (λ d. are_related_entries g (entry_of x) d ≡ false) (entries (map replied_of behind)) _ apart_rest in
+      let behinds = subst (AllByRecursion (λ d. are_related_entries g (entry_of x) d ≡ false)) (entries_of behind)
+      (all_front (λ d. are_related_entries g (entry_of x) d ≡ false) (entries (map replied_of behind)) _ apart_rest) in
+      let rans = subst (AllByRecursion (λ d. are_related_entries g (entry_of x) d ≡ false)) (entries_of p.lines.ran)
+      (all_front (λ d. are_related_entries g (entry_of x) d ≡ false) (entries (map replied_of p.lines.ran)) _ rest) in
+      let outs = all_back (λ d. are_related_entries g (entry_of x) d ≡ false) (entries (map replied_of p.lines.ran)) _ rest in
       record {
         claimed = omega (arith, count, claimed, is_free);
         placed = record { waiting = k.placed.waiting; out = k.placed.out; ran = k.placed.ran; logged = all_logged.1 };

@@ -7,7 +7,7 @@ use Rattle.std.proofs.lemmas.List.Folds.{list_any-append}
 use Rattle.arena.proofs.Times.{times-cons_is, times-cons_other}
 use Rattle.arena.specs.Lists.{times}
 use Rattle.arena.specs.Row.{IsParted, Row, after_move, after_put, capacity_of, chain_at, put_answer, put_into, slot_from}
-use Rattle.journal.specs.Journal.{Held}
+use Rattle.journal.specs.Journal.{JournalView}
 use Rattle.legal_runs.proofs.Lists.{all_back}
 use Rattle.legal_runs.specs.Events.{arrive}
 use Rattle.legal_runs.specs.World.{Entry, held}
@@ -23,7 +23,7 @@ use Rattle.scheduler.proofs.Choosing.{any_map}
 use Rattle.scheduler.proofs.Counting.{count_of}
 use Rattle.scheduler.proofs.Lines.{JoinedLines, line_joined}
 use Rattle.scheduler.specs.Parts.{IsCore, IsPlaced, Parts, entry_of, parts, turn_of, world_in}
-use Rattle.scheduler.specs.Slots.{HasChains, Place, line, place_at}
+use Rattle.scheduler.specs.Slots.{HasChains, SlotView, line, place_at}
 use Rattle.scheduler.specs.declared.slot.Slot.{Slot}
 use Rattle.turns.specs.Turns.{CameBefore, Queuing, has_slot as has_slot_of}
 
@@ -46,11 +46,11 @@ off_line row replies i (x ∷ xs) none = elim (eqb_tells x i) [
 pub not_this : (n m : ℕ) → (n ≡ m → ⊥) → (n == m) ≡ false
 not_this n m other = elim (eqb_tells n m) [ inl e ↦ absurd (other e.1) | inr e ↦ e.0 ]
 
-came_before : (ticket : ℕ) (ys : List Place) → AllByRecursion (λ e. e.0 < ticket) (map entry_of ys) → CameBefore ticket (map turn_of ys)
+came_before : (ticket : ℕ) (ys : List SlotView) → AllByRecursion (λ e. e.0 < ticket) (map entry_of ys) → CameBefore ticket (map turn_of ys)
 came_before ticket [] all = tt
 came_before ticket (y ∷ ys) all = (all.0, came_before ticket ys all.1)
 
-module _ (keeps : Type 0) (row : Row Slot) (replies : List Reply) (tree : TreeView) (journal : Held) (turns : Queuing) (batch : List Msg) (next flight : ℕ)
+module _ (keeps : Type 0) (row : Row Slot) (replies : List Reply) (tree : TreeView) (journal : JournalView) (turns : Queuing) (batch : List Msg) (next flight : ℕ)
     (opened : TreeView) (since : List Msg) (is : HasChains row)
     (k : IsCore keeps (parts row replies tree journal turns batch next flight opened since)) (value : Slot) where
   abbrev p : Parts
@@ -100,7 +100,7 @@ module _ (keeps : Type 0) (row : Row Slot) (replies : List Reply) (tree : TreeVi
     pub arrive_slot : slot < turns.slots
     arrive_slot = let low = lines.low in let seats = k.seats in omega (arith, low, seats)
 
-    line_off : (c : ℕ) → list_any (λ (y : Place). y.0 == slot) (line row replies c) ≡ false
+    line_off : (c : ℕ) → list_any (λ (y : SlotView). y.0 == slot) (line row replies c) ≡ false
     line_off c = off_line row replies slot (chain_at row c) (lines.none_had c)
 
     pub arrive_new : list_any (has_slot_of slot) (turns.waiting ++ turns.held) ≡ false
@@ -109,7 +109,7 @@ module _ (keeps : Type 0) (row : Row Slot) (replies : List Reply) (tree : TreeVi
         ∙ (λ i. (ap (list_any (has_slot_of slot)) k.waits ∙ any_map turn_of (has_slot_of slot) p.lines.waiting ∙ line_off 0) i || k.holds (has_slot_of slot) i)
         ∙ (λ i. line_off 3 i || (line_off 2 i || line_off 1 i))
 
-    abbrev x : Place
+    abbrev x : SlotView
     x = (slot, value, get_or replies slot Done)
 
     abbrev turned : Queuing

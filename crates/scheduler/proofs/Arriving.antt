@@ -4,13 +4,13 @@ use Rattle.std.proofs.lemmas.List.{length-append, map-append}
 use Rattle.legal_runs.proofs.Lists.{all_join}
 use Rattle.legal_runs.proofs.Moves.{Arrives}
 use Rattle.legal_runs.proofs.Sound.{move_sound}
-use Rattle.legal_runs.specs.Laws.{IsSound}
+use Rattle.legal_runs.specs.Laws.{IsSoundWorld}
 use Rattle.legal_runs.specs.World.{held}
 use Rattle.scheduler.proofs.Counting.{count_of}
 use Rattle.scheduler.specs.Parts.{IsCore, IsPlaced, Parts, entry_of, turn_of, world_in}
-use Rattle.scheduler.specs.Slots.{Place}
+use Rattle.scheduler.specs.Slots.{SlotView}
 
-abbrev pub with_arrival : Parts → Place → ℕ → Parts
+abbrev pub with_arrival : Parts → SlotView → ℕ → Parts
 with_arrival p x free = record p {
   lines = record p.lines { waiting = p.lines.waiting ++ x ∷ [] };
   free = free;
@@ -18,7 +18,7 @@ with_arrival p x free = record p {
   turns = record p.turns { waiting = p.turns.waiting ++ turn_of x ∷ [] };
 }
 
-module _ (keeps : Type 0) (p : Parts) (k : IsCore keeps p) (x : Place) (free : ℕ) (ticket : x.1.ticket ≡ p.next) (placed : IsPlaced p.journal.geometry x)
+module _ (keeps : Type 0) (p : Parts) (k : IsCore keeps p) (x : SlotView) (free : ℕ) (ticket : x.1.ticket ≡ p.next) (placed : IsPlaced p.journal.geometry x)
     (was_free : p.free ≡ suc free) where
   pub arrival_world : world_in (with_arrival p x free)
       ≡ record (world_in p) { waiting = (world_in p).waiting ++ (p.next, x.1.message) ∷ []; next = p.next + 1 }
@@ -46,7 +46,7 @@ module _ (keeps : Type 0) (p : Parts) (k : IsCore keeps p) (x : Place) (free : �
         waits = ap (λ ts. ts ++ turn_of x ∷ []) k.waits ∙ sym (map-append turn_of p.lines.waiting (x ∷ []));
         holds = k.holds;
         flies = k.flies;
-        sound = subst (IsSound p.journal.geometry) (sym arrival_world)
+        sound = subst (IsSoundWorld p.journal.geometry) (sym arrival_world)
             (move_sound p.journal.geometry (world_in p) _ _ (Arrives x.1.message has_slot refl refl) k.sound);
         geometry = k.geometry;
         tree = k.tree;

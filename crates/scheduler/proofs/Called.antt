@@ -16,18 +16,18 @@ use Rattle.legal_runs.specs.declared.outcomes.PointRefusal.TheVariants as points
 use Rattle.legal_runs.specs.declared.outcomes.Step.TheVariants as steps
 use Rattle.message.specs.declared.Msg.{Msg}
 use Rattle.message.specs.declared.Reply.{Reply}
-use Rattle.scheduler.specs.Calls.{IsCalled, IsLogStep, IsPieceStep, IsPointStep, answered, arrived, log_rose, logged, point_rose, stepped}
+use Rattle.scheduler.specs.Calls.{IsCalled, IsLogStep, IsPieceStep, IsPointStep, answer_outcome, arrive_outcome, log_rose, log_outcome, point_rose, step_outcome}
 
 abbrev In : World → List Hand → Hands
 In w hands = record { core = w; hands = hands }
 
 module _ (g : Geometry) (old new : World) where
-  pub arrive_called : (m : Msg) (r : Result ℕ ArriveRefusal) → (arrived r, new) ≡ arrive g old m
-      → IsCalled g old new (steps.Arrive m) (arrived r) false
+  pub arrive_called : (m : Msg) (r : Result ℕ ArriveRefusal) → (arrive_outcome r, new) ≡ arrive g old m
+      → IsCalled g old new (steps.Arrive m) (arrive_outcome r) false
   arrive_called m r e hands =
       record { to_write = 0; at_most = omega arith; does = ap (λ (x : Outcome × World). (x.0, In x.1 hands)) (sym e) }
 
-  pub answer_called : (r : Option (ℕ × Reply)) → (answered r, new) ≡ answer old old.logged → IsCalled g old new steps.Answer (answered r) false
+  pub answer_called : (r : Option (ℕ × Reply)) → (answer_outcome r, new) ≡ answer old old.logged → IsCalled g old new steps.Answer (answer_outcome r) false
   answer_called r e hands =
       record { to_write = 0; at_most = omega arith; does = ap (λ (x : Outcome × World). (x.0, In x.1 hands)) (sym e) }
 
@@ -35,7 +35,7 @@ module _ (g : Geometry) (old new : World) where
   abbrev log_if : ℕ → Bool → Outcome × World
   log_if n b = if b then (outcomes.LogFault faults.Failed, old) else (outcomes.Logged (length (take n old.ran)), log g old n)
 
-  pub log_called : (n : ℕ) (r : Result ℕ CoreFault) → IsLogStep g old new n r → IsCalled g old new (steps.Log n) (logged r) (log_rose r)
+  pub log_called : (n : ℕ) (r : Result ℕ CoreFault) → IsLogStep g old new n r → IsCalled g old new (steps.Log n) (log_outcome r) (log_rose r)
   log_called n (Ok count) h hands = record {
     to_write = 0;
     at_most = omega arith;
@@ -69,7 +69,7 @@ module _ (g : Geometry) (old new : World) where
   carried hands why outcome made e is = ap (λ o. By hands o (outcome, made)) e ∙ (λ i. (outcome, In (sym is i) hands))
 
   pub point_called : (r : Result (Unit {0}) PointRefusal) → IsPointStep old new (point_refusal old) (new ≡ record old { room = g.half }) r
-      → IsCalled g old new steps.Point (stepped (λ _. outcomes.Pointed) r) (point_rose r)
+      → IsCalled g old new steps.Point (step_outcome (λ _. outcomes.Pointed) r) (point_rose r)
   point_called (Ok u) h hands = record { to_write = 0; at_most = omega arith; does = carried hands (point_refusal old) outcomes.Pointed _ h.0 h.1 }
   point_called (Err points.Device) h hands =
       record { touched = ap is_none h.0; core = λ i. (outcomes.PointRefused points.Device, sym h.1 i); hands = refl }
@@ -83,7 +83,7 @@ module _ (g : Geometry) (old new : World) where
   HasCut = (n : ℕ) × (n ≤ piece_count g) × (new ≡ record old { room = g.half; left = Some n })
 
   pub cut_called : (r : Result (Unit {0}) PointRefusal) → IsPointStep old new (point_refusal old) HasCut r
-      → IsCalled g old new steps.Cut (stepped (λ _. outcomes.Cut) r) (point_rose r)
+      → IsCalled g old new steps.Cut (step_outcome (λ _. outcomes.Cut) r) (point_rose r)
   cut_called (Ok u) h hands = record { to_write = h.1.0; at_most = h.1.1; does = carried hands (point_refusal old) outcomes.Cut _ h.0 h.1.2 }
   cut_called (Err points.Device) h hands =
       record { touched = ap is_none h.0; core = λ i. (outcomes.PointRefused points.Device, sym h.1 i); hands = refl }
@@ -93,7 +93,7 @@ module _ (g : Geometry) (old new : World) where
   cut_called (Err points.NotRunning) h hands = record { to_write = 0; at_most = omega arith; does = refused hands (point_refusal old) _ points.NotRunning h.0 h.1 }
   cut_called (Err points.Unfinished) h hands = record { to_write = 0; at_most = omega arith; does = refused hands (point_refusal old) _ points.Unfinished h.0 h.1 }
 
-  pub piece_called : (r : Result ℕ PointRefusal) → IsPieceStep old new r → IsCalled g old new steps.Piece (stepped outcomes.Left r) (point_rose r)
+  pub piece_called : (r : Result ℕ PointRefusal) → IsPieceStep old new r → IsCalled g old new steps.Piece (step_outcome outcomes.Left r) (point_rose r)
   piece_called (Ok n) h hands = record {
     to_write = 0;
     at_most = omega arith;
@@ -113,7 +113,7 @@ module _ (g : Geometry) (old new : World) where
   piece_called (Err points.Unfinished) h hands = record { to_write = 0; at_most = omega arith; does = refused hands (piece_refusal old) _ points.Unfinished h.0 h.1 }
 
   pub flip_called : (r : Result (Unit {0}) PointRefusal) → IsPointStep old new (flip_refusal old) (new ≡ record old { left = None }) r
-      → IsCalled g old new steps.Flip (stepped (λ _. outcomes.Flipped) r) (point_rose r)
+      → IsCalled g old new steps.Flip (step_outcome (λ _. outcomes.Flipped) r) (point_rose r)
   flip_called (Ok u) h hands = record { to_write = 0; at_most = omega arith; does = carried hands (flip_refusal old) outcomes.Flipped _ h.0 h.1 }
   flip_called (Err points.Device) h hands =
       record { touched = ap is_none h.0; core = λ i. (outcomes.PointRefused points.Device, sym h.1 i); hands = refl }

@@ -11,13 +11,13 @@ use Rattle.affinity.specs.declared.geometry.Geometry.{Geometry}
 use Rattle.legal_runs.specs.Eligible.{has_room as has_room_for, is_clear as is_clear_in, is_eligible, lacks_room_alone, next_eligible, pick}
 use Rattle.legal_runs.specs.Events.{no_grant}
 use Rattle.legal_runs.specs.Laws.{AreAscending}
-use Rattle.legal_runs.specs.World.{Entry, World, entries, entry, touches}
+use Rattle.legal_runs.specs.World.{Entry, World, entries, entry, are_related_entries}
 use Rattle.legal_runs.specs.declared.outcomes.Outcome.TheVariants as outcomes
 use Rattle.message.specs.Messages.{place}
 use Rattle.scheduler.specs.Parts.{ArePlaced, IsCore, IsPlaced, Parts, entry_of, held_any, replied_of, turn_of, world_in}
-use Rattle.scheduler.specs.Slots.{Lines, Place}
+use Rattle.scheduler.specs.Slots.{Lines, SlotView}
 use Rattle.turns.proofs.ByTicket.{Ascend, comes_first, is_clear, next_is_first}
-use Rattle.turns.specs.Turns.{has_room, next_turn, overlap}
+use Rattle.turns.specs.Turns.{has_room, next_turn, are_related_intervals}
 use Rattle.turns.specs.declared.entries.Turn.{Turn}
 
 -- ---- tests of lists
@@ -38,58 +38,58 @@ all_of P Q f (x ∷ xs) all = (f x all.0, all_of P Q f xs all.1)
 
 module _ (g : Geometry) where
   -- affinities overlap exactly where places are related
-  pub overlaps : (x y : Place) → IsPlaced g x → IsPlaced g y → overlap (turn_of x).affinity (turn_of y).affinity ≡ touches g (entry_of x) (entry_of y)
+  pub overlaps : (x y : SlotView) → IsPlaced g x → IsPlaced g y → are_related_intervals (turn_of x).affinity (turn_of y).affinity ≡ are_related_entries g (entry_of x) (entry_of y)
   overlaps x y a b = are_related-contains g (place g x.1.message) (place g y.1.message) x.1.affinity y.1.affinity a.affinity b.affinity
 
-  line_touch : (x : Place) → IsPlaced g x → (ys : List Place) → AllByRecursion (IsPlaced g) ys
-      → list_any (λ y. overlap (turn_of x).affinity (turn_of y).affinity) ys ≡ list_any (λ y. touches g (entry_of x) (entry_of y)) ys
+  line_touch : (x : SlotView) → IsPlaced g x → (ys : List SlotView) → AllByRecursion (IsPlaced g) ys
+      → list_any (λ y. are_related_intervals (turn_of x).affinity (turn_of y).affinity) ys ≡ list_any (λ y. are_related_entries g (entry_of x) (entry_of y)) ys
   line_touch x a ys all = any_same (IsPlaced g) _ _ (λ y b. overlaps x y a b) ys all
 
-  entries_touch : (e : Entry) (ys : List Place) → list_any (touches g e) (entries (map replied_of ys)) ≡ list_any (λ y. touches g e (entry_of y)) ys
-  entries_touch e ys = any_map entry (touches g e) (map replied_of ys) ∙ any_map replied_of (λ a. touches g e (entry a)) ys
+  entries_touch : (e : Entry) (ys : List SlotView) → list_any (are_related_entries g e) (entries (map replied_of ys)) ≡ list_any (λ y. are_related_entries g e (entry_of y)) ys
+  entries_touch e ys = any_map entry (are_related_entries g e) (map replied_of ys) ∙ any_map replied_of (λ a. are_related_entries g e (entry a)) ys
 
-  pub held_touch : (l : Lines) → ArePlaced g l → (x : Place) → IsPlaced g x
-      → held_any (λ o. overlap (turn_of x).affinity o.affinity) l
-      ≡ list_any (touches g (entry_of x)) (entries (map replied_of l.logged) ++ (entries (map replied_of l.ran) ++ map entry_of l.out))
+  pub held_touch : (l : Lines) → ArePlaced g l → (x : SlotView) → IsPlaced g x
+      → held_any (λ o. are_related_intervals (turn_of x).affinity o.affinity) l
+      ≡ list_any (are_related_entries g (entry_of x)) (entries (map replied_of l.logged) ++ (entries (map replied_of l.ran) ++ map entry_of l.out))
   held_touch l placed x a =
       let e = entry_of x in
       (λ i. line_touch x a l.logged placed.logged i || (line_touch x a l.ran placed.ran i || line_touch x a l.out placed.out i))
-      ∙ (λ i. sym (entries_touch e l.logged) i || (sym (entries_touch e l.ran) i || sym (any_map entry_of (touches g e) l.out) i))
-      ∙ ap (λ b. list_any (touches g e) (entries (map replied_of l.logged)) || b)
-      (sym (list_any-append (touches g e) (entries (map replied_of l.ran)) (map entry_of l.out)))
-      ∙ sym (list_any-append (touches g e) (entries (map replied_of l.logged)) (entries (map replied_of l.ran) ++ map entry_of l.out))
+      ∙ (λ i. sym (entries_touch e l.logged) i || (sym (entries_touch e l.ran) i || sym (any_map entry_of (are_related_entries g e) l.out) i))
+      ∙ ap (λ b. list_any (are_related_entries g e) (entries (map replied_of l.logged)) || b)
+      (sym (list_any-append (are_related_entries g e) (entries (map replied_of l.ran)) (map entry_of l.out)))
+      ∙ sym (list_any-append (are_related_entries g e) (entries (map replied_of l.logged)) (entries (map replied_of l.ran) ++ map entry_of l.out))
 
-  pub waits_touch : (ys : List Place) → AllByRecursion (IsPlaced g) ys → (x : Place) → IsPlaced g x
-      → list_any (comes_first (turn_of x)) (map turn_of ys) ≡ list_any (λ d. nat_lt d.0 (entry_of x).0 && touches g (entry_of x) d) (map entry_of ys)
+  pub waits_touch : (ys : List SlotView) → AllByRecursion (IsPlaced g) ys → (x : SlotView) → IsPlaced g x
+      → list_any (comes_first (turn_of x)) (map turn_of ys) ≡ list_any (λ d. nat_lt d.0 (entry_of x).0 && are_related_entries g (entry_of x) d) (map entry_of ys)
   waits_touch ys all x a =
       any_map turn_of (comes_first (turn_of x)) ys
-      ∙ any_same (IsPlaced g) (λ y. comes_first (turn_of x) (turn_of y)) (λ y. nat_lt (entry_of y).0 (entry_of x).0 && touches g (entry_of x) (entry_of y))
+      ∙ any_same (IsPlaced g) (λ y. comes_first (turn_of x) (turn_of y)) (λ y. nat_lt (entry_of y).0 (entry_of x).0 && are_related_entries g (entry_of x) (entry_of y))
       (λ y b. ap (λ t. nat_lt (turn_of y).ticket (turn_of x).ticket && t) (overlaps x y a b)) ys all
-      ∙ sym (any_map entry_of (λ d. nat_lt d.0 (entry_of x).0 && touches g (entry_of x) d) ys)
+      ∙ sym (any_map entry_of (λ d. nat_lt d.0 (entry_of x).0 && are_related_entries g (entry_of x) d) ys)
 
 -- ---- the one that is found
 
-pub ascend_from : (ys : List Place) → AreAscending (map entry_of ys) → Ascend (map turn_of ys)
+pub ascend_from : (ys : List SlotView) → AreAscending (map entry_of ys) → Ascend (map turn_of ys)
 ascend_from [] h = tt
 ascend_from (y ∷ ys) h = (later y ys h.0, ascend_from ys h.1)
   where
-    later : (y : Place) (ys : List Place) → AllByRecursion (λ d. (entry_of y).0 < d.0) (map entry_of ys) → AllByRecursion (λ t. (turn_of y).ticket < t.ticket) (map turn_of ys)
+    later : (y : SlotView) (ys : List SlotView) → AllByRecursion (λ d. (entry_of y).0 < d.0) (map entry_of ys) → AllByRecursion (λ t. (turn_of y).ticket < t.ticket) (map turn_of ys)
     later y [] h = tt
     later y (z ∷ ys) h = (h.0, later y ys h.1)
 
 -- A place among others, of which the message is the first that passes.
-pub record Chosen (q : Entry → Bool) (ys : List Place) (t : Turn) : Type 0 where
-  pub before : List Place
-  pub at : Place
-  pub behind : List Place
+pub record Chosen (q : Entry → Bool) (ys : List SlotView) (t : Turn) : Type 0 where
+  pub before : List SlotView
+  pub at : SlotView
+  pub behind : List SlotView
   pub whole : ys ≡ before ++ at ∷ behind
   pub turn : turn_of at ≡ t
   pub picked : pick q (map entry_of ys) ≡ Some (entry_of at, map entry_of (before ++ behind))
 
-abbrev Same : (Turn → Bool) → (Entry → Bool) → List Place → Type 0
+abbrev Same : (Turn → Bool) → (Entry → Bool) → List SlotView → Type 0
 Same p q ys = AllByRecursion (λ y. p (turn_of y) ≡ q (entry_of y)) ys
 
-pub chosen : (p : Turn → Bool) (q : Entry → Bool) (ys : List Place) → Same p q ys → (t : Turn) → find p (map turn_of ys) ≡ Some t → Chosen q ys t
+pub chosen : (p : Turn → Bool) (q : Entry → Bool) (ys : List SlotView) → Same p q ys → (t : Turn) → find p (map turn_of ys) ≡ Some t → Chosen q ys t
 chosen p q [] same t h = absurd (none-some t h)
 chosen p q (y ∷ ys) same t h = by (chosen p q ys same.1 t) (p (turn_of y)) refl h
   where
@@ -115,7 +115,7 @@ chosen p q (y ∷ ys) same t h = by (chosen p q ys same.1 t) (p (turn_of y)) ref
           ∙ ap (λ o. option_map (λ (found : Entry × List Entry). (found.0, entry_of y ∷ found.1)) o) k.picked;
     }
 
-pub none_chosen : (p : Turn → Bool) (q : Entry → Bool) (ys : List Place) → Same p q ys → find p (map turn_of ys) ≡ None → list_any q (map entry_of ys) ≡ false
+pub none_chosen : (p : Turn → Bool) (q : Entry → Bool) (ys : List SlotView) → Same p q ys → find p (map turn_of ys) ≡ None → list_any q (map entry_of ys) ≡ false
 none_chosen p q [] same h = refl
 none_chosen p q (y ∷ ys) same h = by (none_chosen p q ys same.1) (p (turn_of y)) refl h
   where
@@ -124,7 +124,7 @@ none_chosen p q (y ∷ ys) same h = by (none_chosen p q ys same.1) (p (turn_of y
     by deeper true e h = absurd (true≢false (ap is_some h))
     by deeper false e h = (λ i. (sym same.0 ∙ e) i || list_any q (map entry_of ys)) ∙ deeper h
 
-pub some_chosen : (p : Turn → Bool) (q : Entry → Bool) (ys : List Place) → Same p q ys → (t : Turn) → find p (map turn_of ys) ≡ Some t → list_any q (map entry_of ys) ≡ true
+pub some_chosen : (p : Turn → Bool) (q : Entry → Bool) (ys : List SlotView) → Same p q ys → (t : Turn) → find p (map turn_of ys) ≡ Some t → list_any q (map entry_of ys) ≡ true
 some_chosen p q [] same t h = absurd (none-some t h)
 some_chosen p q (y ∷ ys) same t h = by (some_chosen p q ys same.1 t) (p (turn_of y)) refl h
   where
@@ -157,9 +157,9 @@ module _ (keeps : Type 0) (p : Parts) (k : IsCore keeps p) where
   abbrev w : World
   w = world_in p
 
-  clear_same : (x : Place) → IsPlaced geometry x → is_clear p.turns.held p.turns.waiting (turn_of x) ≡ is_clear_in geometry w (entry_of x)
+  clear_same : (x : SlotView) → IsPlaced geometry x → is_clear p.turns.held p.turns.waiting (turn_of x) ≡ is_clear_in geometry w (entry_of x)
   clear_same x a = λ i.
-      not ((k.holds (λ o. overlap (turn_of x).affinity o.affinity) ∙ held_touch geometry p.lines k.placed x a) i)
+      not ((k.holds (λ o. are_related_intervals (turn_of x).affinity o.affinity) ∙ held_touch geometry p.lines k.placed x a) i)
       && not ((ap (list_any (comes_first (turn_of x))) k.waits ∙ waits_touch geometry p.lines.waiting k.placed.waiting x a) i)
 
   or_turned : (a b : Bool) → (a || not b) ≡ (not b || a)
@@ -169,7 +169,7 @@ module _ (keeps : Type 0) (p : Parts) (k : IsCore keeps p) where
   or_turned false false = refl
 
   module _ (room : Bool) (is_room : room ≡ nat_lt p.flight p.journal.room) where
-    room_same : (x : Place) → has_room room (turn_of x) ≡ has_room_for w (entry_of x)
+    room_same : (x : SlotView) → has_room room (turn_of x) ≡ has_room_for w (entry_of x)
     room_same x = or_turned room (turn_of x).changing
         ∙ ap (λ b. not (turn_of x).changing || b) (is_room ∙ ap (λ n. nat_lt n p.journal.room) k.flies)
 

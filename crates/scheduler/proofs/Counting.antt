@@ -7,27 +7,27 @@ use Rattle.legal_runs.specs.Eligible.{changes, in_flight}
 use Rattle.legal_runs.specs.World.{Entry, Replied, held}
 use Rattle.legal_runs.proofs.Apart.{length_held}
 use Rattle.scheduler.specs.Parts.{Parts, entry_of, replied_of, world_in}
-use Rattle.scheduler.specs.Slots.{Place}
+use Rattle.scheduler.specs.Slots.{SlotView}
 
 -- how many changing messages are at these places
-abbrev pub changing : List Place → ℕ
+abbrev pub changing : List SlotView → ℕ
 changing xs = count_by (λ x. changes x.1.message) xs
 
-abbrev pub one_for : Place → ℕ
+abbrev pub one_for : SlotView → ℕ
 one_for x = cond (changes x.1.message) 1 0
 
-pub changing-append : (xs ys : List Place) → changing (xs ++ ys) ≡ changing xs + changing ys
-changing-append xs ys = sum_by-append (λ (x : Place). cond (changes x.1.message) 1 0) xs ys
+pub changing-append : (xs ys : List SlotView) → changing (xs ++ ys) ≡ changing xs + changing ys
+changing-append xs ys = sum_by-append (λ (x : SlotView). cond (changes x.1.message) 1 0) xs ys
 
-pub changing-cons : (x : Place) (xs : List Place) → changing (x ∷ xs) ≡ one_for x + changing xs
-changing-cons x xs = sum_by-cons (λ (x : Place). cond (changes x.1.message) 1 0) x xs
+pub changing-cons : (x : SlotView) (xs : List SlotView) → changing (x ∷ xs) ≡ one_for x + changing xs
+changing-cons x xs = sum_by-cons (λ (x : SlotView). cond (changes x.1.message) 1 0) x xs
 
-out_changing : (xs : List Place) → count_by (λ (e : Entry). changes e.1) (map entry_of xs) ≡ changing xs
+out_changing : (xs : List SlotView) → count_by (λ (e : Entry). changes e.1) (map entry_of xs) ≡ changing xs
 out_changing [] = refl
 out_changing (x ∷ xs) = sum_by-cons (λ (e : Entry). cond (changes e.1) 1 0) (entry_of x) (map entry_of xs)
     ∙ ap (λ n. one_for x + n) (out_changing xs) ∙ sym (changing-cons x xs)
 
-ran_changing : (xs : List Place) → count_by (λ (a : Replied). changes a.1) (map replied_of xs) ≡ changing xs
+ran_changing : (xs : List SlotView) → count_by (λ (a : Replied). changes a.1) (map replied_of xs) ≡ changing xs
 ran_changing [] = refl
 ran_changing (x ∷ xs) = sum_by-cons (λ (a : Replied). cond (changes a.1) 1 0) (replied_of x) (map replied_of xs)
     ∙ ap (λ n. one_for x + n) (ran_changing xs) ∙ sym (changing-cons x xs)

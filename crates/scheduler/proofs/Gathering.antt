@@ -24,7 +24,7 @@ use Rattle.scheduler.proofs.Shifting.{left_over, some_first}
 use Rattle.scheduler.proofs.Splits.{times-split}
 use Rattle.scheduler.specs.Moving.{changing_in, gathered}
 use Rattle.scheduler.specs.Parts.{replied_of}
-use Rattle.scheduler.specs.Slots.{HasChains, Place, no_slot, place_at}
+use Rattle.scheduler.specs.Slots.{HasChains, SlotView, no_slot, place_at}
 use Rattle.scheduler.specs.declared.slot.Slot.{Slot}
 
 -- ---- the slot behind one on its chain
@@ -95,7 +95,7 @@ take_one n i xs e = let count : n + 1 ≡ suc n = omega arith in ap (λ (m : ℕ
 
 gathered_append : (row : Row Slot) (replies : List Reply) (xs ys : List ℕ) → gathered row replies (xs ++ ys) ≡ gathered row replies xs ++ gathered row replies ys
 gathered_append row replies xs ys =
-    ap (λ (l : List Place). loggable (map replied_of l)) (map-append (place_at row replies) xs ys)
+    ap (λ (l : List SlotView). loggable (map replied_of l)) (map-append (place_at row replies) xs ys)
     ∙ ap loggable (map-append replied_of (map (place_at row replies) xs) (map (place_at row replies) ys))
     ∙ ap (λ (l : List Replied). map (λ (a : Replied). a.1) l)
     (filter-append (λ (a : Replied). is_loggable a.1 a.2) (map replied_of (map (place_at row replies) xs)) (map replied_of (map (place_at row replies) ys)))

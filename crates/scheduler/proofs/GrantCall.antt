@@ -12,7 +12,7 @@ use Rattle.arena.proofs.RowLemmas.{chained-holds, chained-once}
 use Rattle.arena.proofs.Times.{times-append, times-cons_is, times-cons_other, times-cons_same}
 use Rattle.arena.specs.Lists.{times}
 use Rattle.arena.specs.Row.{IsParted, Row, after_move, capacity_of, chain_at, value_at}
-use Rattle.journal.specs.Journal.{Held}
+use Rattle.journal.specs.Journal.{JournalView}
 use Rattle.legal_runs.proofs.Lists.{all_back, all_join}
 use Rattle.legal_runs.specs.Eligible.{is_eligible}
 use Rattle.legal_runs.specs.Events.{grant}
@@ -22,7 +22,7 @@ use Rattle.message.specs.declared.Msg.{Msg}
 use Rattle.message.specs.declared.Reply.{Reply}
 use Rattle.message.specs.declared.Reply.TheVariants.{Done}
 use Rattle.parcel.specs.Fits.{Suits}
-use Rattle.parcel.specs.Run.{Asked, Shows}
+use Rattle.parcel.specs.Run.{JobView, Shows}
 use Rattle.parcel.specs.Tree.{HasGap, LendsAt, TreeView, in_tree}
 use Rattle.parcel.specs.declared.parts.Parcels.{Parcels}
 use Rattle.parcel.specs.declared.parts.Standing.{Standing}
@@ -34,7 +34,7 @@ use Rattle.scheduler.proofs.Splits.{MapSplit, map_split, times-split}
 use Rattle.scheduler.proofs.Trees.{grant_lends, grant_shows}
 use Rattle.scheduler.specs.Calls.{IsGrantOf}
 use Rattle.scheduler.specs.Parts.{IsCore, IsPlaced, Parts, entry_of, parts, turn_of, world_in}
-use Rattle.scheduler.specs.Slots.{HasChains, Place, line, no_slot, place_at}
+use Rattle.scheduler.specs.Slots.{HasChains, SlotView, line, no_slot, place_at}
 use Rattle.scheduler.specs.declared.slot.Slot.{Slot}
 use Rattle.turns.specs.Turns.{HasJoined, Queuing, next_turn, without_slot}
 use Rattle.turns.specs.declared.entries.Turn.{Turn}
@@ -52,7 +52,7 @@ pub some_value : (o : Option Slot) → is_some o ≡ true → o ≡ None → ⊥
 some_value None holds none = true≢false (sym holds)
 some_value (Some s) holds none = true≢false (sym holds ∙ ap is_some none)
 
-module _ (keeps : Type 0) (row : Row Slot) (replies : List Reply) (tree : TreeView) (journal : Held) (turns : Queuing) (batch : List Msg) (next flight : ℕ)
+module _ (keeps : Type 0) (row : Row Slot) (replies : List Reply) (tree : TreeView) (journal : JournalView) (turns : Queuing) (batch : List Msg) (next flight : ℕ)
     (opened : TreeView) (since : List Msg) (is : HasChains row)
     (k : IsCore keeps (parts row replies tree journal turns batch next flight opened since)) (room : Bool) (is_room : room ≡ nat_lt flight journal.room)
     (turn : Turn) (goes : next_turn room turns.held turns.waiting ≡ Some turn) where
@@ -62,7 +62,7 @@ module _ (keeps : Type 0) (row : Row Slot) (replies : List Reply) (tree : TreeVi
   pub chosen : Chosen (is_eligible journal.geometry (world_in p)) p.lines.waiting turn
   chosen = goes_first keeps p k room is_room turn goes
 
-  abbrev x : Place
+  abbrev x : SlotView
   x = chosen.at
 
   pub number : x.0 ≡ turn.slot
@@ -72,7 +72,7 @@ module _ (keeps : Type 0) (row : Row Slot) (replies : List Reply) (tree : TreeVi
   split = map_split (place_at row replies) (chain_at row 0) chosen.before x chosen.behind chosen.whole
 
   at_turn : split.at ≡ turn.slot
-  at_turn = ap (λ (y : Place). y.0) split.at_is ∙ number
+  at_turn = ap (λ (y : SlotView). y.0) split.at_is ∙ number
 
   stands : 0 < times split.at (chain_at row 0)
   stands = subst (λ xs. 0 < times split.at xs) (sym split.whole) (times-split split.at split.front split.back)
@@ -81,7 +81,7 @@ module _ (keeps : Type 0) (row : Row Slot) (replies : List Reply) (tree : TreeVi
   grant_has_slot none = some_value (value_at row turn.slot) (subst (λ n. is_some (value_at row n) ≡ true) at_turn (chained-holds row split.at 0 is.parted stands)) none
 
   pub grant_slot : (slot : Slot) → Some slot ≡ value_at row turn.slot → x.1 ≡ slot
-  grant_slot slot value = sym (ap (λ (y : Place). y.1) split.at_is) ∙ ap (λ n. unwrap_or (value_at row n) no_slot) at_turn ∙ ap (λ o. unwrap_or o no_slot) (sym value)
+  grant_slot slot value = sym (ap (λ (y : SlotView). y.1) split.at_is) ∙ ap (λ n. unwrap_or (value_at row n) no_slot) at_turn ∙ ap (λ o. unwrap_or o no_slot) (sym value)
 
   pub grant_lines : MovedLines row (after_move row turn.slot 1) replies replies 0 1 chosen.before x chosen.behind
   grant_lines = line_moved row replies replies is 0 1 (omega arith) (λ same. omega (arith, same)) chosen.before x chosen.behind chosen.whole (λ j other. refl) turn.slot (sym number)
@@ -104,10 +104,10 @@ module _ (keeps : Type 0) (row : Row Slot) (replies : List Reply) (tree : TreeVi
       let all = times-append split.at split.front (split.at ∷ split.back) in
       let same = times-cons_same split.at split.back in
       let once = once_there in
-      subst (λ n. AllByRecursion (λ (y : Place). (y.0 == n) ≡ false) (chosen.before ++ chosen.behind)) (ap (λ (y : Place). y.0) split.at_is)
-      (all_join (λ (y : Place). (y.0 == split.at) ≡ false) chosen.before chosen.behind
-      (subst (AllByRecursion (λ (y : Place). (y.0 == split.at) ≡ false)) split.before_is (numbers_off row replies split.at split.front (omega (arith, once, all, same))))
-      (subst (AllByRecursion (λ (y : Place). (y.0 == split.at) ≡ false)) split.behind_is (numbers_off row replies split.at split.back (omega (arith, once, all, same)))))
+      subst (λ n. AllByRecursion (λ (y : SlotView). (y.0 == n) ≡ false) (chosen.before ++ chosen.behind)) (ap (λ (y : SlotView). y.0) split.at_is)
+      (all_join (λ (y : SlotView). (y.0 == split.at) ≡ false) chosen.before chosen.behind
+      (subst (AllByRecursion (λ (y : SlotView). (y.0 == split.at) ≡ false)) split.before_is (numbers_off row replies split.at split.front (omega (arith, once, all, same))))
+      (subst (AllByRecursion (λ (y : SlotView). (y.0 == split.at) ≡ false)) split.behind_is (numbers_off row replies split.at split.back (omega (arith, once, all, same)))))
 
   -- ---- what stands afterwards
 
@@ -122,7 +122,7 @@ module _ (keeps : Type 0) (row : Row Slot) (replies : List Reply) (tree : TreeVi
   grant_size = ap (λ (vs : List (Option Slot)). length vs) grant_lines.values
 
   pub grant_ran : length (line (after_move row turn.slot 1) replies 2) ≡ length (line row replies 2)
-  grant_ran = ap (λ (ps : List Place). length ps) (grant_lines.stays 2 (λ same. omega (arith, same)) (λ same. omega (arith, same)))
+  grant_ran = ap (λ (ps : List SlotView). length ps) (grant_lines.stays 2 (λ same. omega (arith, same)) (λ same. omega (arith, same)))
 
   module _ (slot : Slot) (value : Some slot ≡ value_at row turn.slot) (lent : TreeView) (standing : Standing) (parcels : Parcels)
       (lends : (q : Path) → IsAffinityOf tree.geometry q turn.affinity → LendsAt tree.geometry q standing parcels (in_tree tree) (in_tree lent)) where
@@ -144,7 +144,7 @@ module _ (keeps : Type 0) (row : Row Slot) (replies : List Reply) (tree : TreeVi
       found = (entry_of x, map entry_of (chosen.before ++ chosen.behind))
 
       reply_there : get_or replies x.0 Done ≡ x.2
-      reply_there = ap (λ n. get_or replies n Done) (sym (ap (λ (y : Place). y.0) split.at_is)) ∙ ap (λ (y : Place). y.2) split.at_is
+      reply_there = ap (λ n. get_or replies n Done) (sym (ap (λ (y : SlotView). y.0) split.at_is)) ∙ ap (λ (y : SlotView). y.2) split.at_is
 
       goes_waits : without_slot turn.slot turns.waiting ≡ map turn_of (chosen.before ++ chosen.behind)
       goes_waits = (λ i. without_slot (sym number i) ((k.waits ∙ ap (map turn_of) chosen.whole) i)) ∙ waits_without chosen.before x chosen.behind grant_others
@@ -177,7 +177,7 @@ module _ (keeps : Type 0) (row : Row Slot) (replies : List Reply) (tree : TreeVi
       grant_call_world = ap world_in after_is
           ∙ grant_world keeps p k chosen.before x chosen.behind chosen.whole lent went.held chosen.picked joined_at (same_geometry ∙ k.geometry) standing parcels lends_place
 
-      abbrev job : Asked
+      abbrev job : JobView
       job = record { geometry = journal.geometry; ticket = slot.ticket; message = slot.message; standing = standing; parcels = parcels }
 
       job_told : entry_of x ≡ (slot.ticket, slot.message)

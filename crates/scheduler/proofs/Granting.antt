@@ -10,7 +10,7 @@ use Rattle.legal_runs.proofs.Moves.{Grants}
 use Rattle.legal_runs.proofs.Sound.{move_sound}
 use Rattle.legal_runs.specs.Eligible.{next_eligible}
 use Rattle.legal_runs.specs.Events.{grant}
-use Rattle.legal_runs.specs.Laws.{IsSound}
+use Rattle.legal_runs.specs.Laws.{IsSoundWorld}
 use Rattle.legal_runs.specs.World.{Entry, held}
 use Rattle.message.specs.Messages.{place}
 use Rattle.parcel.specs.Holding.{TreeHolds}
@@ -21,17 +21,17 @@ use Rattle.scheduler.proofs.Counting.{changing, changing-append, changing-cons, 
 use Rattle.scheduler.proofs.Tests.{any_granted}
 use Rattle.scheduler.proofs.Trees.{grant_tree}
 use Rattle.scheduler.specs.Parts.{IsCore, IsPlaced, Parts, entry_of, is_below, reached, turn_of, world_in}
-use Rattle.scheduler.specs.Slots.{Place}
+use Rattle.scheduler.specs.Slots.{SlotView}
 use Rattle.turns.specs.Turns.{HasJoined, has_slot, without_slot}
 use Rattle.turns.specs.declared.entries.Turn.{Turn}
 
 -- those with other slots stay
-others_stay : (slot : ℕ) (ys : List Place) → AllByRecursion (λ y. (y.0 == slot) ≡ false) ys → without_slot slot (map turn_of ys) ≡ map turn_of ys
+others_stay : (slot : ℕ) (ys : List SlotView) → AllByRecursion (λ y. (y.0 == slot) ≡ false) ys → without_slot slot (map turn_of ys) ≡ map turn_of ys
 others_stay slot [] all = refl
 others_stay slot (y ∷ ys) all = (λ i. cond (not (all.0 i)) (turn_of y ∷ without_slot slot (map turn_of ys)) (without_slot slot (map turn_of ys)))
     ∙ ap (λ ts. turn_of y ∷ ts) (others_stay slot ys all.1)
 
-pub waits_without : (before : List Place) (x : Place) (behind : List Place) → AllByRecursion (λ y. (y.0 == x.0) ≡ false) (before ++ behind)
+pub waits_without : (before : List SlotView) (x : SlotView) (behind : List SlotView) → AllByRecursion (λ y. (y.0 == x.0) ≡ false) (before ++ behind)
     → without_slot x.0 (map turn_of (before ++ x ∷ behind)) ≡ map turn_of (before ++ behind)
 waits_without before x behind all =
     ap (without_slot x.0) (map-append turn_of before (x ∷ behind))
@@ -41,7 +41,7 @@ waits_without before x behind all =
     ∙ ap (λ ts. map turn_of before ++ ts) (others_stay x.0 behind (all_back (λ y. (y.0 == x.0) ≡ false) before behind all))
     ∙ sym (map-append turn_of before behind)
 
-abbrev pub with_grant : Parts → List Place → Place → TreeView → List Turn → Parts
+abbrev pub with_grant : Parts → List SlotView → SlotView → TreeView → List Turn → Parts
 with_grant p waiting x tree held = record p {
   lines = record p.lines { waiting = waiting; out = p.lines.out ++ x ∷ [] };
   tree = tree;
@@ -49,7 +49,7 @@ with_grant p waiting x tree held = record p {
   flight = p.flight + one_for x;
 }
 
-module _ (keeps : Type 0) (p : Parts) (k : IsCore keeps p) (before : List Place) (x : Place) (behind : List Place)
+module _ (keeps : Type 0) (p : Parts) (k : IsCore keeps p) (before : List SlotView) (x : SlotView) (behind : List SlotView)
     (whole : p.lines.waiting ≡ before ++ x ∷ behind) (tree : TreeView) (held : List Turn)
     (first : next_eligible p.journal.geometry (world_in p) ≡ Some (entry_of x, map entry_of (before ++ behind)))
     (joined : HasJoined (turn_of x) p.turns.held held) (geometry : tree.geometry ≡ p.journal.geometry)
@@ -92,7 +92,7 @@ module _ (keeps : Type 0) (p : Parts) (k : IsCore keeps p) (before : List Place)
         waits = refl;
         holds = λ test. joined test ∙ ap (λ b. test (turn_of x) || b) (k.holds test) ∙ any_granted test p.lines (before ++ behind) x;
         flies = omega (arith, flew, flies, out);
-        sound = subst (IsSound p.journal.geometry) (sym grant_world)
+        sound = subst (IsSoundWorld p.journal.geometry) (sym grant_world)
             (move_sound p.journal.geometry (world_in p) _ _ (Grants found first refl refl) k.sound);
         geometry = geometry;
         tree = subst (λ es. TreeHolds p.journal.geometry (is_below p.journal.geometry es) (in_tree tree) (reached p.journal.geometry (world_in p)))

@@ -10,7 +10,7 @@ use Rattle.disk.specs.Moments.{LeavesOnly}
 use Rattle.journal.specs.Journal.{HoldsSome, settled}
 use Rattle.journal.specs.Marks.{Marks}
 use Rattle.legal_runs.proofs.Sound.{event_sound}
-use Rattle.legal_runs.specs.Laws.{IsSound}
+use Rattle.legal_runs.specs.Laws.{IsSoundWorld}
 use Rattle.legal_runs.specs.World.{World}
 use Rattle.legal_runs.specs.declared.outcomes.Outcome.{Outcome}
 use Rattle.legal_runs.specs.declared.outcomes.Step.{Step}
@@ -18,7 +18,7 @@ use Rattle.message.specs.declared.Msg.{Msg}
 use Rattle.plain.specs.Serial.{fold}
 use Rattle.plain.specs.State.{State}
 use Rattle.scheduler.specs.Calls.{IsCalled}
-use Rattle.scheduler.specs.Kept.{Kept, StandsNow, StandsThroughout}
+use Rattle.scheduler.specs.Kept.{CoreView, StandsNow, StandsThroughout}
 use Rattle.scheduler.specs.Parts.{IsCore, Parts, kept_of, world_in}
 
 -- bytes that stand for a state stand for it with none of these messages
@@ -32,7 +32,7 @@ from_none g x ms c h = record { added = 0; at_most = omega arith; is = h.is ∙ 
     none k few = omega (arith, few)
 
 -- the same bytes through a call that leaves the device alone
-pub still_standing : (keeps : Type 0) (p : Parts) → IsCore keeps p → keeps → (ms : List Msg) (new : Kept) → new.medium ≡ p.journal.medium
+pub still_standing : (keeps : Type 0) (p : Parts) → IsCore keeps p → keeps → (ms : List Msg) (new : CoreView) → new.medium ≡ p.journal.medium
     → StandsThroughout ms (kept_of p) new
 still_standing keeps p k keep ms new same =
     subst (λ (m : Medium). LeavesOnly p.journal.medium m (HoldsSome p.journal.geometry (world_in p).settled (if p.journal.failed then p.batch else ms))) (sym same)
@@ -46,7 +46,7 @@ still_standing keeps p k keep ms new same =
         (subst (λ ds. HoldsSome p.journal.geometry (world_in p).settled ds c) (k.no_doubt e) h))
 
 -- an event leads to a sound world
-pub called_sound : (g : Geometry) (old new : World) (step : Step) (outcome : Outcome) (rose : Bool) → IsCalled g old new step outcome rose → IsSound g old → IsSound g new
+pub called_sound : (g : Geometry) (old new : World) (step : Step) (outcome : Outcome) (rose : Bool) → IsCalled g old new step outcome rose → IsSoundWorld g old → IsSoundWorld g new
 called_sound g old new step outcome rose called sound = event_sound g (record { core = old; hands = [] }) _ (called []) sound
 
 abbrev pub with_journal : Parts → ℕ → Option ℕ → Bool → Marks → Medium → Parts
@@ -64,7 +64,7 @@ module _ (keeps : Type 0) (p : Parts) (k : IsCore keeps p) (works : p.journal.fa
     step_moments keep = weaker p.journal.medium medium (λ c. holds g c ≡ settled p.journal) _ (any keep)
         (λ c is. with_none g (world_in p).settled [] c (is ∙ settled_now keep))
 
-    pub step_throughout : (new : Kept) → new.medium ≡ medium → keeps → StandsThroughout [] (kept_of p) new
+    pub step_throughout : (new : CoreView) → new.medium ≡ medium → keeps → StandsThroughout [] (kept_of p) new
     step_throughout new same keep =
         subst (λ (m : Medium). LeavesOnly p.journal.medium m (HoldsSome g (world_in p).settled (if p.journal.failed then p.batch else []))) (sym same)
         (subst (λ ds. LeavesOnly p.journal.medium medium (HoldsSome g (world_in p).settled ds)) (sym (cond-false p.journal.failed p.batch [] works)) (step_moments keep))
@@ -74,7 +74,7 @@ module _ (keeps : Type 0) (p : Parts) (k : IsCore keeps p) (works : p.journal.fa
         (leaves_now p.journal.medium medium _ (step_moments keep) c leaves)
 
     -- the step was made, or the device failed
-    pub step_core : (room : ℕ) (left : Option ℕ) (failed : Bool) (marks : Marks) → IsSound g (world_in (with_journal p room left failed marks medium))
+    pub step_core : (room : ℕ) (left : Option ℕ) (failed : Bool) (marks : Marks) → IsSoundWorld g (world_in (with_journal p room left failed marks medium))
         → (keeps → failed ≡ false → settled (record p.journal { room = room; left = left; failed = failed; marks = marks; medium = medium }) ≡ settled p.journal)
         → IsCore keeps (with_journal p room left failed marks medium)
     step_core room left failed marks sound same = record {

@@ -5,12 +5,12 @@ use Rattle.std.proofs.lemmas.List.{get_or-set_other, get_or-set_same, length-map
 use Rattle.std.specs.List.{concat}
 use Rattle.std.specs.Prelude.{nat_lt, slice_index_or, slice_set, is_some, unwrap_or}
 use Rattle.arena.specs.Lists.{times, without}
-use Rattle.arena.specs.Row.{Row, IsParted, after_move, after_put, after_take, can_move, capacity_of, chain_at, holds, moved, put_into, value_at}
+use Rattle.arena.specs.Row.{Row, IsParted, after_move, after_put, after_take, can_move, capacity_of, chain_at, holds_value, moved, put_into, value_at}
 use Rattle.arena.proofs.RowLemmas.{chain-moved_other, chain-moved_same, chain-without, chained-apart, chained-holds, chained-once, length-moved}
 use Rattle.arena.proofs.Times.{times-append, times-at, times-cons_same, without-absent}
 use Rattle.message.specs.declared.Reply.{Reply}
 use Rattle.message.specs.declared.Reply.TheVariants.{Done}
-use Rattle.scheduler.specs.Slots.{HasChains, Place, line, no_slot, place_at}
+use Rattle.scheduler.specs.Slots.{HasChains, SlotView, line, no_slot, place_at}
 use Rattle.scheduler.specs.declared.slot.Slot.{Slot}
 use Rattle.scheduler.proofs.Splits.{MapSplit, map_same, map_split, times-split, without-split}
 
@@ -22,7 +22,7 @@ module _ {T : Type 0} (m : Row T) (parted : IsParted m) (i from to : ℕ) (there
   stands = subst (λ xs. 0 < times i xs) (sym whole) (times-split i front back)
 
   may_move : can_move m i to ≡ true
-  may_move = and_from (holds m i) (nat_lt to (length m.chains)) (chained-holds m i from parted stands) (lt-ltb to (length m.chains) there)
+  may_move = and_from (holds_value m i) (nat_lt to (length m.chains)) (chained-holds m i from parted stands) (lt-ltb to (length m.chains) there)
 
   pub row_moved : after_move m i to ≡ record m { chains = moved m.chains i to }
   row_moved = cond-true (can_move m i to) _ _ may_move
@@ -66,11 +66,11 @@ module _ {T : Type 0} (m : Row T) (parted : IsParted m) (i to : ℕ) (rest : Lis
   pub in_row : i < capacity_of m
   in_row = parted.within i (let all = times-append i m.free (concat m.chains) in let some = listed_free in omega (arith, all, some))
 
-  put_holds : holds put i ≡ true
+  put_holds : holds_value put i ≡ true
   put_holds = ap is_some (get_or-set_same m.values i (Some value) None in_row)
 
   may_join : can_move put i to ≡ true
-  may_join = and_from (holds put i) (nat_lt to (length m.chains)) put_holds (lt-ltb to (length m.chains) there)
+  may_join = and_from (holds_value put i) (nat_lt to (length m.chains)) put_holds (lt-ltb to (length m.chains) there)
 
   pub row_joined : after_move put i to ≡ record put { chains = moved m.chains i to }
   row_joined = cond-true (can_move put i to) _ _ may_join
@@ -102,7 +102,7 @@ module _ {T : Type 0} (m : Row T) (parted : IsParted m) (i from : ℕ) (back : L
   stood = subst (λ xs. 0 < times i xs) (sym whole) (times-split i [] back)
 
   pub row_taken : after_take m i ≡ record m { values = slice_set m.values i None; free = i ∷ m.free; chains = map (without i) m.chains }
-  row_taken = cond-true (holds m i) _ _ (chained-holds m i from parted stood)
+  row_taken = cond-true (holds_value m i) _ _ (chained-holds m i from parted stood)
 
   pub chain_taken : chain_at (after_take m i) from ≡ back
   chain_taken =
@@ -140,7 +140,7 @@ pub same_line : (row new : Row Slot) (replies : List Reply) (c : ℕ) → new.va
 same_line row new replies c values chain = λ k. map (λ i. (i, unwrap_or (slice_index_or (values k) i None) no_slot, get_or replies i Done)) (chain k)
 
 -- A place left one line, where it stood between two parts, and joined another, with the reply that lies there now.
-pub record MovedLines (row new : Row Slot) (replies told : List Reply) (from to : ℕ) (before : List Place) (x : Place) (behind : List Place) : Type 0 where
+pub record MovedLines (row new : Row Slot) (replies told : List Reply) (from to : ℕ) (before : List SlotView) (x : SlotView) (behind : List SlotView) : Type 0 where
   pub left : line new told from ≡ before ++ behind
   pub joined : line new told to ≡ line row replies to ++ (x.0, x.1, get_or told x.0 Done) ∷ []
   pub stays : (d : ℕ) → d ≢ from → d ≢ to → line new told d ≡ line row replies d
@@ -149,13 +149,13 @@ pub record MovedLines (row new : Row Slot) (replies told : List Reply) (from to 
   pub four : length new.chains ≡ length row.chains
 
 module _ (row : Row Slot) (replies told : List Reply) (is : HasChains row) (from to : ℕ) (low : to < 4) (other : to ≢ from)
-    (before : List Place) (x : Place) (behind : List Place) (stands_at : line row replies from ≡ before ++ x ∷ behind)
+    (before : List SlotView) (x : SlotView) (behind : List SlotView) (stands_at : line row replies from ≡ before ++ x ∷ behind)
     (agree : (j : ℕ) → j ≢ x.0 → get_or told j Done ≡ get_or replies j Done) where
   split : MapSplit (place_at row replies) (chain_at row from) before x behind
   split = map_split (place_at row replies) (chain_at row from) before x behind stands_at
 
   number : split.at ≡ x.0
-  number = ap (λ (y : Place). y.0) split.at_is
+  number = ap (λ (y : SlotView). y.0) split.at_is
 
   there : to < length row.chains
   there = let four = is.four in omega (arith, four, low)
@@ -208,10 +208,10 @@ module _ (row : Row Slot) (replies told : List Reply) (is : HasChains row) (from
         four = four_moved row is.parted split.at from to there other split.front split.back split.whole;
       }
     where
-      moved_place : ◌≡◌ {A = Place} (place_at new told split.at) (x.0, x.1, get_or told x.0 Done)
+      moved_place : ◌≡◌ {A = SlotView} (place_at new told split.at) (x.0, x.1, get_or told x.0 Done)
       moved_place =
           (λ z. (split.at, unwrap_or (slice_index_or (same_values z) split.at None) no_slot, get_or told split.at Done))
-          ∙ (λ z. (number z, (ap (λ (y : Place). y.1) split.at_is) z, get_or told (number z) Done))
+          ∙ (λ z. (number z, (ap (λ (y : SlotView). y.1) split.at_is) z, get_or told (number z) Done))
 
   pub line_moved : (i : ℕ) → i ≡ x.0 → MovedLines row (after_move row i to) replies told from to before x behind
   line_moved i same = subst (λ n. MovedLines row (after_move row n to) replies told from to before x behind) (number ∙ sym same) moved_at
@@ -257,14 +257,14 @@ module _ (row : Row Slot) (replies : List Reply) (is : HasChains row) (i to : �
       (sym (row_put row is.parted i to rest value room_there free)) joined_lines
 
 -- The first place of a line is gone.
-pub record TakenLines (row new : Row Slot) (replies : List Reply) (from : ℕ) (behind : List Place) : Type 0 where
+pub record TakenLines (row new : Row Slot) (replies : List Reply) (from : ℕ) (behind : List SlotView) : Type 0 where
   pub left : line new replies from ≡ behind
   pub stays : (d : ℕ) → d ≢ from → line new replies d ≡ line row replies d
   pub free : length new.free ≡ suc (length row.free)
   pub size : capacity_of new ≡ capacity_of row
   pub four : length new.chains ≡ length row.chains
 
-module _ (row : Row Slot) (replies : List Reply) (is : HasChains row) (from : ℕ) (x : Place) (behind : List Place) (stands_at : line row replies from ≡ x ∷ behind) where
+module _ (row : Row Slot) (replies : List Reply) (is : HasChains row) (from : ℕ) (x : SlotView) (behind : List SlotView) (stands_at : line row replies from ≡ x ∷ behind) where
   first_split : MapSplit (place_at row replies) (chain_at row from) [] x behind
   first_split = map_split (place_at row replies) (chain_at row from) [] x behind stands_at
 
@@ -297,4 +297,4 @@ module _ (row : Row Slot) (replies : List Reply) (is : HasChains row) (from : �
   }
 
   pub line_taken : (i : ℕ) → i ≡ x.0 → TakenLines row (after_take row i) replies from behind
-  line_taken i same = subst (λ n. TakenLines row (after_take row n) replies from behind) (ap (λ (y : Place). y.0) first_split.at_is ∙ sym same) taken_lines
+  line_taken i same = subst (λ n. TakenLines row (after_take row n) replies from behind) (ap (λ (y : SlotView). y.0) first_split.at_is ∙ sym same) taken_lines

@@ -10,11 +10,11 @@ use Rattle.arena.specs.Row.{Row, capacity_of, chain_at, value_at}
 use Rattle.checkpoint.specs.Recovery.{holds}
 use Rattle.disk.specs.Device.{Leaves}
 use Rattle.disk.specs.Moments.{LeavesOnly}
-use Rattle.journal.specs.Journal.{after_call, AreCarriedOut, Held, HoldsSome, IsSettled, settled}
+use Rattle.journal.specs.Journal.{after_call, AreCarriedOut, JournalView, HoldsSome, IsSettled, settled}
 use Rattle.legal_runs.proofs.Told.{fold-joined}
 use Rattle.legal_runs.specs.Eligible.{changes}
 use Rattle.legal_runs.specs.Events.{batch as batch_of, log, loggable, touches_device}
-use Rattle.legal_runs.specs.Laws.{IsSound}
+use Rattle.legal_runs.specs.Laws.{IsSoundWorld}
 use Rattle.legal_runs.specs.declared.outcomes.Step.TheVariants as steps
 use Rattle.message.specs.declared.Msg.{Msg}
 use Rattle.message.specs.declared.Reply.{Reply}
@@ -27,20 +27,20 @@ use Rattle.plain.specs.State.{State}
 use Rattle.scheduler.proofs.Counting.{changing, changing-append, changing-cons, flight_of}
 use Rattle.scheduler.proofs.Lines.{same_line}
 use Rattle.scheduler.proofs.Logging.{batch_at, batch_carried, batch_fits, batch_logged, doubt_core, log_core, log_throughout, log_world, same_batch, with_doubt, with_log}
-use Rattle.scheduler.specs.Kept.{Kept, StandsThroughout}
+use Rattle.scheduler.specs.Kept.{CoreView, StandsThroughout}
 use Rattle.scheduler.specs.Moving.{HasLogged, changing_in, gathered}
 use Rattle.scheduler.specs.Parts.{IsCore, Parts, kept_of, parts, replied_of, world_in}
-use Rattle.scheduler.specs.Slots.{HasChains, Place, line, no_slot, place_at}
+use Rattle.scheduler.specs.Slots.{HasChains, SlotView, line, no_slot, place_at}
 use Rattle.scheduler.specs.declared.slot.Slot.{Slot}
 use Rattle.turns.specs.Turns.{Queuing}
 
 -- ---- the journal's answer
 
-pub broken_from : (r : Result (Unit {0}) LogFault) (done old new : Held) → is_err r ≡ true → new ≡ after_call r done old → new ≡ record old { failed = true; medium = done.medium }
+pub broken_from : (r : Result (Unit {0}) LogFault) (done old new : JournalView) → is_err r ≡ true → new ≡ after_call r done old → new ≡ record old { failed = true; medium = done.medium }
 broken_from (Ok u) done old new e after = absurd (true≢false (sym e))
 broken_from (Err why) done old new e after = after
 
-pub made_from : (r : Result (Unit {0}) LogFault) (done old new : Held) → is_err r ≡ false → new ≡ after_call r done old → new ≡ done
+pub made_from : (r : Result (Unit {0}) LogFault) (done old new : JournalView) → is_err r ≡ false → new ≡ after_call r done old → new ≡ done
 made_from (Ok u) done old new e after = after
 made_from (Err why) done old new e after = absurd (true≢false e)
 
@@ -56,7 +56,7 @@ counted row replies (y ∷ ys) =
     ∙ ap (λ (m : ℕ). cond (changes (unwrap_or (value_at row y) no_slot).message) 1 0 + m) (counted row replies ys)
     ∙ sym (changing-cons (place_at row replies y) (map (place_at row replies) ys))
 
-module _ (keeps : Type 0) (row : Row Slot) (replies : List Reply) (tree : TreeView) (journal : Held) (turns : Queuing) (batch : List Msg) (next flight : ℕ)
+module _ (keeps : Type 0) (row : Row Slot) (replies : List Reply) (tree : TreeView) (journal : JournalView) (turns : Queuing) (batch : List Msg) (next flight : ℕ)
     (opened : TreeView) (since : List Msg) (is : HasChains row)
     (k : IsCore keeps (parts row replies tree journal turns batch next flight opened since)) (works : journal.failed ≡ false)
     (n count ran : ℕ) (ran_is : ran ≡ length (line row replies 2)) (count_is : count ≡ min n ran) where
@@ -66,7 +66,7 @@ module _ (keeps : Type 0) (row : Row Slot) (replies : List Reply) (tree : TreeVi
   abbrev slots : List ℕ
   slots = chain_at row 2
 
-  abbrev ran_line : List Place
+  abbrev ran_line : List SlotView
   ran_line = line row replies 2
 
   min_is : count ≡ min n (length ran_line)
@@ -93,25 +93,25 @@ module _ (keeps : Type 0) (row : Row Slot) (replies : List Reply) (tree : TreeVi
   module _ (flew : ℕ) (flew_is : flew ≡ changing_in row (take count slots)) where
     flew_same : flew ≡ changing (take n ran_line)
     flew_same = flew_is ∙ counted row replies (take count slots)
-        ∙ ap (λ (l : List Place). changing l) (sym (take-map (place_at row replies) count slots) ∙ take_is)
+        ∙ ap (λ (l : List SlotView). changing l) (sym (take-map (place_at row replies) count slots) ∙ take_is)
 
     flies : (flight - flew) + changing (take n ran_line) ≡ flight
     flies =
         let fly = k.flies ∙ flight_of p in
-        let all = ap (λ (l : List Place). changing l) (sym (take-append-drop n ran_line)) ∙ changing-append (take n ran_line) (drop n ran_line) in
+        let all = ap (λ (l : List SlotView). changing l) (sym (take-append-drop n ran_line)) ∙ changing-append (take n ran_line) (drop n ran_line) in
         let same = flew_same in
         omega (arith, fly, all, same)
 
     pub log_flight : flew ≤ flight
     log_flight =
         let fly = k.flies ∙ flight_of p in
-        let all = ap (λ (l : List Place). changing l) (sym (take-append-drop n ran_line)) ∙ changing-append (take n ran_line) (drop n ran_line) in
+        let all = ap (λ (l : List SlotView). changing l) (sym (take-append-drop n ran_line)) ∙ changing-append (take n ran_line) (drop n ran_line) in
         let same = flew_same in
         omega (arith, fly, all, same)
 
   module _ (messages : List Msg) (gathered_is : messages ≡ gathered row replies (take count slots)) where
     messages_are : messages ≡ batch_at p n
-    messages_are = gathered_is ∙ ap (λ (l : List Place). loggable (map replied_of l)) (sym (take-map (place_at row replies) count slots) ∙ take_is)
+    messages_are = gathered_is ∙ ap (λ (l : List SlotView). loggable (map replied_of l)) (sym (take-map (place_at row replies) count slots) ∙ take_is)
 
     module _ (passed : List Msg) (passed_is : passed ≡ messages) where
       passed_at : passed ≡ batch_at p n
@@ -131,16 +131,16 @@ module _ (keeps : Type 0) (row : Row Slot) (replies : List Reply) (tree : TreeVi
           subst (λ (y : State). AreCarriedOut journal.geometry y passed) (same_Some (world_in p).settled x (sym (k.is_settled keep works) ∙ at))
           (subst (AreCarriedOut journal.geometry (world_in p).settled) (sym passed_at) (batch_carried keeps p k n))
 
-      module _ (new : Held) (any : keeps → (x : State) → settled journal ≡ Some x → LeavesOnly journal.medium new.medium (HoldsSome journal.geometry x passed)) where
+      module _ (new : JournalView) (any : keeps → (x : State) → settled journal ≡ Some x → LeavesOnly journal.medium new.medium (HoldsSome journal.geometry x passed)) where
         any_at : keeps → LeavesOnly journal.medium new.medium (HoldsSome journal.geometry (world_in p).settled (batch_at p n))
         any_at keep = subst (λ (ms : List Msg). LeavesOnly journal.medium new.medium (HoldsSome journal.geometry (world_in p).settled ms)) passed_at
             (any keep (world_in p).settled (k.is_settled keep works))
 
-        pub log_call_throughout : (now : Kept) → now.medium ≡ new.medium → keeps → StandsThroughout (batch_of (world_in p) n) (kept_of p) now
+        pub log_call_throughout : (now : CoreView) → now.medium ≡ new.medium → keeps → StandsThroughout (batch_of (world_in p) n) (kept_of p) now
         log_call_throughout now same keep = log_throughout keeps p k works n flight new.marks new.medium any_at now same keep
 
         pub log_untouched : (length passed ≡ 0 → new ≡ journal) → touches_device (world_in p) (steps.Log n) ≡ false → new.medium ≡ journal.medium
-        log_untouched same quiet = ap (λ (j : Held). j.medium) (same (none_passed (none_to_log journal.failed (length (batch_of (world_in p) n)) works quiet)))
+        log_untouched same quiet = ap (λ (j : JournalView). j.medium) (same (none_passed (none_to_log journal.failed (length (batch_of (world_in p) n)) works quiet)))
 
         -- ---- the device failed
 
@@ -151,7 +151,7 @@ module _ (keeps : Type 0) (row : Row Slot) (replies : List Reply) (tree : TreeVi
           doubting_is : doubting ≡ with_doubt p n new.medium
           doubting_is = λ i. record (with_doubt p n new.medium) { journal = broken i; batch = messages_are i }
 
-          doubt_sound : IsSound journal.geometry (world_in (with_doubt p n new.medium))
+          doubt_sound : IsSoundWorld journal.geometry (world_in (with_doubt p n new.medium))
           doubt_sound = record {
             apart = k.sound.apart;
             replied = k.sound.replied;
@@ -169,7 +169,7 @@ module _ (keeps : Type 0) (row : Row Slot) (replies : List Reply) (tree : TreeVi
           doubt_call_world = ap world_in doubting_is ∙ (λ i. record (world_in p) { failed = true; doubt = same_batch keeps p k n i })
 
           pub some_were_passed : (length passed ≡ 0 → new ≡ journal) → length (batch_of (world_in p) n) ≡ 0 → ⊥
-          some_were_passed same none = true≢false (sym (ap (λ (j : Held). j.failed) broken) ∙ ap (λ (j : Held). j.failed) (same (none_passed none)) ∙ works)
+          some_were_passed same none = true≢false (sym (ap (λ (j : JournalView). j.failed) broken) ∙ ap (λ (j : JournalView). j.failed) (same (none_passed none)) ∙ works)
 
         -- ---- they are logged
 
@@ -193,14 +193,14 @@ module _ (keeps : Type 0) (row : Row Slot) (replies : List Reply) (tree : TreeVi
           logged_now : line moved replies 3 ≡ line row replies 3 ++ take n ran_line
           logged_now = moved_places (chain_at moved 3) ∙ ap (map (place_at row replies)) has.logged
               ∙ map-append (place_at row replies) (chain_at row 3) (take count slots)
-              ∙ ap (λ (l : List Place). line row replies 3 ++ l) (sym (take-map (place_at row replies) count slots) ∙ take_is)
+              ∙ ap (λ (l : List SlotView). line row replies 3 ++ l) (sym (take-map (place_at row replies) count slots) ∙ take_is)
 
           pub log_size : capacity_of moved ≡ capacity_of row
           log_size = ap (λ (vs : List (Option Slot)). length vs) has.values
 
           pub log_ran : ran - count ≡ length (line moved replies 2)
           log_ran =
-              let now = ap (λ (l : List Place). length l) ran_now ∙ length-drop n ran_line in
+              let now = ap (λ (l : List SlotView). length l) ran_now ∙ length-drop n ran_line in
               let were = ran_is in
               let same = min_is in
               omega (arith, now, were, same)
@@ -229,7 +229,7 @@ module _ (keeps : Type 0) (row : Row Slot) (replies : List Reply) (tree : TreeVi
               ∙ ap Some (sym (fold-joined journal.geometry (state_in opened) since (batch_at p n)))
 
           stands_at : keeps → (c : List ℕ) → Leaves new.medium c → holds journal.geometry c ≡ settled (record journal { room = room; marks = new.marks; medium = new.medium })
-          stands_at keep c leaves = ap (λ (j : Held). holds j.geometry c) (sym made) ∙ (stands keep).each c leaves ∙ ap settled made
+          stands_at keep c leaves = ap (λ (j : JournalView). holds j.geometry c) (sym made) ∙ (stands keep).each c leaves ∙ ap settled made
 
           pub log_call_core : IsCore keeps after
           log_call_core = subst (IsCore keeps) (sym after_is) (log_core keeps p k works n (flight - flew) new.marks new.medium (flies flew flew_is) settles_at stands_at)

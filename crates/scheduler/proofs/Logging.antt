@@ -19,7 +19,7 @@ use Rattle.legal_runs.proofs.Room.{log_has_room}
 use Rattle.legal_runs.proofs.Sound.{move_sound}
 use Rattle.legal_runs.proofs.Told.{fold-joined, still_replied}
 use Rattle.legal_runs.specs.Events.{batch, log, loggable}
-use Rattle.legal_runs.specs.Laws.{AreApart, AreReplied, IsSound}
+use Rattle.legal_runs.specs.Laws.{AreApart, AreReplied, IsSoundWorld}
 use Rattle.legal_runs.specs.World.{Replied, World, entries}
 use Rattle.message.specs.Messages.{IsMessage, is_in_range, kind}
 use Rattle.message.specs.declared.Msg.{Msg}
@@ -33,16 +33,16 @@ use Rattle.scheduler.proofs.Counting.{changing, changing-append, flight_of}
 use Rattle.scheduler.proofs.Journaling.{with_none}
 use Rattle.scheduler.proofs.Tests.{any_logged}
 use Rattle.scheduler.proofs.Trees.{log_reaches}
-use Rattle.scheduler.specs.Kept.{Kept, StandsThroughout}
+use Rattle.scheduler.specs.Kept.{CoreView, StandsThroughout}
 use Rattle.scheduler.specs.Parts.{IsCore, IsPlaced, Parts, is_below, kept_of, entry_of, reached, replied_of, world_in}
-use Rattle.scheduler.specs.Slots.{Place}
+use Rattle.scheduler.specs.Slots.{SlotView}
 
 -- ---- from what ran to what the journal asks for
 
 abbrev pub AreKnown : Geometry → List Replied → Type 0
 AreKnown g as' = AllByRecursion (λ a. IsMessage a.1 × (is_in_range g a.1 ≡ true)) as'
 
-pub known_from : (g : Geometry) (ys : List Place) → AllByRecursion (IsPlaced g) ys → AreKnown g (map replied_of ys)
+pub known_from : (g : Geometry) (ys : List SlotView) → AllByRecursion (IsPlaced g) ys → AreKnown g (map replied_of ys)
 known_from g [] all = tt
 known_from g (y ∷ ys) all = ((all.0.message, all.0.range), known_from g ys all.1)
 
@@ -160,7 +160,7 @@ module _ (keeps : Type 0) (p : Parts) (k : IsCore keeps p) (works : p.journal.fa
           waits = k.waits;
           holds = λ test. k.holds test ∙ any_logged test p.lines (take n p.lines.ran) (drop n p.lines.ran) whole;
           flies = omega (arith, flew, fly, ran, flies);
-          sound = subst (IsSound p.journal.geometry) (sym log_world)
+          sound = subst (IsSoundWorld p.journal.geometry) (sym log_world)
               (move_sound p.journal.geometry (world_in p) _ _ (Logs n refl refl) k.sound);
           geometry = k.geometry;
           tree = subst (λ s. TreeHolds p.journal.geometry (is_below p.journal.geometry (map entry_of p.lines.out)) (in_tree p.tree) s)
@@ -172,14 +172,14 @@ module _ (keeps : Type 0) (p : Parts) (k : IsCore keeps p) (works : p.journal.fa
 
   module _ (any : keeps → LeavesOnly p.journal.medium medium (HoldsSome p.journal.geometry (world_in p).settled (batch_at p n))) where
     -- at each moment of the call
-    pub log_throughout : (new : Kept) → new.medium ≡ medium → keeps → StandsThroughout (batch (world_in p) n) (kept_of p) new
+    pub log_throughout : (new : CoreView) → new.medium ≡ medium → keeps → StandsThroughout (batch (world_in p) n) (kept_of p) new
     log_throughout new same keep =
         subst (λ (m : Medium). LeavesOnly p.journal.medium m (HoldsSome p.journal.geometry (world_in p).settled (if p.journal.failed then p.batch else batch (world_in p) n))) (sym same)
         (subst (λ ds. LeavesOnly p.journal.medium medium (HoldsSome p.journal.geometry (world_in p).settled ds))
         (same_batch keeps p k n ∙ sym (cond-false p.journal.failed p.batch (batch (world_in p) n) works)) (any keep))
 
     -- the device failed
-    pub doubt_core : IsSound p.journal.geometry (world_in (with_doubt p n medium)) → IsCore keeps (with_doubt p n medium)
+    pub doubt_core : IsSoundWorld p.journal.geometry (world_in (with_doubt p n medium)) → IsCore keeps (with_doubt p n medium)
     doubt_core sound = record {
       claimed = k.claimed;
       placed = k.placed;

@@ -4,7 +4,7 @@ use Rattle.std.proofs.lemmas.List.{length-replicate}
 use Rattle.affinity.specs.declared.geometry.Geometry.{Geometry}
 use Rattle.arena.proofs.Times.{length-numbers}
 use Rattle.arena.specs.Row.{IsParted, Row, capacity_of, empty_row}
-use Rattle.journal.specs.Journal.{Held, IsSettled, settled}
+use Rattle.journal.specs.Journal.{JournalView, IsSettled, settled}
 use Rattle.legal_runs.proofs.Idle.{idle_sound}
 use Rattle.message.specs.declared.Msg.{Msg}
 use Rattle.message.specs.declared.Reply.{Reply}
@@ -16,11 +16,11 @@ use Rattle.plain.specs.State.{IsState}
 use Rattle.scheduler.specs.Parts.{IsCore, Parts, is_below, parts, world_in}
 use Rattle.scheduler.specs.Slots.{HasChains, line}
 use Rattle.scheduler.specs.declared.slot.Slot.{Slot}
-use Rattle.turns.specs.Turns.{Queuing, at_start}
+use Rattle.turns.specs.Turns.{Queuing, turns_at_start}
 
-module _ (keeps : Type 0) (slots : ℕ) (replies : List Reply) (tree : TreeView) (journal : Held) where
+module _ (keeps : Type 0) (slots : ℕ) (replies : List Reply) (tree : TreeView) (journal : JournalView) where
   abbrev pub opened : Parts
-  opened = parts (empty_row slots 4) replies tree journal (at_start journal.geometry slots) [] 0 0 tree []
+  opened = parts (empty_row slots 4) replies tree journal (turns_at_start journal.geometry slots) [] 0 0 tree []
 
   pub size : capacity_of {T = Slot} (empty_row slots 4) ≡ slots
   size = length-replicate slots _
@@ -55,7 +55,7 @@ module _ (keeps : Type 0) (slots : ℕ) (replies : List Reply) (tree : TreeView)
     -- the same of parts that are these
     module _ (row : Row Slot) (row_is : row ≡ empty_row slots 4) where
       pub opened_parts : (turns : Queuing) (batch : List Msg) (first : TreeView) (since : List Msg)
-          → turns ≡ at_start journal.geometry slots → batch ≡ [] → first ≡ tree → since ≡ []
+          → turns ≡ turns_at_start journal.geometry slots → batch ≡ [] → first ≡ tree → since ≡ []
           → IsCore keeps (parts row replies tree journal turns batch 0 0 first since)
       opened_parts turns batch first since turns_are batch_is first_is since_is =
           subst (IsCore keeps) (λ i. parts (sym row_is i) replies tree journal (sym turns_are i) (sym batch_is i) 0 0 (sym first_is i) (sym since_is i)) opened_core

@@ -6,10 +6,10 @@ use Rattle.affinity.specs.declared.geometry.Geometry.{Geometry}
 use Rattle.checkpoint.specs.Recovery.{holds}
 use Rattle.disk.specs.Moments.{LeavesOnly}
 use Rattle.image.specs.Pieces.{piece_count}
-use Rattle.journal.specs.Journal.{Held, after_call, settled}
+use Rattle.journal.specs.Journal.{JournalView, after_call, settled}
 use Rattle.journal.specs.Marks.{Marks, count_marked, cut_marks, flipped_marks, pointed_marks}
 use Rattle.legal_runs.specs.Events.{point_refusal}
-use Rattle.legal_runs.specs.Laws.{IsSound}
+use Rattle.legal_runs.specs.Laws.{IsSoundWorld}
 use Rattle.legal_runs.specs.World.{World, held}
 use Rattle.legal_runs.specs.declared.outcomes.Outcome.TheVariants as outcomes
 use Rattle.legal_runs.specs.declared.outcomes.PointRefusal.{PointRefusal}
@@ -86,23 +86,23 @@ module _ (keeps : Type 0) (p : Parts) (k : IsCore keeps p) (why : point_refusal 
 
 -- ---- a step that was made, or at which the device failed
 
-module _ (keeps : Type 0) (p : Parts) (k : IsCore keeps p) (works : p.journal.failed ≡ false) (new : Held)
+module _ (keeps : Type 0) (p : Parts) (k : IsCore keeps p) (works : p.journal.failed ≡ false) (new : JournalView)
     (any : keeps → LeavesOnly p.journal.medium new.medium (λ c. holds p.journal.geometry c ≡ settled p.journal)) where
   pub made_core : (room : ℕ) (left : Option ℕ) (marks : Marks) → new ≡ record p.journal { room = room; left = left; marks = marks; medium = new.medium }
-      → (keeps → settled new ≡ settled p.journal) → IsSound p.journal.geometry (world_in (with_journal p room left p.journal.failed marks new.medium))
+      → (keeps → settled new ≡ settled p.journal) → IsSoundWorld p.journal.geometry (world_in (with_journal p room left p.journal.failed marks new.medium))
       → IsCore keeps (record p { journal = new })
-  made_core room left marks is same sound = subst (λ (j : Held). IsCore keeps (record p { journal = j })) (sym is)
+  made_core room left marks is same sound = subst (λ (j : JournalView). IsCore keeps (record p { journal = j })) (sym is)
       (step_core keeps p k works new.medium any room left p.journal.failed marks sound (λ keep fine. sym (ap settled is) ∙ same keep))
 
   pub broken_core : new ≡ record p.journal { failed = true; medium = new.medium }
-      → IsSound p.journal.geometry (world_in (with_journal p p.journal.room p.journal.left true p.journal.marks new.medium)) → IsCore keeps (record p { journal = new })
-  broken_core is sound = subst (λ (j : Held). IsCore keeps (record p { journal = j })) (sym is)
+      → IsSoundWorld p.journal.geometry (world_in (with_journal p p.journal.room p.journal.left true p.journal.marks new.medium)) → IsCore keeps (record p { journal = new })
+  broken_core is sound = subst (λ (j : JournalView). IsCore keeps (record p { journal = j })) (sym is)
       (step_core keeps p k works new.medium any p.journal.room p.journal.left true p.journal.marks sound (λ keep fine. absurd (true≢false fine)))
 
   pub step_moment : keeps → StandsThroughout [] (kept_of p) (kept_of (record p { journal = new }))
   step_moment = step_throughout keeps p k works new.medium any (kept_of (record p { journal = new })) refl
 
-module _ (keeps : Type 0) (p : Parts) (k : IsCore keeps p) (new : Held)
+module _ (keeps : Type 0) (p : Parts) (k : IsCore keeps p) (new : JournalView)
     (any : keeps → LeavesOnly p.journal.medium new.medium (λ c. holds p.journal.geometry c ≡ settled p.journal)) where
   abbrev g : Geometry
   g = p.journal.geometry
@@ -111,7 +111,7 @@ module _ (keeps : Type 0) (p : Parts) (k : IsCore keeps p) (new : Held)
   w = world_in p
 
   -- failing leaves all that makes a world sound
-  failed_sound : IsSound g (world_in (with_journal p p.journal.room p.journal.left true p.journal.marks new.medium))
+  failed_sound : IsSoundWorld g (world_in (with_journal p p.journal.room p.journal.left true p.journal.marks new.medium))
   failed_sound = record {
     apart = k.sound.apart;
     replied = k.sound.replied;
@@ -122,16 +122,16 @@ module _ (keeps : Type 0) (p : Parts) (k : IsCore keeps p) (new : Held)
     fits = k.sound.fits;
   }
 
-  pointed_sound : point_refusal (world_in p) ≡ None → IsSound g (world_in (with_journal p g.half p.journal.left p.journal.failed new.marks new.medium))
+  pointed_sound : point_refusal (world_in p) ≡ None → IsSoundWorld g (world_in (with_journal p g.half p.journal.left p.journal.failed new.marks new.medium))
   pointed_sound why = called_sound g w (record w { room = g.half }) steps.Point outcomes.Pointed false
       (point_called g w (record w { room = g.half }) (Ok tt) (why, refl)) k.sound
 
-  cut_sound : point_refusal (world_in p) ≡ None → (n : ℕ) → n ≤ piece_count g → IsSound g (world_in (with_journal p g.half (Some n) p.journal.failed new.marks new.medium))
+  cut_sound : point_refusal (world_in p) ≡ None → (n : ℕ) → n ≤ piece_count g → IsSoundWorld g (world_in (with_journal p g.half (Some n) p.journal.failed new.marks new.medium))
   cut_sound why n few = called_sound g w (record w { room = g.half; left = Some n }) steps.Cut outcomes.Cut false
       (cut_called g w (record w { room = g.half; left = Some n }) (Ok tt) (why, (n, few, refl))) k.sound
 
   -- whatever is left to write
-  left_sound : (left : Option ℕ) → IsSound g (world_in (with_journal p p.journal.room left p.journal.failed new.marks new.medium))
+  left_sound : (left : Option ℕ) → IsSoundWorld g (world_in (with_journal p p.journal.room left p.journal.failed new.marks new.medium))
   left_sound left = record {
     apart = k.sound.apart;
     replied = k.sound.replied;
@@ -152,7 +152,7 @@ module _ (keeps : Type 0) (p : Parts) (k : IsCore keeps p) (new : Held)
         by (Ok u) is same = made_core keeps p k (point_works keeps p k why) new any p.journal.geometry.half p.journal.left (pointed_marks p.journal.marks) is same (pointed_sound why)
         by (Err e) is same = broken_core keeps p k (point_works keeps p k why) new any is failed_sound
 
-    abbrev pub cut_journal : Held
+    abbrev pub cut_journal : JournalView
     cut_journal = record p.journal { room = g.half; left = Some (count_marked p.journal.marks.others); marks = cut_marks p.journal.marks; medium = new.medium }
 
     pub cut_core : OnOk result (new ≡ cut_journal) → OnOk result (count_marked p.journal.marks.others ≤ piece_count g)

@@ -13,12 +13,12 @@ use Rattle.arena.proofs.RowLemmas.{chained-listed}
 use Rattle.arena.proofs.Times.{times-append}
 use Rattle.arena.specs.Lists.{times}
 use Rattle.arena.specs.Row.{IsParted, Row, after_move, capacity_of, chain_at}
-use Rattle.journal.specs.Journal.{Held}
+use Rattle.journal.specs.Journal.{JournalView}
 use Rattle.legal_runs.proofs.Apart.{apart_turned}
 use Rattle.legal_runs.proofs.Lists.{all_back, all_front, before_first}
 use Rattle.legal_runs.specs.Events.{give_back, out_with}
 use Rattle.legal_runs.specs.Laws.{AreApart}
-use Rattle.legal_runs.specs.World.{Entry, World, held, touches}
+use Rattle.legal_runs.specs.World.{Entry, World, held, are_related_entries}
 use Rattle.message.specs.Messages.{is_in_range, place}
 use Rattle.message.specs.declared.Msg.{Msg}
 use Rattle.message.specs.declared.Reply.{Reply}
@@ -37,32 +37,32 @@ use Rattle.scheduler.proofs.Splits.{MapSplit, map_split, times-split}
 use Rattle.scheduler.proofs.Trees.{back_is_out}
 use Rattle.scheduler.specs.Jobs.{IsResultOf}
 use Rattle.scheduler.specs.Parts.{IsCore, IsPlaced, Parts, entry_of, parts, turn_of, world_in}
-use Rattle.scheduler.specs.Slots.{HasChains, Place, line, place_at}
+use Rattle.scheduler.specs.Slots.{HasChains, SlotView, line, place_at}
 use Rattle.scheduler.specs.declared.slot.Slot.{Slot}
 use Rattle.turns.specs.Turns.{Queuing, has_number, has_slot, holds_at}
 
 -- ---- the place of an entry
 
 -- a place among others, of which this is the entry
-pub record Stands (e : Entry) (ys : List Place) : Type 0 where
-  pub before : List Place
-  pub at : Place
-  pub behind : List Place
+pub record Stands (e : Entry) (ys : List SlotView) : Type 0 where
+  pub before : List SlotView
+  pub at : SlotView
+  pub behind : List SlotView
   pub whole : ys ≡ before ++ at ∷ behind
   pub is : entry_of at ≡ e
 
-stands_at : (e : Entry) (ys : List Place) (k : ℕ) → k < length (map entry_of ys) → get_or (map entry_of ys) k e ≡ e → Stands e ys
+stands_at : (e : Entry) (ys : List SlotView) (k : ℕ) → k < length (map entry_of ys) → get_or (map entry_of ys) k e ≡ e → Stands e ys
 stands_at e [] k low is = absurd (omega (arith, low))
 stands_at e (y ∷ ys) zero low is = record { before = []; at = y; behind = ys; whole = refl; is = is }
 stands_at e (y ∷ ys) (suc k) low is = let s = stands_at e ys k (omega (arith, low)) is in record {
   before = y ∷ s.before;
   at = s.at;
   behind = s.behind;
-  whole = ap (λ (l : List Place). y ∷ l) s.whole;
+  whole = ap (λ (l : List SlotView). y ∷ l) s.whole;
   is = s.is;
 }
 
-pub stands_in : (e : Entry) (ys : List Place) → Contains (map entry_of ys) e → Stands e ys
+pub stands_in : (e : Entry) (ys : List SlotView) → Contains (map entry_of ys) e → Stands e ys
 stands_in e ys h = stands_at e ys h.0 h.1 h.2
 
 -- ---- who holds a number
@@ -80,7 +80,7 @@ and_false true b e = e
 and_false false b e = refl
 
 -- none of those with other numbers stands at this slot with this number
-none_at : (n slot : ℕ) (ys : List Place) → AllByRecursion (λ y. not (has_number n (turn_of y)) ≡ true) ys → list_any (λ y. holds_at n slot (turn_of y)) ys ≡ false
+none_at : (n slot : ℕ) (ys : List SlotView) → AllByRecursion (λ y. not (has_number n (turn_of y)) ≡ true) ys → list_any (λ y. holds_at n slot (turn_of y)) ys ≡ false
 none_at n slot [] all = refl
 none_at n slot (y ∷ ys) all =
     or_false (holds_at n slot (turn_of y)) (list_any (λ y. holds_at n slot (turn_of y)) ys) (and_false (has_slot slot (turn_of y)) (has_number n (turn_of y)) (not_false _ all.0))
@@ -90,7 +90,7 @@ or_none : (b : Bool) → (b || false) ≡ b
 or_none true = refl
 or_none false = refl
 
-module _ (keeps : Type 0) (p : Parts) (k : IsCore keeps p) (before : List Place) (x : Place) (behind : List Place)
+module _ (keeps : Type 0) (p : Parts) (k : IsCore keeps p) (before : List SlotView) (x : SlotView) (behind : List SlotView)
     (whole : p.lines.out ≡ before ++ x ∷ behind) where
   abbrev g : Geometry
   g = p.journal.geometry
@@ -107,12 +107,12 @@ module _ (keeps : Type 0) (p : Parts) (k : IsCore keeps p) (before : List Place)
       ∙ ap (λ (es : List Entry). map entry_of p.lines.logged ++ es) (sym (append_assoc (map entry_of p.lines.ran) (map entry_of before) (entry_of x ∷ map entry_of behind)))
       ∙ sym (append_assoc (map entry_of p.lines.logged) (map entry_of p.lines.ran ++ map entry_of before) (entry_of x ∷ map entry_of behind))
     where
-      map_joined : (xs ys : List Place) → map entry_of (xs ++ ys) ≡ map entry_of xs ++ map entry_of ys
+      map_joined : (xs ys : List SlotView) → map entry_of (xs ++ ys) ≡ map entry_of xs ++ map entry_of ys
       map_joined [] ys = refl
       map_joined (x ∷ xs) ys = ap (λ (es : List Entry). entry_of x ∷ es) (map_joined xs ys)
 
-  alone : AllByRecursion (λ d. touches g (entry_of x) d ≡ false) (us ++ map entry_of behind)
-  alone = (before_first (λ (e d : Entry). touches g e d ≡ false) (apart_turned g) us (entry_of x) (map entry_of behind) (subst (AreApart g) held_is k.sound.apart)).0
+  alone : AllByRecursion (λ d. are_related_entries g (entry_of x) d ≡ false) (us ++ map entry_of behind)
+  alone = (before_first (λ (e d : Entry). are_related_entries g e d ≡ false) (apart_turned g) us (entry_of x) (map entry_of behind) (subst (AreApart g) held_is k.sound.apart)).0
 
   all_out : AllByRecursion (IsPlaced g) (before ++ x ∷ behind)
   all_out = subst (AllByRecursion (IsPlaced g)) whole k.placed.out
@@ -120,38 +120,38 @@ module _ (keeps : Type 0) (p : Parts) (k : IsCore keeps p) (before : List Place)
   abbrev n : ℕ
   n = x.1.affinity.number
 
-  abbrev Other : Place → Type 0
+  abbrev Other : SlotView → Type 0
   Other y = not (has_number n (turn_of y)) ≡ true
 
-  apart_us : AllByRecursion (λ d. touches g (entry_of x) d ≡ false) us
-  apart_us = all_front (λ d. touches g (entry_of x) d ≡ false) us (map entry_of behind) alone
+  apart_us : AllByRecursion (λ d. are_related_entries g (entry_of x) d ≡ false) us
+  apart_us = all_front (λ d. are_related_entries g (entry_of x) d ≡ false) us (map entry_of behind) alone
 
-  apart_rest : AllByRecursion (λ d. touches g (entry_of x) d ≡ false) (map entry_of p.lines.ran ++ map entry_of before)
-  apart_rest = all_back (λ d. touches g (entry_of x) d ≡ false) (map entry_of p.lines.logged) (map entry_of p.lines.ran ++ map entry_of before) apart_us
+  apart_rest : AllByRecursion (λ d. are_related_entries g (entry_of x) d ≡ false) (map entry_of p.lines.ran ++ map entry_of before)
+  apart_rest = all_back (λ d. are_related_entries g (entry_of x) d ≡ false) (map entry_of p.lines.logged) (map entry_of p.lines.ran ++ map entry_of before) apart_us
 
   x_placed : IsPlaced g x
   x_placed = (all_back (IsPlaced g) before (x ∷ behind) all_out).0
 
   others_logged : AllByRecursion (λ y. not (has_number n (turn_of y)) ≡ true) p.lines.logged
   others_logged = other_numbers g x x_placed p.lines.logged k.placed.logged
-      (all_front (λ d. touches g (entry_of x) d ≡ false) (map entry_of p.lines.logged) (map entry_of p.lines.ran ++ map entry_of before) apart_us)
+      (all_front (λ d. are_related_entries g (entry_of x) d ≡ false) (map entry_of p.lines.logged) (map entry_of p.lines.ran ++ map entry_of before) apart_us)
 
   others_ran : AllByRecursion (λ y. not (has_number n (turn_of y)) ≡ true) p.lines.ran
   others_ran = other_numbers g x x_placed p.lines.ran k.placed.ran
-      (all_front (λ d. touches g (entry_of x) d ≡ false) (map entry_of p.lines.ran) (map entry_of before) apart_rest)
+      (all_front (λ d. are_related_entries g (entry_of x) d ≡ false) (map entry_of p.lines.ran) (map entry_of before) apart_rest)
 
   others_before : AllByRecursion (λ y. not (has_number n (turn_of y)) ≡ true) before
   others_before = other_numbers g x x_placed before (all_front (IsPlaced g) before (x ∷ behind) all_out)
-      (all_back (λ d. touches g (entry_of x) d ≡ false) (map entry_of p.lines.ran) (map entry_of before) apart_rest)
+      (all_back (λ d. are_related_entries g (entry_of x) d ≡ false) (map entry_of p.lines.ran) (map entry_of before) apart_rest)
 
   others_behind : AllByRecursion (λ y. not (has_number n (turn_of y)) ≡ true) behind
   others_behind = other_numbers g x x_placed behind (all_back (IsPlaced g) before (x ∷ behind) all_out).1
-      (all_back (λ d. touches g (entry_of x) d ≡ false) us (map entry_of behind) alone)
+      (all_back (λ d. are_related_entries g (entry_of x) d ≡ false) us (map entry_of behind) alone)
 
   -- who holds its number is the one that is out
   pub holder_is : (slot : ℕ) → list_any (holds_at n slot) p.turns.held ≡ true → slot ≡ x.0
   holder_is slot has =
-      let t : Place → Bool = λ (y : Place). holds_at n slot (turn_of y) in
+      let t : SlotView → Bool = λ (y : SlotView). holds_at n slot (turn_of y) in
       let here : t x ≡ true =
       sym (or_none (t x))
       ∙ ap (λ b. t x || b) (sym (none_at n slot behind others_behind))
@@ -168,7 +168,7 @@ module _ (keeps : Type 0) (p : Parts) (k : IsCore keeps p) (before : List Place)
 
   pub number_is_held : list_any (has_number n) p.turns.held ≡ true
   number_is_held =
-      let t : Place → Bool = λ (y : Place). has_number n (turn_of y) in
+      let t : SlotView → Bool = λ (y : SlotView). has_number n (turn_of y) in
       k.holds (has_number n)
       ∙ (λ i. list_any t p.lines.logged || (list_any t p.lines.ran || (ap (list_any t) whole ∙ list_any-append t before (x ∷ behind)) i))
       ∙ (λ i. list_any t p.lines.logged || (list_any t p.lines.ran || (list_any t before || (eq-eqb n n refl i || list_any t behind))))
@@ -182,7 +182,7 @@ module _ (keeps : Type 0) (p : Parts) (k : IsCore keeps p) (before : List Place)
 
 -- ---- the call
 
-module _ (keeps : Type 0) (row : Row Slot) (replies : List Reply) (tree : TreeView) (journal : Held) (turns : Queuing) (batch : List Msg) (next flight : ℕ)
+module _ (keeps : Type 0) (row : Row Slot) (replies : List Reply) (tree : TreeView) (journal : JournalView) (turns : Queuing) (batch : List Msg) (next flight : ℕ)
     (opened : TreeView) (since : List Msg) (is : HasChains row)
     (k : IsCore keeps (parts row replies tree journal turns batch next flight opened since)) (done : Result)
     (result : IsResultOf journal.geometry (world_in (parts row replies tree journal turns batch next flight opened since)) done) where
@@ -192,7 +192,7 @@ module _ (keeps : Type 0) (row : Row Slot) (replies : List Reply) (tree : TreeVi
   stands : Stands (done.ticket, done.message) p.lines.out
   stands = stands_in (done.ticket, done.message) p.lines.out result.is_out
 
-  abbrev x : Place
+  abbrev x : SlotView
   x = stands.at
 
   abbrev message_is : x.1.message ≡ done.message
@@ -234,7 +234,7 @@ module _ (keeps : Type 0) (row : Row Slot) (replies : List Reply) (tree : TreeVi
       split = map_split (place_at row replies) (chain_at row 1) stands.before x stands.behind stands.whole
 
       at_slot : split.at ≡ slot
-      at_slot = ap (λ (y : Place). y.0) split.at_is ∙ sym slot_is
+      at_slot = ap (λ (y : SlotView). y.0) split.at_is ∙ sym slot_is
 
       pub back_low : slot < capacity_of row
       back_low =
@@ -247,7 +247,7 @@ module _ (keeps : Type 0) (row : Row Slot) (replies : List Reply) (tree : TreeVi
         abbrev told : List Reply
         told = slice_set replies slot reply
 
-        abbrev y : Place
+        abbrev y : SlotView
         y = (x.0, x.1, done.reply)
 
         lines : MovedLines row (after_move row slot 2) replies told 1 2 stands.before x stands.behind
@@ -273,7 +273,7 @@ module _ (keeps : Type 0) (row : Row Slot) (replies : List Reply) (tree : TreeVi
         back_long = length-set replies slot reply ∙ long ∙ sym back_size
 
         pub back_ran : (ran : ℕ) → ran ≡ length (line row replies 2) → ran + 1 ≡ length (line (after_move row slot 2) told 2)
-        back_ran ran count = let now_is = ap (λ (ps : List Place). length ps) joined ∙ length-append p.lines.ran (y ∷ []) in omega (arith, count, now_is)
+        back_ran ran count = let now_is = ap (λ (ps : List SlotView). length ps) joined ∙ length-append p.lines.ran (y ∷ []) in omega (arith, count, now_is)
 
         pub back_chains : IsParted (after_move row slot 2) → HasChains (after_move row slot 2)
         back_chains parted = record { parted = parted; four = lines.four ∙ is.four }

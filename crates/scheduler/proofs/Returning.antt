@@ -10,7 +10,7 @@ use Rattle.legal_runs.proofs.Moves.{Backs}
 use Rattle.legal_runs.proofs.Sound.{move_sound}
 use Rattle.legal_runs.specs.Eligible.{pick}
 use Rattle.legal_runs.specs.Events.{give_back, out_with}
-use Rattle.legal_runs.specs.Laws.{AreOnce, IsSound}
+use Rattle.legal_runs.specs.Laws.{AreOnce, IsSoundWorld}
 use Rattle.legal_runs.specs.World.{Entry}
 use Rattle.message.specs.Messages.{place}
 use Rattle.message.specs.declared.Reply.{Reply}
@@ -25,7 +25,7 @@ use Rattle.scheduler.proofs.Counting.{changing, changing-append, changing-cons, 
 use Rattle.scheduler.proofs.Tests.{any_back}
 use Rattle.scheduler.proofs.Trees.{back_reaches, back_tree}
 use Rattle.scheduler.specs.Parts.{IsCore, IsPlaced, Parts, entry_of, is_below, reached, replied_of, world_in}
-use Rattle.scheduler.specs.Slots.{Place}
+use Rattle.scheduler.specs.Slots.{SlotView}
 
 -- the one with a ticket that no other one has is the one that is found
 abbrev step_pick : Entry → List Entry → Option (Entry × List Entry) → Bool → Option (Entry × List Entry)
@@ -41,10 +41,10 @@ picked_at (d ∷ before) e behind others =
     differs : (a b : ℕ) → (a ≡ b → ⊥) → (a == b) ≡ false
     differs a b other = elim (eqb_tells a b) [ inl e ↦ absurd (other e.1) | inr n ↦ n.0 ]
 
-abbrev pub with_return : Parts → List Place → Place → TreeView → Parts
+abbrev pub with_return : Parts → List SlotView → SlotView → TreeView → Parts
 with_return p out y tree = record p { lines = record p.lines { out = out; ran = p.lines.ran ++ y ∷ [] }; tree = tree }
 
-module _ (keeps : Type 0) (p : Parts) (k : IsCore keeps p) (before : List Place) (x : Place) (behind : List Place)
+module _ (keeps : Type 0) (p : Parts) (k : IsCore keeps p) (before : List SlotView) (x : SlotView) (behind : List SlotView)
     (whole : p.lines.out ≡ before ++ x ∷ behind) where
   pub out_is : (world_in p).out ≡ map entry_of before ++ entry_of x ∷ map entry_of behind
   out_is = ap (map entry_of) whole ∙ map-append entry_of before (x ∷ behind)
@@ -67,7 +67,7 @@ module _ (keeps : Type 0) (p : Parts) (k : IsCore keeps p) (before : List Place)
       (t : Standing) (l : Parcels) (put : RestoresAt p.journal.geometry (place p.journal.geometry x.1.message) l (in_tree p.tree) (in_tree tree))
       (fits : Fits p.journal.geometry (place p.journal.geometry x.1.message) l)
       (shows : Shows p.journal.geometry (place p.journal.geometry x.1.message) t l (next_state p.journal.geometry (world_in p).settled x.1.message)) where
-    abbrev y : Place
+    abbrev y : SlotView
     y = (x.0, x.1, reply)
 
     abbrev after : Parts
@@ -107,7 +107,7 @@ module _ (keeps : Type 0) (p : Parts) (k : IsCore keeps p) (before : List Place)
           waits = k.waits;
           holds = λ test. k.holds test ∙ any_back test p.lines before x y behind whole refl;
           flies = omega (arith, flew, flies, out_was, out_now, ran_now);
-          sound = subst (IsSound p.journal.geometry) (sym return_world)
+          sound = subst (IsSoundWorld p.journal.geometry) (sym return_world)
               (move_sound p.journal.geometry (world_in p) _ _ (Backs x.1.ticket found returned_is_found refl refl) k.sound);
           geometry = geometry;
           tree = subst (λ s. TreeHolds p.journal.geometry (is_below p.journal.geometry (map entry_of (before ++ behind))) (in_tree tree) s)

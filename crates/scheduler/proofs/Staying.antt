@@ -6,12 +6,12 @@ use Rattle.affinity.specs.declared.geometry.Geometry.{Geometry}
 use Rattle.legal_runs.proofs.Elements.{in_contained}
 use Rattle.legal_runs.proofs.Outs.{event_sees}
 use Rattle.legal_runs.specs.Events.{Event, Hands, IsAllowed}
-use Rattle.legal_runs.specs.Laws.{IsSound}
+use Rattle.legal_runs.specs.Laws.{IsSoundWorld}
 use Rattle.legal_runs.specs.World.{Entry, World}
 use Rattle.message.specs.Messages.{place}
 use Rattle.parcel.proofs.SerialRuns.{serial_run}
 use Rattle.parcel.specs.Fits.{Suits}
-use Rattle.parcel.specs.Run.{Asked, IsRun, Shows}
+use Rattle.parcel.specs.Run.{JobView, IsJobRun, Shows}
 use Rattle.parcel.specs.RunLaws.{IsSerialStepOf}
 use Rattle.parcel.specs.declared.job.Done.{Done}
 use Rattle.plain.proofs.Agree.{agree-sym, agree-trans}
@@ -21,11 +21,11 @@ use Rattle.plain.specs.Shares.{AgreeOn}
 use Rattle.scheduler.specs.Jobs.{IsJobOf, IsResultOf}
 
 -- what a message that is out can read of the settled state stays
-event_leaves : (g : Geometry) (e : Entry) (old : Hands) (event : Event) → IsAllowed g old event → IsSound g old.core
+event_leaves : (g : Geometry) (e : Entry) (old : Hands) (event : Event) → IsAllowed g old event → IsSoundWorld g old.core
     → Contains old.core.out e → AgreeOn g (are_related (place g e.1)) event.world.core.settled old.core.settled
 event_leaves g e old event allowed sound there = event_sees g old event e allowed sound (in_contained old.core.out e there)
 
-pub ran_gives : (g : Geometry) (w : World) (job : Asked) (done : Done) → IsJobOf g w job → IsRun job done → IsResultOf g w done
+pub ran_gives : (g : Geometry) (w : World) (job : JobView) (done : Done) → IsJobOf g w job → IsJobRun job done → IsResultOf g w done
 ran_gives g w job done is ran = subst (λ (h : Geometry). IsResultOf h w done) is.geometry (record {
   is_out = subst (λ e. Contains w.out e) (λ i. (sym ran.ticket i, sym ran.message i)) is.is_out;
   suits = subst (λ m. Suits job.geometry m done.parcels) (sym ran.message) ran.suits;
@@ -37,7 +37,7 @@ ran_gives g w job done is ran = subst (λ (h : Geometry). IsResultOf h w done) i
     serial : IsSerialStepOf job done w.settled
     serial = serial_run job done w.settled ran is.lent
 
-pub job_stays : (g : Geometry) (old : Hands) (event : Event) (job : Asked) → IsAllowed g old event → IsSound g old.core → IsJobOf g old.core job
+pub job_stays : (g : Geometry) (old : Hands) (event : Event) (job : JobView) → IsAllowed g old event → IsSoundWorld g old.core → IsJobOf g old.core job
     → Contains event.world.core.out (job.ticket, job.message) → IsJobOf g event.world.core job
 job_stays g old event job allowed sound is there = record {
   geometry = is.geometry;
@@ -47,7 +47,7 @@ job_stays g old event job allowed sound is there = record {
       (agree-sym (event_leaves g (job.ticket, job.message) old event allowed sound is.is_out)));
 }
 
-pub result_stays : (g : Geometry) (old : Hands) (event : Event) (done : Done) → IsAllowed g old event → IsSound g old.core → IsResultOf g old.core done
+pub result_stays : (g : Geometry) (old : Hands) (event : Event) (done : Done) → IsAllowed g old event → IsSoundWorld g old.core → IsResultOf g old.core done
     → Contains event.world.core.out (done.ticket, done.message) → IsResultOf g event.world.core done
 result_stays g old event done allowed sound is there = record {
   is_out = there;

@@ -4,7 +4,7 @@ use Rattle.std.specs.Prelude.{◌&&◌, ◌||◌, cond, filter}
 use Rattle.std.specs.List.{AllByRecursion, list_any}
 use Rattle.std.proofs.lemmas.List.Folds.{list_any-append}
 use Rattle.scheduler.specs.Parts.{held_any, turn_of}
-use Rattle.scheduler.specs.Slots.{Lines, Place}
+use Rattle.scheduler.specs.Slots.{Lines, SlotView}
 use Rattle.turns.specs.declared.entries.Turn.{Turn}
 
 or_last : (t l r o : Bool) → (t || (l || (r || o))) ≡ (l || (r || (o || (t || false))))
@@ -31,16 +31,16 @@ or_logged false true s o = refl
 or_logged false false s o = refl
 
 module _ (test : Turn → Bool) where
-  abbrev t : Place → Bool
+  abbrev t : SlotView → Bool
   t x = test (turn_of x)
 
-  pub any_granted : (l : Lines) (waiting : List Place) (x : Place)
+  pub any_granted : (l : Lines) (waiting : List SlotView) (x : SlotView)
       → (test (turn_of x) || held_any test l) ≡ held_any test (record l { waiting = waiting; out = l.out ++ x ∷ [] })
   any_granted l waiting x =
       or_last (t x) (list_any t l.logged) (list_any t l.ran) (list_any t l.out)
       ∙ ap (λ b. list_any t l.logged || (list_any t l.ran || b)) (sym (list_any-append t l.out (x ∷ [])))
 
-  pub any_back : (l : Lines) (before : List Place) (x y : Place) (behind : List Place) → l.out ≡ before ++ x ∷ behind → turn_of y ≡ turn_of x
+  pub any_back : (l : Lines) (before : List SlotView) (x y : SlotView) (behind : List SlotView) → l.out ≡ before ++ x ∷ behind → turn_of y ≡ turn_of x
       → held_any test l ≡ held_any test (record l { out = before ++ behind; ran = l.ran ++ y ∷ [] })
   any_back l before x y behind out same =
       ap (λ b. list_any t l.logged || (list_any t l.ran || b)) (ap (list_any t) out ∙ list_any-append t before (x ∷ behind))
@@ -48,7 +48,7 @@ module _ (test : Turn → Bool) where
       ∙ (λ i. list_any t l.logged || ((list_any t l.ran || (test (sym same i) || false)) || sym (list_any-append t before behind) i))
       ∙ ap (λ b. list_any t l.logged || (b || list_any t (before ++ behind))) (sym (list_any-append t l.ran (y ∷ [])))
 
-  pub any_logged : (l : Lines) (first rest : List Place) → l.ran ≡ first ++ rest
+  pub any_logged : (l : Lines) (first rest : List SlotView) → l.ran ≡ first ++ rest
       → held_any test l ≡ held_any test (record l { ran = rest; logged = l.logged ++ first })
   any_logged l first rest ran =
       ap (λ b. list_any t l.logged || (b || list_any t l.out)) (ap (list_any t) ran ∙ list_any-append t first rest)
@@ -67,13 +67,13 @@ any_filter test q (t ∷ ts) = by (q t) (any_filter test q ts)
     by false rest = rest
 
 -- where all pass one test, it makes no difference to another
-pub any_passing : (test q : Turn → Bool) (xs : List Place) → AllByRecursion (λ x. q (turn_of x) ≡ true) xs
+pub any_passing : (test q : Turn → Bool) (xs : List SlotView) → AllByRecursion (λ x. q (turn_of x) ≡ true) xs
     → list_any (λ x. q (turn_of x) && test (turn_of x)) xs ≡ list_any (λ x. test (turn_of x)) xs
 any_passing test q [] all = refl
 any_passing test q (x ∷ xs) all = λ i. (all.0 i && test (turn_of x)) || any_passing test q xs all.1 i
 
 -- the first of those that are logged is gone
-pub any_answered : (test q : Turn → Bool) (l : Lines) (x : Place) (behind : List Place) → l.logged ≡ x ∷ behind → q (turn_of x) ≡ false
+pub any_answered : (test q : Turn → Bool) (l : Lines) (x : SlotView) (behind : List SlotView) → l.logged ≡ x ∷ behind → q (turn_of x) ≡ false
     → AllByRecursion (λ x. q (turn_of x) ≡ true) behind → AllByRecursion (λ x. q (turn_of x) ≡ true) l.ran → AllByRecursion (λ x. q (turn_of x) ≡ true) l.out
     → held_any (λ t. q t && test t) l ≡ held_any test (record l { logged = behind })
 any_answered test q l x behind logged first behinds rans outs =

@@ -11,8 +11,8 @@ use Rattle.affinity.specs.Path.{Path, are_related, begins}
 use Rattle.affinity.specs.declared.geometry.Geometry.{Geometry}
 use Rattle.legal_runs.specs.Eligible.{next_eligible}
 use Rattle.legal_runs.specs.Events.{log}
-use Rattle.legal_runs.specs.Laws.{IsSound, AreApart}
-use Rattle.legal_runs.specs.World.{Entry, Replied, World, entries, held, touches}
+use Rattle.legal_runs.specs.Laws.{IsSoundWorld, AreApart}
+use Rattle.legal_runs.specs.World.{Entry, Replied, World, entries, held, are_related_entries}
 use Rattle.legal_runs.proofs.Apart.{apart_turned, entries-append, granted_is_free}
 use Rattle.legal_runs.proofs.Lists.{all_back, all_front, all_weaker, before_back, before_first, before_one}
 use Rattle.legal_runs.proofs.Outs.{entries_leave}
@@ -36,7 +36,7 @@ use Rattle.plain.specs.State.{State}
 use Rattle.scheduler.specs.Parts.{is_below, reached}
 
 -- a place that is unrelated to those of some messages is unrelated to all below them
-pub apart_below : (g : Geometry) (e : Entry) (es : List Entry) → AllByRecursion (λ d. touches g e d ≡ false) es → IsApart (place g e.1) (is_below g es)
+pub apart_below : (g : Geometry) (e : Entry) (es : List Entry) → AllByRecursion (λ d. are_related_entries g e d ≡ false) es → IsApart (place g e.1) (is_below g es)
 apart_below g e [] apart q below = absurd (false_is below)
   where
     false_is : false ≡ true → ⊥
@@ -76,14 +76,14 @@ below_cut g before e behind q =
 
 -- ---- a message that goes out
 
-module _ (g : Geometry) (w : World) (sound : IsSound g w) (found : Entry × List Entry) (first : next_eligible g w ≡ Some found) where
-  free : AllByRecursion (λ d. touches g found.0 d ≡ false) (held w)
+module _ (g : Geometry) (w : World) (sound : IsSoundWorld g w) (found : Entry × List Entry) (first : next_eligible g w ≡ Some found) where
+  free : AllByRecursion (λ d. are_related_entries g found.0 d ≡ false) (held w)
   free = granted_is_free g w found first
 
-  pub free_of_out : AllByRecursion (λ d. touches g found.0 d ≡ false) w.out
+  pub free_of_out : AllByRecursion (λ d. are_related_entries g found.0 d ≡ false) w.out
   free_of_out = all_back _ (entries w.ran) w.out (all_back _ (entries w.logged) _ free)
 
-  pub free_of_ran : AllByRecursion (λ d. touches g found.0 d ≡ false) (entries w.ran)
+  pub free_of_ran : AllByRecursion (λ d. are_related_entries g found.0 d ≡ false) (entries w.ran)
   free_of_ran = all_front _ (entries w.ran) w.out (all_back _ (entries w.logged) _ free)
 
   module _ (n : Nodes) (tree : TreeHolds g (is_below g w.out) n (reached g w)) where
@@ -103,23 +103,23 @@ module _ (g : Geometry) (w : World) (sound : IsSound g w) (found : Entry × List
 
 -- ---- a message that comes back
 
-module _ (g : Geometry) (w : World) (sound : IsSound g w) (before : List Entry) (e : Entry) (behind : List Entry) (out : w.out ≡ before ++ e ∷ behind)
+module _ (g : Geometry) (w : World) (sound : IsSoundWorld g w) (before : List Entry) (e : Entry) (behind : List Entry) (out : w.out ≡ before ++ e ∷ behind)
     (n : Nodes) (tree : TreeHolds g (is_below g w.out) n (reached g w)) where
   apart_out : AreApart g (before ++ e ∷ behind)
   apart_out = subst (AreApart g) out (before_back _ (entries w.ran) w.out (before_back _ (entries w.logged) _ sound.apart))
 
-  pub apart_others : AllByRecursion (λ d. touches g e d ≡ false) (before ++ behind)
+  pub apart_others : AllByRecursion (λ d. are_related_entries g e d ≡ false) (before ++ behind)
   apart_others = (go before apart_out)
     where
-      go : (us : List Entry) → AreApart g (us ++ e ∷ behind) → AllByRecursion (λ d. touches g e d ≡ false) (us ++ behind)
-      go us apart = (before_first (λ e d. touches g e d ≡ false) (apart_turned g) us e behind apart).0
+      go : (us : List Entry) → AreApart g (us ++ e ∷ behind) → AllByRecursion (λ d. are_related_entries g e d ≡ false) (us ++ behind)
+      go us apart = (before_first (λ e d. are_related_entries g e d ≡ false) (apart_turned g) us e behind apart).0
 
-  pub apart_ran : AllByRecursion (λ d. touches g e d ≡ false) (entries w.ran)
+  pub apart_ran : AllByRecursion (λ d. are_related_entries g e d ≡ false) (entries w.ran)
   apart_ran =
       let whole : AreApart g (entries w.ran ++ (before ++ e ∷ behind)) = subst (λ o. AreApart g (entries w.ran ++ o)) out (before_back _ (entries w.logged) _ sound.apart) in
-      all_weaker (λ d. touches g d e ≡ false) (λ d. touches g e d ≡ false) (λ d. apart_turned g d e) (entries w.ran)
-      (all_front (λ d. touches g d e ≡ false) (entries w.ran) before
-      (before_one (λ e d. touches g e d ≡ false) (entries w.ran ++ before) e behind (subst (AreApart g) (sym (append_assoc (entries w.ran) before (e ∷ behind))) whole)))
+      all_weaker (λ d. are_related_entries g d e ≡ false) (λ d. are_related_entries g e d ≡ false) (λ d. apart_turned g d e) (entries w.ran)
+      (all_front (λ d. are_related_entries g d e ≡ false) (entries w.ran) before
+      (before_one (λ e d. are_related_entries g e d ≡ false) (entries w.ran ++ before) e behind (subst (AreApart g) (sym (append_assoc (entries w.ran) before (e ∷ behind))) whole)))
 
   held_out : TreeHolds g (with_place (place g e.1) (is_below g (before ++ behind))) n (reached g w)
   held_out = holds_alike g (is_below g w.out) (with_place (place g e.1) (is_below g (before ++ behind))) n (reached g w)
@@ -142,7 +142,7 @@ module _ (g : Geometry) (w : World) (sound : IsSound g w) (before : List Entry) 
 
 -- ---- messages that are logged
 
-pub log_reaches : (g : Geometry) (w : World) (n : ℕ) → IsSound g w → reached g (log g w n) ≡ reached g w
+pub log_reaches : (g : Geometry) (w : World) (n : ℕ) → IsSoundWorld g w → reached g (log g w n) ≡ reached g w
 log_reaches g w n sound =
     ap (λ x. fold g x (messages (entries (drop n w.ran)))) (row_of g w n sound).logs
     ∙ sym (fold-append g w.settled (entries (take n w.ran)) (entries (drop n w.ran)))

@@ -16,12 +16,12 @@ use Rattle.message.specs.declared.Reply.{Reply}
 use Rattle.scheduler.specs.Jobs.{IsJobOf}
 use Rattle.scheduler.specs.declared.granted.Granted.{Granted}
 use Rattle.scheduler.specs.declared.granted.Granted.TheVariants as granted
-use Rattle.parcel.specs.Run.{Asked}
+use Rattle.parcel.specs.Run.{JobView}
 
 -- ---- messages that go out
 
 -- The eligible message with the least ticket went out as this job.
-pub record IsGrantOf (g : Geometry) (old new : World) (job : Asked) : Type 0 where
+pub record IsGrantOf (g : Geometry) (old new : World) (job : JobView) : Type 0 where
   pub works : old.failed ≡ false
   pub found : Entry × List Entry
   pub first : next_eligible g old ≡ Some found
@@ -78,9 +78,9 @@ point_rose (Err points.Device) = true
 point_rose _ = false
 
 -- A call adds one to the count of failures exactly where the device failed during it.
-abbrev pub Counts : Bool → ℕ → ℕ → Type 0
-Counts true old new = new ≡ old + 1
-Counts false old new = new ≡ old
+abbrev pub CountsFailure : Bool → ℕ → ℕ → Type 0
+CountsFailure true old new = new ≡ old + 1
+CountsFailure false old new = new ≡ old
 
 -- ---- a call as an event
 
@@ -90,19 +90,19 @@ IsCalled g old new step outcome rose = (hands : List Hand)
     → IsAllowed g (record { core = old; hands = hands })
     (record { step = step; outcome = outcome; rose = rose; world = record { core = new; hands = hands } })
 
-abbrev pub arrived : Result ℕ ArriveRefusal → Outcome
-arrived (Ok ticket) = outcomes.Ticket ticket
-arrived (Err why) = outcomes.ArriveRefused why
+abbrev pub arrive_outcome : Result ℕ ArriveRefusal → Outcome
+arrive_outcome (Ok ticket) = outcomes.Ticket ticket
+arrive_outcome (Err why) = outcomes.ArriveRefused why
 
-abbrev pub answered : Option (ℕ × Reply) → Outcome
-answered None = outcomes.Idle
-answered (Some a) = outcomes.Answered a.0 a.1
+abbrev pub answer_outcome : Option (ℕ × Reply) → Outcome
+answer_outcome None = outcomes.Idle
+answer_outcome (Some a) = outcomes.Answered a.0 a.1
 
-abbrev pub logged : Result ℕ CoreFault → Outcome
-logged (Ok count) = outcomes.Logged count
-logged (Err why) = outcomes.LogFault why
+abbrev pub log_outcome : Result ℕ CoreFault → Outcome
+log_outcome (Ok count) = outcomes.Logged count
+log_outcome (Err why) = outcomes.LogFault why
 
 -- of a step of a consistency point, that answers so where it was made
-abbrev pub stepped : {T : Type 0} → (T → Outcome) → Result T PointRefusal → Outcome
-stepped made (Ok x) = made x
-stepped made (Err why) = outcomes.PointRefused why
+abbrev pub step_outcome : {T : Type 0} → (T → Outcome) → Result T PointRefusal → Outcome
+step_outcome made (Ok x) = made x
+step_outcome made (Err why) = outcomes.PointRefused why

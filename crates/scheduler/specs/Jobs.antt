@@ -5,14 +5,14 @@ use Rattle.affinity.specs.declared.geometry.Geometry.{Geometry}
 use Rattle.legal_runs.specs.World.{World}
 use Rattle.message.specs.Messages.{place}
 use Rattle.parcel.specs.Fits.{Suits}
-use Rattle.parcel.specs.Run.{Asked, Shows}
+use Rattle.parcel.specs.Run.{JobView, Shows}
 use Rattle.parcel.specs.RunLaws.{IsLentOf}
 use Rattle.parcel.specs.declared.job.Done.{Done}
 use Rattle.parcel.specs.declared.parts.Standing.{Standing}
 use Rattle.plain.specs.Serial.{next_state, reply_to}
 
 -- The job is of a message that is out, and it shows what the settled state has at the message's place.
-pub record IsJobOf (g : Geometry) (w : World) (job : Asked) : Type 0 where
+pub record IsJobOf (g : Geometry) (w : World) (job : JobView) : Type 0 where
   pub geometry : job.geometry ≡ g
   pub is_out : Contains w.out (job.ticket, job.message)
   pub lent : IsLentOf job w.settled

@@ -9,7 +9,7 @@ use Rattle.message.specs.declared.Msg.{Msg}
 use Rattle.parcel.specs.Tree.{TreeView, state_in}
 use Rattle.plain.specs.Serial.{fold}
 
-pub record Kept : Type 0 where
+pub record CoreView : Type 0 where
   pub geometry : Geometry
   -- the messages, by how far each has come: as in its world
   pub waiting : List Entry
@@ -30,7 +30,7 @@ pub record Kept : Type 0 where
   pub left : Option ℕ
   pub medium : Medium
 
-abbrev pub world_of : Kept → World
+abbrev pub world_of : CoreView → World
 world_of c = record {
   waiting = c.waiting;
   out = c.out;
@@ -46,17 +46,17 @@ world_of c = record {
 }
 
 -- A crash now leaves the settled state, with the first so many of the messages in doubt.
-abbrev pub StandsNow : Kept → Type 0
+abbrev pub StandsNow : CoreView → Type 0
 StandsNow c = (bytes : List ℕ) → Leaves c.medium bytes → HoldsSome c.geometry (world_of c).settled c.doubt bytes
 
 -- A crash at any moment of a call leaves the settled state, with the first so many of the messages in doubt: where the
 -- device had not failed before, of those that the call is to append.
-abbrev pub StandsThroughout : List Msg → Kept → Kept → Type 0
+abbrev pub StandsThroughout : List Msg → CoreView → CoreView → Type 0
 StandsThroughout appended old new =
     LeavesOnly old.medium new.medium (HoldsSome old.geometry (world_of old).settled (if old.failed then old.doubt else appended))
 
 -- A core that was just opened: nothing waits or is held, no ticket was given, and the log has all its room.
-pub record IsJustOpened (slots : ℕ) (c : Kept) : Type 0 where
+pub record IsJustOpened (slots : ℕ) (c : CoreView) : Type 0 where
   pub none_waits : c.waiting ≡ []
   pub none_out : c.out ≡ []
   pub none_ran : c.ran ≡ []

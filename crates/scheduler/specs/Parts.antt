@@ -5,9 +5,9 @@ use Rattle.affinity.specs.Interval.{IsAffinityOf}
 use Rattle.affinity.specs.Path.{Path, begins}
 use Rattle.affinity.specs.declared.geometry.Geometry.{Geometry}
 use Rattle.arena.specs.Row.{Row, capacity_of}
-use Rattle.journal.specs.Journal.{Held, settled}
+use Rattle.journal.specs.Journal.{JournalView, settled}
 use Rattle.legal_runs.specs.Eligible.{changes, in_flight}
-use Rattle.legal_runs.specs.Laws.{IsSound}
+use Rattle.legal_runs.specs.Laws.{IsSoundWorld}
 use Rattle.legal_runs.specs.World.{Entry, Replied, World, entries}
 use Rattle.message.specs.Messages.{IsMessage, is_in_range, place}
 use Rattle.message.specs.declared.Msg.{Msg}
@@ -17,24 +17,20 @@ use Rattle.parcel.specs.Tree.{TreeView, in_tree}
 use Rattle.plain.specs.Order.{messages}
 use Rattle.plain.specs.Serial.{fold}
 use Rattle.plain.specs.State.{State}
-use Rattle.scheduler.specs.Kept.{Kept, StandsNow, world_of}
-use Rattle.scheduler.specs.Slots.{Lines, Place, lines_of}
+use Rattle.scheduler.specs.Kept.{CoreView, StandsNow, world_of}
+use Rattle.scheduler.specs.Slots.{Lines, SlotView, stages_of}
 use Rattle.scheduler.specs.declared.slot.Slot.{Slot}
 use Rattle.turns.specs.Turns.{Queuing}
 use Rattle.turns.specs.declared.entries.Turn.{Turn}
 
-abbrev pub entry_of : Place → Entry
+abbrev pub entry_of : SlotView → Entry
 entry_of x = (x.1.ticket, x.1.message)
 
-abbrev pub replied_of : Place → Replied
+abbrev pub replied_of : SlotView → Replied
 replied_of x = (x.1.ticket, x.1.message, x.2)
 
-abbrev pub turn_of : Place → Turn
+abbrev pub turn_of : SlotView → Turn
 turn_of x = record { slot = x.0; affinity = x.1.affinity; changing = changes x.1.message; ticket = x.1.ticket }
-
--- the places of the messages that are held
-abbrev pub held_places : Lines → List Place
-held_places l = l.logged ++ (l.ran ++ l.out)
 
 -- whether one of the held ones passes a test
 abbrev pub held_any : (Turn → Bool) → Lines → Bool
@@ -47,7 +43,7 @@ pub record Parts : Type 0 where
   pub free : ℕ
   pub capacity : ℕ
   pub tree : TreeView
-  pub journal : Held
+  pub journal : JournalView
   pub turns : Queuing
   -- what is handed to the journal: after a fault of the device what was to be appended
   pub batch : List Msg
@@ -58,9 +54,9 @@ pub record Parts : Type 0 where
   pub since : List Msg
 
 -- the parts of a core with these fields
-abbrev pub parts : Row Slot → List Reply → TreeView → Held → Queuing → List Msg → ℕ → ℕ → TreeView → List Msg → Parts
+abbrev pub parts : Row Slot → List Reply → TreeView → JournalView → Queuing → List Msg → ℕ → ℕ → TreeView → List Msg → Parts
 parts row replies tree journal turns batch next flight opened since = record {
-  lines = lines_of row replies;
+  lines = stages_of row replies;
   free = length row.free;
   capacity = capacity_of row;
   tree = tree;
@@ -73,7 +69,7 @@ parts row replies tree journal turns batch next flight opened since = record {
   since = since;
 }
 
-abbrev pub kept_of : Parts → Kept
+abbrev pub kept_of : Parts → CoreView
 kept_of p = record {
   geometry = p.journal.geometry;
   waiting = map entry_of p.lines.waiting;
@@ -95,7 +91,7 @@ abbrev pub world_in : Parts → World
 world_in p = world_of (kept_of p)
 
 -- The message is one, in range, and its affinity is that of its place.
-pub record IsPlaced (g : Geometry) (x : Place) : Type 0 where
+pub record IsPlaced (g : Geometry) (x : SlotView) : Type 0 where
   pub affinity : IsAffinityOf g (place g x.1.message) x.1.affinity
   pub range : is_in_range g x.1.message ≡ true
   pub message : IsMessage x.1.message
@@ -124,7 +120,7 @@ pub record IsCore (keeps : Type 0) (p : Parts) : Type 0 where
   pub waits : p.turns.waiting ≡ map turn_of p.lines.waiting
   pub holds : (test : Turn → Bool) → list_any test p.turns.held ≡ held_any test p.lines
   pub flies : p.flight ≡ in_flight (world_in p)
-  pub sound : IsSound p.journal.geometry (world_in p)
+  pub sound : IsSoundWorld p.journal.geometry (world_in p)
   -- the tree holds what was reached, but for the places of the messages that are out
   pub geometry : p.tree.geometry ≡ p.journal.geometry
   pub tree : TreeHolds p.journal.geometry (is_below p.journal.geometry (map entry_of p.lines.out)) (in_tree p.tree)

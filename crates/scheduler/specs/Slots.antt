@@ -8,28 +8,28 @@ use Rattle.scheduler.specs.declared.slot.Slot.{Slot}
 use Rattle.std.specs.Prelude.{length}
 
 -- a slot with its number, and the reply that lies at this number
-abbrev pub Place : Type 0
-Place = ℕ × Slot × Reply
+abbrev pub SlotView : Type 0
+SlotView = ℕ × Slot × Reply
 
 abbrev pub no_slot : Slot
 no_slot = record { ticket = 0; message = Summary; affinity = record { number = 0; end = 0 } }
 
-abbrev pub place_at : Row Slot → List Reply → ℕ → Place
+abbrev pub place_at : Row Slot → List Reply → ℕ → SlotView
 place_at row replies i = (i, unwrap_or (value_at row i) no_slot, get_or replies i Done)
 
 -- the places on a chain
-abbrev pub line : Row Slot → List Reply → ℕ → List Place
+abbrev pub line : Row Slot → List Reply → ℕ → List SlotView
 line row replies c = map (place_at row replies) (chain_at row c)
 
 pub record Lines : Type 0 where
-  pub waiting : List Place
-  pub out : List Place
-  pub ran : List Place
-  pub logged : List Place
+  pub waiting : List SlotView
+  pub out : List SlotView
+  pub ran : List SlotView
+  pub logged : List SlotView
 
 -- Chain 0 has those that wait, chain 1 those that are out, chain 2 those that ran, and chain 3 those that are logged.
-abbrev pub lines_of : Row Slot → List Reply → Lines
-lines_of row replies =
+abbrev pub stages_of : Row Slot → List Reply → Lines
+stages_of row replies =
     record { waiting = line row replies 0; out = line row replies 1; ran = line row replies 2; logged = line row replies 3 }
 
 -- The slots have these four chains.

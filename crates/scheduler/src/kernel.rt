@@ -9,17 +9,17 @@ ghost use Rattle.checkpoint.specs.declared.fault.OpenFault.TheVariants as faults
 ghost use Rattle.image.specs.Pieces.{piece_count};
 ghost use Rattle.journal.specs.Opening.{IsRefusedUnwritten, OpeningLeaves};
 ghost use Rattle.legal_runs.specs.Events.{answer, arrive, batch, flip_refusal, give_back, out_with, point_refusal, touches_device};
-ghost use Rattle.legal_runs.specs.Laws.{IsSound};
+ghost use Rattle.legal_runs.specs.Laws.{IsSoundWorld};
 ghost use Rattle.legal_runs.specs.World.{Entry};
 ghost use Rattle.legal_runs.specs.declared.outcomes.Step.TheVariants as steps;
 ghost use Rattle.oplog.specs.Layout.{layout_of};
 ghost use Rattle.oplog.specs.Stands.{in_force, named_area};
 ghost use Rattle.plain.specs.State.{State};
-ghost use Rattle.scheduler.specs.Calls.{Counts, IsGranted, IsLogStep, IsPieceStep, IsPointStep, answered, arrived, log_rose, point_rose};
+ghost use Rattle.scheduler.specs.Calls.{CountsFailure, IsGranted, IsLogStep, IsPieceStep, IsPointStep, answer_outcome, arrive_outcome, log_rose, point_rose};
 ghost use Rattle.arena.specs.Row.{chain_at};
 ghost use Rattle.scheduler.specs.Slots.{HasChains};
 ghost use Rattle.scheduler.specs.Jobs.{IsResultOf};
-ghost use Rattle.scheduler.specs.Kept.{IsJustOpened, Kept, StandsNow, StandsThroughout, world_of};
+ghost use Rattle.scheduler.specs.Kept.{IsJustOpened, CoreView, StandsNow, StandsThroughout, world_of};
 ghost use Rattle.scheduler.specs.Opening.{IsOfBytes};
 
 use crate::Granted;
@@ -70,11 +70,11 @@ pub struct Core<D: Disk> {
 impl<D: Disk> Model for Core<D> {
     ghost use Rattle.std.specs.Prelude.{◌≡◌, ◌≤◌, length, vec_capacity};
     ghost use Rattle.arena.specs.Row.{capacity_of};
-    ghost use Rattle.scheduler.specs.Kept.{Kept};
+    ghost use Rattle.scheduler.specs.Kept.{CoreView};
     ghost use Rattle.scheduler.specs.Parts.{IsCore, kept_of, parts};
     ghost use Rattle.scheduler.specs.Slots.{HasChains, line};
 
-    ghost Value = { Kept };
+    ghost Value = { CoreView };
 
     ghost view = { λ c. kept_of
         (parts c.slots c.replies.items c.tree c.journal c.turns c.batch.items c.next c.flight c.history.opened c.history.since) };
@@ -165,7 +165,7 @@ impl<D: Disk> Core<D> {
 
     /// Takes a message in, and gives it the next ticket: it waits. Tickets count from 0.
     pub fn arrive(&mut self, m: &Msg) -> Result<u64, ArriveRefusal>
-        ensures world { (arrived result, world_of self.new) ≡ arrive self.old.geometry (world_of self.old) m.now }
+        ensures world { (arrive_outcome result, world_of self.new) ≡ arrive self.old.geometry (world_of self.old) m.now }
         ensures geometry { self.new.geometry ≡ self.old.geometry }
         ensures untouched { self.new.medium ≡ self.old.medium }
     {
@@ -264,7 +264,7 @@ impl<D: Disk> Core<D> {
     pub fn log(&mut self, n: usize) -> Result<usize, CoreFault>
         ensures world { IsLogStep self.old.geometry (world_of self.old) (world_of self.new) n result }
         ensures geometry { self.new.geometry ≡ self.old.geometry }
-        ensures counts { Counts (log_rose result) self.old.medium.faults self.new.medium.faults }
+        ensures counts { CountsFailure (log_rose result) self.old.medium.faults self.new.medium.faults }
 
         // A crash at any moment of the call leaves what was settled, with the first m of what is appended.
         ensures any_moment { D.keeps → StandsThroughout (batch (world_of self.old) n) self.old self.new }
@@ -289,7 +289,7 @@ impl<D: Disk> Core<D> {
     /// The ticket and the reply of the message that was logged first. It is gone then: others may take its place, and
     /// its slot is free. None where no message is logged.
     pub fn answer(&mut self) -> Option<(u64, Reply)>
-        ensures world { (answered result, world_of self.new) ≡ answer (world_of self.old) self.old.logged }
+        ensures world { (answer_outcome result, world_of self.new) ≡ answer (world_of self.old) self.old.logged }
         ensures geometry { self.new.geometry ≡ self.old.geometry }
         ensures untouched { self.new.medium ≡ self.old.medium }
     {
@@ -323,7 +323,7 @@ impl<D: Disk> Core<D> {
         ensures world { IsPointStep (world_of self.old) (world_of self.new) (point_refusal (world_of self.old))
             (world_of self.new ≡ record (world_of self.old) { room = self.old.geometry.half }) result }
         ensures geometry { self.new.geometry ≡ self.old.geometry }
-        ensures counts { Counts (point_rose result) self.old.medium.faults self.new.medium.faults }
+        ensures counts { CountsFailure (point_rose result) self.old.medium.faults self.new.medium.faults }
 
         // A crash at any moment of the call leaves what was settled.
         ensures any_moment { D.keeps → StandsThroughout [] self.old self.new }
@@ -346,7 +346,7 @@ impl<D: Disk> Core<D> {
             ((n : ℕ) × (n ≤ piece_count self.old.geometry)
             × (world_of self.new ≡ record (world_of self.old) { room = self.old.geometry.half; left = Some n })) result }
         ensures geometry { self.new.geometry ≡ self.old.geometry }
-        ensures counts { Counts (point_rose result) self.old.medium.faults self.new.medium.faults }
+        ensures counts { CountsFailure (point_rose result) self.old.medium.faults self.new.medium.faults }
         ensures any_moment { D.keeps → StandsThroughout [] self.old self.new }
         ensures untouched { touches_device (world_of self.old) steps.Cut ≡ false → self.new.medium ≡ self.old.medium }
     {
@@ -364,7 +364,7 @@ impl<D: Disk> Core<D> {
     pub fn piece(&mut self) -> Result<usize, PointRefusal>
         ensures world { IsPieceStep (world_of self.old) (world_of self.new) result }
         ensures geometry { self.new.geometry ≡ self.old.geometry }
-        ensures counts { Counts (point_rose result) self.old.medium.faults self.new.medium.faults }
+        ensures counts { CountsFailure (point_rose result) self.old.medium.faults self.new.medium.faults }
         ensures any_moment { D.keeps → StandsThroughout [] self.old self.new }
         ensures untouched { touches_device (world_of self.old) steps.Piece ≡ false → self.new.medium ≡ self.old.medium }
     {
@@ -385,7 +385,7 @@ impl<D: Disk> Core<D> {
         ensures world { IsPointStep (world_of self.old) (world_of self.new) (flip_refusal (world_of self.old))
             (world_of self.new ≡ record (world_of self.old) { left = None }) result }
         ensures geometry { self.new.geometry ≡ self.old.geometry }
-        ensures counts { Counts (point_rose result) self.old.medium.faults self.new.medium.faults }
+        ensures counts { CountsFailure (point_rose result) self.old.medium.faults self.new.medium.faults }
         ensures any_moment { D.keeps → StandsThroughout [] self.old self.new }
         ensures untouched { touches_device (world_of self.old) steps.Flip ≡ false → self.new.medium ≡ self.old.medium }
     {
@@ -407,7 +407,7 @@ impl<D: Disk> Core<D> {
     /// How many messages fit in.
     pub fn slots(&self) -> usize
         ensures slots { result ≡ self.now.slots }
-        ensures sound { IsSound self.now.geometry (world_of self.now) }
+        ensures sound { IsSoundWorld self.now.geometry (world_of self.now) }
     {
         self.slots.capacity()
     }
@@ -428,6 +428,13 @@ impl<D: Disk> Core<D> {
     }
 
     /// The device.
+    pub fn disk(&self) -> &D
+        ensures { D.medium result.now ≡ self.now.medium }
+    {
+        self.journal.disk()
+    }
+
+    /// The device, which is handed back.
     pub fn into_disk(self) -> D
         ensures { D.medium result ≡ self.medium }
     {

@@ -2,7 +2,7 @@
 ghost use Rattle.std.specs.Prelude.{◌≡◌, ◌≤◌, [], IfOk, length, vec_capacity};
 ghost use Rattle.affinity.specs.Geometry.{standard};
 ghost use Rattle.arena.specs.Row.{IsParted, empty_row};
-ghost use Rattle.turns.specs.Turns.{at_start};
+ghost use Rattle.turns.specs.Turns.{turns_at_start};
 
 use crate::slot::{CHAINS, Slot};
 use affinity::Geometry;
@@ -30,7 +30,7 @@ pub(crate) fn take_memory(alloc: Global, slots: usize) -> Result<Memory, AllocEr
     ensures row { IfOk result (λ m. m.slots ≡ empty_row slots 4) }
     ensures parted { IfOk result (λ m. IsParted m.slots) }
     ensures replies { IfOk result (λ m. length m.replies.items ≡ slots) }
-    ensures turns { IfOk result (λ m. m.turns ≡ at_start standard slots) }
+    ensures turns { IfOk result (λ m. m.turns ≡ turns_at_start standard slots) }
     ensures batch { IfOk result (λ m. m.batch.items ≡ []) }
     ensures room { IfOk result (λ m. slots ≤ vec_capacity m.batch) }
 {

@@ -37,6 +37,13 @@ impl<D: Disk> Journal<D> {
     }
 
     /// The device.
+    pub fn disk(&self) -> &D
+        ensures { D.medium result.now ≡ self.now.medium }
+    {
+        &self.disk
+    }
+
+    /// The device.
     pub fn into_disk(self) -> D
         ensures { D.medium result ≡ self.medium }
     {

@@ -1,5 +1,5 @@
 use Rattle.std.proofs.Common.{◌≡◌, ◌+◌, ◌<◌, Bool, false, List, length, sym, ◌∙◌, subst, arith}
-use Rattle.image.specs.Touched.{touches}
+use Rattle.image.specs.Touched.{may_change}
 use Rattle.journal.proofs.Rows.{AreMarked, all_looked, none_looked, one_passed, one_touched}
 use Rattle.journal.proofs.marks.mark_one.Goals as goal
 use Rattle.journal.proofs.marks.mark_one.Goals.{then-touched, else-touched}
@@ -15,7 +15,7 @@ loop-n-preserved c =
           subst (λ (l : List Bool). AreMarked c.args.g.now c.args.m.now (c.loop-n.n + 1) c.args.marks.now l) (sym w.marks-is)
           (one_touched c.args.g.now c.args.m.now c.loop-n.n c.args.marks.now c.loop-n.marks few (sym c.touched.ensures ∙ w.if-touched.true) c.loop-n.invariant)
       | else-touched w ↦
-          let off : touches c.args.g.now c.args.m.now c.loop-n.n ≡ false = sym c.touched.ensures ∙ w.if-touched.false in
+          let off : may_change c.args.g.now c.args.m.now c.loop-n.n ≡ false = sym c.touched.ensures ∙ w.if-touched.false in
           subst (λ (l : List Bool). AreMarked c.args.g.now c.args.m.now (c.loop-n.n + 1) c.args.marks.now l) (sym w.marks-is)
           (one_passed c.args.g.now c.args.m.now c.loop-n.n c.args.marks.now c.loop-n.marks off c.loop-n.invariant)
     ]

@@ -1,7 +1,7 @@
 use Rattle.std.proofs.Common.{◌≡◌, ℕ, List, Option, Some, sym, ◌∙◌, ap, subst}
 use Rattle.std.proofs.lemmas.Result.{err_from_is_err_and}
 use Rattle.checkpoint.specs.declared.fault.OpenFault.{OpenFault}
-use Rattle.checkpoint.specs.Loading.{IsFault, records_fault}
+use Rattle.checkpoint.specs.Loading.{IsFaultOfBytes, records_fault}
 use Rattle.checkpoint.specs.Recovery.{means}
 use Rattle.checkpoint.specs.Refusals.{first_bad_record}
 use Rattle.checkpoint.proofs.Replays.{same_bytes}
@@ -32,8 +32,8 @@ returns-in_err-replay-clause-refused g c =
     let log : c.finish_cut.new.halves.geometry ≡ c.args.halves.now.geometry = ap (λ (l : Log). l.geometry) c.in_ok-finish_cut.ensures.log in
     let half = ap other c.named-behind.ensures.named in
     behind_refused c.args.halves.now.geometry (g.D.Disk.medium c.args.disk.now).now c.args.halves.now.named x (c.requires.holds k) _
-    (subst (λ (rs : List (List ℕ)). IsFault (records_fault c.args.halves.now.geometry x (other c.args.halves.now.named) rs) c.in_err-replay.field-0.0) (c.in_ok-finish_cut.ensures.finished k).front
-    (subst (λ (o : Option OpenFault). IsFault o c.in_err-replay.field-0.0) (λ i. records_fault (c.requires.geometry i) x (half i) (front (layout_of (log i)) (half i) w1)) (c.in_err-replay.ensures.refused k))))
+    (subst (λ (rs : List (List ℕ)). IsFaultOfBytes (records_fault c.args.halves.now.geometry x (other c.args.halves.now.named) rs) c.in_err-replay.field-0.0) (c.in_ok-finish_cut.ensures.finished k).front
+    (subst (λ (o : Option OpenFault). IsFaultOfBytes o c.in_err-replay.field-0.0) (λ i. records_fault (c.requires.geometry i) x (half i) (front (layout_of (log i)) (half i) w1)) (c.in_err-replay.ensures.refused k))))
 
 pub returns-in_err-replay-clause-behind : goal.returns-in_err-replay-clause-behind
 returns-in_err-replay-clause-behind g c =
@@ -51,11 +51,11 @@ returns-in_err-replay-clause-behind g c =
     let only = c.replay.ensures.untouched k in
     let fault = c.in_err-replay.ensures.refused k in
     let why = behind_refused c.args.halves.now.geometry w0.now c.args.halves.now.named x (c.requires.holds k) c.in_err-replay.field-0.0
-    (subst (λ (rs : List (List ℕ)). IsFault (records_fault c.args.halves.now.geometry x (other c.args.halves.now.named) rs) c.in_err-replay.field-0.0) finished.front
-    (subst (λ (o : Option OpenFault). IsFault o c.in_err-replay.field-0.0) (λ i. records_fault (c.requires.geometry i) x (half i) (front (layout_of (log i)) (half i) w1)) fault)) in
+    (subst (λ (rs : List (List ℕ)). IsFaultOfBytes (records_fault c.args.halves.now.geometry x (other c.args.halves.now.named) rs) c.in_err-replay.field-0.0) finished.front
+    (subst (λ (o : Option OpenFault). IsFaultOfBytes o c.in_err-replay.field-0.0) (λ i. records_fault (c.requires.geometry i) x (half i) (front (layout_of (log i)) (half i) w1)) fault)) in
     let alike = leaves_now w0 w2 _ (same _ _ _ _ (c.finish_cut.ensures.alike k) only) w2.now (itself w2.now w2.loose (g.met.D.Disk.bytes c.replay.new.disk)) in
     bad_half c.args.halves.now.geometry (other c.args.halves.now.named) (first_bad_record c.args.tree.now.geometry 0 (Some x) rs) w0 w2 _ c.in_err-replay.ensures.took_none
-    (subst (λ (h : ℕ). IsFault (records_fault c.args.tree.now.geometry x h rs) c.in_err-replay.field-0.0) half fault)
+    (subst (λ (h : ℕ). IsFaultOfBytes (records_fault c.args.tree.now.geometry x h rs) c.in_err-replay.field-0.0) half fault)
     (c.requires.holds k).header why alike
     (ap (λ (l : List ℕ). named_area (layout_of c.args.halves.now.geometry) l) (same_bytes (g.D.Disk.medium c.finish_cut.new.disk) w2 only) ∙ finished.named)
     (still_synced (g.D.Disk.medium c.finish_cut.new.disk) w2 only finished.calm))

@@ -2,8 +2,8 @@ use Rattle.std.proofs.Common.{◌≡◌, false, Option, Some, None, ℕ, List, �
 use Rattle.affinity.specs.declared.geometry.Geometry.{Geometry}
 use Rattle.checkpoint.specs.Recovery.{holds}
 use Rattle.disk.specs.Moments.{LeavesOnly}
-use Rattle.journal.specs.Journal.{Held, records, records_in, settled}
-use Rattle.journal.specs.Keeping.{IsPlaced}
+use Rattle.journal.specs.Journal.{JournalView, records, records_in, settled}
+use Rattle.journal.specs.Keeping.{IsCutState}
 use Rattle.journal.specs.Steps.{IsWritten}
 use Rattle.journal.proofs.Flipping.{flip_asks, flip_kept}
 use Rattle.journal.proofs.Logging.{settled_of}
@@ -16,30 +16,30 @@ use Rattle.journal.proofs.journal.Journal.flip.Goals as goal
 
 pub flip_on-requires-clause-written : goal.flip_on-requires-clause-written
 flip_on-requires-clause-written g c = λ k.
-    let fine : c.self.inside.failed ≡ false = ap (λ (h : Held). h.failed) c.self.view_is ∙ c.requires.sound in
-    let none : c.self.inside.left ≡ Some 0 = ap (λ (h : Held). h.left) c.self.view_is ∙ c.requires.written in
+    let fine : c.self.inside.failed ≡ false = ap (λ (h : JournalView). h.failed) c.self.view_is ∙ c.requires.sound in
+    let none : c.self.inside.left ≡ Some 0 = ap (λ (h : JournalView). h.left) c.self.view_is ∙ c.requires.written in
     subst (λ (l : List ℕ). IsWritten c.self.inside.halves l (g.D.Disk.medium c.self.inside.disk)) (sym c.deref.ensures.value)
     (flip_asks c.self.inside.halves c.self.inside.frozen.items c.self.inside.named_marks.items c.self.inside.other_marks.items c.self.inside.due.items c.self.inside.left (g.D.Disk.medium c.self.inside.disk) none
     c.self.invariant.0 c.self.invariant.2 c.self.invariant.5 (g.met.D.Disk.bytes c.self.inside.disk) (c.self.invariant.6 fine).1 (c.self.invariant.7 fine k))
 
 pub returns-in-Err-clause-any_moment : goal.returns-in-Err-clause-any_moment
 returns-in-Err-clause-any_moment g c = λ k.
-    subst (λ (h : Held). LeavesOnly h.medium (g.D.Disk.medium c.flip_on.new.disk) (λ c'. holds h.geometry c' ≡ settled h)) c.self.view_is (c.flip_on.ensures.any_moment k)
+    subst (λ (h : JournalView). LeavesOnly h.medium (g.D.Disk.medium c.flip_on.new.disk) (λ c'. holds h.geometry c' ≡ settled h)) c.self.view_is (c.flip_on.ensures.any_moment k)
 
 pub returns-clause-any_moment : goal.returns-clause-any_moment
 returns-clause-any_moment g c = λ k.
-    subst (λ (h : Held). LeavesOnly h.medium (g.D.Disk.medium c.flip_on.new.disk) (λ c'. holds h.geometry c' ≡ settled h)) c.self.view_is (c.flip_on.ensures.any_moment k)
+    subst (λ (h : JournalView). LeavesOnly h.medium (g.D.Disk.medium c.flip_on.new.disk) (λ c'. holds h.geometry c' ≡ settled h)) c.self.view_is (c.flip_on.ensures.any_moment k)
 
 pub returns-clause-settled : goal.returns-clause-settled
 returns-clause-settled g c = λ k.
-    subst (λ (h : Held). holds c.flip_on.new.halves.geometry (g.D.Disk.medium c.flip_on.new.disk).now ≡ settled h) c.self.view_is
+    subst (λ (h : JournalView). holds c.flip_on.new.halves.geometry (g.D.Disk.medium c.flip_on.new.disk).now ≡ settled h) c.self.view_is
     (ap (λ (x : _). holds x (g.D.Disk.medium c.flip_on.new.disk).now) c.flip_on.ensures.geometry
     ∙ holds_now c.self.inside.halves.geometry _ _ (holds c.self.inside.halves.geometry (g.D.Disk.medium c.self.inside.disk).now) (g.D.Disk.medium c.flip_on.new.disk) (g.met.D.Disk.bytes c.flip_on.new.disk) (c.in_default.ensures.flipped k).stands)
 
 pub returns-clause-sound : goal.returns-clause-sound
 returns-clause-sound g c = λ k.
-    let fine : c.self.inside.failed ≡ false = ap (λ (h : Held). h.failed) c.self.view_is ∙ c.requires.sound in
-    let none : c.self.inside.left ≡ Some 0 = ap (λ (h : Held). h.left) c.self.view_is ∙ c.requires.written in
+    let fine : c.self.inside.failed ≡ false = ap (λ (h : JournalView). h.failed) c.self.view_is ∙ c.requires.sound in
+    let none : c.self.inside.left ≡ Some 0 = ap (λ (h : JournalView). h.left) c.self.view_is ∙ c.requires.written in
     let sound = c.self.invariant.7 fine k in
     let placed = (c.self.invariant.6 fine).1 in
     let written = flip_asks c.self.inside.halves c.self.inside.frozen.items c.self.inside.named_marks.items c.self.inside.other_marks.items c.self.inside.due.items c.self.inside.left (g.D.Disk.medium c.self.inside.disk) none
@@ -55,12 +55,12 @@ returns-clause-records g c = λ k.
     let w1 = g.D.Disk.medium c.flip_on.new.disk in
     let flipped = c.in_default.ensures.flipped k in
     let first = front (layout_of c.self.inside.halves.geometry) c.self.inside.halves.named w0.now in
-    subst (λ (h : Held). (rs : List (List ℕ)) × (records h ≡ rs ++ records_in c.flip_on.new.halves.geometry w1.now)) c.self.view_is
+    subst (λ (h : JournalView). (rs : List (List ℕ)) × (records h ≡ rs ++ records_in c.flip_on.new.halves.geometry w1.now)) c.self.view_is
     (first, flipped.before ∙ ap (λ (x : Geometry). first ++ records_in x w1.now) (sym c.flip_on.ensures.geometry))
 
 pub invariant_of-self-2 : goal.invariant_of-self-2
 invariant_of-self-2 g c =
-    let none : c.self.inside.left ≡ Some 0 = ap (λ (h : Held). h.left) c.self.view_is ∙ c.requires.written in
+    let none : c.self.inside.left ≡ Some 0 = ap (λ (h : JournalView). h.left) c.self.view_is ∙ c.requires.written in
     let log = c.in_default.ensures.log in (
       omega (arith, c.self.invariant.0, c.flip_on.ensures.len, ap (λ (l : Log). device_size (layout l)) log),
       omega (arith, c.self.invariant.1, ap (λ (l : Log). l.used) log, ap (λ (l : Log). l.geometry.half) log),
@@ -69,7 +69,7 @@ invariant_of-self-2 g c =
       ap (λ v. length v.items) c.swap.ensures.y_after ∙ c.self.invariant.3 ∙ sym (ap piece_count c.flip_on.ensures.geometry),
       c.self.invariant.5 ∙ sym (ap piece_count c.flip_on.ensures.geometry),
       (λ fine.
-          let placed = subst (λ (l : Option ℕ). IsPlaced c.self.inside.halves c.self.inside.due.items l) none (c.self.invariant.6 fine).1 in
+          let placed = subst (λ (l : Option ℕ). IsCutState c.self.inside.halves c.self.inside.due.items l) none (c.self.invariant.6 fine).1 in
           (ap (λ (l : Log). l.failed) log ∙ (c.self.invariant.6 fine).0, ap (λ (l : Log). l.current) log ∙ placed.0 ∙ sym (ap (λ (l : Log). l.named) log))),
       (λ fine k.
           let sound = c.self.invariant.7 fine k in

@@ -3,8 +3,8 @@ use Rattle.affinity.specs.declared.geometry.Geometry.{Geometry}
 use Rattle.checkpoint.specs.Recovery.{holds}
 use Rattle.disk.specs.Moments.{LeavesOnly}
 use Rattle.image.specs.Pieces.{piece_count}
-use Rattle.journal.specs.Journal.{AreCarriedOut, Held, HoldsSome, records, records_in, settled}
-use Rattle.journal.specs.Keeping.{IsPlaced, held_of}
+use Rattle.journal.specs.Journal.{AreCarriedOut, JournalView, HoldsSome, records, records_in, settled}
+use Rattle.journal.specs.Keeping.{IsCutState, held_of}
 use Rattle.journal.specs.Marks.{AreBothTouched}
 use Rattle.journal.proofs.Logging.{log_kept, log_moments, log_records, log_told, placed_used, settled_of, touched_along}
 use Rattle.journal.proofs.Rows.{same_marks, whole_items, whole_put}
@@ -17,35 +17,35 @@ use Rattle.journal.proofs.journal.Journal.log.Goals as goal
 
 pub returns-in-Err-clause-any_moment : goal.returns-in-Err-clause-any_moment
 returns-in-Err-clause-any_moment g c = λ k x is.
-    let fine : c.self.inside.failed ≡ false = ap (λ (h : Held). h.failed) c.self.view_is ∙ c.requires.sound in
-    let out = subst (λ (h : Held). AreCarriedOut h.geometry x c.args.messages.now) (sym c.self.view_is) (c.requires.carried_out k x is) in
-    subst (λ (h : Held). LeavesOnly h.medium (g.D.Disk.medium c.append.new.disk) (HoldsSome h.geometry x c.args.messages.now)) c.self.view_is
+    let fine : c.self.inside.failed ≡ false = ap (λ (h : JournalView). h.failed) c.self.view_is ∙ c.requires.sound in
+    let out = subst (λ (h : JournalView). AreCarriedOut h.geometry x c.args.messages.now) (sym c.self.view_is) (c.requires.carried_out k x is) in
+    subst (λ (h : JournalView). LeavesOnly h.medium (g.D.Disk.medium c.append.new.disk) (HoldsSome h.geometry x c.args.messages.now)) c.self.view_is
     (log_moments c.self.inside.halves c.self.inside.frozen.items c.self.inside.named_marks.items c.self.inside.other_marks.items c.self.inside.due.items c.self.inside.left c.args.messages.now
     (g.D.Disk.medium c.self.inside.disk) (g.D.Disk.medium c.append.new.disk) (g.met.D.Disk.bytes c.self.inside.disk) (c.self.invariant.7 fine k) (c.append.ensures.any_moment k) x (ap settled c.self.view_is ∙ is) out)
 
 pub returns-clause-any_moment : goal.returns-clause-any_moment
 returns-clause-any_moment g c = λ k x is.
-    let fine : c.self.inside.failed ≡ false = ap (λ (h : Held). h.failed) c.self.view_is ∙ c.requires.sound in
-    let out = subst (λ (h : Held). AreCarriedOut h.geometry x c.args.messages.now) (sym c.self.view_is) (c.requires.carried_out k x is) in
-    subst (λ (h : Held). LeavesOnly h.medium (g.D.Disk.medium c.append.new.disk) (HoldsSome h.geometry x c.args.messages.now)) c.self.view_is
+    let fine : c.self.inside.failed ≡ false = ap (λ (h : JournalView). h.failed) c.self.view_is ∙ c.requires.sound in
+    let out = subst (λ (h : JournalView). AreCarriedOut h.geometry x c.args.messages.now) (sym c.self.view_is) (c.requires.carried_out k x is) in
+    subst (λ (h : JournalView). LeavesOnly h.medium (g.D.Disk.medium c.append.new.disk) (HoldsSome h.geometry x c.args.messages.now)) c.self.view_is
     (log_moments c.self.inside.halves c.self.inside.frozen.items c.self.inside.named_marks.items c.self.inside.other_marks.items c.self.inside.due.items c.self.inside.left c.args.messages.now
     (g.D.Disk.medium c.self.inside.disk) (g.D.Disk.medium c.append.new.disk) (g.met.D.Disk.bytes c.self.inside.disk) (c.self.invariant.7 fine k) (c.append.ensures.any_moment k) x (ap settled c.self.view_is ∙ is) out)
 
 pub returns-clause-settled : goal.returns-clause-settled
 returns-clause-settled g c = λ k.
-    let fine : c.self.inside.failed ≡ false = ap (λ (h : Held). h.failed) c.self.view_is ∙ c.requires.sound in
+    let fine : c.self.inside.failed ≡ false = ap (λ (h : JournalView). h.failed) c.self.view_is ∙ c.requires.sound in
     let out : (x : State) → holds c.self.inside.halves.geometry (g.D.Disk.medium c.self.inside.disk).now ≡ Some x → AreCarriedOut c.self.inside.halves.geometry x c.args.messages.now =
-    λ x is. subst (λ (h : Held). AreCarriedOut h.geometry x c.args.messages.now) (sym c.self.view_is) (c.requires.carried_out k x (sym (ap settled c.self.view_is) ∙ is)) in
-    subst (λ (h : Held). holds c.append.new.self.geometry (g.D.Disk.medium c.append.new.disk).now ≡ option_map (λ x. fold h.geometry x c.args.messages.now) (settled h)) c.self.view_is
+    λ x is. subst (λ (h : JournalView). AreCarriedOut h.geometry x c.args.messages.now) (sym c.self.view_is) (c.requires.carried_out k x (sym (ap settled c.self.view_is) ∙ is)) in
+    subst (λ (h : JournalView). holds c.append.new.self.geometry (g.D.Disk.medium c.append.new.disk).now ≡ option_map (λ x. fold h.geometry x c.args.messages.now) (settled h)) c.self.view_is
     (ap (λ (l : Log). holds l.geometry (g.D.Disk.medium c.append.new.disk).now) c.in_default.ensures.log
     ∙ log_told c.self.inside.halves c.self.inside.frozen.items c.self.inside.named_marks.items c.self.inside.other_marks.items c.self.inside.due.items c.self.inside.left c.args.messages.now
     (g.D.Disk.medium c.self.inside.disk) (g.D.Disk.medium c.append.new.disk) (g.met.D.Disk.bytes c.self.inside.disk) (g.met.D.Disk.bytes c.append.new.disk) (c.self.invariant.7 fine k) out (c.in_default.ensures.added k))
 
 pub returns-clause-sound : goal.returns-clause-sound
 returns-clause-sound g c = λ k.
-    let fine : c.self.inside.failed ≡ false = ap (λ (h : Held). h.failed) c.self.view_is ∙ c.requires.sound in
+    let fine : c.self.inside.failed ≡ false = ap (λ (h : JournalView). h.failed) c.self.view_is ∙ c.requires.sound in
     let out : (x : State) → holds c.self.inside.halves.geometry (g.D.Disk.medium c.self.inside.disk).now ≡ Some x → AreCarriedOut c.self.inside.halves.geometry x c.args.messages.now =
-    λ x is. subst (λ (h : Held). AreCarriedOut h.geometry x c.args.messages.now) (sym c.self.view_is) (c.requires.carried_out k x (sym (ap settled c.self.view_is) ∙ is)) in
+    λ x is. subst (λ (h : JournalView). AreCarriedOut h.geometry x c.args.messages.now) (sym c.self.view_is) (c.requires.carried_out k x (sym (ap settled c.self.view_is) ∙ is)) in
     let same : c.geometry-g.result ≡ c.self.inside.halves.geometry = c.geometry-g.ensures ∙ ap (λ (l : Log). l.geometry) c.in_default.ensures.log in
     settled_of c.append.new.self c.self.inside.frozen.items _ _ c.self.inside.due.items c.self.inside.left c.self.inside.failed (g.D.Disk.medium c.append.new.disk)
     (log_kept c.self.inside.halves c.append.new.self c.self.inside.frozen.items c.self.inside.named_marks.items c.self.inside.other_marks.items c.self.inside.due.items c.mark_touched.new.marks c.mark_touched-2.new.marks c.self.inside.left c.args.messages.now
@@ -55,8 +55,8 @@ returns-clause-sound g c = λ k.
 
 pub returns-clause-records : goal.returns-clause-records
 returns-clause-records g c = λ k.
-    let fine : c.self.inside.failed ≡ false = ap (λ (h : Held). h.failed) c.self.view_is ∙ c.requires.sound in
-    subst (λ (h : Held). records_in c.append.new.self.geometry (g.D.Disk.medium c.append.new.disk).now ≡ records h ++ records_of c.args.messages.now) c.self.view_is
+    let fine : c.self.inside.failed ≡ false = ap (λ (h : JournalView). h.failed) c.self.view_is ∙ c.requires.sound in
+    subst (λ (h : JournalView). records_in c.append.new.self.geometry (g.D.Disk.medium c.append.new.disk).now ≡ records h ++ records_of c.args.messages.now) c.self.view_is
     (ap (λ (l : Log). records_in l.geometry (g.D.Disk.medium c.append.new.disk).now) c.in_default.ensures.log
     ∙ log_records c.self.inside.halves c.self.inside.frozen.items c.self.inside.named_marks.items c.self.inside.other_marks.items c.self.inside.due.items c.self.inside.left c.args.messages.now
     (g.D.Disk.medium c.self.inside.disk) (g.D.Disk.medium c.append.new.disk) (g.met.D.Disk.bytes c.self.inside.disk) (c.self.invariant.7 fine k) (c.in_default.ensures.added k))
@@ -66,7 +66,7 @@ returns-clause-marked g c =
     let same : c.geometry-g.result ≡ c.self.inside.halves.geometry = c.geometry-g.ensures ∙ ap (λ (l : Log). l.geometry) c.in_default.ensures.log in
     let first = whole_put c.self.inside.named_marks.len c.mark_touched.new.marks c.self.inside.named_marks.items (c.mark_touched.ensures.size ∙ ap length c.deref_mut.ensures.value) (c.mark_touched.ensures.size ∙ c.deref_mut.ensures.len) in
     let second = whole_put c.self.inside.other_marks.len c.mark_touched-2.new.marks c.self.inside.other_marks.items (c.mark_touched-2.ensures.size ∙ ap length c.deref_mut-2.ensures.value) (c.mark_touched-2.ensures.size ∙ c.deref_mut-2.ensures.len) in
-    subst (λ (h : Held). AreBothTouched h.geometry c.args.messages.now h.marks (record {
+    subst (λ (h : JournalView). AreBothTouched h.geometry c.args.messages.now h.marks (record {
       named = whole_items c.self.inside.named_marks.len c.mark_touched.new.marks c.self.inside.named_marks.items;
       others = whole_items c.self.inside.other_marks.len c.mark_touched-2.new.marks c.self.inside.other_marks.items;
     })) c.self.view_is
@@ -98,18 +98,18 @@ invariant_of-self-2 g c =
     let first = whole_put c.self.inside.named_marks.len c.mark_touched.new.marks c.self.inside.named_marks.items (c.mark_touched.ensures.size ∙ ap length c.deref_mut.ensures.value) (c.mark_touched.ensures.size ∙ c.deref_mut.ensures.len) in
     let second = whole_put c.self.inside.other_marks.len c.mark_touched-2.new.marks c.self.inside.other_marks.items (c.mark_touched-2.ensures.size ∙ ap length c.deref_mut-2.ensures.value) (c.mark_touched-2.ensures.size ∙ c.deref_mut-2.ensures.len) in (
       omega (arith, c.self.invariant.0, c.append.ensures.len, ap (λ (l : Log). device_size (layout l)) log),
-      omega (arith, c.self.invariant.1, ap (λ (l : Log). l.used) log, ap (λ (g : Geometry). g.half) geometry, ap (λ (h : Held). h.room) c.self.view_is, c.requires.room),
+      omega (arith, c.self.invariant.1, ap (λ (l : Log). l.used) log, ap (λ (g : Geometry). g.half) geometry, ap (λ (h : JournalView). h.room) c.self.view_is, c.requires.room),
       c.self.invariant.2 ∙ sym (ap image_size geometry),
       ap length first ∙ c.mark_touched.ensures.size ∙ ap length c.deref_mut.ensures.value ∙ c.self.invariant.3 ∙ sym (ap piece_count geometry),
       ap length second ∙ c.mark_touched-2.ensures.size ∙ ap length c.deref_mut-2.ensures.value ∙ c.self.invariant.4 ∙ sym (ap piece_count geometry),
       c.self.invariant.5 ∙ sym (ap piece_count geometry),
       (λ fine. (
         ap (λ (l : Log). l.failed) log ∙ (c.self.invariant.6 fine).0,
-        subst (λ (l : Log). IsPlaced l c.self.inside.due.items c.self.inside.left) (sym log) (placed_used c.self.inside.halves (c.self.inside.halves.used + length c.args.messages.now) c.self.inside.due.items c.self.inside.left (c.self.invariant.6 fine).1),
+        subst (λ (l : Log). IsCutState l c.self.inside.due.items c.self.inside.left) (sym log) (placed_used c.self.inside.halves (c.self.inside.halves.used + length c.args.messages.now) c.self.inside.due.items c.self.inside.left (c.self.invariant.6 fine).1),
       )),
       (λ fine k.
           let out : (x : State) → holds c.self.inside.halves.geometry (g.D.Disk.medium c.self.inside.disk).now ≡ Some x → AreCarriedOut c.self.inside.halves.geometry x c.args.messages.now =
-          λ x is. subst (λ (h : Held). AreCarriedOut h.geometry x c.args.messages.now) (sym c.self.view_is) (c.requires.carried_out k x (sym (ap settled c.self.view_is) ∙ is)) in
+          λ x is. subst (λ (h : JournalView). AreCarriedOut h.geometry x c.args.messages.now) (sym c.self.view_is) (c.requires.carried_out k x (sym (ap settled c.self.view_is) ∙ is)) in
           log_kept c.self.inside.halves c.append.new.self c.self.inside.frozen.items c.self.inside.named_marks.items c.self.inside.other_marks.items c.self.inside.due.items _ _ c.self.inside.left c.args.messages.now
           (g.D.Disk.medium c.self.inside.disk) (g.D.Disk.medium c.append.new.disk) log (g.met.D.Disk.bytes c.self.inside.disk) (g.met.D.Disk.bytes c.append.new.disk) (c.self.invariant.7 fine k) out (c.in_default.ensures.added k) (c.self.invariant.6 fine).1
           (touched_along _ _ c.args.messages.now _ _ _ _ same c.deref_mut.ensures.value first c.mark_touched.ensures.touched)

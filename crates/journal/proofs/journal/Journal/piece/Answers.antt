@@ -4,8 +4,8 @@ use Rattle.affinity.specs.declared.geometry.Geometry.{Geometry}
 use Rattle.checkpoint.specs.Recovery.{holds}
 use Rattle.disk.proofs.Moments.{started}
 use Rattle.disk.specs.Moments.{LeavesOnly}
-use Rattle.journal.specs.Journal.{Held, IsSettled, records, settled}
-use Rattle.journal.specs.Keeping.{AreClearBefore, IsPlaced}
+use Rattle.journal.specs.Journal.{JournalView, IsSettled, records, settled}
+use Rattle.journal.specs.Keeping.{AreClearBefore, IsCutState}
 use Rattle.journal.proofs.Logging.{settled_of}
 use Rattle.journal.proofs.Rows.{clear_set}
 use Rattle.journal.proofs.Piecing.{piece_counted, piece_left, piece_moments, piece_records, piece_same, piece_some, piece_sound, pieced_along, some_left}
@@ -16,54 +16,54 @@ use Rattle.journal.proofs.journal.Journal.piece.Goals as goal
 
 pub returns-in_default-clause-sound : goal.returns-in_default-clause-sound
 returns-in_default-clause-sound g c = λ k.
-    let fine : c.self.inside.failed ≡ false = ap (λ (h : Held). h.failed) c.self.view_is ∙ c.requires.sound in
-    subst (λ (h : Held). IsSettled h) c.self.view_is
+    let fine : c.self.inside.failed ≡ false = ap (λ (h : JournalView). h.failed) c.self.view_is ∙ c.requires.sound in
+    subst (λ (h : JournalView). IsSettled h) c.self.view_is
     (settled_of c.self.inside.halves c.self.inside.frozen.items c.self.inside.named_marks.items c.self.inside.other_marks.items c.self.inside.due.items c.self.inside.left c.self.inside.failed (g.D.Disk.medium c.self.inside.disk) (c.self.invariant.7 fine k))
 
 pub returns-in_default-clause-any_moment : goal.returns-in_default-clause-any_moment
 returns-in_default-clause-any_moment g c = λ k.
-    let fine : c.self.inside.failed ≡ false = ap (λ (h : Held). h.failed) c.self.view_is ∙ c.requires.sound in
-    let still : IsSettled c.args.self.now = subst (λ (h : Held). IsSettled h) c.self.view_is
+    let fine : c.self.inside.failed ≡ false = ap (λ (h : JournalView). h.failed) c.self.view_is ∙ c.requires.sound in
+    let still : IsSettled c.args.self.now = subst (λ (h : JournalView). IsSettled h) c.self.view_is
     (settled_of c.self.inside.halves c.self.inside.frozen.items c.self.inside.named_marks.items c.self.inside.other_marks.items c.self.inside.due.items c.self.inside.left c.self.inside.failed (g.D.Disk.medium c.self.inside.disk) (c.self.invariant.7 fine k)) in
     started c.args.self.now.medium _ still.each
 
 pub returns-then-is_err-clause-any_moment : goal.returns-then-is_err-clause-any_moment
 returns-then-is_err-clause-any_moment g c = λ k.
-    let fine : c.self.inside.failed ≡ false = ap (λ (h : Held). h.failed) c.self.view_is ∙ c.requires.sound in
+    let fine : c.self.inside.failed ≡ false = ap (λ (h : JournalView). h.failed) c.self.view_is ∙ c.requires.sound in
     let w0 = g.D.Disk.medium c.self.inside.disk in
     let w1 = g.D.Disk.medium c.write_stretch.new.disk in
     let moments = subst (λ (n : ℕ). ChangesOnly w0 w1 (IsSameBut (layout_of c.self.inside.halves.geometry) (image (other n)))) c.named-area.ensures.named
     (subst (λ (x : Geometry). ChangesOnly w0 w1 (IsSameBut (layout_of x) (image (other c.named-area.result)))) c.geometry-g.ensures (c.write_stretch.ensures.any_moment k)) in
-    subst (λ (h : Held). LeavesOnly h.medium w1 (λ c'. holds h.geometry c' ≡ settled h)) c.self.view_is
+    subst (λ (h : JournalView). LeavesOnly h.medium w1 (λ c'. holds h.geometry c' ≡ settled h)) c.self.view_is
     (piece_moments c.self.inside.halves c.self.inside.frozen.items c.self.inside.named_marks.items c.self.inside.other_marks.items c.self.inside.due.items c.self.inside.left w0 w1 (g.met.D.Disk.bytes c.self.inside.disk) (c.self.invariant.7 fine k) moments)
 
 pub returns-then-is_err-clause-none : goal.returns-then-is_err-clause-none
 returns-then-is_err-clause-none g c = λ none.
-    let fine : c.self.inside.failed ≡ false = ap (λ (h : Held). h.failed) c.self.view_is ∙ c.requires.sound in
+    let fine : c.self.inside.failed ≡ false = ap (λ (h : JournalView). h.failed) c.self.view_is ∙ c.requires.sound in
     let few = subst (λ (l : List Bool). c.in-Some.n < length l) c.deref.ensures.value c.in-Some.ensures.inside in
     let marked = subst (λ (l : List Bool). get_or l c.in-Some.n false ≡ true) c.deref.ensures.value c.in-Some.ensures.marked in
-    absurd (piece_some c.self.inside.halves c.self.inside.due.items c.self.inside.left c.in-Some.n (c.self.invariant.6 fine).1 few marked (ap (λ (h : Held). h.left) c.self.view_is ∙ none))
+    absurd (piece_some c.self.inside.halves c.self.inside.due.items c.self.inside.left c.in-Some.n (c.self.invariant.6 fine).1 few marked (ap (λ (h : JournalView). h.left) c.self.view_is ∙ none))
 
 pub returns-clause-none : goal.returns-clause-none
 returns-clause-none g c = λ none.
-    let fine : c.self.inside.failed ≡ false = ap (λ (h : Held). h.failed) c.self.view_is ∙ c.requires.sound in
+    let fine : c.self.inside.failed ≡ false = ap (λ (h : JournalView). h.failed) c.self.view_is ∙ c.requires.sound in
     let few = subst (λ (l : List Bool). c.in-Some.n < length l) c.deref.ensures.value c.in-Some.ensures.inside in
     let marked = subst (λ (l : List Bool). get_or l c.in-Some.n false ≡ true) c.deref.ensures.value c.in-Some.ensures.marked in
-    absurd (piece_some c.self.inside.halves c.self.inside.due.items c.self.inside.left c.in-Some.n (c.self.invariant.6 fine).1 few marked (ap (λ (h : Held). h.left) c.self.view_is ∙ none))
+    absurd (piece_some c.self.inside.halves c.self.inside.due.items c.self.inside.left c.in-Some.n (c.self.invariant.6 fine).1 few marked (ap (λ (h : JournalView). h.left) c.self.view_is ∙ none))
 
 pub returns-clause-any_moment : goal.returns-clause-any_moment
 returns-clause-any_moment g c = λ k.
-    let fine : c.self.inside.failed ≡ false = ap (λ (h : Held). h.failed) c.self.view_is ∙ c.requires.sound in
+    let fine : c.self.inside.failed ≡ false = ap (λ (h : JournalView). h.failed) c.self.view_is ∙ c.requires.sound in
     let w0 = g.D.Disk.medium c.self.inside.disk in
     let w1 = g.D.Disk.medium c.write_stretch.new.disk in
     let moments = subst (λ (n : ℕ). ChangesOnly w0 w1 (IsSameBut (layout_of c.self.inside.halves.geometry) (image (other n)))) c.named-area.ensures.named
     (subst (λ (x : Geometry). ChangesOnly w0 w1 (IsSameBut (layout_of x) (image (other c.named-area.result)))) c.geometry-g.ensures (c.write_stretch.ensures.any_moment k)) in
-    subst (λ (h : Held). LeavesOnly h.medium w1 (λ c'. holds h.geometry c' ≡ settled h)) c.self.view_is
+    subst (λ (h : JournalView). LeavesOnly h.medium w1 (λ c'. holds h.geometry c' ≡ settled h)) c.self.view_is
     (piece_moments c.self.inside.halves c.self.inside.frozen.items c.self.inside.named_marks.items c.self.inside.other_marks.items c.self.inside.due.items c.self.inside.left w0 w1 (g.met.D.Disk.bytes c.self.inside.disk) (c.self.invariant.7 fine k) moments)
 
 pub returns-clause-settled : goal.returns-clause-settled
 returns-clause-settled g c = λ k.
-    let fine : c.self.inside.failed ≡ false = ap (λ (h : Held). h.failed) c.self.view_is ∙ c.requires.sound in
+    let fine : c.self.inside.failed ≡ false = ap (λ (h : JournalView). h.failed) c.self.view_is ∙ c.requires.sound in
     let w0 = g.D.Disk.medium c.self.inside.disk in
     let w1 = g.D.Disk.medium c.write_stretch.new.disk in
     let moments = subst (λ (n : ℕ). ChangesOnly w0 w1 (IsSameBut (layout_of c.self.inside.halves.geometry) (image (other n)))) c.named-area.ensures.named
@@ -73,11 +73,11 @@ returns-clause-settled g c = λ k.
 
 pub returns-clause-sound : goal.returns-clause-sound
 returns-clause-sound g c = λ k.
-    let fine : c.self.inside.failed ≡ false = ap (λ (h : Held). h.failed) c.self.view_is ∙ c.requires.sound in
+    let fine : c.self.inside.failed ≡ false = ap (λ (h : JournalView). h.failed) c.self.view_is ∙ c.requires.sound in
     let w0 = g.D.Disk.medium c.self.inside.disk in
     let w1 = g.D.Disk.medium c.write_stretch.new.disk in
     let few = subst (λ (l : List Bool). c.in-Some.n < length l) c.deref.ensures.value c.in-Some.ensures.inside in
-    let left = some_left c.self.inside.left (ap (λ (h : Held). is_some h.left) c.self.view_is ∙ c.requires.running) in
+    let left = some_left c.self.inside.left (ap (λ (h : JournalView). is_some h.left) c.self.view_is ∙ c.requires.running) in
     let written = on_ok c.write_stretch.result _ (sym c.is_err.ensures.value ∙ c.if-is_err.false) c.write_stretch.ensures.written k in
     let pieced = pieced_along c.geometry-g.result c.self.inside.halves.geometry c.named-area.result c.self.inside.halves.named c.in-Some.n c.deref-2.result.now c.self.inside.frozen.items w0 w1 c.geometry-g.ensures c.named-area.ensures.named c.deref-2.ensures.value
     (record { moments = c.write_stretch.ensures.any_moment k; same = c.write_stretch.ensures.same k; is = written; ready = c.write_stretch.ensures.ready k }) in
@@ -87,26 +87,26 @@ returns-clause-sound g c = λ k.
 
 pub returns-clause-left : goal.returns-clause-left
 returns-clause-left g c =
-    let fine : c.self.inside.failed ≡ false = ap (λ (h : Held). h.failed) c.self.view_is ∙ c.requires.sound in
+    let fine : c.self.inside.failed ≡ false = ap (λ (h : JournalView). h.failed) c.self.view_is ∙ c.requires.sound in
     let few = subst (λ (l : List Bool). c.in-Some.n < length l) c.deref.ensures.value c.in-Some.ensures.inside in
     let marked = subst (λ (l : List Bool). get_or l c.in-Some.n false ≡ true) c.deref.ensures.value c.in-Some.ensures.marked in
-    sym (ap (λ (h : Held). option_map (λ (l : ℕ). l - 1) h.left) c.self.view_is)
-    ∙ piece_left c.self.inside.halves c.self.inside.due.items c.self.inside.left c.in-Some.n c.saturating_sub-left.result (ap (λ (h : Held). is_some h.left) c.self.view_is ∙ c.requires.running) (c.self.invariant.6 fine).1 few marked
-    (piece_counted c.self.inside.halves c.self.inside.due.items c.self.inside.left c.in-Some.n c.saturating_sub-left.result (ap (λ (h : Held). is_some h.left) c.self.view_is ∙ c.requires.running) (c.self.invariant.6 fine).1 few marked (c.saturating_sub-left.ensures ∙ ap (λ (n : ℕ). n - 1) c.unwrap_or.ensures))
+    sym (ap (λ (h : JournalView). option_map (λ (l : ℕ). l - 1) h.left) c.self.view_is)
+    ∙ piece_left c.self.inside.halves c.self.inside.due.items c.self.inside.left c.in-Some.n c.saturating_sub-left.result (ap (λ (h : JournalView). is_some h.left) c.self.view_is ∙ c.requires.running) (c.self.invariant.6 fine).1 few marked
+    (piece_counted c.self.inside.halves c.self.inside.due.items c.self.inside.left c.in-Some.n c.saturating_sub-left.result (ap (λ (h : JournalView). is_some h.left) c.self.view_is ∙ c.requires.running) (c.self.invariant.6 fine).1 few marked (c.saturating_sub-left.ensures ∙ ap (λ (n : ℕ). n - 1) c.unwrap_or.ensures))
 
 pub returns-clause-after : goal.returns-clause-after
 returns-clause-after g c =
-    let fine : c.self.inside.failed ≡ false = ap (λ (h : Held). h.failed) c.self.view_is ∙ c.requires.sound in
+    let fine : c.self.inside.failed ≡ false = ap (λ (h : JournalView). h.failed) c.self.view_is ∙ c.requires.sound in
     let few = subst (λ (l : List Bool). c.in-Some.n < length l) c.deref.ensures.value c.in-Some.ensures.inside in
     let marked = subst (λ (l : List Bool). get_or l c.in-Some.n false ≡ true) c.deref.ensures.value c.in-Some.ensures.marked in
-    let left = piece_left c.self.inside.halves c.self.inside.due.items c.self.inside.left c.in-Some.n c.saturating_sub-left.result (ap (λ (h : Held). is_some h.left) c.self.view_is ∙ c.requires.running) (c.self.invariant.6 fine).1 few marked
-    (piece_counted c.self.inside.halves c.self.inside.due.items c.self.inside.left c.in-Some.n c.saturating_sub-left.result (ap (λ (h : Held). is_some h.left) c.self.view_is ∙ c.requires.running) (c.self.invariant.6 fine).1 few marked (c.saturating_sub-left.ensures ∙ ap (λ (n : ℕ). n - 1) c.unwrap_or.ensures)) in
-    ap (λ (h : Held). record h { left = Some c.saturating_sub-left.result; medium = g.D.Disk.medium c.write_stretch.new.disk }) c.self.view_is
-    ∙ ap (λ (l : Option ℕ). record c.args.self.now { left = l; medium = g.D.Disk.medium c.write_stretch.new.disk }) (sym left ∙ ap (λ (h : Held). option_map (λ (l : ℕ). l - 1) h.left) c.self.view_is)
+    let left = piece_left c.self.inside.halves c.self.inside.due.items c.self.inside.left c.in-Some.n c.saturating_sub-left.result (ap (λ (h : JournalView). is_some h.left) c.self.view_is ∙ c.requires.running) (c.self.invariant.6 fine).1 few marked
+    (piece_counted c.self.inside.halves c.self.inside.due.items c.self.inside.left c.in-Some.n c.saturating_sub-left.result (ap (λ (h : JournalView). is_some h.left) c.self.view_is ∙ c.requires.running) (c.self.invariant.6 fine).1 few marked (c.saturating_sub-left.ensures ∙ ap (λ (n : ℕ). n - 1) c.unwrap_or.ensures)) in
+    ap (λ (h : JournalView). record h { left = Some c.saturating_sub-left.result; medium = g.D.Disk.medium c.write_stretch.new.disk }) c.self.view_is
+    ∙ ap (λ (l : Option ℕ). record c.args.self.now { left = l; medium = g.D.Disk.medium c.write_stretch.new.disk }) (sym left ∙ ap (λ (h : JournalView). option_map (λ (l : ℕ). l - 1) h.left) c.self.view_is)
 
 pub returns-clause-records : goal.returns-clause-records
 returns-clause-records g c = λ k.
-    let fine : c.self.inside.failed ≡ false = ap (λ (h : Held). h.failed) c.self.view_is ∙ c.requires.sound in
+    let fine : c.self.inside.failed ≡ false = ap (λ (h : JournalView). h.failed) c.self.view_is ∙ c.requires.sound in
     let w0 = g.D.Disk.medium c.self.inside.disk in
     let w1 = g.D.Disk.medium c.write_stretch.new.disk in
     let moments = subst (λ (n : ℕ). ChangesOnly w0 w1 (IsSameBut (layout_of c.self.inside.halves.geometry) (image (other n)))) c.named-area.ensures.named
@@ -125,13 +125,13 @@ invariant_of-self-2 g c =
       c.self.invariant.4,
       length-set c.self.inside.due.items c.in-Some.n false ∙ c.self.invariant.5,
       (λ fine.
-          let left = some_left c.self.inside.left (ap (λ (h : Held). is_some h.left) c.self.view_is ∙ c.requires.running) in
-          let placed = subst (λ (l : Option ℕ). IsPlaced c.self.inside.halves c.self.inside.due.items l) left.1 (c.self.invariant.6 fine).1 in
-          ((c.self.invariant.6 fine).0, (placed.0, sym (piece_counted c.self.inside.halves c.self.inside.due.items c.self.inside.left c.in-Some.n c.saturating_sub-left.result (ap (λ (h : Held). is_some h.left) c.self.view_is ∙ c.requires.running) (c.self.invariant.6 fine).1 few marked (c.saturating_sub-left.ensures ∙ ap (λ (n : ℕ). n - 1) c.unwrap_or.ensures))))),
+          let left = some_left c.self.inside.left (ap (λ (h : JournalView). is_some h.left) c.self.view_is ∙ c.requires.running) in
+          let placed = subst (λ (l : Option ℕ). IsCutState c.self.inside.halves c.self.inside.due.items l) left.1 (c.self.invariant.6 fine).1 in
+          ((c.self.invariant.6 fine).0, (placed.0, sym (piece_counted c.self.inside.halves c.self.inside.due.items c.self.inside.left c.in-Some.n c.saturating_sub-left.result (ap (λ (h : JournalView). is_some h.left) c.self.view_is ∙ c.requires.running) (c.self.invariant.6 fine).1 few marked (c.saturating_sub-left.ensures ∙ ap (λ (n : ℕ). n - 1) c.unwrap_or.ensures))))),
       (λ fine k.
           let w0 = g.D.Disk.medium c.self.inside.disk in
           let w1 = g.D.Disk.medium c.write_stretch.new.disk in
-          let left = some_left c.self.inside.left (ap (λ (h : Held). is_some h.left) c.self.view_is ∙ c.requires.running) in
+          let left = some_left c.self.inside.left (ap (λ (h : JournalView). is_some h.left) c.self.view_is ∙ c.requires.running) in
           let written = on_ok c.write_stretch.result _ (sym c.is_err.ensures.value ∙ c.if-is_err.false) c.write_stretch.ensures.written k in
           let pieced = pieced_along c.geometry-g.result c.self.inside.halves.geometry c.named-area.result c.self.inside.halves.named c.in-Some.n c.deref-2.result.now c.self.inside.frozen.items w0 w1 c.geometry-g.ensures c.named-area.ensures.named c.deref-2.ensures.value
           (record { moments = c.write_stretch.ensures.any_moment k; same = c.write_stretch.ensures.same k; is = written; ready = c.write_stretch.ensures.ready k }) in

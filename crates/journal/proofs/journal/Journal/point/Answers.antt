@@ -5,8 +5,8 @@ use Rattle.checkpoint.specs.Recovery.{holds}
 use Rattle.disk.specs.Moments.{LeavesOnly}
 use Rattle.image.specs.Image.{image_of, read}
 use Rattle.image.specs.Pieces.{piece_count}
-use Rattle.journal.specs.Journal.{Held, settled}
-use Rattle.journal.specs.Keeping.{IsPlaced, IsSound}
+use Rattle.journal.specs.Journal.{JournalView, settled}
+use Rattle.journal.specs.Keeping.{IsCutState, IsSoundJournal}
 use Rattle.journal.specs.Steps.{IsPointed}
 use Rattle.journal.specs.Stretches.{AgreeUnmarked, image_in}
 use Rattle.journal.proofs.Logging.{settled_of}
@@ -21,9 +21,9 @@ use Rattle.journal.proofs.journal.Journal.point.Goals as goal
 
 pub point_on-requires-clause-alone : goal.point_on-requires-clause-alone
 point_on-requires-clause-alone g c = λ k.
-    let fine : c.self.inside.failed ≡ false = ap (λ (h : Held). h.failed) c.self.view_is ∙ c.requires.sound in
-    let alone : c.self.inside.left ≡ None = ap (λ (h : Held). h.left) c.self.view_is ∙ c.requires.alone in
-    let geometry : c.args.tree.now.geometry ≡ c.self.inside.halves.geometry = c.requires.geometry ∙ sym (ap (λ (h : Held). h.geometry) c.self.view_is) in
+    let fine : c.self.inside.failed ≡ false = ap (λ (h : JournalView). h.failed) c.self.view_is ∙ c.requires.sound in
+    let alone : c.self.inside.left ≡ None = ap (λ (h : JournalView). h.left) c.self.view_is ∙ c.requires.alone in
+    let geometry : c.args.tree.now.geometry ≡ c.self.inside.halves.geometry = c.requires.geometry ∙ sym (ap (λ (h : JournalView). h.geometry) c.self.view_is) in
     let is_state = subst (λ (x : Geometry). IsState x (state_in c.args.tree.now)) geometry c.requires.whole.state in
     let frozen = whole_put c.self.inside.frozen.len c.freeze.new.bytes c.self.inside.frozen.items (c.freeze.ensures.size ∙ ap length c.deref_mut.ensures.value) (c.freeze.ensures.size ∙ c.deref_mut.ensures.len) in
     let w0 = g.D.Disk.medium c.self.inside.disk in
@@ -34,9 +34,9 @@ point_on-requires-clause-alone g c = λ k.
 
 pub point_on-requires-clause-image : goal.point_on-requires-clause-image
 point_on-requires-clause-image g c = λ k.
-    let fine : c.self.inside.failed ≡ false = ap (λ (h : Held). h.failed) c.self.view_is ∙ c.requires.sound in
-    let alone : c.self.inside.left ≡ None = ap (λ (h : Held). h.left) c.self.view_is ∙ c.requires.alone in
-    let geometry : c.args.tree.now.geometry ≡ c.self.inside.halves.geometry = c.requires.geometry ∙ sym (ap (λ (h : Held). h.geometry) c.self.view_is) in
+    let fine : c.self.inside.failed ≡ false = ap (λ (h : JournalView). h.failed) c.self.view_is ∙ c.requires.sound in
+    let alone : c.self.inside.left ≡ None = ap (λ (h : JournalView). h.left) c.self.view_is ∙ c.requires.alone in
+    let geometry : c.args.tree.now.geometry ≡ c.self.inside.halves.geometry = c.requires.geometry ∙ sym (ap (λ (h : JournalView). h.geometry) c.self.view_is) in
     let is_state = subst (λ (x : Geometry). IsState x (state_in c.args.tree.now)) geometry c.requires.whole.state in
     let frozen = whole_put c.self.inside.frozen.len c.freeze.new.bytes c.self.inside.frozen.items (c.freeze.ensures.size ∙ ap length c.deref_mut.ensures.value) (c.freeze.ensures.size ∙ c.deref_mut.ensures.len) in
     let w0 = g.D.Disk.medium c.self.inside.disk in
@@ -47,9 +47,9 @@ point_on-requires-clause-image g c = λ k.
 
 pub point_on-requires-clause-unmarked : goal.point_on-requires-clause-unmarked
 point_on-requires-clause-unmarked g c = λ k.
-    let fine : c.self.inside.failed ≡ false = ap (λ (h : Held). h.failed) c.self.view_is ∙ c.requires.sound in
-    let alone : c.self.inside.left ≡ None = ap (λ (h : Held). h.left) c.self.view_is ∙ c.requires.alone in
-    let geometry : c.args.tree.now.geometry ≡ c.self.inside.halves.geometry = c.requires.geometry ∙ sym (ap (λ (h : Held). h.geometry) c.self.view_is) in
+    let fine : c.self.inside.failed ≡ false = ap (λ (h : JournalView). h.failed) c.self.view_is ∙ c.requires.sound in
+    let alone : c.self.inside.left ≡ None = ap (λ (h : JournalView). h.left) c.self.view_is ∙ c.requires.alone in
+    let geometry : c.args.tree.now.geometry ≡ c.self.inside.halves.geometry = c.requires.geometry ∙ sym (ap (λ (h : JournalView). h.geometry) c.self.view_is) in
     let is_state = subst (λ (x : Geometry). IsState x (state_in c.args.tree.now)) geometry c.requires.whole.state in
     let frozen = whole_put c.self.inside.frozen.len c.freeze.new.bytes c.self.inside.frozen.items (c.freeze.ensures.size ∙ ap length c.deref_mut.ensures.value) (c.freeze.ensures.size ∙ c.deref_mut.ensures.len) in
     let w0 = g.D.Disk.medium c.self.inside.disk in
@@ -61,17 +61,17 @@ point_on-requires-clause-unmarked g c = λ k.
 
 pub returns-in-Err-clause-any_moment : goal.returns-in-Err-clause-any_moment
 returns-in-Err-clause-any_moment g c = λ k.
-    subst (λ (h : Held). LeavesOnly h.medium (g.D.Disk.medium c.point_on.new.disk) (λ c'. holds h.geometry c' ≡ settled h)) c.self.view_is (c.point_on.ensures.any_moment k)
+    subst (λ (h : JournalView). LeavesOnly h.medium (g.D.Disk.medium c.point_on.new.disk) (λ c'. holds h.geometry c' ≡ settled h)) c.self.view_is (c.point_on.ensures.any_moment k)
 
 pub returns-clause-any_moment : goal.returns-clause-any_moment
 returns-clause-any_moment g c = λ k.
-    subst (λ (h : Held). LeavesOnly h.medium (g.D.Disk.medium c.point_on.new.disk) (λ c'. holds h.geometry c' ≡ settled h)) c.self.view_is (c.point_on.ensures.any_moment k)
+    subst (λ (h : JournalView). LeavesOnly h.medium (g.D.Disk.medium c.point_on.new.disk) (λ c'. holds h.geometry c' ≡ settled h)) c.self.view_is (c.point_on.ensures.any_moment k)
 
 pub returns-clause-settled : goal.returns-clause-settled
 returns-clause-settled g c = λ k.
-    let fine : c.self.inside.failed ≡ false = ap (λ (h : Held). h.failed) c.self.view_is ∙ c.requires.sound in
-    let alone : c.self.inside.left ≡ None = ap (λ (h : Held). h.left) c.self.view_is ∙ c.requires.alone in
-    let geometry : c.args.tree.now.geometry ≡ c.self.inside.halves.geometry = c.requires.geometry ∙ sym (ap (λ (h : Held). h.geometry) c.self.view_is) in
+    let fine : c.self.inside.failed ≡ false = ap (λ (h : JournalView). h.failed) c.self.view_is ∙ c.requires.sound in
+    let alone : c.self.inside.left ≡ None = ap (λ (h : JournalView). h.left) c.self.view_is ∙ c.requires.alone in
+    let geometry : c.args.tree.now.geometry ≡ c.self.inside.halves.geometry = c.requires.geometry ∙ sym (ap (λ (h : JournalView). h.geometry) c.self.view_is) in
     let is_state = subst (λ (x : Geometry). IsState x (state_in c.args.tree.now)) geometry c.requires.whole.state in
     let frozen = whole_put c.self.inside.frozen.len c.freeze.new.bytes c.self.inside.frozen.items (c.freeze.ensures.size ∙ ap length c.deref_mut.ensures.value) (c.freeze.ensures.size ∙ c.deref_mut.ensures.len) in
     let w0 = g.D.Disk.medium c.self.inside.disk in
@@ -84,9 +84,9 @@ returns-clause-settled g c = λ k.
 
 pub returns-clause-emptied : goal.returns-clause-emptied
 returns-clause-emptied g c = λ k.
-    let fine : c.self.inside.failed ≡ false = ap (λ (h : Held). h.failed) c.self.view_is ∙ c.requires.sound in
-    let alone : c.self.inside.left ≡ None = ap (λ (h : Held). h.left) c.self.view_is ∙ c.requires.alone in
-    let geometry : c.args.tree.now.geometry ≡ c.self.inside.halves.geometry = c.requires.geometry ∙ sym (ap (λ (h : Held). h.geometry) c.self.view_is) in
+    let fine : c.self.inside.failed ≡ false = ap (λ (h : JournalView). h.failed) c.self.view_is ∙ c.requires.sound in
+    let alone : c.self.inside.left ≡ None = ap (λ (h : JournalView). h.left) c.self.view_is ∙ c.requires.alone in
+    let geometry : c.args.tree.now.geometry ≡ c.self.inside.halves.geometry = c.requires.geometry ∙ sym (ap (λ (h : JournalView). h.geometry) c.self.view_is) in
     let is_state = subst (λ (x : Geometry). IsState x (state_in c.args.tree.now)) geometry c.requires.whole.state in
     let frozen = whole_put c.self.inside.frozen.len c.freeze.new.bytes c.self.inside.frozen.items (c.freeze.ensures.size ∙ ap length c.deref_mut.ensures.value) (c.freeze.ensures.size ∙ c.deref_mut.ensures.len) in
     let w0 = g.D.Disk.medium c.self.inside.disk in
@@ -99,9 +99,9 @@ returns-clause-emptied g c = λ k.
 
 pub returns-clause-sound : goal.returns-clause-sound
 returns-clause-sound g c = λ k.
-    let fine : c.self.inside.failed ≡ false = ap (λ (h : Held). h.failed) c.self.view_is ∙ c.requires.sound in
-    let alone : c.self.inside.left ≡ None = ap (λ (h : Held). h.left) c.self.view_is ∙ c.requires.alone in
-    let geometry : c.args.tree.now.geometry ≡ c.self.inside.halves.geometry = c.requires.geometry ∙ sym (ap (λ (h : Held). h.geometry) c.self.view_is) in
+    let fine : c.self.inside.failed ≡ false = ap (λ (h : JournalView). h.failed) c.self.view_is ∙ c.requires.sound in
+    let alone : c.self.inside.left ≡ None = ap (λ (h : JournalView). h.left) c.self.view_is ∙ c.requires.alone in
+    let geometry : c.args.tree.now.geometry ≡ c.self.inside.halves.geometry = c.requires.geometry ∙ sym (ap (λ (h : JournalView). h.geometry) c.self.view_is) in
     let is_state = subst (λ (x : Geometry). IsState x (state_in c.args.tree.now)) geometry c.requires.whole.state in
     let frozen = whole_put c.self.inside.frozen.len c.freeze.new.bytes c.self.inside.frozen.items (c.freeze.ensures.size ∙ ap length c.deref_mut.ensures.value) (c.freeze.ensures.size ∙ c.deref_mut.ensures.len) in
     let w0 = g.D.Disk.medium c.self.inside.disk in
@@ -111,16 +111,16 @@ returns-clause-sound g c = λ k.
     let w1 = g.D.Disk.medium c.point_on.new.disk in
     let made = subst (λ (l : List ℕ). IsPointed c.self.inside.halves l w0 w1) (c.deref-2.ensures.value ∙ frozen) (c.in_default.ensures.pointed k) in
     settled_of c.point_on.new.halves (whole_items c.self.inside.frozen.len c.freeze.new.bytes c.self.inside.frozen.items) c.exchange_marks.new.named.items c.exchange_marks.new.other.items c.self.inside.due.items c.self.inside.left c.self.inside.failed w1
-    (subst (λ (o : Option ℕ). IsSound c.point_on.new.halves (whole_items c.self.inside.frozen.len c.freeze.new.bytes c.self.inside.frozen.items) c.exchange_marks.new.named.items c.exchange_marks.new.other.items c.self.inside.due.items o w1) (sym alone)
-    (subst (λ (l : List ℕ). IsSound c.point_on.new.halves l c.exchange_marks.new.named.items c.exchange_marks.new.other.items c.self.inside.due.items None w1) (sym frozen)
-    (subst (λ (l : Log). IsSound l c.freeze.new.bytes c.exchange_marks.new.named.items c.exchange_marks.new.other.items c.self.inside.due.items None w1) (sym c.in_default.ensures.log)
+    (subst (λ (o : Option ℕ). IsSoundJournal c.point_on.new.halves (whole_items c.self.inside.frozen.len c.freeze.new.bytes c.self.inside.frozen.items) c.exchange_marks.new.named.items c.exchange_marks.new.other.items c.self.inside.due.items o w1) (sym alone)
+    (subst (λ (l : List ℕ). IsSoundJournal c.point_on.new.halves l c.exchange_marks.new.named.items c.exchange_marks.new.other.items c.self.inside.due.items None w1) (sym frozen)
+    (subst (λ (l : Log). IsSoundJournal l c.freeze.new.bytes c.exchange_marks.new.named.items c.exchange_marks.new.other.items c.self.inside.due.items None w1) (sym c.in_default.ensures.log)
     (point_sound c.self.inside.halves c.self.inside.frozen.items c.freeze.new.bytes c.self.inside.named_marks.items c.self.inside.other_marks.items c.self.inside.due.items c.self.inside.left w0 (state_in c.args.tree.now) alone (c.self.invariant.6 fine).1 (c.self.invariant.7 fine k) is is_state spelled (g.met.D.Disk.bytes c.self.inside.disk) w1 (g.met.D.Disk.bytes c.point_on.new.disk) c.exchange_marks.new.named.items c.exchange_marks.new.other.items (ap (λ v. v.items) c.exchange_marks.ensures.kept) made))))
 
 pub invariant_of-self-2 : goal.invariant_of-self-2
 invariant_of-self-2 g c =
-    let fine : c.self.inside.failed ≡ false = ap (λ (h : Held). h.failed) c.self.view_is ∙ c.requires.sound in
-    let alone : c.self.inside.left ≡ None = ap (λ (h : Held). h.left) c.self.view_is ∙ c.requires.alone in
-    let geometry : c.args.tree.now.geometry ≡ c.self.inside.halves.geometry = c.requires.geometry ∙ sym (ap (λ (h : Held). h.geometry) c.self.view_is) in
+    let fine : c.self.inside.failed ≡ false = ap (λ (h : JournalView). h.failed) c.self.view_is ∙ c.requires.sound in
+    let alone : c.self.inside.left ≡ None = ap (λ (h : JournalView). h.left) c.self.view_is ∙ c.requires.alone in
+    let geometry : c.args.tree.now.geometry ≡ c.self.inside.halves.geometry = c.requires.geometry ∙ sym (ap (λ (h : JournalView). h.geometry) c.self.view_is) in
     let is_state = subst (λ (x : Geometry). IsState x (state_in c.args.tree.now)) geometry c.requires.whole.state in
     let frozen = whole_put c.self.inside.frozen.len c.freeze.new.bytes c.self.inside.frozen.items (c.freeze.ensures.size ∙ ap length c.deref_mut.ensures.value) (c.freeze.ensures.size ∙ c.deref_mut.ensures.len) in
     let log = c.in_default.ensures.log in
@@ -133,7 +133,7 @@ invariant_of-self-2 g c =
       c.self.invariant.5 ∙ sym (ap piece_count same),
       (λ fine. (
         ap (λ (l : Log). l.failed) log ∙ (c.self.invariant.6 fine).0,
-        subst (λ (o : Option ℕ). IsPlaced c.point_on.new.halves c.self.inside.due.items o) (sym alone) (ap (λ (l : Log). l.current) log ∙ sym (ap (λ (l : Log). l.named) log)),
+        subst (λ (o : Option ℕ). IsCutState c.point_on.new.halves c.self.inside.due.items o) (sym alone) (ap (λ (l : Log). l.current) log ∙ sym (ap (λ (l : Log). l.named) log)),
       )),
       (λ fine k.
           let w0 = g.D.Disk.medium c.self.inside.disk in
@@ -142,9 +142,9 @@ invariant_of-self-2 g c =
           let spelled : c.freeze.new.bytes ≡ image_of 2 c.self.inside.halves.geometry (state_in c.args.tree.now) = c.freeze.ensures.image right ∙ ap (λ (x : Geometry). image_of 2 x (state_in c.args.tree.now)) geometry in
           let w1 = g.D.Disk.medium c.point_on.new.disk in
           let made = subst (λ (l : List ℕ). IsPointed c.self.inside.halves l w0 w1) (c.deref-2.ensures.value ∙ frozen) (c.in_default.ensures.pointed k) in
-          subst (λ (o : Option ℕ). IsSound c.point_on.new.halves (whole_items c.self.inside.frozen.len c.freeze.new.bytes c.self.inside.frozen.items) c.exchange_marks.new.named.items c.exchange_marks.new.other.items c.self.inside.due.items o w1) (sym alone)
-          (subst (λ (l : List ℕ). IsSound c.point_on.new.halves l c.exchange_marks.new.named.items c.exchange_marks.new.other.items c.self.inside.due.items None w1) (sym frozen)
-          (subst (λ (l : Log). IsSound l c.freeze.new.bytes c.exchange_marks.new.named.items c.exchange_marks.new.other.items c.self.inside.due.items None w1) (sym c.in_default.ensures.log)
+          subst (λ (o : Option ℕ). IsSoundJournal c.point_on.new.halves (whole_items c.self.inside.frozen.len c.freeze.new.bytes c.self.inside.frozen.items) c.exchange_marks.new.named.items c.exchange_marks.new.other.items c.self.inside.due.items o w1) (sym alone)
+          (subst (λ (l : List ℕ). IsSoundJournal c.point_on.new.halves l c.exchange_marks.new.named.items c.exchange_marks.new.other.items c.self.inside.due.items None w1) (sym frozen)
+          (subst (λ (l : Log). IsSoundJournal l c.freeze.new.bytes c.exchange_marks.new.named.items c.exchange_marks.new.other.items c.self.inside.due.items None w1) (sym c.in_default.ensures.log)
           (point_sound c.self.inside.halves c.self.inside.frozen.items c.freeze.new.bytes c.self.inside.named_marks.items c.self.inside.other_marks.items c.self.inside.due.items c.self.inside.left w0 (state_in c.args.tree.now) alone (c.self.invariant.6 fine).1 (c.self.invariant.7 fine k) is is_state spelled (g.met.D.Disk.bytes c.self.inside.disk) w1 (g.met.D.Disk.bytes c.point_on.new.disk) c.exchange_marks.new.named.items c.exchange_marks.new.other.items (ap (λ v. v.items) c.exchange_marks.ensures.kept) made)))),
       c.self.invariant.8,
       c.self.invariant.9,

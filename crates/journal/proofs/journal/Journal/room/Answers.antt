@@ -1,10 +1,10 @@
 use Rattle.std.proofs.Common.{◌∙◌, ap, subst}
-use Rattle.journal.specs.Journal.{Held, IsSettled}
+use Rattle.journal.specs.Journal.{JournalView, IsSettled}
 use Rattle.journal.proofs.Logging.{settled_of}
 use Rattle.journal.proofs.journal.Journal.room.Goals as goal
 
 pub returns-clause-sound : goal.returns-clause-sound
 returns-clause-sound g c = λ fine k.
-    subst (λ (h : Held). IsSettled h) c.self.view_is
+    subst (λ (h : JournalView). IsSettled h) c.self.view_is
     (settled_of c.self.inside.halves c.self.inside.frozen.items c.self.inside.named_marks.items c.self.inside.other_marks.items c.self.inside.due.items c.self.inside.left c.self.inside.failed (g.D.Disk.medium c.self.inside.disk)
-    (c.self.invariant.7 (ap (λ (h : Held). h.failed) c.self.view_is ∙ fine) k))
+    (c.self.invariant.7 (ap (λ (h : JournalView). h.failed) c.self.view_is ∙ fine) k))

@@ -5,7 +5,7 @@ use Rattle.legal_runs.specs.Events.{answer}
 use Rattle.legal_runs.specs.declared.outcomes.Outcome.TheVariants as outcomes
 use Rattle.message.specs.declared.Reply.TheVariants.{Done}
 use Rattle.scheduler.proofs.AnswerCall.{answer_call_chains, answer_call_core, answer_call_ran, answer_call_size, answer_call_world, front_low, get_or_any}
-use Rattle.scheduler.specs.Kept.{Kept, world_of}
+use Rattle.scheduler.specs.Kept.{CoreView, world_of}
 use Rattle.scheduler.specs.Parts.{IsCore, parts, world_in}
 use Rattle.scheduler.specs.Slots.{HasChains, line}
 use Rattle.scheduler.specs.declared.slot.Slot.{Slot}
@@ -43,4 +43,4 @@ returns-clause-world g c =
     let low : c.in_ok-slot.slot < length c.self.inside.replies.items = omega (arith, under, size) in
     (λ i. (outcomes.Answered c.in-Some.taken.ticket ((c.index-reply.ensures ∙ get_or_any c.self.inside.replies.items c.in_ok-slot.slot c.index-reply.result.now Done low) i), world_in (parts (c.take.ensures.row i) c.self.inside.replies.items c.self.inside.tree c.self.inside.journal (c.free.ensures i) c.self.inside.batch.items c.self.inside.next c.self.inside.flight c.self.inside.history.opened c.self.inside.history.since)))
     ∙ answer_call_world g.D.Disk.keeps c.self.inside.slots c.self.inside.replies.items c.self.inside.tree c.self.inside.journal c.self.inside.turns c.self.inside.batch.items c.self.inside.next c.self.inside.flight c.self.inside.history.opened c.self.inside.history.since v.0 v.1 c.in_ok-slot.slot first c.in-Some.taken value
-    ∙ ap (λ (o : Kept). answer (world_of o) o.logged) c.self.view_is
+    ∙ ap (λ (o : CoreView). answer (world_of o) o.logged) c.self.view_is

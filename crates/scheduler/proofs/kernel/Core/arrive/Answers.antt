@@ -7,7 +7,7 @@ use Rattle.legal_runs.specs.declared.outcomes.ArriveRefusal.TheVariants as arriv
 use Rattle.legal_runs.specs.declared.outcomes.Outcome.TheVariants as outcomes
 use Rattle.scheduler.proofs.ArriveCall.{arrive_chains, arrive_core, arrive_later, arrive_new, arrive_ran, arrive_size, arrive_slot, arrive_world, full_row, full_world, not_this}
 use Rattle.scheduler.proofs.Placing.{placed_of, range_of}
-use Rattle.scheduler.specs.Kept.{Kept, world_of}
+use Rattle.scheduler.specs.Kept.{CoreView, world_of}
 use Rattle.scheduler.specs.Parts.{IsCore, parts, world_in}
 use Rattle.scheduler.specs.Slots.{HasChains, line}
 use Rattle.scheduler.specs.declared.slot.Slot.{Slot}
@@ -24,7 +24,7 @@ pub returns-in_default-put-clause-world : goal.returns-in_default-put-clause-wor
 returns-in_default-put-clause-world g c =
     (λ i. (outcomes.ArriveRefused arrivals.Full, world_in (parts ((c.put.ensures.row ∙ full_row g.D.Disk.keeps c.self.inside.slots c.self.inside.replies.items c.self.inside.tree c.self.inside.journal c.self.inside.turns c.self.inside.batch.items c.self.inside.next c.self.inside.flight c.self.inside.history.opened c.self.inside.history.since c.self.invariant.0 c.self.invariant.1 (record { ticket = c.self.inside.next; message = c.args.m.now; affinity = c.in-Some.affinity }) c.in_default-put.field-0 (sym c.put.ensures.answer ∙ c.in_default-put.is)) i) c.self.inside.replies.items c.self.inside.tree c.self.inside.journal c.self.inside.turns c.self.inside.batch.items c.self.inside.next c.self.inside.flight c.self.inside.history.opened c.self.inside.history.since)))
     ∙ full_world g.D.Disk.keeps c.self.inside.slots c.self.inside.replies.items c.self.inside.tree c.self.inside.journal c.self.inside.turns c.self.inside.batch.items c.self.inside.next c.self.inside.flight c.self.inside.history.opened c.self.inside.history.since c.self.invariant.0 c.self.invariant.1 (record { ticket = c.self.inside.next; message = c.args.m.now; affinity = c.in-Some.affinity }) c.in_default-put.field-0 (sym c.put.ensures.answer ∙ c.in_default-put.is) (sym c.failed.ensures ∙ c.if-failed.false) (range_of c.geometry-g.result c.self.inside.journal.geometry c.args.m.now c.kind.result c.numbers.result c.geometry-g.ensures c.kind.ensures c.numbers.ensures c.in-Some.ensures.in_range) (not_this c.self.inside.next 18446744073709551615 c.if-self.false)
-    ∙ ap (λ (o : Kept). arrive o.geometry (world_of o) c.args.m.now) c.self.view_is
+    ∙ ap (λ (o : CoreView). arrive o.geometry (world_of o) c.args.m.now) c.self.view_is
 
 pub arrive-requires-clause-later : goal.arrive-requires-clause-later
 arrive-requires-clause-later g c = arrive_later g.D.Disk.keeps c.self.inside.slots c.self.inside.replies.items c.self.inside.tree c.self.inside.journal c.self.inside.turns c.self.inside.batch.items c.self.inside.next c.self.inside.flight c.self.inside.history.opened c.self.inside.history.since c.self.invariant.0 c.self.invariant.1 (record { ticket = c.self.inside.next; message = c.args.m.now; affinity = c.in-Some.affinity }) c.in-Ok.slot (sym c.put.ensures.answer ∙ c.in-Ok.is)
@@ -54,4 +54,4 @@ returns-clause-world g c =
     let rows = c.move_to.ensures.row ∙ ap (λ (r : Row Slot). after_move r c.in-Ok.slot 0) c.put.ensures.row in
     (λ i. (outcomes.Ticket c.self.inside.next, world_in (parts (rows i) c.self.inside.replies.items c.self.inside.tree c.self.inside.journal ((c.arrive.ensures ∙ ap (λ (b : Bool). record c.self.inside.turns { waiting = c.self.inside.turns.waiting ++ record { slot = c.in-Ok.slot; affinity = c.in-Some.affinity; changing = b; ticket = c.self.inside.next } ∷ [] }) (c.changing.ensures ∙ ap is_changing c.kind-2.ensures)) i) c.self.inside.batch.items (c.self.inside.next + 1) c.self.inside.flight c.self.inside.history.opened c.self.inside.history.since)))
     ∙ arrive_world g.D.Disk.keeps c.self.inside.slots c.self.inside.replies.items c.self.inside.tree c.self.inside.journal c.self.inside.turns c.self.inside.batch.items c.self.inside.next c.self.inside.flight c.self.inside.history.opened c.self.inside.history.since c.self.invariant.0 c.self.invariant.1 (record { ticket = c.self.inside.next; message = c.args.m.now; affinity = c.in-Some.affinity }) c.in-Ok.slot (sym c.put.ensures.answer ∙ c.in-Ok.is) refl (record { affinity = placed_of c.geometry-g.result c.self.inside.journal.geometry c.args.m.now c.kind.result c.numbers.result c.in-Some.affinity c.geometry-g.ensures c.kind.ensures c.numbers.ensures c.in-Some.ensures.placed; range = (range_of c.geometry-g.result c.self.inside.journal.geometry c.args.m.now c.kind.result c.numbers.result c.geometry-g.ensures c.kind.ensures c.numbers.ensures c.in-Some.ensures.in_range); message = c.know_message.ensures }) (sym c.failed.ensures ∙ c.if-failed.false) (range_of c.geometry-g.result c.self.inside.journal.geometry c.args.m.now c.kind.result c.numbers.result c.geometry-g.ensures c.kind.ensures c.numbers.ensures c.in-Some.ensures.in_range) (not_this c.self.inside.next 18446744073709551615 c.if-self.false)
-    ∙ ap (λ (o : Kept). arrive o.geometry (world_of o) c.args.m.now) c.self.view_is
+    ∙ ap (λ (o : CoreView). arrive o.geometry (world_of o) c.args.m.now) c.self.view_is

@@ -2,32 +2,32 @@ use Rattle.std.proofs.Common.{◌≡◌, ℕ, ◌≤◌, [], None, Some, refl, s
 use Rattle.std.specs.Prelude.{if◌then◌else◌}
 use Rattle.disk.specs.Moments.{LeavesOnly}
 use Rattle.image.specs.Pieces.{piece_count}
-use Rattle.journal.specs.Journal.{Held, HoldsSome}
+use Rattle.journal.specs.Journal.{JournalView, HoldsSome}
 use Rattle.journal.specs.Marks.{count_marked}
 use Rattle.legal_runs.specs.World.{World}
 use Rattle.oplog.proofs.Answered.{on_ok}
 use Rattle.legal_runs.specs.Events.{point_refusal}
 use Rattle.scheduler.proofs.Journaling.{still_standing}
 use Rattle.scheduler.proofs.Pointing.{cut_core, point_state, point_whole, point_works, step_moment}
-use Rattle.scheduler.specs.Kept.{Kept, StandsThroughout, world_of}
+use Rattle.scheduler.specs.Kept.{CoreView, StandsThroughout, world_of}
 use Rattle.scheduler.specs.Parts.{kept_of, parts, world_in}
 use Rattle.scheduler.proofs.kernel.Core.cut.Goals as goal
 
 pub returns-in-Some-clause-any_moment : goal.returns-in-Some-clause-any_moment
 returns-in-Some-clause-any_moment g c = λ keep.
-    subst (λ (o : Kept). StandsThroughout [] o o) c.self.view_is
+    subst (λ (o : CoreView). StandsThroughout [] o o) c.self.view_is
     (still_standing g.D.Disk.keeps (parts c.self.inside.slots c.self.inside.replies.items c.self.inside.tree c.self.inside.journal c.self.inside.turns c.self.inside.batch.items c.self.inside.next c.self.inside.flight c.self.inside.history.opened c.self.inside.history.since) c.self.invariant.1 keep [] (kept_of (parts c.self.inside.slots c.self.inside.replies.items c.self.inside.tree c.self.inside.journal c.self.inside.turns c.self.inside.batch.items c.self.inside.next c.self.inside.flight c.self.inside.history.opened c.self.inside.history.since)) refl)
 
 pub cut-requires-clause-whole : goal.cut-requires-clause-whole
-cut-requires-clause-whole g c = point_whole g.D.Disk.keeps (parts c.self.inside.slots c.self.inside.replies.items c.self.inside.tree c.self.inside.journal c.self.inside.turns c.self.inside.batch.items c.self.inside.next c.self.inside.flight c.self.inside.history.opened c.self.inside.history.since) c.self.invariant.1 (ap (λ (o : Kept). point_refusal (world_of o)) c.self.view_is ∙ sym c.point_refusal.ensures ∙ c.in_default.is)
+cut-requires-clause-whole g c = point_whole g.D.Disk.keeps (parts c.self.inside.slots c.self.inside.replies.items c.self.inside.tree c.self.inside.journal c.self.inside.turns c.self.inside.batch.items c.self.inside.next c.self.inside.flight c.self.inside.history.opened c.self.inside.history.since) c.self.invariant.1 (ap (λ (o : CoreView). point_refusal (world_of o)) c.self.view_is ∙ sym c.point_refusal.ensures ∙ c.in_default.is)
 
 pub cut-requires-clause-state : goal.cut-requires-clause-state
-cut-requires-clause-state g c = point_state g.D.Disk.keeps (parts c.self.inside.slots c.self.inside.replies.items c.self.inside.tree c.self.inside.journal c.self.inside.turns c.self.inside.batch.items c.self.inside.next c.self.inside.flight c.self.inside.history.opened c.self.inside.history.since) c.self.invariant.1 (ap (λ (o : Kept). point_refusal (world_of o)) c.self.view_is ∙ sym c.point_refusal.ensures ∙ c.in_default.is)
+cut-requires-clause-state g c = point_state g.D.Disk.keeps (parts c.self.inside.slots c.self.inside.replies.items c.self.inside.tree c.self.inside.journal c.self.inside.turns c.self.inside.batch.items c.self.inside.next c.self.inside.flight c.self.inside.history.opened c.self.inside.history.since) c.self.invariant.1 (ap (λ (o : CoreView). point_refusal (world_of o)) c.self.view_is ∙ sym c.point_refusal.ensures ∙ c.in_default.is)
 
 pub invariant_of-self : goal.invariant_of-self
 invariant_of-self g c = (
   c.self.invariant.0,
-  cut_core g.D.Disk.keeps (parts c.self.inside.slots c.self.inside.replies.items c.self.inside.tree c.self.inside.journal c.self.inside.turns c.self.inside.batch.items c.self.inside.next c.self.inside.flight c.self.inside.history.opened c.self.inside.history.since) c.self.invariant.1 c.cut.new.self c.cut.ensures.any_moment c.cut.result (ap (λ (o : Kept). point_refusal (world_of o)) c.self.view_is ∙ sym c.point_refusal.ensures ∙ c.in_default.is) c.cut.ensures.settled c.cut.ensures.begun c.cut.ensures.few c.cut.ensures.broken,
+  cut_core g.D.Disk.keeps (parts c.self.inside.slots c.self.inside.replies.items c.self.inside.tree c.self.inside.journal c.self.inside.turns c.self.inside.batch.items c.self.inside.next c.self.inside.flight c.self.inside.history.opened c.self.inside.history.since) c.self.invariant.1 c.cut.new.self c.cut.ensures.any_moment c.cut.result (ap (λ (o : CoreView). point_refusal (world_of o)) c.self.view_is ∙ sym c.point_refusal.ensures ∙ c.in_default.is) c.cut.ensures.settled c.cut.ensures.begun c.cut.ensures.few c.cut.ensures.broken,
   c.self.invariant.2,
   c.self.invariant.3,
   c.self.invariant.4,
@@ -35,13 +35,13 @@ invariant_of-self g c = (
 
 pub returns-then-is_err-clause-any_moment : goal.returns-then-is_err-clause-any_moment
 returns-then-is_err-clause-any_moment g c = λ keep.
-    subst (λ (o : Kept). LeavesOnly o.medium c.cut.new.self.medium (HoldsSome o.geometry (world_of o).settled (if o.failed then o.doubt else []))) c.self.view_is
-    (step_moment g.D.Disk.keeps (parts c.self.inside.slots c.self.inside.replies.items c.self.inside.tree c.self.inside.journal c.self.inside.turns c.self.inside.batch.items c.self.inside.next c.self.inside.flight c.self.inside.history.opened c.self.inside.history.since) c.self.invariant.1 (point_works g.D.Disk.keeps (parts c.self.inside.slots c.self.inside.replies.items c.self.inside.tree c.self.inside.journal c.self.inside.turns c.self.inside.batch.items c.self.inside.next c.self.inside.flight c.self.inside.history.opened c.self.inside.history.since) c.self.invariant.1 (ap (λ (o : Kept). point_refusal (world_of o)) c.self.view_is ∙ sym c.point_refusal.ensures ∙ c.in_default.is)) c.cut.new.self c.cut.ensures.any_moment keep)
+    subst (λ (o : CoreView). LeavesOnly o.medium c.cut.new.self.medium (HoldsSome o.geometry (world_of o).settled (if o.failed then o.doubt else []))) c.self.view_is
+    (step_moment g.D.Disk.keeps (parts c.self.inside.slots c.self.inside.replies.items c.self.inside.tree c.self.inside.journal c.self.inside.turns c.self.inside.batch.items c.self.inside.next c.self.inside.flight c.self.inside.history.opened c.self.inside.history.since) c.self.invariant.1 (point_works g.D.Disk.keeps (parts c.self.inside.slots c.self.inside.replies.items c.self.inside.tree c.self.inside.journal c.self.inside.turns c.self.inside.batch.items c.self.inside.next c.self.inside.flight c.self.inside.history.opened c.self.inside.history.since) c.self.invariant.1 (ap (λ (o : CoreView). point_refusal (world_of o)) c.self.view_is ∙ sym c.point_refusal.ensures ∙ c.in_default.is)) c.cut.new.self c.cut.ensures.any_moment keep)
 
 pub invariant_of-self-2 : goal.invariant_of-self-2
 invariant_of-self-2 g c = (
   c.self.invariant.0,
-  cut_core g.D.Disk.keeps (parts c.self.inside.slots c.self.inside.replies.items c.self.inside.tree c.self.inside.journal c.self.inside.turns c.self.inside.batch.items c.self.inside.next c.self.inside.flight c.self.inside.history.opened c.self.inside.history.since) c.self.invariant.1 c.cut.new.self c.cut.ensures.any_moment c.cut.result (ap (λ (o : Kept). point_refusal (world_of o)) c.self.view_is ∙ sym c.point_refusal.ensures ∙ c.in_default.is) c.cut.ensures.settled c.cut.ensures.begun c.cut.ensures.few c.cut.ensures.broken,
+  cut_core g.D.Disk.keeps (parts c.self.inside.slots c.self.inside.replies.items c.self.inside.tree c.self.inside.journal c.self.inside.turns c.self.inside.batch.items c.self.inside.next c.self.inside.flight c.self.inside.history.opened c.self.inside.history.since) c.self.invariant.1 c.cut.new.self c.cut.ensures.any_moment c.cut.result (ap (λ (o : CoreView). point_refusal (world_of o)) c.self.view_is ∙ sym c.point_refusal.ensures ∙ c.in_default.is) c.cut.ensures.settled c.cut.ensures.begun c.cut.ensures.few c.cut.ensures.broken,
   c.self.invariant.2,
   c.self.invariant.3,
   c.self.invariant.4,
@@ -49,13 +49,13 @@ invariant_of-self-2 g c = (
 
 pub returns-clause-any_moment : goal.returns-clause-any_moment
 returns-clause-any_moment g c = λ keep.
-    subst (λ (o : Kept). LeavesOnly o.medium c.cut.new.self.medium (HoldsSome o.geometry (world_of o).settled (if o.failed then o.doubt else []))) c.self.view_is
-    (step_moment g.D.Disk.keeps (parts c.self.inside.slots c.self.inside.replies.items c.self.inside.tree c.self.inside.journal c.self.inside.turns c.self.inside.batch.items c.self.inside.next c.self.inside.flight c.self.inside.history.opened c.self.inside.history.since) c.self.invariant.1 (point_works g.D.Disk.keeps (parts c.self.inside.slots c.self.inside.replies.items c.self.inside.tree c.self.inside.journal c.self.inside.turns c.self.inside.batch.items c.self.inside.next c.self.inside.flight c.self.inside.history.opened c.self.inside.history.since) c.self.invariant.1 (ap (λ (o : Kept). point_refusal (world_of o)) c.self.view_is ∙ sym c.point_refusal.ensures ∙ c.in_default.is)) c.cut.new.self c.cut.ensures.any_moment keep)
+    subst (λ (o : CoreView). LeavesOnly o.medium c.cut.new.self.medium (HoldsSome o.geometry (world_of o).settled (if o.failed then o.doubt else []))) c.self.view_is
+    (step_moment g.D.Disk.keeps (parts c.self.inside.slots c.self.inside.replies.items c.self.inside.tree c.self.inside.journal c.self.inside.turns c.self.inside.batch.items c.self.inside.next c.self.inside.flight c.self.inside.history.opened c.self.inside.history.since) c.self.invariant.1 (point_works g.D.Disk.keeps (parts c.self.inside.slots c.self.inside.replies.items c.self.inside.tree c.self.inside.journal c.self.inside.turns c.self.inside.batch.items c.self.inside.next c.self.inside.flight c.self.inside.history.opened c.self.inside.history.since) c.self.invariant.1 (ap (λ (o : CoreView). point_refusal (world_of o)) c.self.view_is ∙ sym c.point_refusal.ensures ∙ c.in_default.is)) c.cut.new.self c.cut.ensures.any_moment keep)
 
 pub returns-clause-world : goal.returns-clause-world
 returns-clause-world g c =
     let begun = on_ok c.cut.result _ (sym c.is_err.ensures.value ∙ c.if-is_err.false) c.cut.ensures.begun in
     let few = on_ok c.cut.result _ (sym c.is_err.ensures.value ∙ c.if-is_err.false) c.cut.ensures.few in
-    let new : Held → World = λ j. world_in (parts c.self.inside.slots c.self.inside.replies.items c.self.inside.tree j c.self.inside.turns c.self.inside.batch.items c.self.inside.next c.self.inside.flight c.self.inside.history.opened c.self.inside.history.since) in
-    subst (λ (o : Kept). (point_refusal (world_of o) ≡ None) × ((n : ℕ) × (n ≤ piece_count o.geometry) × (new c.cut.new.self ≡ record (world_of o) { room = o.geometry.half; left = Some n }))) c.self.view_is
-    (ap (λ (o : Kept). point_refusal (world_of o)) c.self.view_is ∙ sym c.point_refusal.ensures ∙ c.in_default.is, (count_marked c.self.inside.journal.marks.others, few, ap new begun))
+    let new : JournalView → World = λ j. world_in (parts c.self.inside.slots c.self.inside.replies.items c.self.inside.tree j c.self.inside.turns c.self.inside.batch.items c.self.inside.next c.self.inside.flight c.self.inside.history.opened c.self.inside.history.since) in
+    subst (λ (o : CoreView). (point_refusal (world_of o) ≡ None) × ((n : ℕ) × (n ≤ piece_count o.geometry) × (new c.cut.new.self ≡ record (world_of o) { room = o.geometry.half; left = Some n }))) c.self.view_is
+    (ap (λ (o : CoreView). point_refusal (world_of o)) c.self.view_is ∙ sym c.point_refusal.ensures ∙ c.in_default.is, (count_marked c.self.inside.journal.marks.others, few, ap new begun))

@@ -4,23 +4,23 @@ use Rattle.disk.specs.Moments.{LeavesOnly}
 use Rattle.journal.specs.Journal.{HoldsSome}
 use Rattle.scheduler.proofs.Journaling.{still_standing}
 use Rattle.scheduler.proofs.Pointing.{flip_core, step_moment}
-use Rattle.scheduler.specs.Kept.{Kept, StandsThroughout, world_of}
+use Rattle.scheduler.specs.Kept.{CoreView, StandsThroughout, world_of}
 use Rattle.scheduler.specs.Parts.{kept_of, parts}
 use Rattle.scheduler.proofs.kernel.Core.flip.Goals as goal
 
 pub returns-then-failed-clause-any_moment : goal.returns-then-failed-clause-any_moment
 returns-then-failed-clause-any_moment g c = λ keep.
-    subst (λ (o : Kept). StandsThroughout [] o o) c.self.view_is
+    subst (λ (o : CoreView). StandsThroughout [] o o) c.self.view_is
     (still_standing g.D.Disk.keeps (parts c.self.inside.slots c.self.inside.replies.items c.self.inside.tree c.self.inside.journal c.self.inside.turns c.self.inside.batch.items c.self.inside.next c.self.inside.flight c.self.inside.history.opened c.self.inside.history.since) c.self.invariant.1 keep [] (kept_of (parts c.self.inside.slots c.self.inside.replies.items c.self.inside.tree c.self.inside.journal c.self.inside.turns c.self.inside.batch.items c.self.inside.next c.self.inside.flight c.self.inside.history.opened c.self.inside.history.since)) refl)
 
 pub returns-in_default-clause-any_moment : goal.returns-in_default-clause-any_moment
 returns-in_default-clause-any_moment g c = λ keep.
-    subst (λ (o : Kept). StandsThroughout [] o o) c.self.view_is
+    subst (λ (o : CoreView). StandsThroughout [] o o) c.self.view_is
     (still_standing g.D.Disk.keeps (parts c.self.inside.slots c.self.inside.replies.items c.self.inside.tree c.self.inside.journal c.self.inside.turns c.self.inside.batch.items c.self.inside.next c.self.inside.flight c.self.inside.history.opened c.self.inside.history.since) c.self.invariant.1 keep [] (kept_of (parts c.self.inside.slots c.self.inside.replies.items c.self.inside.tree c.self.inside.journal c.self.inside.turns c.self.inside.batch.items c.self.inside.next c.self.inside.flight c.self.inside.history.opened c.self.inside.history.since)) refl)
 
 pub returns-then-left-gt0-clause-any_moment : goal.returns-then-left-gt0-clause-any_moment
 returns-then-left-gt0-clause-any_moment g c = λ keep.
-    subst (λ (o : Kept). StandsThroughout [] o o) c.self.view_is
+    subst (λ (o : CoreView). StandsThroughout [] o o) c.self.view_is
     (still_standing g.D.Disk.keeps (parts c.self.inside.slots c.self.inside.replies.items c.self.inside.tree c.self.inside.journal c.self.inside.turns c.self.inside.batch.items c.self.inside.next c.self.inside.flight c.self.inside.history.opened c.self.inside.history.since) c.self.invariant.1 keep [] (kept_of (parts c.self.inside.slots c.self.inside.replies.items c.self.inside.tree c.self.inside.journal c.self.inside.turns c.self.inside.batch.items c.self.inside.next c.self.inside.flight c.self.inside.history.opened c.self.inside.history.since)) refl)
 
 pub invariant_of-self : goal.invariant_of-self
@@ -34,7 +34,7 @@ invariant_of-self g c = (
 
 pub returns-then-is_err-clause-any_moment : goal.returns-then-is_err-clause-any_moment
 returns-then-is_err-clause-any_moment g c = λ keep.
-    subst (λ (o : Kept). LeavesOnly o.medium c.flip.new.self.medium (HoldsSome o.geometry (world_of o).settled (if o.failed then o.doubt else []))) c.self.view_is
+    subst (λ (o : CoreView). LeavesOnly o.medium c.flip.new.self.medium (HoldsSome o.geometry (world_of o).settled (if o.failed then o.doubt else []))) c.self.view_is
     (step_moment g.D.Disk.keeps (parts c.self.inside.slots c.self.inside.replies.items c.self.inside.tree c.self.inside.journal c.self.inside.turns c.self.inside.batch.items c.self.inside.next c.self.inside.flight c.self.inside.history.opened c.self.inside.history.since) c.self.invariant.1 (sym c.failed.ensures ∙ c.if-failed.false) c.flip.new.self c.flip.ensures.any_moment keep)
 
 pub invariant_of-self-2 : goal.invariant_of-self-2
@@ -48,5 +48,5 @@ invariant_of-self-2 g c = (
 
 pub returns-clause-any_moment : goal.returns-clause-any_moment
 returns-clause-any_moment g c = λ keep.
-    subst (λ (o : Kept). LeavesOnly o.medium c.flip.new.self.medium (HoldsSome o.geometry (world_of o).settled (if o.failed then o.doubt else []))) c.self.view_is
+    subst (λ (o : CoreView). LeavesOnly o.medium c.flip.new.self.medium (HoldsSome o.geometry (world_of o).settled (if o.failed then o.doubt else []))) c.self.view_is
     (step_moment g.D.Disk.keeps (parts c.self.inside.slots c.self.inside.replies.items c.self.inside.tree c.self.inside.journal c.self.inside.turns c.self.inside.batch.items c.self.inside.next c.self.inside.flight c.self.inside.history.opened c.self.inside.history.since) c.self.invariant.1 (sym c.failed.ensures ∙ c.if-failed.false) c.flip.new.self c.flip.ensures.any_moment keep)

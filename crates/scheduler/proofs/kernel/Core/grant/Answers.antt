@@ -6,12 +6,12 @@ use Rattle.arena.specs.Row.{IsParted, Row, after_move, capacity_of}
 use Rattle.legal_runs.specs.declared.outcomes.Outcome.TheVariants as outcomes
 use Rattle.message.specs.Messages.{place}
 use Rattle.parcel.specs.Fits.{Suits}
-use Rattle.parcel.specs.Run.{Asked}
+use Rattle.parcel.specs.Run.{JobView}
 use Rattle.parcel.specs.Tree.{HasGap, in_tree}
 use Rattle.scheduler.proofs.Choosing.{lacks_room, none_eligible, none_goes}
 use Rattle.scheduler.proofs.GrantCall.{chosen, grant_affinity, grant_call_core, grant_call_is, grant_chains, grant_has_room, grant_has_slot, grant_place, grant_ran, grant_size, grant_suits}
 use Rattle.scheduler.specs.Calls.{IsGrantOf, IsGranted, IsNoGrant}
-use Rattle.scheduler.specs.Kept.{Kept, world_of}
+use Rattle.scheduler.specs.Kept.{CoreView, world_of}
 use Rattle.scheduler.specs.Parts.{IsCore, parts, world_in}
 use Rattle.scheduler.specs.Slots.{HasChains, line}
 use Rattle.scheduler.specs.declared.slot.Slot.{Slot}
@@ -28,10 +28,10 @@ pub returns-in_default-clause-world : goal.returns-in_default-clause-world
 returns-in_default-clause-world g c =
     elim c.match-next-2.branch [
       | in-Some-next w ↦ subst (IsGranted c.args.self.now.geometry (world_of c.args.self.now) (world_of c.args.self.now)) (sym w.result-is)
-          (subst (λ (o : Kept). IsNoGrant o.geometry (world_of o) (world_of o) outcomes.NoRoom) c.self.view_is
+          (subst (λ (o : CoreView). IsNoGrant o.geometry (world_of o) (world_of o) outcomes.NoRoom) c.self.view_is
           (record { works = (sym c.failed.ensures ∙ c.if-failed.false); none = none_goes g.D.Disk.keeps (parts c.self.inside.slots c.self.inside.replies.items c.self.inside.tree c.self.inside.journal c.self.inside.turns c.self.inside.batch.items c.self.inside.next c.self.inside.flight c.self.inside.history.opened c.self.inside.history.since) c.self.invariant.1 _ (ap (nat_lt c.self.inside.flight) c.room.ensures.room) (sym c.next.ensures ∙ c.in_default.is); reason = lacks_room g.D.Disk.keeps (parts c.self.inside.slots c.self.inside.replies.items c.self.inside.tree c.self.inside.journal c.self.inside.turns c.self.inside.batch.items c.self.inside.next c.self.inside.flight c.self.inside.history.opened c.self.inside.history.since) c.self.invariant.1 _ (ap (nat_lt c.self.inside.flight) c.room.ensures.room) (sym c.next.ensures ∙ c.in_default.is) w.in-Some-next.field-0 (sym c.next-in_default.ensures ∙ w.in-Some-next.is); same = refl }))
       | in-None w ↦ subst (IsGranted c.args.self.now.geometry (world_of c.args.self.now) (world_of c.args.self.now)) (sym w.result-is)
-          (subst (λ (o : Kept). IsNoGrant o.geometry (world_of o) (world_of o) outcomes.NoneEligible) c.self.view_is
+          (subst (λ (o : CoreView). IsNoGrant o.geometry (world_of o) (world_of o) outcomes.NoneEligible) c.self.view_is
           (record { works = (sym c.failed.ensures ∙ c.if-failed.false); none = none_goes g.D.Disk.keeps (parts c.self.inside.slots c.self.inside.replies.items c.self.inside.tree c.self.inside.journal c.self.inside.turns c.self.inside.batch.items c.self.inside.next c.self.inside.flight c.self.inside.history.opened c.self.inside.history.since) c.self.invariant.1 _ (ap (nat_lt c.self.inside.flight) c.room.ensures.room) (sym c.next.ensures ∙ c.in_default.is); reason = none_eligible g.D.Disk.keeps (parts c.self.inside.slots c.self.inside.replies.items c.self.inside.tree c.self.inside.journal c.self.inside.turns c.self.inside.batch.items c.self.inside.next c.self.inside.flight c.self.inside.history.opened c.self.inside.history.since) c.self.invariant.1 _ (ap (nat_lt c.self.inside.flight) c.room.ensures.room) (sym c.next.ensures ∙ c.in_default.is) (sym c.next-in_default.ensures ∙ w.in-None.is); same = refl }))
     ]
 
@@ -65,8 +65,8 @@ invariant_of-self g c =
 
 pub returns-clause-world : goal.returns-clause-world
 returns-clause-world g c =
-    subst (λ (o : Kept). IsGrantOf o.geometry (world_of o) (world_in (parts c.move_to.new.self c.self.inside.replies.items c.lend.new.self c.self.inside.journal c.go.new.self c.self.inside.batch.items c.self.inside.next (c.self.inside.flight + c.one_if-more.result) c.self.inside.history.opened c.self.inside.history.since)) c.new.result) c.self.view_is
+    subst (λ (o : CoreView). IsGrantOf o.geometry (world_of o) (world_in (parts c.move_to.new.self c.self.inside.replies.items c.lend.new.self c.self.inside.journal c.go.new.self c.self.inside.batch.items c.self.inside.next (c.self.inside.flight + c.one_if-more.result) c.self.inside.history.opened c.self.inside.history.since)) c.new.result) c.self.view_is
     (subst (λ (row : Row Slot). IsGrantOf c.self.inside.journal.geometry (world_in (parts c.self.inside.slots c.self.inside.replies.items c.self.inside.tree c.self.inside.journal c.self.inside.turns c.self.inside.batch.items c.self.inside.next c.self.inside.flight c.self.inside.history.opened c.self.inside.history.since)) (world_in (parts row c.self.inside.replies.items c.lend.new.self c.self.inside.journal c.go.new.self c.self.inside.batch.items c.self.inside.next (c.self.inside.flight + c.one_if-more.result) c.self.inside.history.opened c.self.inside.history.since)) c.new.result) (sym c.move_to.ensures.row)
-    (subst (λ (job : Asked). IsGrantOf c.self.inside.journal.geometry (world_in (parts c.self.inside.slots c.self.inside.replies.items c.self.inside.tree c.self.inside.journal c.self.inside.turns c.self.inside.batch.items c.self.inside.next c.self.inside.flight c.self.inside.history.opened c.self.inside.history.since)) (world_in (parts (after_move c.self.inside.slots c.in-Some.turn.slot 1) c.self.inside.replies.items c.lend.new.self c.self.inside.journal c.go.new.self c.self.inside.batch.items c.self.inside.next (c.self.inside.flight + c.one_if-more.result) c.self.inside.history.opened c.self.inside.history.since)) job)
+    (subst (λ (job : JobView). IsGrantOf c.self.inside.journal.geometry (world_in (parts c.self.inside.slots c.self.inside.replies.items c.self.inside.tree c.self.inside.journal c.self.inside.turns c.self.inside.batch.items c.self.inside.next c.self.inside.flight c.self.inside.history.opened c.self.inside.history.since)) (world_in (parts (after_move c.self.inside.slots c.in-Some.turn.slot 1) c.self.inside.replies.items c.lend.new.self c.self.inside.journal c.go.new.self c.self.inside.batch.items c.self.inside.next (c.self.inside.flight + c.one_if-more.result) c.self.inside.history.opened c.self.inside.history.since)) job)
     (sym (c.new.ensures ∙ ap (λ (h : Geometry). record { geometry = h; ticket = c.in-Some-get.slot.now.ticket; message = c.in-Some-get.slot.now.message; standing = c.in-Some-lend.standing; parcels = c.in-Some-lend.parcels }) c.geometry-g.ensures))
     (grant_call_is g.D.Disk.keeps c.self.inside.slots c.self.inside.replies.items c.self.inside.tree c.self.inside.journal c.self.inside.turns c.self.inside.batch.items c.self.inside.next c.self.inside.flight c.self.inside.history.opened c.self.inside.history.since c.self.invariant.0 c.self.invariant.1 _ (ap (nat_lt c.self.inside.flight) c.room.ensures.room) c.in-Some.turn (sym c.next.ensures ∙ c.in-Some.is) c.in-Some-get.slot.now (sym (ap option_copied c.in-Some-get.is) ∙ c.get.ensures.value) c.lend.new.self c.in-Some-lend.standing c.in-Some-lend.parcels c.in-Some-lend.ensures.some c.lend.ensures.geometry c.go.new.self c.go.ensures.waiting c.go.ensures.held c.one_if-more.result c.one_if-more.ensures (sym c.failed.ensures ∙ c.if-failed.false))))

@@ -10,14 +10,14 @@ use Rattle.message.specs.declared.Reply.{Reply}
 use Rattle.oplog.proofs.Answered.{on_ok}
 use Rattle.scheduler.proofs.Journaling.{still_standing}
 use Rattle.scheduler.proofs.LogCall.{broken_from, doubt_call_core, doubt_call_world, log_call_core, log_call_throughout, log_call_world, log_carried, log_count, log_fits, log_flight, log_logged, log_low, log_ran, log_size, log_untouched, made_from, some_were_passed}
-use Rattle.scheduler.specs.Kept.{Kept, StandsThroughout, world_of}
+use Rattle.scheduler.specs.Kept.{CoreView, StandsThroughout, world_of}
 use Rattle.scheduler.specs.Moving.{gathered}
 use Rattle.scheduler.specs.Parts.{kept_of, parts, world_in}
 use Rattle.scheduler.proofs.kernel.Core.log.Goals as goal
 
 pub returns-then-failed-clause-any_moment : goal.returns-then-failed-clause-any_moment
 returns-then-failed-clause-any_moment g c = λ keep.
-    subst (λ (o : Kept). StandsThroughout (batch (world_of o) c.args.n) o o) c.self.view_is
+    subst (λ (o : CoreView). StandsThroughout (batch (world_of o) c.args.n) o o) c.self.view_is
     (still_standing g.D.Disk.keeps (parts c.self.inside.slots c.self.inside.replies.items c.self.inside.tree c.self.inside.journal c.self.inside.turns c.self.inside.batch.items c.self.inside.next c.self.inside.flight c.self.inside.history.opened c.self.inside.history.since) c.self.invariant.1 keep (batch (world_in (parts c.self.inside.slots c.self.inside.replies.items c.self.inside.tree c.self.inside.journal c.self.inside.turns c.self.inside.batch.items c.self.inside.next c.self.inside.flight c.self.inside.history.opened c.self.inside.history.since)) c.args.n) (kept_of (parts c.self.inside.slots c.self.inside.replies.items c.self.inside.tree c.self.inside.journal c.self.inside.turns c.self.inside.batch.items c.self.inside.next c.self.inside.flight c.self.inside.history.opened c.self.inside.history.since)) refl)
 
 pub log-requires : goal.log-requires
@@ -39,7 +39,7 @@ invariant_of-self g c = (
 
 pub returns-then-is_err-clause-world : goal.returns-then-is_err-clause-world
 returns-then-is_err-clause-world g c =
-    subst (λ (o : Kept). (o.failed ≡ false) × (length (batch (world_of o) c.args.n) ≡ 0 → ⊥) × (world_in (parts c.self.inside.slots c.self.inside.replies.items c.self.inside.tree c.log.new.self c.self.inside.turns c.gather-changing.new.batch.items c.self.inside.next c.self.inside.flight c.self.inside.history.opened c.self.inside.history.since) ≡ record (world_of o) { failed = true; doubt = batch (world_of o) c.args.n })) c.self.view_is (
+    subst (λ (o : CoreView). (o.failed ≡ false) × (length (batch (world_of o) c.args.n) ≡ 0 → ⊥) × (world_in (parts c.self.inside.slots c.self.inside.replies.items c.self.inside.tree c.log.new.self c.self.inside.turns c.gather-changing.new.batch.items c.self.inside.next c.self.inside.flight c.self.inside.history.opened c.self.inside.history.since) ≡ record (world_of o) { failed = true; doubt = batch (world_of o) c.args.n })) c.self.view_is (
       (sym c.failed.ensures ∙ c.if-failed.false),
       some_were_passed g.D.Disk.keeps c.self.inside.slots c.self.inside.replies.items c.self.inside.tree c.self.inside.journal c.self.inside.turns c.self.inside.batch.items c.self.inside.next c.self.inside.flight c.self.inside.history.opened c.self.inside.history.since c.self.invariant.0 c.self.invariant.1 (sym c.failed.ensures ∙ c.if-failed.false) c.args.n c.min-count.result c.self.inside.ran c.self.invariant.4 c.min-count.ensures c.gather-changing.new.batch.items (c.gather-changing.ensures.batch ∙ ap (λ (rs : List Reply). gathered c.self.inside.slots rs (take c.min-count.result (chain_at c.self.inside.slots 2))) c.deref.ensures.value) c.deref-2.result.now c.deref-2.ensures.value c.log.new.self c.log.ensures.any_moment (broken_from c.log.result _ c.self.inside.journal c.log.new.self (sym c.is_err.ensures.value ∙ c.if-is_err.true) c.log.ensures.after) c.log.ensures.none,
       doubt_call_world g.D.Disk.keeps c.self.inside.slots c.self.inside.replies.items c.self.inside.tree c.self.inside.journal c.self.inside.turns c.self.inside.batch.items c.self.inside.next c.self.inside.flight c.self.inside.history.opened c.self.inside.history.since c.self.invariant.0 c.self.invariant.1 (sym c.failed.ensures ∙ c.if-failed.false) c.args.n c.min-count.result c.self.inside.ran c.self.invariant.4 c.min-count.ensures c.gather-changing.new.batch.items (c.gather-changing.ensures.batch ∙ ap (λ (rs : List Reply). gathered c.self.inside.slots rs (take c.min-count.result (chain_at c.self.inside.slots 2))) c.deref.ensures.value) c.deref-2.result.now c.deref-2.ensures.value c.log.new.self c.log.ensures.any_moment (broken_from c.log.result _ c.self.inside.journal c.log.new.self (sym c.is_err.ensures.value ∙ c.if-is_err.true) c.log.ensures.after),
@@ -47,11 +47,11 @@ returns-then-is_err-clause-world g c =
 
 pub returns-then-is_err-clause-any_moment : goal.returns-then-is_err-clause-any_moment
 returns-then-is_err-clause-any_moment g c = λ keep.
-    subst (λ (o : Kept). LeavesOnly o.medium c.log.new.self.medium (HoldsSome o.geometry (world_of o).settled (if o.failed then o.doubt else batch (world_of o) c.args.n))) c.self.view_is
+    subst (λ (o : CoreView). LeavesOnly o.medium c.log.new.self.medium (HoldsSome o.geometry (world_of o).settled (if o.failed then o.doubt else batch (world_of o) c.args.n))) c.self.view_is
     (log_call_throughout g.D.Disk.keeps c.self.inside.slots c.self.inside.replies.items c.self.inside.tree c.self.inside.journal c.self.inside.turns c.self.inside.batch.items c.self.inside.next c.self.inside.flight c.self.inside.history.opened c.self.inside.history.since c.self.invariant.0 c.self.invariant.1 (sym c.failed.ensures ∙ c.if-failed.false) c.args.n c.min-count.result c.self.inside.ran c.self.invariant.4 c.min-count.ensures c.gather-changing.new.batch.items (c.gather-changing.ensures.batch ∙ ap (λ (rs : List Reply). gathered c.self.inside.slots rs (take c.min-count.result (chain_at c.self.inside.slots 2))) c.deref.ensures.value) c.deref-2.result.now c.deref-2.ensures.value c.log.new.self c.log.ensures.any_moment (kept_of (parts c.self.inside.slots c.self.inside.replies.items c.self.inside.tree c.log.new.self c.self.inside.turns c.gather-changing.new.batch.items c.self.inside.next c.self.inside.flight c.self.inside.history.opened c.self.inside.history.since)) refl keep)
 
 pub returns-then-is_err-clause-untouched : goal.returns-then-is_err-clause-untouched
-returns-then-is_err-clause-untouched g c = subst (λ (o : Kept). touches_device (world_of o) (steps.Log c.args.n) ≡ false → c.log.new.self.medium ≡ o.medium) c.self.view_is (log_untouched g.D.Disk.keeps c.self.inside.slots c.self.inside.replies.items c.self.inside.tree c.self.inside.journal c.self.inside.turns c.self.inside.batch.items c.self.inside.next c.self.inside.flight c.self.inside.history.opened c.self.inside.history.since c.self.invariant.0 c.self.invariant.1 (sym c.failed.ensures ∙ c.if-failed.false) c.args.n c.min-count.result c.self.inside.ran c.self.invariant.4 c.min-count.ensures c.gather-changing.new.batch.items (c.gather-changing.ensures.batch ∙ ap (λ (rs : List Reply). gathered c.self.inside.slots rs (take c.min-count.result (chain_at c.self.inside.slots 2))) c.deref.ensures.value) c.deref-2.result.now c.deref-2.ensures.value c.log.new.self c.log.ensures.any_moment c.log.ensures.none)
+returns-then-is_err-clause-untouched g c = subst (λ (o : CoreView). touches_device (world_of o) (steps.Log c.args.n) ≡ false → c.log.new.self.medium ≡ o.medium) c.self.view_is (log_untouched g.D.Disk.keeps c.self.inside.slots c.self.inside.replies.items c.self.inside.tree c.self.inside.journal c.self.inside.turns c.self.inside.batch.items c.self.inside.next c.self.inside.flight c.self.inside.history.opened c.self.inside.history.since c.self.invariant.0 c.self.invariant.1 (sym c.failed.ensures ∙ c.if-failed.false) c.args.n c.min-count.result c.self.inside.ran c.self.invariant.4 c.min-count.ensures c.gather-changing.new.batch.items (c.gather-changing.ensures.batch ∙ ap (λ (rs : List Reply). gathered c.self.inside.slots rs (take c.min-count.result (chain_at c.self.inside.slots 2))) c.deref.ensures.value) c.deref-2.result.now c.deref-2.ensures.value c.log.new.self c.log.ensures.any_moment c.log.ensures.none)
 
 pub move_ran-requires : goal.move_ran-requires
 move_ran-requires g c = record { chains = c.self.invariant.0; count = log_low g.D.Disk.keeps c.self.inside.slots c.self.inside.replies.items c.self.inside.tree c.self.inside.journal c.self.inside.turns c.self.inside.batch.items c.self.inside.next c.self.inside.flight c.self.inside.history.opened c.self.inside.history.since c.self.invariant.0 c.self.invariant.1 (sym c.failed.ensures ∙ c.if-failed.false) c.args.n c.min-count.result c.self.inside.ran c.self.invariant.4 c.min-count.ensures }
@@ -71,7 +71,7 @@ invariant_of-self-2 g c = (
 
 pub returns-clause-world : goal.returns-clause-world
 returns-clause-world g c =
-    subst (λ (o : Kept). (o.failed ≡ false) × (c.min-count.result ≡ length (take c.args.n o.ran)) × (world_in (parts c.move_ran.new.slots c.self.inside.replies.items c.self.inside.tree c.log.new.self c.self.inside.turns c.clear.new.self.items c.self.inside.next (c.self.inside.flight - c.gather-changing.result) c.note.new.self.opened c.note.new.self.since) ≡ log o.geometry (world_of o) c.args.n)) c.self.view_is (
+    subst (λ (o : CoreView). (o.failed ≡ false) × (c.min-count.result ≡ length (take c.args.n o.ran)) × (world_in (parts c.move_ran.new.slots c.self.inside.replies.items c.self.inside.tree c.log.new.self c.self.inside.turns c.clear.new.self.items c.self.inside.next (c.self.inside.flight - c.gather-changing.result) c.note.new.self.opened c.note.new.self.since) ≡ log o.geometry (world_of o) c.args.n)) c.self.view_is (
       (sym c.failed.ensures ∙ c.if-failed.false),
       log_count g.D.Disk.keeps c.self.inside.slots c.self.inside.replies.items c.self.inside.tree c.self.inside.journal c.self.inside.turns c.self.inside.batch.items c.self.inside.next c.self.inside.flight c.self.inside.history.opened c.self.inside.history.since c.self.invariant.0 c.self.invariant.1 (sym c.failed.ensures ∙ c.if-failed.false) c.args.n c.min-count.result c.self.inside.ran c.self.invariant.4 c.min-count.ensures,
       log_call_world g.D.Disk.keeps c.self.inside.slots c.self.inside.replies.items c.self.inside.tree c.self.inside.journal c.self.inside.turns c.self.inside.batch.items c.self.inside.next c.self.inside.flight c.self.inside.history.opened c.self.inside.history.since c.self.invariant.0 c.self.invariant.1 (sym c.failed.ensures ∙ c.if-failed.false) c.args.n c.min-count.result c.self.inside.ran c.self.invariant.4 c.min-count.ensures c.gather-changing.new.batch.items (c.gather-changing.ensures.batch ∙ ap (λ (rs : List Reply). gathered c.self.inside.slots rs (take c.min-count.result (chain_at c.self.inside.slots 2))) c.deref.ensures.value) c.deref-2.result.now c.deref-2.ensures.value c.log.new.self c.log.ensures.any_moment (made_from c.log.result _ c.self.inside.journal c.log.new.self (sym c.is_err.ensures.value ∙ c.if-is_err.false) c.log.ensures.after) (on_ok c.log.result _ (sym c.is_err.ensures.value ∙ c.if-is_err.false) c.log.ensures.settled) (on_ok c.log.result _ (sym c.is_err.ensures.value ∙ c.if-is_err.false) c.log.ensures.sound) c.move_ran.new.slots c.move_ran.ensures c.gather-changing.result c.gather-changing.ensures.changing c.note.new.self.opened (λ i. (c.note.ensures i).opened) c.note.new.self.since ((λ i. (c.note.ensures i).since) ∙ ap (λ (ms : List Msg). c.self.inside.history.since ++ ms) c.deref-3.ensures.value) c.clear.new.self.items c.clear.ensures.items,
@@ -79,8 +79,8 @@ returns-clause-world g c =
 
 pub returns-clause-any_moment : goal.returns-clause-any_moment
 returns-clause-any_moment g c = λ keep.
-    subst (λ (o : Kept). LeavesOnly o.medium c.log.new.self.medium (HoldsSome o.geometry (world_of o).settled (if o.failed then o.doubt else batch (world_of o) c.args.n))) c.self.view_is
+    subst (λ (o : CoreView). LeavesOnly o.medium c.log.new.self.medium (HoldsSome o.geometry (world_of o).settled (if o.failed then o.doubt else batch (world_of o) c.args.n))) c.self.view_is
     (log_call_throughout g.D.Disk.keeps c.self.inside.slots c.self.inside.replies.items c.self.inside.tree c.self.inside.journal c.self.inside.turns c.self.inside.batch.items c.self.inside.next c.self.inside.flight c.self.inside.history.opened c.self.inside.history.since c.self.invariant.0 c.self.invariant.1 (sym c.failed.ensures ∙ c.if-failed.false) c.args.n c.min-count.result c.self.inside.ran c.self.invariant.4 c.min-count.ensures c.gather-changing.new.batch.items (c.gather-changing.ensures.batch ∙ ap (λ (rs : List Reply). gathered c.self.inside.slots rs (take c.min-count.result (chain_at c.self.inside.slots 2))) c.deref.ensures.value) c.deref-2.result.now c.deref-2.ensures.value c.log.new.self c.log.ensures.any_moment (kept_of (parts c.move_ran.new.slots c.self.inside.replies.items c.self.inside.tree c.log.new.self c.self.inside.turns c.clear.new.self.items c.self.inside.next (c.self.inside.flight - c.gather-changing.result) c.note.new.self.opened c.note.new.self.since)) refl keep)
 
 pub returns-clause-untouched : goal.returns-clause-untouched
-returns-clause-untouched g c = subst (λ (o : Kept). touches_device (world_of o) (steps.Log c.args.n) ≡ false → c.log.new.self.medium ≡ o.medium) c.self.view_is (log_untouched g.D.Disk.keeps c.self.inside.slots c.self.inside.replies.items c.self.inside.tree c.self.inside.journal c.self.inside.turns c.self.inside.batch.items c.self.inside.next c.self.inside.flight c.self.inside.history.opened c.self.inside.history.since c.self.invariant.0 c.self.invariant.1 (sym c.failed.ensures ∙ c.if-failed.false) c.args.n c.min-count.result c.self.inside.ran c.self.invariant.4 c.min-count.ensures c.gather-changing.new.batch.items (c.gather-changing.ensures.batch ∙ ap (λ (rs : List Reply). gathered c.self.inside.slots rs (take c.min-count.result (chain_at c.self.inside.slots 2))) c.deref.ensures.value) c.deref-2.result.now c.deref-2.ensures.value c.log.new.self c.log.ensures.any_moment c.log.ensures.none)
+returns-clause-untouched g c = subst (λ (o : CoreView). touches_device (world_of o) (steps.Log c.args.n) ≡ false → c.log.new.self.medium ≡ o.medium) c.self.view_is (log_untouched g.D.Disk.keeps c.self.inside.slots c.self.inside.replies.items c.self.inside.tree c.self.inside.journal c.self.inside.turns c.self.inside.batch.items c.self.inside.next c.self.inside.flight c.self.inside.history.opened c.self.inside.history.since c.self.invariant.0 c.self.invariant.1 (sym c.failed.ensures ∙ c.if-failed.false) c.args.n c.min-count.result c.self.inside.ran c.self.invariant.4 c.min-count.ensures c.gather-changing.new.batch.items (c.gather-changing.ensures.batch ∙ ap (λ (rs : List Reply). gathered c.self.inside.slots rs (take c.min-count.result (chain_at c.self.inside.slots 2))) c.deref.ensures.value) c.deref-2.result.now c.deref-2.ensures.value c.log.new.self c.log.ensures.any_moment c.log.ensures.none)

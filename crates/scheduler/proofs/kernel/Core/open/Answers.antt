@@ -9,7 +9,7 @@ use Rattle.journal.specs.Journal.{IsSettled, settled}
 use Rattle.parcel.specs.Tree.{state_in}
 use Rattle.scheduler.proofs.Opened.{opened_chains, opened_parts, opened_ran, opened_size}
 use Rattle.scheduler.proofs.Refusals.{one_fault, opened_or_refused, stands_or_refused}
-use Rattle.turns.specs.Turns.{Queuing, at_start}
+use Rattle.turns.specs.Turns.{Queuing, turns_at_start}
 use Rattle.scheduler.proofs.kernel.Core.open.Goals as goal
 
 pub returns-in_default-clause-any_moment : goal.returns-in_default-clause-any_moment
@@ -32,7 +32,7 @@ invariant_of-result g c =
     let whole = c.in_ok-journal.ensures.tree.1 in
     let holds : keeps → (settled journal ≡ Some (state_in tree)) × IsSettled journal = λ k. let o = c.in_ok-journal.ensures.opened k in (o.is, o.sound) in
     let row = c.in-Ok.ensures.row in
-    let turns = c.begin.ensures ∙ ap (λ (q : Queuing). at_start c.geometry.result q.slots) c.in-Ok.ensures.turns ∙ ap (λ (h : Geometry). at_start h c.args.slots) c.geometry.ensures in
+    let turns = c.begin.ensures ∙ ap (λ (q : Queuing). turns_at_start c.geometry.result q.slots) c.in-Ok.ensures.turns ∙ ap (λ (h : Geometry). turns_at_start h c.args.slots) c.geometry.ensures in
     let size = opened_size keeps c.args.slots replies tree journal same whole holds memory.slots row in (
       opened_chains keeps c.args.slots replies tree journal same whole holds memory.slots row c.in-Ok.ensures.parted,
       opened_parts keeps c.args.slots replies tree journal same whole holds memory.slots row c.begin.new.self memory.batch.items c.begun.result.opened c.begun.result.since turns c.in-Ok.ensures.batch c.begun.ensures.0 c.begun.ensures.1,

@@ -5,25 +5,25 @@ use Rattle.journal.specs.Journal.{HoldsSome}
 use Rattle.legal_runs.specs.Events.{point_refusal}
 use Rattle.scheduler.proofs.Journaling.{still_standing}
 use Rattle.scheduler.proofs.Pointing.{point_core, point_state, point_whole, point_works, step_moment}
-use Rattle.scheduler.specs.Kept.{Kept, StandsThroughout, world_of}
+use Rattle.scheduler.specs.Kept.{CoreView, StandsThroughout, world_of}
 use Rattle.scheduler.specs.Parts.{kept_of, parts}
 use Rattle.scheduler.proofs.kernel.Core.point.Goals as goal
 
 pub returns-in-Some-clause-any_moment : goal.returns-in-Some-clause-any_moment
 returns-in-Some-clause-any_moment g c = λ keep.
-    subst (λ (o : Kept). StandsThroughout [] o o) c.self.view_is
+    subst (λ (o : CoreView). StandsThroughout [] o o) c.self.view_is
     (still_standing g.D.Disk.keeps (parts c.self.inside.slots c.self.inside.replies.items c.self.inside.tree c.self.inside.journal c.self.inside.turns c.self.inside.batch.items c.self.inside.next c.self.inside.flight c.self.inside.history.opened c.self.inside.history.since) c.self.invariant.1 keep [] (kept_of (parts c.self.inside.slots c.self.inside.replies.items c.self.inside.tree c.self.inside.journal c.self.inside.turns c.self.inside.batch.items c.self.inside.next c.self.inside.flight c.self.inside.history.opened c.self.inside.history.since)) refl)
 
 pub point-requires-clause-whole : goal.point-requires-clause-whole
-point-requires-clause-whole g c = point_whole g.D.Disk.keeps (parts c.self.inside.slots c.self.inside.replies.items c.self.inside.tree c.self.inside.journal c.self.inside.turns c.self.inside.batch.items c.self.inside.next c.self.inside.flight c.self.inside.history.opened c.self.inside.history.since) c.self.invariant.1 (ap (λ (o : Kept). point_refusal (world_of o)) c.self.view_is ∙ sym c.point_refusal.ensures ∙ c.in_default.is)
+point-requires-clause-whole g c = point_whole g.D.Disk.keeps (parts c.self.inside.slots c.self.inside.replies.items c.self.inside.tree c.self.inside.journal c.self.inside.turns c.self.inside.batch.items c.self.inside.next c.self.inside.flight c.self.inside.history.opened c.self.inside.history.since) c.self.invariant.1 (ap (λ (o : CoreView). point_refusal (world_of o)) c.self.view_is ∙ sym c.point_refusal.ensures ∙ c.in_default.is)
 
 pub point-requires-clause-state : goal.point-requires-clause-state
-point-requires-clause-state g c = point_state g.D.Disk.keeps (parts c.self.inside.slots c.self.inside.replies.items c.self.inside.tree c.self.inside.journal c.self.inside.turns c.self.inside.batch.items c.self.inside.next c.self.inside.flight c.self.inside.history.opened c.self.inside.history.since) c.self.invariant.1 (ap (λ (o : Kept). point_refusal (world_of o)) c.self.view_is ∙ sym c.point_refusal.ensures ∙ c.in_default.is)
+point-requires-clause-state g c = point_state g.D.Disk.keeps (parts c.self.inside.slots c.self.inside.replies.items c.self.inside.tree c.self.inside.journal c.self.inside.turns c.self.inside.batch.items c.self.inside.next c.self.inside.flight c.self.inside.history.opened c.self.inside.history.since) c.self.invariant.1 (ap (λ (o : CoreView). point_refusal (world_of o)) c.self.view_is ∙ sym c.point_refusal.ensures ∙ c.in_default.is)
 
 pub invariant_of-self : goal.invariant_of-self
 invariant_of-self g c = (
   c.self.invariant.0,
-  point_core g.D.Disk.keeps (parts c.self.inside.slots c.self.inside.replies.items c.self.inside.tree c.self.inside.journal c.self.inside.turns c.self.inside.batch.items c.self.inside.next c.self.inside.flight c.self.inside.history.opened c.self.inside.history.since) c.self.invariant.1 c.point.new.self c.point.ensures.any_moment c.point.result (ap (λ (o : Kept). point_refusal (world_of o)) c.self.view_is ∙ sym c.point_refusal.ensures ∙ c.in_default.is) c.point.ensures.settled c.point.ensures.after,
+  point_core g.D.Disk.keeps (parts c.self.inside.slots c.self.inside.replies.items c.self.inside.tree c.self.inside.journal c.self.inside.turns c.self.inside.batch.items c.self.inside.next c.self.inside.flight c.self.inside.history.opened c.self.inside.history.since) c.self.invariant.1 c.point.new.self c.point.ensures.any_moment c.point.result (ap (λ (o : CoreView). point_refusal (world_of o)) c.self.view_is ∙ sym c.point_refusal.ensures ∙ c.in_default.is) c.point.ensures.settled c.point.ensures.after,
   c.self.invariant.2,
   c.self.invariant.3,
   c.self.invariant.4,
@@ -31,13 +31,13 @@ invariant_of-self g c = (
 
 pub returns-then-is_err-clause-any_moment : goal.returns-then-is_err-clause-any_moment
 returns-then-is_err-clause-any_moment g c = λ keep.
-    subst (λ (o : Kept). LeavesOnly o.medium c.point.new.self.medium (HoldsSome o.geometry (world_of o).settled (if o.failed then o.doubt else []))) c.self.view_is
-    (step_moment g.D.Disk.keeps (parts c.self.inside.slots c.self.inside.replies.items c.self.inside.tree c.self.inside.journal c.self.inside.turns c.self.inside.batch.items c.self.inside.next c.self.inside.flight c.self.inside.history.opened c.self.inside.history.since) c.self.invariant.1 (point_works g.D.Disk.keeps (parts c.self.inside.slots c.self.inside.replies.items c.self.inside.tree c.self.inside.journal c.self.inside.turns c.self.inside.batch.items c.self.inside.next c.self.inside.flight c.self.inside.history.opened c.self.inside.history.since) c.self.invariant.1 (ap (λ (o : Kept). point_refusal (world_of o)) c.self.view_is ∙ sym c.point_refusal.ensures ∙ c.in_default.is)) c.point.new.self c.point.ensures.any_moment keep)
+    subst (λ (o : CoreView). LeavesOnly o.medium c.point.new.self.medium (HoldsSome o.geometry (world_of o).settled (if o.failed then o.doubt else []))) c.self.view_is
+    (step_moment g.D.Disk.keeps (parts c.self.inside.slots c.self.inside.replies.items c.self.inside.tree c.self.inside.journal c.self.inside.turns c.self.inside.batch.items c.self.inside.next c.self.inside.flight c.self.inside.history.opened c.self.inside.history.since) c.self.invariant.1 (point_works g.D.Disk.keeps (parts c.self.inside.slots c.self.inside.replies.items c.self.inside.tree c.self.inside.journal c.self.inside.turns c.self.inside.batch.items c.self.inside.next c.self.inside.flight c.self.inside.history.opened c.self.inside.history.since) c.self.invariant.1 (ap (λ (o : CoreView). point_refusal (world_of o)) c.self.view_is ∙ sym c.point_refusal.ensures ∙ c.in_default.is)) c.point.new.self c.point.ensures.any_moment keep)
 
 pub invariant_of-self-2 : goal.invariant_of-self-2
 invariant_of-self-2 g c = (
   c.self.invariant.0,
-  point_core g.D.Disk.keeps (parts c.self.inside.slots c.self.inside.replies.items c.self.inside.tree c.self.inside.journal c.self.inside.turns c.self.inside.batch.items c.self.inside.next c.self.inside.flight c.self.inside.history.opened c.self.inside.history.since) c.self.invariant.1 c.point.new.self c.point.ensures.any_moment c.point.result (ap (λ (o : Kept). point_refusal (world_of o)) c.self.view_is ∙ sym c.point_refusal.ensures ∙ c.in_default.is) c.point.ensures.settled c.point.ensures.after,
+  point_core g.D.Disk.keeps (parts c.self.inside.slots c.self.inside.replies.items c.self.inside.tree c.self.inside.journal c.self.inside.turns c.self.inside.batch.items c.self.inside.next c.self.inside.flight c.self.inside.history.opened c.self.inside.history.since) c.self.invariant.1 c.point.new.self c.point.ensures.any_moment c.point.result (ap (λ (o : CoreView). point_refusal (world_of o)) c.self.view_is ∙ sym c.point_refusal.ensures ∙ c.in_default.is) c.point.ensures.settled c.point.ensures.after,
   c.self.invariant.2,
   c.self.invariant.3,
   c.self.invariant.4,
@@ -45,5 +45,5 @@ invariant_of-self-2 g c = (
 
 pub returns-clause-any_moment : goal.returns-clause-any_moment
 returns-clause-any_moment g c = λ keep.
-    subst (λ (o : Kept). LeavesOnly o.medium c.point.new.self.medium (HoldsSome o.geometry (world_of o).settled (if o.failed then o.doubt else []))) c.self.view_is
-    (step_moment g.D.Disk.keeps (parts c.self.inside.slots c.self.inside.replies.items c.self.inside.tree c.self.inside.journal c.self.inside.turns c.self.inside.batch.items c.self.inside.next c.self.inside.flight c.self.inside.history.opened c.self.inside.history.since) c.self.invariant.1 (point_works g.D.Disk.keeps (parts c.self.inside.slots c.self.inside.replies.items c.self.inside.tree c.self.inside.journal c.self.inside.turns c.self.inside.batch.items c.self.inside.next c.self.inside.flight c.self.inside.history.opened c.self.inside.history.since) c.self.invariant.1 (ap (λ (o : Kept). point_refusal (world_of o)) c.self.view_is ∙ sym c.point_refusal.ensures ∙ c.in_default.is)) c.point.new.self c.point.ensures.any_moment keep)
+    subst (λ (o : CoreView). LeavesOnly o.medium c.point.new.self.medium (HoldsSome o.geometry (world_of o).settled (if o.failed then o.doubt else []))) c.self.view_is
+    (step_moment g.D.Disk.keeps (parts c.self.inside.slots c.self.inside.replies.items c.self.inside.tree c.self.inside.journal c.self.inside.turns c.self.inside.batch.items c.self.inside.next c.self.inside.flight c.self.inside.history.opened c.self.inside.history.since) c.self.invariant.1 (point_works g.D.Disk.keeps (parts c.self.inside.slots c.self.inside.replies.items c.self.inside.tree c.self.inside.journal c.self.inside.turns c.self.inside.batch.items c.self.inside.next c.self.inside.flight c.self.inside.history.opened c.self.inside.history.since) c.self.invariant.1 (ap (λ (o : CoreView). point_refusal (world_of o)) c.self.view_is ∙ sym c.point_refusal.ensures ∙ c.in_default.is)) c.point.new.self c.point.ensures.any_moment keep)

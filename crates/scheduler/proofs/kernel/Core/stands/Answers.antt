@@ -1,9 +1,9 @@
 use Rattle.std.proofs.Common.{◌≡◌, [], false, subst}
-use Rattle.scheduler.specs.Kept.{Kept, StandsNow}
+use Rattle.scheduler.specs.Kept.{CoreView, StandsNow}
 use Rattle.scheduler.proofs.kernel.Core.stands.Goals as goal
 
 pub returns-clause-no_doubt : goal.returns-clause-no_doubt
-returns-clause-no_doubt g c = subst (λ (o : Kept). o.failed ≡ false → o.doubt ≡ []) c.self.view_is c.self.invariant.1.no_doubt
+returns-clause-no_doubt g c = subst (λ (o : CoreView). o.failed ≡ false → o.doubt ≡ []) c.self.view_is c.self.invariant.1.no_doubt
 
 pub returns-clause-now : goal.returns-clause-now
 returns-clause-now g c = λ keep. subst StandsNow c.self.view_is (c.self.invariant.1.stands keep)
