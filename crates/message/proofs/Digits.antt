@@ -6,7 +6,7 @@ use Rattle.hex.specs.declared.error.FromHexError.{FromHexError}
 use Rattle.hex.proofs.HexLemmas.{decode_of-ok, decode_of-even}
 use Rattle.hex.proofs.Pairs.{decode_pairs-ok_pair, cons_byte}
 use Rattle.message.specs.declared.Block.{Block}
-use Rattle.message.specs.Lines.{bytes_in_word, block, label}
+use Rattle.message.specs.Lines.{bytes_in_word, block_in_word, label_in_word}
 use Rattle.message.specs.Grammar.{AreDigitsOf, SaysBytes}
 use Rattle.message.proofs.Blocks.{bytes_parts, bytes_from, block_bytes, bytes_block, label_bytes}
 
@@ -77,14 +77,14 @@ say_bytes size digits whole h =
     let decoded : decode_of digits ≡ Ok h.0 = decode_of-even digits (omega arith) ∙ digits_decode 0 digits h.0 h.1 in
     bytes_from size digits h.0 (record { low = omega arith; high = omega arith; decoded = decoded }) ∙ ap Some (sym h.4)
 
-pub block_says : (digits : List ℕ) (content : Block) → block digits ≡ Some content → SaysBytes 512 digits content.0
+pub block_says : (digits : List ℕ) (content : Block) → block_in_word digits ≡ Some content → SaysBytes 512 digits content.0
 block_says digits content h = bytes_say 512 digits content.0 (block_bytes digits content h)
 
-pub says_block : (digits : List ℕ) (content : Block) → SaysBytes 512 digits content.0 → block digits ≡ Some content
+pub says_block : (digits : List ℕ) (content : Block) → SaysBytes 512 digits content.0 → block_in_word digits ≡ Some content
 says_block digits content h = bytes_block digits content (say_bytes 512 digits content.0 h)
 
-pub label_says : (digits bytes : List ℕ) → label digits ≡ Some bytes → SaysBytes 32 digits bytes
+pub label_says : (digits bytes : List ℕ) → label_in_word digits ≡ Some bytes → SaysBytes 32 digits bytes
 label_says digits bytes h = bytes_say 32 digits bytes (sym (label_bytes digits) ∙ h)
 
-pub says_label : (digits bytes : List ℕ) → SaysBytes 32 digits bytes → label digits ≡ Some bytes
+pub says_label : (digits bytes : List ℕ) → SaysBytes 32 digits bytes → label_in_word digits ≡ Some bytes
 says_label digits bytes h = label_bytes digits ∙ say_bytes 32 digits bytes h

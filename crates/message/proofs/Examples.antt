@@ -6,7 +6,7 @@ use Rattle.hex.proofs.OnLiterals.{hex_on_literals}
 use Rattle.message.specs.declared.Refusal.TheVariants.{Range, Volume, Exists, Sealed, File, Space}
 use Rattle.message.specs.declared.Msg.TheVariants.{MakeVol, DropVol, Create, Delete, Seal, Unseal, Write, Punch, Read, List as ListFiles, Usage as AskUsage, Summary as AskSummary, SetLabel, Label as AskLabel}
 use Rattle.message.specs.declared.Reply.TheVariants.{Done, Hole, Block as Found, Files, Usage, Summary, Refused, Label}
-use Rattle.message.specs.Lines.{lines, number, block, label, bytes_in_word}
+use Rattle.message.specs.Lines.{lines, number_in_word, block_in_word, label_in_word, bytes_in_word}
 use Rattle.message.specs.Grammar.{message_of, kind_named}
 use Rattle.message.specs.Replies.{reply_line, no_message, shown, files_text}
 use Rattle.message.specs.Records.{record_of, data_of}
@@ -14,187 +14,187 @@ use Rattle.message.specs.Records.{record_of, data_of}
 -- ---- lines that are messages
 
 makevol : message_of (codes "makevol 0 0") ≡ Some (MakeVol 0 0)
-unfolding message_of kind_named number
+unfolding message_of kind_named number_in_word
 makevol = refl
 
 create : message_of (codes "create 0 0 0") ≡ Some (Create 0 0 0)
-unfolding message_of kind_named number
+unfolding message_of kind_named number_in_word
 create = refl
 
 write_two_bytes : message_of (codes "write 0 0 0 0 6162") ≡ Some (Write 0 0 0 0 (record { 0 = 97 ∷ 98 ∷ replicate 510 0 }))
-unfolding message_of kind_named number block bytes_in_word hex_on_literals
+unfolding message_of kind_named number_in_word block_in_word bytes_in_word hex_on_literals
 write_two_bytes = refl
 
 write_upper_case : message_of (codes "write 1 2 3 4 aBcD") ≡ Some (Write 1 2 3 4 (record { 0 = 171 ∷ 205 ∷ replicate 510 0 }))
-unfolding message_of kind_named number block bytes_in_word hex_on_literals
+unfolding message_of kind_named number_in_word block_in_word bytes_in_word hex_on_literals
 write_upper_case = refl
 
 read : message_of (codes "read 0 0 0 63") ≡ Some (Read 0 0 0 63)
-unfolding message_of kind_named number
+unfolding message_of kind_named number_in_word
 read = refl
 
 read_largest : message_of (codes "read 0 0 0 65535") ≡ Some (Read 0 0 0 65535)
-unfolding message_of kind_named number
+unfolding message_of kind_named number_in_word
 read_largest = refl
 
 dropvol : message_of (codes "dropvol 0 3") ≡ Some (DropVol 0 3)
-unfolding message_of kind_named number
+unfolding message_of kind_named number_in_word
 dropvol = refl
 
 delete : message_of (codes "delete 0 0 15") ≡ Some (Delete 0 0 15)
-unfolding message_of kind_named number
+unfolding message_of kind_named number_in_word
 delete = refl
 
 seal : message_of (codes "seal 1 2") ≡ Some (Seal 1 2)
-unfolding message_of kind_named number
+unfolding message_of kind_named number_in_word
 seal = refl
 
 unseal : message_of (codes "unseal 1 2") ≡ Some (Unseal 1 2)
-unfolding message_of kind_named number
+unfolding message_of kind_named number_in_word
 unseal = refl
 
 punch : message_of (codes "punch 0 1 2 63") ≡ Some (Punch 0 1 2 63)
-unfolding message_of kind_named number
+unfolding message_of kind_named number_in_word
 punch = refl
 
 list : message_of (codes "list 0 0") ≡ Some (ListFiles 0 0)
-unfolding message_of kind_named number
+unfolding message_of kind_named number_in_word
 list = refl
 
 usage : message_of (codes "usage 0 0") ≡ Some (AskUsage 0 0)
-unfolding message_of kind_named number
+unfolding message_of kind_named number_in_word
 usage = refl
 
 summary : message_of (codes "summary") ≡ Some AskSummary
-unfolding message_of kind_named number
+unfolding message_of kind_named number_in_word
 summary = refl
 
 setlabel : message_of (codes "setlabel 0 0 6162") ≡ Some (SetLabel 0 0 (97 ∷ 98 ∷ replicate 30 0))
-unfolding message_of kind_named number label bytes_in_word hex_on_literals
+unfolding message_of kind_named number_in_word label_in_word bytes_in_word hex_on_literals
 setlabel = refl
 
 label_asked : message_of (codes "label 0 0") ≡ Some (AskLabel 0 0)
-unfolding message_of kind_named number
+unfolding message_of kind_named number_in_word
 label_asked = refl
 
 -- ---- lines that are none
 
 summary_and_space : message_of (codes "summary ") ≡ None
-unfolding message_of kind_named number
+unfolding message_of kind_named number_in_word
 summary_and_space = refl
 
 summary_and_number : message_of (codes "summary 0") ≡ None
-unfolding message_of kind_named number
+unfolding message_of kind_named number_in_word
 summary_and_number = refl
 
 list_alone : message_of (codes "list") ≡ None
-unfolding message_of kind_named number
+unfolding message_of kind_named number_in_word
 list_alone = refl
 
 list_of_file : message_of (codes "list 0 0 0") ≡ None
-unfolding message_of kind_named number
+unfolding message_of kind_named number_in_word
 list_of_file = refl
 
 unknown_word : message_of (codes "unlink 0 0") ≡ None
-unfolding message_of kind_named number
+unfolding message_of kind_named number_in_word
 unknown_word = refl
 
 label_with_data : message_of (codes "label 0 0 61") ≡ None
-unfolding message_of kind_named number
+unfolding message_of kind_named number_in_word
 label_with_data = refl
 
 label_without_data : message_of (codes "setlabel 0 0") ≡ None
-unfolding message_of kind_named number
+unfolding message_of kind_named number_in_word
 label_without_data = refl
 
 label_of_odd_digits : message_of (codes "setlabel 0 0 616") ≡ None
-unfolding message_of kind_named number label bytes_in_word hex_on_literals
+unfolding message_of kind_named number_in_word label_in_word bytes_in_word hex_on_literals
 label_of_odd_digits = refl
 
-longest_label : label (replicate 64 48) ≡ Some (replicate 32 0)
-unfolding label bytes_in_word hex_on_literals
+longest_label : label_in_word (replicate 64 48) ≡ Some (replicate 32 0)
+unfolding label_in_word bytes_in_word hex_on_literals
 longest_label = refl
 
-label_of_33_bytes : label (replicate 66 48) ≡ None
-unfolding label bytes_in_word
+label_of_33_bytes : label_in_word (replicate 66 48) ≡ None
+unfolding label_in_word bytes_in_word
 label_of_33_bytes = refl
 
 leading_zero : message_of (codes "read 00 0 0 0") ≡ None
-unfolding message_of kind_named number
+unfolding message_of kind_named number_in_word
 leading_zero = refl
 
 carriage_return : message_of (codes "read 0 0 0 0" ++ 13 ∷ []) ≡ None
-unfolding message_of kind_named number
+unfolding message_of kind_named number_in_word
 carriage_return = refl
 
 two_spaces : message_of (codes "read  0 0 0 0") ≡ None
-unfolding message_of kind_named number
+unfolding message_of kind_named number_in_word
 two_spaces = refl
 
 space_before : message_of (codes " read 0 0 0 0") ≡ None
-unfolding message_of kind_named number
+unfolding message_of kind_named number_in_word
 space_before = refl
 
 space_behind : message_of (codes "read 0 0 0 0 ") ≡ None
-unfolding message_of kind_named number
+unfolding message_of kind_named number_in_word
 space_behind = refl
 
 tab : message_of (codes "read" ++ 9 ∷ codes "0 0 0 0") ≡ None
-unfolding message_of kind_named number
+unfolding message_of kind_named number_in_word
 tab = refl
 
 empty_line : message_of [] ≡ None
-unfolding message_of kind_named number
+unfolding message_of kind_named number_in_word
 empty_line = refl
 
 too_large : message_of (codes "read 0 0 0 65536") ≡ None
-unfolding message_of kind_named number
+unfolding message_of kind_named number_in_word
 too_large = refl
 
 below_zero : message_of (codes "read 0 0 0 -1") ≡ None
-unfolding message_of kind_named number
+unfolding message_of kind_named number_in_word
 below_zero = refl
 
 with_plus : message_of (codes "read 0 0 0 +1") ≡ None
-unfolding message_of kind_named number
+unfolding message_of kind_named number_in_word
 with_plus = refl
 
 upper_case_keyword : message_of (codes "READ 0 0 0 0") ≡ None
-unfolding message_of kind_named number
+unfolding message_of kind_named number_in_word
 upper_case_keyword = refl
 
 a_number_less : message_of (codes "read 0 0 0") ≡ None
-unfolding message_of kind_named number
+unfolding message_of kind_named number_in_word
 a_number_less = refl
 
 a_number_more : message_of (codes "makevol 0 0 0") ≡ None
-unfolding message_of kind_named number
+unfolding message_of kind_named number_in_word
 a_number_more = refl
 
 odd_digits : message_of (codes "write 0 0 0 0 6") ≡ None
-unfolding message_of kind_named number block bytes_in_word hex_on_literals
+unfolding message_of kind_named number_in_word block_in_word bytes_in_word hex_on_literals
 odd_digits = refl
 
 bad_digit : message_of (codes "write 0 0 0 0 6g") ≡ None
-unfolding message_of kind_named number block bytes_in_word hex_on_literals
+unfolding message_of kind_named number_in_word block_in_word bytes_in_word hex_on_literals
 bad_digit = refl
 
 no_digits : message_of (codes "write 0 0 0 0") ≡ None
-unfolding message_of kind_named number block bytes_in_word
+unfolding message_of kind_named number_in_word block_in_word bytes_in_word
 no_digits = refl
 
 no_digits_behind_a_space : message_of (codes "write 0 0 0 0 ") ≡ None
-unfolding message_of kind_named number block bytes_in_word
+unfolding message_of kind_named number_in_word block_in_word bytes_in_word
 no_digits_behind_a_space = refl
 
 -- ---- the digits of a block
 
-longest_block : block (replicate 1024 48) ≡ Some (record { 0 = replicate 512 0 })
-unfolding block bytes_in_word hex_on_literals
+longest_block : block_in_word (replicate 1024 48) ≡ Some (record { 0 = replicate 512 0 })
+unfolding block_in_word bytes_in_word hex_on_literals
 longest_block = refl
 
-longer_block : block (replicate 1026 48) ≡ None
-unfolding block bytes_in_word
+longer_block : block_in_word (replicate 1026 48) ≡ None
+unfolding block_in_word bytes_in_word
 longer_block = refl
 
 -- ---- lines too long

@@ -3,7 +3,7 @@ use Rattle.std.proofs.Common.{◌≡◌, ℕ, List, [], ◌∷◌, Option, Some,
 use Rattle.std.specs.Option.{option_map}
 use Rattle.message.specs.declared.Block.{Block}
 use Rattle.message.specs.declared.Msg.{Msg}
-use Rattle.message.specs.Lines.{words, number, block, label, bytes_in_word}
+use Rattle.message.specs.Lines.{words, number_in_word, block_in_word, label_in_word, bytes_in_word}
 use Rattle.message.proofs.Words.{only, only-words, words_some}
 use Rattle.message.proofs.Numbers.{number_no_space}
 use Rattle.message.proofs.Blocks.{block_no_space, label_no_space, bytes_block, no_block, label_bytes}
@@ -38,99 +38,99 @@ dead (Some n) vs k h = sym (h n)
 -- ---- two, three and four numbers
 
 abbrev pub of_number : (ℕ → Msg) → List (List ℕ) → Option Msg
-of_number make ws = only number ws >>= (λ n. Some (make n))
+of_number make ws = only number_in_word ws >>= (λ n. Some (make n))
 
 pub of_volume-onward : (make : ℕ → ℕ → Msg) (ws : List (List ℕ)) → of_volume make ws ≡ onward (λ n. of_number (make n)) ws
 of_volume-onward make [] = refl
 of_volume-onward make (a ∷ []) = refl
-of_volume-onward make (a ∷ v ∷ []) = live (number a) (v ∷ []) _ (λ n. of_number (make n)) (λ n. refl)
-of_volume-onward make (a ∷ v ∷ f ∷ ws) = dead (number a) (v ∷ f ∷ ws) (λ n. of_number (make n)) (λ n. refl)
+of_volume-onward make (a ∷ v ∷ []) = live (number_in_word a) (v ∷ []) _ (λ n. of_number (make n)) (λ n. refl)
+of_volume-onward make (a ∷ v ∷ f ∷ ws) = dead (number_in_word a) (v ∷ f ∷ ws) (λ n. of_number (make n)) (λ n. refl)
 
 pub of_file-onward : (make : ℕ → ℕ → ℕ → Msg) (ws : List (List ℕ)) → of_file make ws ≡ onward (λ n. of_volume (make n)) ws
 of_file-onward make [] = refl
 of_file-onward make (a ∷ []) = refl
-of_file-onward make (a ∷ v ∷ []) = dead (number a) (v ∷ []) (λ n. of_volume (make n)) (λ n. refl)
-of_file-onward make (a ∷ v ∷ f ∷ []) = live (number a) (v ∷ f ∷ []) _ (λ n. of_volume (make n)) (λ n. refl)
-of_file-onward make (a ∷ v ∷ f ∷ b ∷ ws) = dead (number a) (v ∷ f ∷ b ∷ ws) (λ n. of_volume (make n)) (λ n. refl)
+of_file-onward make (a ∷ v ∷ []) = dead (number_in_word a) (v ∷ []) (λ n. of_volume (make n)) (λ n. refl)
+of_file-onward make (a ∷ v ∷ f ∷ []) = live (number_in_word a) (v ∷ f ∷ []) _ (λ n. of_volume (make n)) (λ n. refl)
+of_file-onward make (a ∷ v ∷ f ∷ b ∷ ws) = dead (number_in_word a) (v ∷ f ∷ b ∷ ws) (λ n. of_volume (make n)) (λ n. refl)
 
 pub of_block-onward : (make : ℕ → ℕ → ℕ → ℕ → Msg) (ws : List (List ℕ)) → of_block make ws ≡ onward (λ n. of_file (make n)) ws
 of_block-onward make [] = refl
 of_block-onward make (a ∷ []) = refl
-of_block-onward make (a ∷ v ∷ []) = dead (number a) (v ∷ []) (λ n. of_file (make n)) (λ n. refl)
-of_block-onward make (a ∷ v ∷ f ∷ []) = dead (number a) (v ∷ f ∷ []) (λ n. of_file (make n)) (λ n. refl)
-of_block-onward make (a ∷ v ∷ f ∷ b ∷ []) = live (number a) (v ∷ f ∷ b ∷ []) _ (λ n. of_file (make n)) (λ n. refl)
-of_block-onward make (a ∷ v ∷ f ∷ b ∷ w ∷ ws) = dead (number a) (v ∷ f ∷ b ∷ w ∷ ws) (λ n. of_file (make n)) (λ n. refl)
+of_block-onward make (a ∷ v ∷ []) = dead (number_in_word a) (v ∷ []) (λ n. of_file (make n)) (λ n. refl)
+of_block-onward make (a ∷ v ∷ f ∷ []) = dead (number_in_word a) (v ∷ f ∷ []) (λ n. of_file (make n)) (λ n. refl)
+of_block-onward make (a ∷ v ∷ f ∷ b ∷ []) = live (number_in_word a) (v ∷ f ∷ b ∷ []) _ (λ n. of_file (make n)) (λ n. refl)
+of_block-onward make (a ∷ v ∷ f ∷ b ∷ w ∷ ws) = dead (number_in_word a) (v ∷ f ∷ b ∷ w ∷ ws) (λ n. of_file (make n)) (λ n. refl)
 
 -- ---- numbers and the digits of a block
 
 abbrev pub of_digits : (Block → Msg) → List (List ℕ) → Option Msg
-of_digits make ws = only block ws >>= (λ content. Some (make content))
+of_digits make ws = only block_in_word ws >>= (λ content. Some (make content))
 
 -- the words of a `write` from its third, second and first number on
 abbrev pub from_block : (ℕ → Block → Msg) → List (List ℕ) → Option Msg
-from_block make (b ∷ digits ∷ []) = number b >>= (λ block_number. block digits >>= (λ content. Some (make block_number content)))
+from_block make (b ∷ digits ∷ []) = number_in_word b >>= (λ block_number. block_in_word digits >>= (λ content. Some (make block_number content)))
 from_block make _ = None
 
 abbrev pub from_file : (ℕ → ℕ → Block → Msg) → List (List ℕ) → Option Msg
-from_file make (f ∷ b ∷ digits ∷ []) = number f >>= (λ file. from_block (make file) (b ∷ digits ∷ []))
+from_file make (f ∷ b ∷ digits ∷ []) = number_in_word f >>= (λ file. from_block (make file) (b ∷ digits ∷ []))
 from_file make _ = None
 
 abbrev pub from_volume : (ℕ → ℕ → ℕ → Block → Msg) → List (List ℕ) → Option Msg
-from_volume make (v ∷ f ∷ b ∷ digits ∷ []) = number v >>= (λ volume. from_file (make volume) (f ∷ b ∷ digits ∷ []))
+from_volume make (v ∷ f ∷ b ∷ digits ∷ []) = number_in_word v >>= (λ volume. from_file (make volume) (f ∷ b ∷ digits ∷ []))
 from_volume make _ = None
 
 pub from_block-onward : (make : ℕ → Block → Msg) (ws : List (List ℕ)) → from_block make ws ≡ onward (λ n. of_digits (make n)) ws
 from_block-onward make [] = refl
 from_block-onward make (b ∷ []) = refl
-from_block-onward make (b ∷ d ∷ []) = live (number b) (d ∷ []) _ (λ n. of_digits (make n)) (λ n. refl)
-from_block-onward make (b ∷ d ∷ w ∷ ws) = dead (number b) (d ∷ w ∷ ws) (λ n. of_digits (make n)) (λ n. refl)
+from_block-onward make (b ∷ d ∷ []) = live (number_in_word b) (d ∷ []) _ (λ n. of_digits (make n)) (λ n. refl)
+from_block-onward make (b ∷ d ∷ w ∷ ws) = dead (number_in_word b) (d ∷ w ∷ ws) (λ n. of_digits (make n)) (λ n. refl)
 
 pub from_file-onward : (make : ℕ → ℕ → Block → Msg) (ws : List (List ℕ)) → from_file make ws ≡ onward (λ n. from_block (make n)) ws
 from_file-onward make [] = refl
 from_file-onward make (f ∷ []) = refl
-from_file-onward make (f ∷ b ∷ []) = dead (number f) (b ∷ []) (λ n. from_block (make n)) (λ n. refl)
-from_file-onward make (f ∷ b ∷ d ∷ []) = live (number f) (b ∷ d ∷ []) _ (λ n. from_block (make n)) (λ n. refl)
-from_file-onward make (f ∷ b ∷ d ∷ w ∷ ws) = dead (number f) (b ∷ d ∷ w ∷ ws) (λ n. from_block (make n)) (λ n. refl)
+from_file-onward make (f ∷ b ∷ []) = dead (number_in_word f) (b ∷ []) (λ n. from_block (make n)) (λ n. refl)
+from_file-onward make (f ∷ b ∷ d ∷ []) = live (number_in_word f) (b ∷ d ∷ []) _ (λ n. from_block (make n)) (λ n. refl)
+from_file-onward make (f ∷ b ∷ d ∷ w ∷ ws) = dead (number_in_word f) (b ∷ d ∷ w ∷ ws) (λ n. from_block (make n)) (λ n. refl)
 
 pub from_volume-onward : (make : ℕ → ℕ → ℕ → Block → Msg) (ws : List (List ℕ)) → from_volume make ws ≡ onward (λ n. from_file (make n)) ws
 from_volume-onward make [] = refl
 from_volume-onward make (v ∷ []) = refl
-from_volume-onward make (v ∷ f ∷ []) = dead (number v) (f ∷ []) (λ n. from_file (make n)) (λ n. refl)
-from_volume-onward make (v ∷ f ∷ b ∷ []) = dead (number v) (f ∷ b ∷ []) (λ n. from_file (make n)) (λ n. refl)
-from_volume-onward make (v ∷ f ∷ b ∷ d ∷ []) = live (number v) (f ∷ b ∷ d ∷ []) _ (λ n. from_file (make n)) (λ n. refl)
-from_volume-onward make (v ∷ f ∷ b ∷ d ∷ w ∷ ws) = dead (number v) (f ∷ b ∷ d ∷ w ∷ ws) (λ n. from_file (make n)) (λ n. refl)
+from_volume-onward make (v ∷ f ∷ []) = dead (number_in_word v) (f ∷ []) (λ n. from_file (make n)) (λ n. refl)
+from_volume-onward make (v ∷ f ∷ b ∷ []) = dead (number_in_word v) (f ∷ b ∷ []) (λ n. from_file (make n)) (λ n. refl)
+from_volume-onward make (v ∷ f ∷ b ∷ d ∷ []) = live (number_in_word v) (f ∷ b ∷ d ∷ []) _ (λ n. from_file (make n)) (λ n. refl)
+from_volume-onward make (v ∷ f ∷ b ∷ d ∷ w ∷ ws) = dead (number_in_word v) (f ∷ b ∷ d ∷ w ∷ ws) (λ n. from_file (make n)) (λ n. refl)
 
 pub of_data-onward : (make : ℕ → ℕ → ℕ → ℕ → Block → Msg) (ws : List (List ℕ)) → of_data make ws ≡ onward (λ n. from_volume (make n)) ws
 of_data-onward make [] = refl
 of_data-onward make (a ∷ []) = refl
-of_data-onward make (a ∷ v ∷ []) = dead (number a) (v ∷ []) (λ n. from_volume (make n)) (λ n. refl)
-of_data-onward make (a ∷ v ∷ f ∷ []) = dead (number a) (v ∷ f ∷ []) (λ n. from_volume (make n)) (λ n. refl)
-of_data-onward make (a ∷ v ∷ f ∷ b ∷ []) = dead (number a) (v ∷ f ∷ b ∷ []) (λ n. from_volume (make n)) (λ n. refl)
-of_data-onward make (a ∷ v ∷ f ∷ b ∷ d ∷ []) = live (number a) (v ∷ f ∷ b ∷ d ∷ []) _ (λ n. from_volume (make n)) (λ n. refl)
-of_data-onward make (a ∷ v ∷ f ∷ b ∷ d ∷ w ∷ ws) = dead (number a) (v ∷ f ∷ b ∷ d ∷ w ∷ ws) (λ n. from_volume (make n)) (λ n. refl)
+of_data-onward make (a ∷ v ∷ []) = dead (number_in_word a) (v ∷ []) (λ n. from_volume (make n)) (λ n. refl)
+of_data-onward make (a ∷ v ∷ f ∷ []) = dead (number_in_word a) (v ∷ f ∷ []) (λ n. from_volume (make n)) (λ n. refl)
+of_data-onward make (a ∷ v ∷ f ∷ b ∷ []) = dead (number_in_word a) (v ∷ f ∷ b ∷ []) (λ n. from_volume (make n)) (λ n. refl)
+of_data-onward make (a ∷ v ∷ f ∷ b ∷ d ∷ []) = live (number_in_word a) (v ∷ f ∷ b ∷ d ∷ []) _ (λ n. from_volume (make n)) (λ n. refl)
+of_data-onward make (a ∷ v ∷ f ∷ b ∷ d ∷ w ∷ ws) = dead (number_in_word a) (v ∷ f ∷ b ∷ d ∷ w ∷ ws) (λ n. from_volume (make n)) (λ n. refl)
 
 -- ---- numbers and the digits of a label
 
 abbrev pub of_label_digits : (List ℕ → Msg) → List (List ℕ) → Option Msg
-of_label_digits make ws = only label ws >>= (λ bytes. Some (make bytes))
+of_label_digits make ws = only label_in_word ws >>= (λ bytes. Some (make bytes))
 
 -- the words of a `setlabel` from its second number on
 abbrev pub label_from_volume : (ℕ → List ℕ → Msg) → List (List ℕ) → Option Msg
-label_from_volume make (v ∷ digits ∷ []) = number v >>= (λ volume. label digits >>= (λ bytes. Some (make volume bytes)))
+label_from_volume make (v ∷ digits ∷ []) = number_in_word v >>= (λ volume. label_in_word digits >>= (λ bytes. Some (make volume bytes)))
 label_from_volume make _ = None
 
 pub label_from_volume-onward : (make : ℕ → List ℕ → Msg) (ws : List (List ℕ)) → label_from_volume make ws ≡ onward (λ n. of_label_digits (make n)) ws
 label_from_volume-onward make [] = refl
 label_from_volume-onward make (v ∷ []) = refl
-label_from_volume-onward make (v ∷ d ∷ []) = live (number v) (d ∷ []) _ (λ n. of_label_digits (make n)) (λ n. refl)
-label_from_volume-onward make (v ∷ d ∷ w ∷ ws) = dead (number v) (d ∷ w ∷ ws) (λ n. of_label_digits (make n)) (λ n. refl)
+label_from_volume-onward make (v ∷ d ∷ []) = live (number_in_word v) (d ∷ []) _ (λ n. of_label_digits (make n)) (λ n. refl)
+label_from_volume-onward make (v ∷ d ∷ w ∷ ws) = dead (number_in_word v) (d ∷ w ∷ ws) (λ n. of_label_digits (make n)) (λ n. refl)
 
 pub of_label-onward : (make : ℕ → ℕ → List ℕ → Msg) (ws : List (List ℕ)) → of_label make ws ≡ onward (λ n. label_from_volume (make n)) ws
 of_label-onward make [] = refl
 of_label-onward make (a ∷ []) = refl
-of_label-onward make (a ∷ v ∷ []) = dead (number a) (v ∷ []) (λ n. label_from_volume (make n)) (λ n. refl)
-of_label-onward make (a ∷ v ∷ d ∷ []) = live (number a) (v ∷ d ∷ []) _ (λ n. label_from_volume (make n)) (λ n. refl)
-of_label-onward make (a ∷ v ∷ d ∷ w ∷ ws) = dead (number a) (v ∷ d ∷ w ∷ ws) (λ n. label_from_volume (make n)) (λ n. refl)
+of_label-onward make (a ∷ v ∷ []) = dead (number_in_word a) (v ∷ []) (λ n. label_from_volume (make n)) (λ n. refl)
+of_label-onward make (a ∷ v ∷ d ∷ []) = live (number_in_word a) (v ∷ d ∷ []) _ (λ n. label_from_volume (make n)) (λ n. refl)
+of_label-onward make (a ∷ v ∷ d ∷ w ∷ ws) = dead (number_in_word a) (v ∷ d ∷ w ∷ ws) (λ n. label_from_volume (make n)) (λ n. refl)
 
 -- ---- no words
 
@@ -143,31 +143,31 @@ nothing_behind m line = elim (words line) as (λ ws. words line ≡ ws → of_no
 -- ---- as the code reads them
 
 -- the words behind a first word that says a number
-pub first_number_some : (ws : List (List ℕ)) (w bs : List ℕ) (n : ℕ) → ws ≡ w ∷ words bs → number w ≡ Some n → first_number ws ≡ Some (n, words bs)
+pub first_number_some : (ws : List (List ℕ)) (w bs : List ℕ) (n : ℕ) → ws ≡ w ∷ words bs → number_in_word w ≡ Some n → first_number ws ≡ Some (n, words bs)
 first_number_some ws w bs n e h =
     ap first_number e ∙ elim (words bs) as (λ vs. words bs ≡ vs → first_number (w ∷ vs) ≡ Some (n, vs)) [
       | [] ↦ λ none. absurd (words_some bs none)
       | v ∷ vs ↦ λ some. rw h refl
     ] refl
 
-pub only-number : (line : List ℕ) → only number (words line) ≡ number line
-only-number line = only-words number line (number_no_space line)
+pub only-number : (line : List ℕ) → only number_in_word (words line) ≡ number_in_word line
+only-number line = only-words number_in_word line (number_no_space line)
 
-pub only-block : (line : List ℕ) → only block (words line) ≡ block line
-only-block line = only-words block line (block_no_space line)
+pub only-block : (line : List ℕ) → only block_in_word (words line) ≡ block_in_word line
+only-block line = only-words block_in_word line (block_no_space line)
 
-pub of_number-read : (make : ℕ → Msg) (line : List ℕ) (n : ℕ) → Some n ≡ number line → of_number make (words line) ≡ Some (make n)
+pub of_number-read : (make : ℕ → Msg) (line : List ℕ) (n : ℕ) → Some n ≡ number_in_word line → of_number make (words line) ≡ Some (make n)
 of_number-read make line n h = let e = only-number line ∙ sym h in rw e refl
 
-pub of_number-none : (make : ℕ → Msg) (line : List ℕ) → None ≡ number line → of_number make (words line) ≡ None
+pub of_number-none : (make : ℕ → Msg) (line : List ℕ) → None ≡ number_in_word line → of_number make (words line) ≡ None
 of_number-none make line h = let e = only-number line ∙ sym h in rw e refl
 
-only-label : (line : List ℕ) → only label (words line) ≡ label line
-only-label line = only-words label line (label_no_space line)
+only-label : (line : List ℕ) → only label_in_word (words line) ≡ label_in_word line
+only-label line = only-words label_in_word line (label_no_space line)
 
 -- what is left of a `write` whose digits are not yet read
-pub of_digits-told : (make : Block → Msg) (line : List ℕ) → of_digits make (words line) ≡ option_map make (block line)
-of_digits-told make line = rw (only-block line) (elim (block line) as (λ o. (o >>= (λ content. Some (make content))) ≡ option_map make o) [ None ↦ refl | Some content ↦ refl ])
+pub of_digits-told : (make : Block → Msg) (line : List ℕ) → of_digits make (words line) ≡ option_map make (block_in_word line)
+of_digits-told make line = rw (only-block line) (elim (block_in_word line) as (λ o. (o >>= (λ content. Some (make content))) ≡ option_map make o) [ None ↦ refl | Some content ↦ refl ])
 
 pub of_digits-read : (make : Block → Msg) (line bytes : List ℕ) → Some bytes ≡ bytes_in_word 512 line → of_digits make (words line) ≡ Some (make (record { 0 = bytes }))
 of_digits-read make line bytes h = let e = only-block line ∙ bytes_block line (record { 0 = bytes }) (sym h) in rw e refl

@@ -10,6 +10,7 @@ pub mod Keywords
 pub mod Zeros
 pub mod Assembly
 pub mod WrittenParts
+pub mod Adding
 pub mod Spelling
 pub mod RecordLemmas
 pub mod ReaderLemmas

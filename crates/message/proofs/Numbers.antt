@@ -12,7 +12,7 @@ use Rattle.std.proofs.lemmas.Str.{digit_value_digit}
 use Rattle.std.proofs.lemmas.Str.Parse.{IsNumeralModel, numerals_by_value, tells_all_ascii_digits, digits_value-take-le}
 use Rattle.std.proofs.lemmas.Int.Digits.{digits_value_more}
 use Rattle.std.proofs.lemmas.Fmt.{decimal-digits_value, digits_decimal, digits_value-decimal, decimal_nonempty, first_decimal, decimal_digit}
-use Rattle.message.specs.Lines.{number, is_numeral}
+use Rattle.message.specs.Lines.{number_in_word, is_numeral}
 use Rattle.message.proofs.Words.{HasNoSpace}
 
 -- decimal digits by their test, and the number that they write
@@ -47,26 +47,26 @@ is_numeral_from w h =
     ])
 
 -- a word that says a number
-pub number_parts : (w : List ℕ) (n : ℕ) → number w ≡ Some n → IsNumber w × (digits_value 10 w ≡ n)
-unfolding number
+pub number_parts : (w : List ℕ) (n : ℕ) → number_in_word w ≡ Some n → IsNumber w × (digits_value 10 w ≡ n)
+unfolding number_in_word
 number_parts w n h =
     let p = cond_some (is_numeral w && nat_lt (digits_value 10 w) 65536) (digits_value 10 w) n h in
     let q = and_parts (is_numeral w) (nat_lt (digits_value 10 w) 65536) p.0 in
     let r = numeral_parts w q.0 in
     (record { digits = r.0; some = r.1; plain = r.2; fits = ltb-true (digits_value 10 w) 65536 q.1 }, p.1)
 
-pub number_from : (w : List ℕ) → IsNumber w → number w ≡ Some (digits_value 10 w)
-unfolding number
+pub number_from : (w : List ℕ) → IsNumber w → number_in_word w ≡ Some (digits_value 10 w)
+unfolding number_in_word
 number_from w h = cond-true _ _ _ (and_from _ _ (is_numeral_from w h) (lt-ltb (digits_value 10 w) 65536 h.fits))
 
 -- a word that lacks something says none
-pub no_number : (w : List ℕ) → (IsNumber w → ⊥) → number w ≡ None
-no_number w h = elim (number w) as (λ o. number w ≡ o → o ≡ None) [ None ↦ λ e. refl | Some n ↦ λ e. absurd (h (number_parts w n e).0) ] refl
+pub no_number : (w : List ℕ) → (IsNumber w → ⊥) → number_in_word w ≡ None
+no_number w h = elim (number_in_word w) as (λ o. number_in_word w ≡ o → o ≡ None) [ None ↦ λ e. refl | Some n ↦ λ e. absurd (h (number_parts w n e).0) ] refl
 
 -- ---- and decimal text
 
 -- the number's text is the word
-pub decimal-number : (w : List ℕ) (n : ℕ) → number w ≡ Some n → (decimal n ≡ w) × (n < 65536)
+pub decimal-number : (w : List ℕ) (n : ℕ) → number_in_word w ≡ Some n → (decimal n ≡ w) × (n < 65536)
 decimal-number w n h =
     let p = number_parts w n h in
     let fits = p.0.fits in
@@ -87,7 +87,7 @@ IsNumber-decimal n h =
     let value : digits_value 10 (decimal n) ≡ n = digits_value-decimal own n wide in
     record { digits = digits_decimal own n wide; some = decimal_nonempty n wide; plain = decimal_plain n h; fits = omega arith }
 
-pub number-decimal : (n : ℕ) → n < 65536 → number (decimal n) ≡ Some n
+pub number-decimal : (n : ℕ) → n < 65536 → number_in_word (decimal n) ≡ Some n
 number-decimal n h =
     let wide : n < 2 ^ 64 = omega arith in
     number_from (decimal n) (IsNumber-decimal n h) ∙ ap Some (digits_value-decimal own n wide)
@@ -106,7 +106,7 @@ digits_no_space (c ∷ w) h =
     let p = and_parts (is_ascii_digit c) (all_ascii_digits w) h in
     (not_a_space c p.0, digits_no_space w p.1)
 
-pub number_no_space : (w : List ℕ) (n : ℕ) → number w ≡ Some n → HasNoSpace w
+pub number_no_space : (w : List ℕ) (n : ℕ) → number_in_word w ≡ Some n → HasNoSpace w
 number_no_space w n h = digits_no_space w (number_parts w n h).0.digits
 
 -- each of the digits is one
@@ -140,5 +140,5 @@ value_more w i v lt d e =
     omega (arith, more, one)
 
 -- a value past 65535 in front
-pub too_large : (w : List ℕ) (i v : ℕ) → v ≡ digits_value 10 (take (i + 1) w) → 65535 < v → number w ≡ None
+pub too_large : (w : List ℕ) (i v : ℕ) → v ≡ digits_value 10 (take (i + 1) w) → 65535 < v → number_in_word w ≡ None
 too_large w i v e h = no_number w (λ n. let less = digits_value-take-le 10 w (i + 1) (omega arith) in let fits = n.fits in absurd (omega arith))

@@ -12,8 +12,8 @@ use Rattle.affinity.specs.declared.geometry.Geometry.{Geometry}
 use Rattle.message.specs.declared.Block.{Block}
 use Rattle.message.specs.declared.Msg.{Msg}
 use Rattle.message.specs.declared.Msg.TheVariants.{MakeVol, DropVol, Create, Delete, Seal, Unseal, Write, Punch, Read, List as ListFiles, Usage, Summary, SetLabel, Label}
-use Rattle.message.specs.Messages.{kind, numbers, filled, four_numbers, is_in_range, AreBytes, IsMessage}
-use Rattle.message.specs.Records.{HasRoom, assembled, data_of, message_in_fields, head_with, head_of, kind_number, kind_numbered, numbered_among, record_of}
+use Rattle.message.specs.Messages.{kind, numbers, filled, four_numbers, is_in_range, AreSizedBytes, IsMessage}
+use Rattle.message.specs.Records.{FitsRecord, assembled, data_of, message_in_fields, head_with, record_head, kind_number, kind_numbered, numbered_among, record_of}
 use Rattle.message.specs.Grammar.{all_kinds}
 use borrow.Rule.Slice.PartMut.{put_mid, post_of}
 
@@ -80,7 +80,7 @@ fits g (SetLabel a v bytes) h = two_fit g a v h
 fits g (Label a v) h = two_fit g a v h
 
 -- what encoding asks for holds of each message in range
-pub in_range_has_room : (g : Geometry) (m : Msg) → is_in_range g m ≡ true → HasRoom m
+pub in_range_has_room : (g : Geometry) (m : Msg) → is_in_range g m ≡ true → FitsRecord m
 in_range_has_room g m h = (fits g m h).room
 
 -- ---- a record gives its message back
@@ -183,7 +183,7 @@ taken_fit zero bytes h = tt
 taken_fit (suc n) [] h = tt
 taken_fit (suc n) (b ∷ bytes) h = (h.0, taken_fit n bytes h.1)
 
-assembled_whole : (k : Kind) (a v f b : ℕ) (bytes : List ℕ) → AreBytes 512 bytes → IsMessage (assembled k a v f b bytes)
+assembled_whole : (k : Kind) (a v f b : ℕ) (bytes : List ℕ) → AreSizedBytes 512 bytes → IsMessage (assembled k a v f b bytes)
 assembled_whole kinds.MakeVol a v f b bytes h = tt
 assembled_whole kinds.DropVol a v f b bytes h = tt
 assembled_whole kinds.Create a v f b bytes h = tt
@@ -199,7 +199,7 @@ assembled_whole kinds.Summary a v f b bytes h = tt
 assembled_whole kinds.SetLabel a v f b bytes h = (length-take-le 32 bytes (let len = h.0 in omega arith), taken_fit 32 bytes h.1)
 assembled_whole kinds.Label a v f b bytes h = tt
 
-assembled_room : (k : Kind) (a v f b : ℕ) (bytes : List ℕ) → a < 256 → v < 256 → f < 256 → HasRoom (assembled k a v f b bytes)
+assembled_room : (k : Kind) (a v f b : ℕ) (bytes : List ℕ) → a < 256 → v < 256 → f < 256 → FitsRecord (assembled k a v f b bytes)
 assembled_room kinds.MakeVol a v f b bytes a_fits v_fits f_fits = (a_fits, (v_fits, (lit≤ tt, tt)))
 assembled_room kinds.DropVol a v f b bytes a_fits v_fits f_fits = (a_fits, (v_fits, (lit≤ tt, tt)))
 assembled_room kinds.Create a v f b bytes a_fits v_fits f_fits = (a_fits, (v_fits, (f_fits, tt)))
@@ -266,8 +266,8 @@ module _ (bytes : List ℕ) (m : Msg) (size : length bytes ≡ 520) (fit : (i : 
       let long : length (drop 8 bytes) ≡ 512 = omega (arith, length-drop 8 bytes) in
       subst IsMessage (sym its_kind.1) (assembled_whole its_kind.0 _ _ _ _ (drop 8 bytes) (long, dropped_fit 8 bytes (bytes_fit bytes fit)))
 
-  pub said_room : HasRoom m
-  said_room = subst HasRoom (sym its_kind.1) (assembled_room its_kind.0 _ _ _ _ (drop 8 bytes) (fit 1) (fit 2) (fit 3))
+  pub said_room : FitsRecord m
+  said_room = subst FitsRecord (sym its_kind.1) (assembled_room its_kind.0 _ _ _ _ (drop 8 bytes) (fit 1) (fit 2) (fit 3))
 
   by_kind : (k : Kind) → kind m ≡ k → m ≡ assembled k (slice_index bytes 1) (slice_index bytes 2) (slice_index bytes 3) (little_number 2 (take 2 (drop 4 bytes))) (drop 8 bytes)
   by_kind k is = its_kind.1 ∙ ap (λ k. assembled k (slice_index bytes 1) (slice_index bytes 2) (slice_index bytes 3) (little_number 2 (take 2 (drop 4 bytes))) (drop 8 bytes)) (sym (kind_assembled its_kind.0 _ _ _ _ _) ∙ ap kind (sym its_kind.1) ∙ is)
@@ -330,7 +330,7 @@ length_filled k (a ∷ v ∷ []) = refl
 length_filled k (a ∷ v ∷ f ∷ []) = refl
 length_filled k (a ∷ v ∷ f ∷ b ∷ more) = refl
 
-pub length_head : (m : Msg) → length (head_of m) ≡ 8
+pub length_head : (m : Msg) → length (record_head m) ≡ 8
 length_head m = length_filled (kind_number (kind m)) (numbers m)
 
 pub data_of_write : (a v f b : ℕ) (content : Block) → data_of (Write a v f b content) ≡ content.0
@@ -350,11 +350,11 @@ length_behind out head room h =
 
 -- ---- the head and the data of a record
 
-pub record_by_parts : (bytes : List ℕ) (m : Msg) → take 8 bytes ≡ head_of m → drop 8 bytes ≡ data_of m → bytes ≡ record_of m
+pub record_by_parts : (bytes : List ℕ) (m : Msg) → take 8 bytes ≡ record_head m → drop 8 bytes ≡ data_of m → bytes ≡ record_of m
 record_by_parts bytes m head rest = sym (take-append-drop 8 bytes) ∙ (λ i. head i ++ rest i)
 
-pub head_there : (bytes : List ℕ) (m : Msg) → bytes ≡ record_of m → take 8 bytes ≡ head_of m
-head_there bytes m is = ap (take 8) is ∙ take_at (head_of m) (data_of m) 8 (length_head m)
+pub head_there : (bytes : List ℕ) (m : Msg) → bytes ≡ record_of m → take 8 bytes ≡ record_head m
+head_there bytes m is = ap (take 8) is ∙ take_at (record_head m) (data_of m) 8 (length_head m)
 
 pub data_there : (bytes : List ℕ) (m : Msg) → bytes ≡ record_of m → drop 8 bytes ≡ data_of m
-data_there bytes m is = ap (drop 8) is ∙ drop_at (head_of m) (data_of m) 8 (length_head m)
+data_there bytes m is = ap (drop 8) is ∙ drop_at (record_head m) (data_of m) 8 (length_head m)

@@ -11,7 +11,7 @@ use Rattle.affinity.specs.declared.kinds.Kind.TheVariants as kinds
 use Rattle.message.specs.declared.Block.{Block}
 use Rattle.message.specs.declared.Msg.{Msg}
 use Rattle.message.specs.declared.Msg.TheVariants.{MakeVol, DropVol, Create, Delete, Seal, Unseal, Write, Punch, Read, List as ListFiles, Usage, Summary, SetLabel, Label}
-use Rattle.message.specs.Lines.{words, number, block, label}
+use Rattle.message.specs.Lines.{words, number_in_word, block_in_word, label_in_word}
 use Rattle.message.specs.Messages.{kind, numbers}
 use Rattle.message.specs.Grammar.{message_of, of_words, of_kind, of_volume, of_file, of_block, of_data, of_label, of_nothing, kind_named, keyword, IsData, SaysBytes, Spells, ◌>>=◌}
 use Rattle.message.proofs.Words.{HasNoSpace, join-words, words-join}
@@ -38,7 +38,7 @@ record Say (ws : List (List ℕ)) (ns : List ℕ) : Type 0 where
 says_none : Say [] []
 says_none = record { words = refl; small = tt }
 
-says_more : (w : List ℕ) (n : ℕ) (ws : List (List ℕ)) (ns : List ℕ) → number w ≡ Some n → Say ws ns → Say (w ∷ ws) (n ∷ ns)
+says_more : (w : List ℕ) (n : ℕ) (ws : List (List ℕ)) (ns : List ℕ) → number_in_word w ≡ Some n → Say ws ns → Say (w ∷ ws) (n ∷ ns)
 says_more w n ws ns h more =
     let d = decimal-number w n h in
     record {
@@ -50,8 +50,8 @@ volume_said : (make : ℕ → ℕ → Msg) (ws : List (List ℕ)) (m : Msg) → 
 volume_said make [] m h = cc h
 volume_said make (x ∷ []) m h = cc h
 volume_said make (x ∷ y ∷ []) m h =
-    let a = bind_some (number x) _ m h in
-    let v = bind_some (number y) _ m a.2 in
+    let a = bind_some (number_in_word x) _ m h in
+    let v = bind_some (number_in_word y) _ m a.2 in
     (a.0, v.0, sym (same_Some _ m v.2), says_more x a.0 _ _ a.1 (says_more y v.0 _ _ v.1 says_none))
 volume_said make (x ∷ y ∷ z ∷ ws) m h = cc h
 
@@ -60,9 +60,9 @@ file_said make [] m h = cc h
 file_said make (x ∷ []) m h = cc h
 file_said make (x ∷ y ∷ []) m h = cc h
 file_said make (x ∷ y ∷ z ∷ []) m h =
-    let a = bind_some (number x) _ m h in
-    let v = bind_some (number y) _ m a.2 in
-    let f = bind_some (number z) _ m v.2 in
+    let a = bind_some (number_in_word x) _ m h in
+    let v = bind_some (number_in_word y) _ m a.2 in
+    let f = bind_some (number_in_word z) _ m v.2 in
     (a.0, v.0, f.0, sym (same_Some _ m f.2), says_more x a.0 _ _ a.1 (says_more y v.0 _ _ v.1 (says_more z f.0 _ _ f.1 says_none)))
 file_said make (x ∷ y ∷ z ∷ w ∷ ws) m h = cc h
 
@@ -73,10 +73,10 @@ block_said make (x ∷ []) m h = cc h
 block_said make (x ∷ y ∷ []) m h = cc h
 block_said make (x ∷ y ∷ z ∷ []) m h = cc h
 block_said make (x ∷ y ∷ z ∷ w ∷ []) m h =
-    let a = bind_some (number x) _ m h in
-    let v = bind_some (number y) _ m a.2 in
-    let f = bind_some (number z) _ m v.2 in
-    let b = bind_some (number w) _ m f.2 in
+    let a = bind_some (number_in_word x) _ m h in
+    let v = bind_some (number_in_word y) _ m a.2 in
+    let f = bind_some (number_in_word z) _ m v.2 in
+    let b = bind_some (number_in_word w) _ m f.2 in
     (a.0, v.0, f.0, b.0, sym (same_Some _ m b.2), says_more x a.0 _ _ a.1 (says_more y v.0 _ _ v.1 (says_more z f.0 _ _ f.1 (says_more w b.0 _ _ b.1 says_none))))
 block_said make (x ∷ y ∷ z ∷ w ∷ u ∷ ws) m h = cc h
 
@@ -89,11 +89,11 @@ data_said make (x ∷ y ∷ []) m h = cc h
 data_said make (x ∷ y ∷ z ∷ []) m h = cc h
 data_said make (x ∷ y ∷ z ∷ w ∷ []) m h = cc h
 data_said make (x ∷ y ∷ z ∷ w ∷ u ∷ []) m h =
-    let a = bind_some (number x) _ m h in
-    let v = bind_some (number y) _ m a.2 in
-    let f = bind_some (number z) _ m v.2 in
-    let b = bind_some (number w) _ m f.2 in
-    let d = bind_some (block u) _ m b.2 in
+    let a = bind_some (number_in_word x) _ m h in
+    let v = bind_some (number_in_word y) _ m a.2 in
+    let f = bind_some (number_in_word z) _ m v.2 in
+    let b = bind_some (number_in_word w) _ m f.2 in
+    let d = bind_some (block_in_word u) _ m b.2 in
     let said = says_more x a.0 _ _ a.1 (says_more y v.0 _ _ v.1 (says_more z f.0 _ _ f.1 (says_more w b.0 _ _ b.1 says_none))) in
     (a.0, v.0, f.0, b.0, d.0, u, sym (same_Some _ m d.2), ap (λ (vs : List (List ℕ)). vs ++ u ∷ []) said.words, said.small, block_says u d.0 d.1)
 data_said make (x ∷ y ∷ z ∷ w ∷ u ∷ t ∷ ws) m h = cc h
@@ -105,9 +105,9 @@ label_said make [] m h = cc h
 label_said make (x ∷ []) m h = cc h
 label_said make (x ∷ y ∷ []) m h = cc h
 label_said make (x ∷ y ∷ z ∷ []) m h =
-    let a = bind_some (number x) _ m h in
-    let v = bind_some (number y) _ m a.2 in
-    let d = bind_some (label z) _ m v.2 in
+    let a = bind_some (number_in_word x) _ m h in
+    let v = bind_some (number_in_word y) _ m a.2 in
+    let d = bind_some (label_in_word z) _ m v.2 in
     let said = says_more x a.0 _ _ a.1 (says_more y v.0 _ _ v.1 says_none) in
     (a.0, v.0, d.0, z, sym (same_Some _ m d.2), ap (λ (vs : List (List ℕ)). vs ++ z ∷ []) said.words, said.small, label_says z d.0 d.1)
 label_said make (x ∷ y ∷ z ∷ w ∷ ws) m h = cc h
@@ -287,13 +287,13 @@ block_read make a v f b behind h none =
     ap (λ (ws : List (List ℕ)). of_block make (map decimal (a ∷ v ∷ f ∷ b ∷ []) ++ ws)) none
     ∙ rw (number-decimal a h.0, number-decimal v h.1.0, number-decimal f h.1.1.0, number-decimal b h.1.1.1.0) refl
 
-data_read : (make : ℕ → ℕ → ℕ → ℕ → Block → Msg) (a v f b : ℕ) (content : Block) (digits : List ℕ) (behind : List (List ℕ)) → AreSmall (a ∷ v ∷ f ∷ b ∷ []) → behind ≡ digits ∷ [] → block digits ≡ Some content
+data_read : (make : ℕ → ℕ → ℕ → ℕ → Block → Msg) (a v f b : ℕ) (content : Block) (digits : List ℕ) (behind : List (List ℕ)) → AreSmall (a ∷ v ∷ f ∷ b ∷ []) → behind ≡ digits ∷ [] → block_in_word digits ≡ Some content
     → of_data make (map decimal (a ∷ v ∷ f ∷ b ∷ []) ++ behind) ≡ Some (make a v f b content)
 data_read make a v f b content digits behind h is said =
     ap (λ (ws : List (List ℕ)). of_data make (map decimal (a ∷ v ∷ f ∷ b ∷ []) ++ ws)) is
     ∙ rw (number-decimal a h.0, number-decimal v h.1.0, number-decimal f h.1.1.0, number-decimal b h.1.1.1.0, said) refl
 
-label_read : (make : ℕ → ℕ → List ℕ → Msg) (a v : ℕ) (bytes digits : List ℕ) (behind : List (List ℕ)) → AreSmall (a ∷ v ∷ []) → behind ≡ digits ∷ [] → label digits ≡ Some bytes
+label_read : (make : ℕ → ℕ → List ℕ → Msg) (a v : ℕ) (bytes digits : List ℕ) (behind : List (List ℕ)) → AreSmall (a ∷ v ∷ []) → behind ≡ digits ∷ [] → label_in_word digits ≡ Some bytes
     → of_label make (map decimal (a ∷ v ∷ []) ++ behind) ≡ Some (make a v bytes)
 label_read make a v bytes digits behind h is said =
     ap (λ (ws : List (List ℕ)). of_label make (map decimal (a ∷ v ∷ []) ++ ws)) is

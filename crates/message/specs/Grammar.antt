@@ -9,7 +9,7 @@ use Rattle.affinity.specs.declared.kinds.Kind.TheVariants as kinds
 use Rattle.message.specs.declared.Block.{Block}
 use Rattle.message.specs.declared.Msg.{Msg}
 use Rattle.message.specs.declared.Msg.TheVariants.{MakeVol, DropVol, Create, Delete, Seal, Unseal, Write, Punch, Read, List as ListFiles, Usage, Summary, SetLabel, Label}
-use Rattle.message.specs.Lines.{words, number, block, label, padded}
+use Rattle.message.specs.Lines.{words, number_in_word, block_in_word, label_in_word, padded}
 use Rattle.message.specs.Messages.{kind, numbers}
 
 -- ---- by the words of a line: which message they make, if any
@@ -22,52 +22,52 @@ None >>= f = None
 -- the number that the first of several words says, and the words behind it
 abbrev pub first_number : List (List ℕ) → Option (ℕ × List (List ℕ))
 first_number (w ∷ v ∷ ws) = do
-  n ← number w
+  n ← number_in_word w
   Some (n, v ∷ ws)
 first_number _ = None
 
 -- the message with the numbers that these words say, where they are two, three or four
 abbrev pub of_volume : (ℕ → ℕ → Msg) → List (List ℕ) → Option Msg
 of_volume make (a ∷ v ∷ []) = do
-  aggregate ← number a
-  volume ← number v
+  aggregate ← number_in_word a
+  volume ← number_in_word v
   Some (make aggregate volume)
 of_volume make _ = None
 
 abbrev pub of_file : (ℕ → ℕ → ℕ → Msg) → List (List ℕ) → Option Msg
 of_file make (a ∷ v ∷ f ∷ []) = do
-  aggregate ← number a
-  volume ← number v
-  file ← number f
+  aggregate ← number_in_word a
+  volume ← number_in_word v
+  file ← number_in_word f
   Some (make aggregate volume file)
 of_file make _ = None
 
 abbrev pub of_block : (ℕ → ℕ → ℕ → ℕ → Msg) → List (List ℕ) → Option Msg
 of_block make (a ∷ v ∷ f ∷ b ∷ []) = do
-  aggregate ← number a
-  volume ← number v
-  file ← number f
-  block_number ← number b
+  aggregate ← number_in_word a
+  volume ← number_in_word v
+  file ← number_in_word f
+  block_number ← number_in_word b
   Some (make aggregate volume file block_number)
 of_block make _ = None
 
 -- four numbers, and the digits of a block
 abbrev pub of_data : (ℕ → ℕ → ℕ → ℕ → Block → Msg) → List (List ℕ) → Option Msg
 of_data make (a ∷ v ∷ f ∷ b ∷ digits ∷ []) = do
-  aggregate ← number a
-  volume ← number v
-  file ← number f
-  block_number ← number b
-  content ← block digits
+  aggregate ← number_in_word a
+  volume ← number_in_word v
+  file ← number_in_word f
+  block_number ← number_in_word b
+  content ← block_in_word digits
   Some (make aggregate volume file block_number content)
 of_data make _ = None
 
 -- two numbers, and the digits of a label
 abbrev pub of_label : (ℕ → ℕ → List ℕ → Msg) → List (List ℕ) → Option Msg
 of_label make (a ∷ v ∷ digits ∷ []) = do
-  aggregate ← number a
-  volume ← number v
-  bytes ← label digits
+  aggregate ← number_in_word a
+  volume ← number_in_word v
+  bytes ← label_in_word digits
   Some (make aggregate volume bytes)
 of_label make _ = None
 

@@ -5,7 +5,7 @@ use Rattle.affinity.specs.declared.kinds.Kind.TheVariants as kinds
 use Rattle.message.specs.declared.Block.{Block}
 use Rattle.message.specs.declared.Msg.{Msg}
 use Rattle.message.specs.declared.Msg.TheVariants.{Write}
-use Rattle.message.specs.Lines.{block}
+use Rattle.message.specs.Lines.{block_in_word}
 use Rattle.message.specs.declared.heads.Head.{Head}
 use Rattle.message.specs.declared.heads.Head.TheVariants.{NoMessage, Asks, Writes, SetsLabel}
 use Rattle.message.specs.Messages.{kind, four_numbers}
@@ -36,5 +36,5 @@ pub record IsAsked (k : Kind) (ns : List ℕ) (m : Option Msg) : Type 0 where
 abbrev pub IsHead : Head → Option Msg → Type 0
 IsHead NoMessage m = m ≡ None
 IsHead (Asks k ns) m = IsAsked k ns m
-IsHead (Writes ns digits) m = m ≡ option_map (writing ns) (block digits.now)
+IsHead (Writes ns digits) m = m ≡ option_map (writing ns) (block_in_word digits.now)
 IsHead SetsLabel m = Unit {0}

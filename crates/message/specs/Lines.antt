@@ -26,8 +26,8 @@ abbrev pub is_numeral : List ℕ → Bool
 is_numeral word = all_ascii_digits word && nat_lt 0 (length word) && (not (slice_index word 0 == 48) || (length word == 1))
 
 -- the number from 0 to 65535 that a word says
-unfoldable pub number : List ℕ → Option ℕ
-number word = if is_numeral word && nat_lt (digits_value 10 word) 65536 then Some (digits_value 10 word) else None
+unfoldable pub number_in_word : List ℕ → Option ℕ
+number_in_word word = if is_numeral word && nat_lt (digits_value 10 word) 65536 then Some (digits_value 10 word) else None
 
 -- the bytes, and zeros up to this many
 abbrev pub padded : ℕ → List ℕ → List ℕ
@@ -42,9 +42,9 @@ unfoldable pub bytes_in_word : ℕ → List ℕ → Option (List ℕ)
 bytes_in_word size word = if nat_le 2 (length word) && nat_le (length word) (2 * size) then padded_with size (decode_of word) else None
 
 -- the block that a word says
-unfoldable pub block : List ℕ → Option Block
-block word = option_map (λ bytes. record { 0 = bytes }) (bytes_in_word 512 word)
+unfoldable pub block_in_word : List ℕ → Option Block
+block_in_word word = option_map (λ bytes. record { 0 = bytes }) (bytes_in_word 512 word)
 
 -- the label that a word says
-unfoldable pub label : List ℕ → Option (List ℕ)
-label word = bytes_in_word 32 word
+unfoldable pub label_in_word : List ℕ → Option (List ℕ)
+label_in_word word = bytes_in_word 32 word

@@ -63,15 +63,15 @@ abbrev pub place : Geometry → Msg → Path
 place g m = place_of g (kind m) (four_numbers m)
 
 -- so many bytes
-abbrev pub AreBytes : ℕ → List ℕ → Type 0
-AreBytes size bytes = (length bytes ≡ size) × AllByRecursion (λ b. b < 256) bytes
+abbrev pub AreSizedBytes : ℕ → List ℕ → Type 0
+AreSizedBytes size bytes = (length bytes ≡ size) × AllByRecursion (λ b. b < 256) bytes
 
 -- a block has 512 bytes
 abbrev pub IsBlock : Block → Type 0
-IsBlock content = AreBytes 512 content.0
+IsBlock content = AreSizedBytes 512 content.0
 
 -- What a message carries are bytes, as many as there should be.
 abbrev pub IsMessage : Msg → Type 0
 IsMessage (Write a v f b content) = IsBlock content
-IsMessage (SetLabel a v bytes) = AreBytes 32 bytes
+IsMessage (SetLabel a v bytes) = AreSizedBytes 32 bytes
 IsMessage _ = Unit {0}

@@ -30,8 +30,8 @@ abbrev pub head_with : ℕ → List ℕ → List ℕ
 head_with k (a ∷ v ∷ f ∷ b ∷ []) = k ∷ a ∷ v ∷ f ∷ [] ++ little_bytes 2 b ++ 0 ∷ 0 ∷ []
 head_with k _ = []
 
-abbrev pub head_of : Msg → List ℕ
-head_of m = head_with (kind_number (kind m)) (four_numbers m)
+abbrev pub record_head : Msg → List ℕ
+record_head m = head_with (kind_number (kind m)) (four_numbers m)
 
 -- the data: the block of a `write`, the label of a `setlabel` and zeros behind it, and zeros for all others
 unfoldable pub data_of : Msg → List ℕ
@@ -40,11 +40,11 @@ data_of (SetLabel a v bytes) = bytes ++ replicate 480 0
 data_of _ = replicate 512 0
 
 abbrev pub record_of : Msg → List ℕ
-record_of m = head_of m ++ data_of m
+record_of m = record_head m ++ data_of m
 
 -- Aggregate, volume and file have room in their bytes.
-abbrev pub HasRoom : Msg → Type 0
-HasRoom m = AllByRecursion (λ n. n < 256) (take 3 (four_numbers m))
+abbrev pub FitsRecord : Msg → Type 0
+FitsRecord m = AllByRecursion (λ n. n < 256) (take 3 (four_numbers m))
 
 -- ---- by the bytes: what the fields say
 

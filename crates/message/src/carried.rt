@@ -1,6 +1,6 @@
 //! What a message carries, made known to proofs: its block has 512 bytes, its label 32.
 
-ghost use Rattle.message.specs.Messages.{AreBytes, IsBlock, IsMessage};
+ghost use Rattle.message.specs.Messages.{AreSizedBytes, IsBlock, IsMessage};
 
 use crate::{Block, Msg};
 
@@ -14,7 +14,7 @@ pub fn know_block(content: &Block)
 
 /// A label has 32 bytes.
 fn know_label(label: &[u8; 32])
-    ensures { AreBytes 32 label.now }
+    ensures { AreSizedBytes 32 label.now }
 {
     let bytes = label.as_slice();
     let _size = bytes.len();

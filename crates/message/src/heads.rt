@@ -3,7 +3,7 @@
 ghost use Rattle.std.specs.Prelude.{◌≡◌, ℕ, [], ◌∷◌, slice_index, option_map, IfSome, MatchOption, Some, None};
 ghost use Rattle.message.specs.declared.Msg.{Msg};
 ghost use Rattle.message.specs.declared.Msg.TheVariants.{Write as write};
-ghost use Rattle.message.specs.Lines.{words, block, bytes_in_word};
+ghost use Rattle.message.specs.Lines.{words, block_in_word, bytes_in_word};
 ghost use Rattle.message.specs.Grammar.{message_of, of_kind, of_volume, of_file, of_block, of_data};
 ghost use Rattle.message.specs.Messages.{filled};
 ghost use Rattle.message.specs.Heads.{IsHead, writing};
@@ -141,7 +141,7 @@ fn write_asked(line: &[u8]) -> Head<'_>
 /// The numbers of a `write`, and what stands where its digits are to be.
 fn write_parts(line: &[u8]) -> Option<([u16; 4], &[u8])>
     ensures { MatchOption result (of_data write (words line.now) ≡ None)
-        (λ p. of_data write (words line.now) ≡ option_map (writing p.0) (block p.1.now)) }
+        (λ p. of_data write (words line.now) ≡ option_map (writing p.0) (block_in_word p.1.now)) }
 {
     let (aggregate, behind) = number_before_space(line)?;
     let (volume, behind) = number_before_space(behind)?;
@@ -167,8 +167,8 @@ fn read_bytes(digits: &[u8], out: &mut [u8; 512]) -> Option<()>
 /// Puts the block that some digits say where there is room for one: no other bytes are moved. Where
 /// they say none, it is open what lies there then.
 pub fn read_block(digits: &[u8], content: &mut Block) -> Option<()>
-    ensures { MatchOption result (block digits.now ≡ None)
-        (λ _. block digits.now ≡ Some content.new) }
+    ensures { MatchOption result (block_in_word digits.now ≡ None)
+        (λ _. block_in_word digits.now ≡ Some content.new) }
 {
     read_bytes(digits, &mut content.0)
 }

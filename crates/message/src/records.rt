@@ -3,7 +3,7 @@
 ghost use Rattle.std.specs.Prelude.{◌≡◌, ◌↔◌, ◌++◌, true, Some, drop, replicate, IfSome, IsTrue, slice_index};
 ghost use Rattle.affinity.specs.declared.kinds.Kind.{Kind};
 ghost use Rattle.message.specs.Messages.{IsMessage, is_in_range};
-ghost use Rattle.message.specs.Records.{HasRoom, assembled, data_of, message_in_fields, head_of, kind_number, kind_numbered, record_of};
+ghost use Rattle.message.specs.Records.{FitsRecord, assembled, data_of, message_in_fields, record_head, kind_number, kind_numbered, record_of};
 ghost use Rattle.message.specs.declared.Msg.{Msg};
 
 use crate::{Block, Msg};
@@ -13,7 +13,7 @@ use byteorder::{ByteOrder, LittleEndian};
 /// Writes the record of a message into `out`, all of it. The message's aggregate, volume and file
 /// are at most 255 each.
 pub fn encode(m: &Msg, out: &mut [u8; 520])
-    requires { HasRoom m.now }
+    requires { FitsRecord m.now }
     ensures { out.new ≡ record_of m.now }
 {
     out[..8].copy_from_slice(&head_of(m));
@@ -52,8 +52,8 @@ fn has_data_of(bytes: &[u8; 520], m: &Msg) -> bool
 
 /// What stands before the data of a record.
 fn head_of(m: &Msg) -> [u8; 8]
-    requires { HasRoom m.now }
-    ensures { result ≡ head_of m.now }
+    requires { FitsRecord m.now }
+    ensures { result ≡ record_head m.now }
 {
     let [aggregate, volume, file, block] = m.numbers();
     let kind = kind_number(m.kind());

@@ -4,7 +4,7 @@ ghost use Rattle.std.specs.Prelude.{◌≡◌, ◌+◌, ◌≤◌, ◌⊎◌, �
 ghost use Rattle.std.specs.Io.KnownBytes.{Appends};
 ghost use Rattle.message.specs.Reader.{HoldsLine};
 ghost use Rattle.message.specs.Replies.{no_message, reply_line};
-ghost use Rattle.message.specs.Waiting.{so_far};
+ghost use Rattle.message.specs.Waiting.{FitsReply, so_far};
 ghost use Rattle.message.specs.declared.Reply.TheVariants.{Done, Refused, Block as block_reply};
 
 use crate::printing::write_block;
@@ -152,6 +152,27 @@ impl ReplyBuffer {
         self.len == 0
     }
 
+    /// Whether the longest reply has room behind what waits.
+    pub fn has_room(&self) -> bool
+        ensures { IsTrue result ↔ FitsReply self.now }
+    {
+        self.len <= REPLY_BUFFER_SIZE - LONGEST_REPLY
+    }
+
+    /// What waits.
+    pub fn waiting(&self) -> &[u8]
+        ensures { result.now ≡ self.now }
+    {
+        &self.bytes.as_slice()[..self.len]
+    }
+
+    /// Lets go of all that waits, since it was written.
+    pub fn clear(&mut self)
+        ensures { self.new ≡ [] }
+    {
+        self.len = 0;
+    }
+
     /// Writes all that waits, and flushes the writer. Where nothing waits it does neither.
     ///
     /// # Errors
@@ -168,15 +189,16 @@ impl ReplyBuffer {
         if self.len == 0 {
             return Ok(());
         }
-        if w.write_all(&self.bytes.as_slice()[..self.len]).is_err() {
+        if w.write_all(self.waiting()).is_err() {
             return Err(WriteFault);
         }
         if w.flush().is_err() {
             return Err(WriteFault);
         }
-        self.len = 0;
+        self.clear();
         Ok(())
     }
+
     /// Writes all that waits before a read that may wait: unless a whole line is held, since the
     /// next line is then found with no read.
     ///
@@ -202,116 +224,72 @@ impl ReplyBuffer {
         }
     }
 
-    /// Writes all that waits where the longest reply has no room beside it.
-    fn make_room<W: Write>(&mut self, w: &mut W) -> Result<(), WriteFault>
-        ensures room { OnOk result (length self.new + LONGEST_REPLY ≤ REPLY_BUFFER_SIZE) }
+    /// Writes all that waits where the longest reply has no room behind it.
+    ///
+    /// # Errors
+    ///
+    /// Those of `send`.
+    pub fn make_room<W: Write>(&mut self, w: &mut W) -> Result<(), WriteFault>
+        ensures room { OnOk result (FitsReply self.new) }
         ensures kept { OnOk result (Appends (so_far (W.contents w.old) self.old)
             (so_far (W.contents w.new) self.new) []) }
-        ensures idle { length self.old + LONGEST_REPLY ≤ REPLY_BUFFER_SIZE →
-            IsOk result × (self.new ≡ self.old) × (w.new ≡ w.old) }
+        ensures idle { FitsReply self.old → IsOk result × (self.new ≡ self.old) × (w.new ≡ w.old) }
         ensures unchanged { OnErr result (self.new ≡ self.old) }
     {
-        if self.len <= REPLY_BUFFER_SIZE - LONGEST_REPLY {
+        if self.has_room() {
             Ok(())
         } else {
             self.send(w)
         }
     }
 
-    /// Adds the line of a reply to the waiting ones. Where the longest reply has no room beside
-    /// them, they are sent first.
-    ///
-    /// # Errors
-    ///
-    /// Those of `send`. The reply is not added then.
+    /// Adds the line of a reply to the waiting ones.
     #[inline(always)]
-    pub fn add_reply<W: Write>(&mut self, reply: &Reply, w: &mut W) -> Result<(), WriteFault>
-        ensures added { OnOk result (Appends (so_far (W.contents w.old) self.old)
-            (so_far (W.contents w.new) self.new) (reply_line reply.now)) }
-        ensures idle { length self.old + LONGEST_REPLY ≤ REPLY_BUFFER_SIZE →
-            IsOk result × (w.new ≡ w.old) }
-        ensures unchanged { OnErr result (self.new ≡ self.old) }
+    pub fn add_reply(&mut self, reply: &Reply)
+        requires { FitsReply self.old }
+        ensures { self.new ≡ self.old ++ reply_line reply.now }
     {
-        self.make_room(w)?;
         self.len = put_reply(reply, &mut self.bytes, self.len);
-        Ok(())
     }
 
     /// Adds a block's reply without copying the block.
-    ///
-    /// # Errors
-    ///
-    /// Those of `send`. The reply is not added then.
-    pub fn add_block<W: Write>(&mut self, content: &Block, w: &mut W) -> Result<(), WriteFault>
-        ensures added { OnOk result (Appends (so_far (W.contents w.old) self.old)
-            (so_far (W.contents w.new) self.new) (reply_line (block_reply content.now))) }
-        ensures idle { length self.old + LONGEST_REPLY ≤ REPLY_BUFFER_SIZE →
-            IsOk result × (w.new ≡ w.old) }
-        ensures unchanged { OnErr result (self.new ≡ self.old) }
+    pub fn add_block(&mut self, content: &Block)
+        requires { FitsReply self.old }
+        ensures { self.new ≡ self.old ++ reply_line (block_reply content.now) }
     {
-        self.make_room(w)?;
         self.len = put_block(content, &mut self.bytes, self.len);
-        Ok(())
     }
 
     /// Adds a line that is not longer than the longest reply.
-    fn add_line<W: Write>(&mut self, line: &[u8], w: &mut W) -> Result<(), WriteFault>
-        requires { length line.now ≤ LONGEST_REPLY }
-        ensures added { OnOk result (Appends (so_far (W.contents w.old) self.old)
-            (so_far (W.contents w.new) self.new) line.now) }
-        ensures idle { length self.old + LONGEST_REPLY ≤ REPLY_BUFFER_SIZE →
-            IsOk result × (w.new ≡ w.old) }
-        ensures unchanged { OnErr result (self.new ≡ self.old) }
+    fn add_line(&mut self, line: &[u8])
+        requires room { FitsReply self.old }
+        requires bound { length line.now ≤ LONGEST_REPLY }
+        ensures { self.new ≡ self.old ++ line.now }
     {
-        self.make_room(w)?;
         self.len = put_line(line, &mut self.bytes, self.len);
-        Ok(())
     }
 
-    /// The same with the reply that a message was carried out: no reply is made for it.
-    ///
-    /// # Errors
-    ///
-    /// Those of `send`. The reply is not added then.
-    pub fn add_done<W: Write>(&mut self, w: &mut W) -> Result<(), WriteFault>
-        ensures added { OnOk result (Appends (so_far (W.contents w.old) self.old)
-            (so_far (W.contents w.new) self.new) (reply_line Done)) }
-        ensures idle { length self.old + LONGEST_REPLY ≤ REPLY_BUFFER_SIZE →
-            IsOk result × (w.new ≡ w.old) }
-        ensures unchanged { OnErr result (self.new ≡ self.old) }
+    /// Adds the reply that a message was carried out: no reply is made for it.
+    pub fn add_done(&mut self)
+        requires { FitsReply self.old }
+        ensures { self.new ≡ self.old ++ reply_line Done }
     {
-        self.add_line(b"done\n", w)
+        self.add_line(b"done\n");
     }
 
-    /// The same with a refusal.
-    ///
-    /// # Errors
-    ///
-    /// Those of `send`. The reply is not added then.
-    pub fn add_refusal<W: Write>(&mut self, why: Refusal, w: &mut W) -> Result<(), WriteFault>
-        ensures added { OnOk result (Appends (so_far (W.contents w.old) self.old)
-            (so_far (W.contents w.new) self.new) (reply_line (Refused why))) }
-        ensures idle { length self.old + LONGEST_REPLY ≤ REPLY_BUFFER_SIZE →
-            IsOk result × (w.new ≡ w.old) }
-        ensures unchanged { OnErr result (self.new ≡ self.old) }
+    /// Adds the line of a refusal.
+    pub fn add_refusal(&mut self, why: Refusal)
+        requires { FitsReply self.old }
+        ensures { self.new ≡ self.old ++ reply_line (Refused why) }
     {
-        self.add_line(refusal_line(why), w)
+        self.add_line(refusal_line(why));
     }
 
-    /// The same with the line that answers a line that is no message.
-    ///
-    /// # Errors
-    ///
-    /// Those of `send`. The line is not added then.
-    pub fn add_no_message<W: Write>(&mut self, w: &mut W) -> Result<(), WriteFault>
-        ensures added { OnOk result (Appends (so_far (W.contents w.old) self.old)
-            (so_far (W.contents w.new) self.new) no_message) }
-        ensures idle { length self.old + LONGEST_REPLY ≤ REPLY_BUFFER_SIZE →
-            IsOk result × (w.new ≡ w.old) }
-        ensures unchanged { OnErr result (self.new ≡ self.old) }
+    /// Adds the line that answers a line that is no message.
+    pub fn add_no_message(&mut self)
+        requires { FitsReply self.old }
+        ensures { self.new ≡ self.old ++ no_message }
     {
-        self.make_room(w)?;
         self.len = put_line(no_message_line(), &mut self.bytes, self.len);
-        Ok(())
     }
 }

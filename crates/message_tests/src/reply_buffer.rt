@@ -60,11 +60,25 @@ fn has(rt: &impl Abort, w: &Counting, bytes: usize, flushes: usize) {
     assert_eq!(rt; (w.bytes, w.flushes, w.is_flushed), (bytes, flushes, true));
 }
 
-// Adds the longest reply `count` times, until one fails.
+// Adds a reply, after what waits is written where that has no room.
+fn add<W: Write>(out: &mut ReplyBuffer, w: &mut W, reply: &Reply) -> Result<(), WriteFault> {
+    out.make_room(w)?;
+    out.add_reply(reply);
+    Ok(())
+}
+
+// The same with the line that answers a line that is no message.
+fn add_line<W: Write>(out: &mut ReplyBuffer, w: &mut W) -> Result<(), WriteFault> {
+    out.make_room(w)?;
+    out.add_no_message();
+    Ok(())
+}
+
+// Adds the longest reply `count` times, until a write fails.
 fn add_blocks(out: &mut ReplyBuffer, w: &mut Counting, count: usize) -> Result<(), WriteFault> {
     let full = Reply::Block(Block([0xff; 512]));
     for _ in 0..count {
-        out.add_reply(&full, w)?;
+        add(out, w, &full)?;
     }
     Ok(())
 }
@@ -75,7 +89,11 @@ fn replies_wait_until_the_longest_has_no_room(rt: HostRuntime) -> Result<(), Fai
     let mut out = ReplyBuffer::new(rt.alloc())?;
 
     // 63 of 1,031 bytes are 64,953.
-    holds(&rt, add_blocks(&mut out, &mut w, 63) == Ok(()));
+    holds(&rt, add_blocks(&mut out, &mut w, 62) == Ok(()));
+    holds(&rt, out.has_room());
+    holds(&rt, add_blocks(&mut out, &mut w, 1) == Ok(()));
+    holds(&rt, !out.has_room());
+    holds(&rt, out.waiting().len() == 64953);
     has(&rt, &w, 0, 0);
     holds(&rt, add_blocks(&mut out, &mut w, 1) == Ok(()));
     has(&rt, &w, 64953, 1);
@@ -97,9 +115,11 @@ fn a_writer_that_fails_at_once_is_told(rt: HostRuntime) -> Result<(), Fail> {
     holds(&rt, add_blocks(&mut out, &mut w, 63) == Ok(()));
     holds(&rt, add_blocks(&mut out, &mut w, 1) == Err(WriteFault));
     holds(&rt, !out.is_empty());
-    holds(&rt, out.add_no_message(&mut w) == Err(WriteFault));
+    holds(&rt, add_line(&mut out, &mut w) == Err(WriteFault));
     holds(&rt, out.send(&mut w) == Err(WriteFault));
     has(&rt, &w, 0, 0);
+    out.clear();
+    holds(&rt, out.is_empty());
     Ok(())
 }
 
@@ -107,7 +127,7 @@ fn a_writer_that_fails_at_once_is_told(rt: HostRuntime) -> Result<(), Fail> {
 fn a_flush_that_fails_is_told(rt: HostRuntime) -> Result<(), Fail> {
     let mut w = Counting::new(Some(2));
     let mut out = ReplyBuffer::new(rt.alloc())?;
-    holds(&rt, out.add_no_message(&mut w) == Ok(()));
+    holds(&rt, add_line(&mut out, &mut w) == Ok(()));
     holds(&rt, out.send(&mut w) == Err(WriteFault));
     holds(&rt, w.bytes == 11);
     holds(&rt, w.flushes == 0);
@@ -121,7 +141,7 @@ fn replies_are_sent_before_a_read(rt: HostRuntime) -> Result<(), Fail> {
     let mut w = Counting::new(None);
     let mut out = ReplyBuffer::new(rt.alloc())?;
     for flushes in [1, 1, 2] {
-        holds(&rt, out.add_no_message(&mut w) == Ok(()));
+        holds(&rt, add_line(&mut out, &mut w) == Ok(()));
         holds(&rt, out.send_before_read(&lines, &mut w) == Ok(()));
         holds(&rt, w.flushes == flushes);
         holds(&rt, out.is_empty() != lines.holds_line());
@@ -137,10 +157,11 @@ fn what_was_added_is_written_in_order(rt: HostRuntime) -> Result<(), Fail> {
     let mut w = Vec::with_capacity(rt.alloc(), 64)?;
     w.extend_from_slice(b"before\n")?;
     let mut out = ReplyBuffer::new(rt.alloc())?;
-    holds(&rt, out.add_reply(&Reply::Done, &mut w) == Ok(()));
-    holds(&rt, out.add_no_message(&mut w) == Ok(()));
-    holds(&rt, out.add_reply(&Reply::Files(5), &mut w) == Ok(()));
+    holds(&rt, add(&mut out, &mut w, &Reply::Done) == Ok(()));
+    holds(&rt, add_line(&mut out, &mut w) == Ok(()));
+    holds(&rt, add(&mut out, &mut w, &Reply::Files(5)) == Ok(()));
     same(&rt, w.as_slice(), b"before\n");
+    same(&rt, out.waiting(), b"done\nerror line\nfiles 0 2\n");
     holds(&rt, out.send(&mut w) == Ok(()));
     same(&rt, w.as_slice(), b"before\ndone\nerror line\nfiles 0 2\n");
     know_message(&Msg::Summary);

@@ -68,40 +68,6 @@ asking_is_message kinds.Summary ns h = tt
 asking_is_message kinds.SetLabel ns h = cc h
 asking_is_message kinds.Label ns h = tt
 
--- what changes something is told that it was done
-pub done_by : (g : Geometry) (x : State) (k : Kind) (ns : List ℕ) → is_changing k ≡ true → accepted_reply g x (asking k ns) ≡ Done
-done_by g x kinds.MakeVol ns h = refl
-done_by g x kinds.DropVol ns h = refl
-done_by g x kinds.Create ns h = refl
-done_by g x kinds.Delete ns h = refl
-done_by g x kinds.Seal ns h = refl
-done_by g x kinds.Unseal ns h = refl
-done_by g x kinds.Write ns h = refl
-done_by g x kinds.Punch ns h = refl
-done_by g x kinds.Read ns h = cc h
-done_by g x kinds.List ns h = cc h
-done_by g x kinds.Usage ns h = cc h
-done_by g x kinds.Summary ns h = cc h
-done_by g x kinds.SetLabel ns h = refl
-done_by g x kinds.Label ns h = cc h
-
--- what changes nothing leaves the state
-pub unchanged_by : (x : State) (k : Kind) (ns : List ℕ) → is_changing k ≡ false → effect x (asking k ns) ≡ x
-unchanged_by x kinds.MakeVol ns h = cc h
-unchanged_by x kinds.DropVol ns h = cc h
-unchanged_by x kinds.Create ns h = cc h
-unchanged_by x kinds.Delete ns h = cc h
-unchanged_by x kinds.Seal ns h = cc h
-unchanged_by x kinds.Unseal ns h = cc h
-unchanged_by x kinds.Write ns h = cc h
-unchanged_by x kinds.Punch ns h = cc h
-unchanged_by x kinds.Read ns h = refl
-unchanged_by x kinds.List ns h = refl
-unchanged_by x kinds.Usage ns h = refl
-unchanged_by x kinds.Summary ns h = refl
-unchanged_by x kinds.SetLabel ns h = cc h
-unchanged_by x kinds.Label ns h = refl
-
 pub refusal_asked : (g : Geometry) (x : State) (k : Kind) (ns : List ℕ) → IsAsked k ns (Some (asking k ns)) → refusal_by g x k ns ≡ refusal g x (asking k ns)
 refusal_asked g x k ns h =
     ap (λ j. refusal_by g x j ns) (sym h.kind_is)

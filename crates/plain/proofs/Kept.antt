@@ -12,7 +12,7 @@ use Rattle.message.specs.declared.Msg.{Msg}
 use Rattle.message.specs.declared.Msg.TheVariants.{MakeVol, DropVol, Create, Delete, Seal, Unseal, Write, Punch, Read, List as ListFiles, Usage as AskUsage, Summary as AskSummary, SetLabel, Label as AskLabel}
 use Rattle.message.specs.declared.Refusal.{Refusal}
 use Rattle.message.specs.declared.Refusal.TheVariants.{Space}
-use Rattle.message.specs.Messages.{AreBytes, IsBlock, IsMessage}
+use Rattle.message.specs.Messages.{AreSizedBytes, IsBlock, IsMessage}
 use Rattle.plain.specs.State.{State, IsState, empty, VolumeKey, FileKey, BlockKey, is_volume, is_file, is_block, is_file_of, is_block_of, is_block_of_file, one_if, group_count}
 use Rattle.plain.specs.Serial.{tests, passes, refusal, effect, accepted_reply, outcome, next_state, fold, no_label}
 use Rattle.plain.specs.Laws.{outside}
@@ -92,7 +92,7 @@ zeros_are_bytes : (n : ℕ) → AllByRecursion (λ b. b < 256) (replicate n 0)
 zeros_are_bytes zero = tt
 zeros_are_bytes (suc n) = (lit< tt, zeros_are_bytes n)
 
-pub no_label_is_bytes : AreBytes 32 no_label
+pub no_label_is_bytes : AreSizedBytes 32 no_label
 no_label_is_bytes = (refl, zeros_are_bytes 32)
 
 -- ---- the quota
@@ -180,7 +180,7 @@ effect_kept g x h (MakeVol a v) w p =
       blocks = h.blocks;
       labels = λ k. some-set (is_volume a v k) (x.made k) no_label (x.labels k) (h.labels k);
       content = h.content;
-      label_content = λ k. content-set (AreBytes 32) (is_volume a v k) no_label (x.labels k) no_label_is_bytes (h.label_content k);
+      label_content = λ k. content-set (AreSizedBytes 32) (is_volume a v k) no_label (x.labels k) no_label_is_bytes (h.label_content k);
       quota = h.quota;
     }
 effect_kept g x h (DropVol a v) w p = record {
@@ -190,7 +190,7 @@ effect_kept g x h (DropVol a v) w p = record {
   blocks = λ k e. let q = not_cleared (is_block_of a v k) (x.blocks k) e in ((h.blocks k q.1).0, and_from (not (is_block_of a v k)) (x.files (k.0, k.1, k.2)) q.0 (h.blocks k q.1).1);
   labels = λ k. some-cleared (is_volume a v k) (x.made k) (x.labels k) (h.labels k);
   content = λ k. content-cleared IsBlock (is_block_of a v k) (x.blocks k) (h.content k);
-  label_content = λ k. content-cleared (AreBytes 32) (is_volume a v k) (x.labels k) (h.label_content k);
+  label_content = λ k. content-cleared (AreSizedBytes 32) (is_volume a v k) (x.labels k) (h.label_content k);
   quota = quota_fewer g x (effect x (DropVol a v)) h (λ k e. (not_cleared (is_block_of a v k) (x.blocks k) e).1);
 }
 effect_kept g x h (Create a v f) w p =
@@ -249,7 +249,7 @@ effect_kept g x h (SetLabel a v bytes) w p = record {
     | false ↦ λ is. h.labels k
   ] refl;
   content = h.content;
-  label_content = λ k. content-set (AreBytes 32) (is_volume a v k) bytes (x.labels k) w (h.label_content k);
+  label_content = λ k. content-set (AreSizedBytes 32) (is_volume a v k) bytes (x.labels k) w (h.label_content k);
   quota = h.quota;
 }
 effect_kept g x h (Read a v f b) w p = h

@@ -8,7 +8,7 @@ use Rattle.std.specs.Cmp.{unsigned_tied}
 use Rattle.std.specs.BTreeMap.{is_at}
 use Rattle.std.proofs.lemmas.Bool.{and_parts, eqb-true, eq-eqb, false_from_ne_true}
 use Rattle.plain.specs.State.{VolumeKey, FileKey, BlockKey, Set, Map, adding, dropping, setting, clearing, is_volume, is_file, is_block}
-use Rattle.plain.specs.Server.{by_volume, by_file, by_block}
+use Rattle.plain.specs.Server.{volume_order, by_file, by_block}
 
 then_eq : (r s : Ordering) → is_eq (ordering_then r s) ≡ (is_eq r && is_eq s)
 then_eq Less s = refl
@@ -17,7 +17,7 @@ then_eq Greater s = refl
 
 -- ---- a key ties in its order with the keys that its test picks
 
-pub at_volume : (a v : ℕ) (k : VolumeKey) → is_at (by_volume (a, v)) k ≡ is_volume a v k
+pub at_volume : (a v : ℕ) (k : VolumeKey) → is_at (volume_order (a, v)) k ≡ is_volume a v k
 at_volume a v k = then_eq _ _ ∙ (λ i. unsigned_tied a k.0 i && unsigned_tied v k.1 i)
 
 pub at_file : (a v f : ℕ) (k : FileKey) → is_at (by_file (a, v, f)) k ≡ is_file a v f k
@@ -71,10 +71,10 @@ pub and_cond : (b c : Bool) → cond b false c ≡ (not b && c)
 and_cond true c = refl
 and_cond false c = refl
 
-pub one_volume : (s t : Set VolumeKey) (a v : ℕ) → ((k : VolumeKey) → t k ≡ cond (is_at (by_volume (a, v)) k) true (s k)) → t ≡ adding (is_volume a v) s
+pub one_volume : (s t : Set VolumeKey) (a v : ℕ) → ((k : VolumeKey) → t k ≡ cond (is_at (volume_order (a, v)) k) true (s k)) → t ≡ adding (is_volume a v) s
 one_volume s t a v h i k = (h k ∙ ap (λ b. cond b true (s k)) (at_volume a v k) ∙ or_cond (is_volume a v k) (s k)) i
 
-pub no_volume : (s t : Set VolumeKey) (a v : ℕ) → ((k : VolumeKey) → t k ≡ cond (is_at (by_volume (a, v)) k) false (s k)) → t ≡ dropping (is_volume a v) s
+pub no_volume : (s t : Set VolumeKey) (a v : ℕ) → ((k : VolumeKey) → t k ≡ cond (is_at (volume_order (a, v)) k) false (s k)) → t ≡ dropping (is_volume a v) s
 no_volume s t a v h i k = (h k ∙ ap (λ b. cond b false (s k)) (at_volume a v k) ∙ and_cond (is_volume a v k) (s k)) i
 
 pub one_file : (s t : Set FileKey) (a v f : ℕ) → ((k : FileKey) → t k ≡ cond (is_at (by_file (a, v, f)) k) true (s k)) → t ≡ adding (is_file a v f) s

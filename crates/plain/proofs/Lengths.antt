@@ -12,7 +12,7 @@ use Rattle.std.proofs.lemmas.Bool.{or_left, or_right}
 use Rattle.std.proofs.lemmas.Map.Keys.{IsDistinct-from_sorted, IsDistinct-head, IsDistinct-tail}
 use Rattle.affinity.specs.declared.geometry.Geometry.{Geometry}
 use Rattle.plain.specs.State.{VolumeKey, FileKey, BlockKey, sum_below, one_if, is_volume, is_file, is_block}
-use Rattle.plain.specs.Server.{by_volume, by_file, by_block}
+use Rattle.plain.specs.Server.{volume_order, by_file, by_block}
 use Rattle.plain.proofs.Keys.{at_volume, at_file, at_block, the_volume, the_file, the_block, picks_volume, picks_file, picks_block}
 use Rattle.plain.proofs.Sums.{sum_same, sum_below-add, sum_zero, sum_pick}
 
@@ -89,7 +89,7 @@ module _ (g : Geometry) where
   one_block : (e : BlockKey) → IsBlockIn g e → over_blocks g (λ k. one_if (is_block k.0 k.1 k.2 k.3 e)) ≡ 1
   one_block e h = sum_same g.aggregates _ _ (λ a. sum_same g.volumes _ _ (λ v. sum_same g.files _ _ (λ f. sum_pick g.blocks e.3 h.3 ((a == e.0) && (v == e.1) && (f == e.2))))) ∙ one_file (e.0, e.1, e.2) (h.0, h.1, h.2)
 
-  volumes : IsWhole (eq_by_cmp by_volume) (IsVolumeIn g) (over_volumes g)
+  volumes : IsWhole (eq_by_cmp volume_order) (IsVolumeIn g) (over_volumes g)
   volumes = record {
     nothing = sum_same g.aggregates _ _ (λ a. sum_zero g.volumes) ∙ sum_zero g.aggregates;
     adds = λ f h. sum_same g.aggregates _ _ (λ a. sum_below-add g.volumes (λ v. f (a, v)) (λ v. h (a, v))) ∙ sum_below-add g.aggregates _ _;
@@ -117,9 +117,9 @@ module _ (g : Geometry) where
   }
 
   -- a set of volumes, a set of files, and a map of blocks have as many keys as look-ups that find something
-  pub volumes_length : (s : BTreeSet VolumeKey) → set.IsOrdered by_volume s → ((k : VolumeKey) → set.contains by_volume s k ≡ true → IsVolumeIn g k)
-      → over_volumes g (λ k. one_if (set.contains by_volume s k)) ≡ set.btree_set_len s
-  volumes_length s o h = counted (eq_by_cmp by_volume) (IsVolumeIn g) (over_volumes g) volumes s.keys (IsDistinct-from_sorted by_volume s.keys o) h
+  pub volumes_length : (s : BTreeSet VolumeKey) → set.IsOrdered volume_order s → ((k : VolumeKey) → set.contains volume_order s k ≡ true → IsVolumeIn g k)
+      → over_volumes g (λ k. one_if (set.contains volume_order s k)) ≡ set.btree_set_len s
+  volumes_length s o h = counted (eq_by_cmp volume_order) (IsVolumeIn g) (over_volumes g) volumes s.keys (IsDistinct-from_sorted volume_order s.keys o) h
 
   pub files_length : (s : BTreeSet FileKey) → set.IsOrdered by_file s → ((k : FileKey) → set.contains by_file s k ≡ true → IsFileIn g k)
       → over_files g (λ k. one_if (set.contains by_file s k)) ≡ set.btree_set_len s

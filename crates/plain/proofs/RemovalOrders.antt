@@ -13,7 +13,7 @@ use Rattle.std.specs.BTreeSet.{BTreeSet}
 use Rattle.std.specs.BTreeMap.Range.{IsLeBy, IsRangeOf}
 use Rattle.std.proofs.lemmas.Bool.{true≢false, false_from_ne_true}
 use Rattle.plain.specs.State.{VolumeKey, FileKey, BlockKey, is_file_of, is_block_of_file}
-use Rattle.plain.specs.Server.{by_volume, by_file, by_block}
+use Rattle.plain.specs.Server.{volume_order, by_file, by_block}
 use Rattle.plain.proofs.Keys.{at_volume, at_file, the_volume, the_file}
 
 -- ---- an order by a first part, and then by a second one
@@ -41,7 +41,7 @@ from_tied Less n e = refl
 from_tied Equal n e = none_below_zero n
 from_tied Greater n e = absurd (true≢false (sym e))
 
-volume_total : IsTotalOrder by_volume
+volume_total : IsTotalOrder volume_order
 volume_total = then_total (on_total (λ (k : VolumeKey). k.0) nat_cmp_total) (on_total (λ (k : VolumeKey). k.1) nat_cmp_total)
 
 file_total : IsTotalOrder by_file
@@ -71,14 +71,14 @@ no_block_of_file m r rest a v f k x h e other q of = false_from_ne_true _ (λ th
 -- ---- the files of a volume
 
 first_of_volume : (a v : ℕ) (q : FileKey) → is_file_of a v q ≡ true → IsLeBy by_file (a, v, 0) q
-first_of_volume a v q e = from_tied (by_volume (a, v) (q.0, q.1)) q.2 (at_volume a v (q.0, q.1) ∙ e)
+first_of_volume a v q e = from_tied (volume_order (a, v) (q.0, q.1)) q.2 (at_volume a v (q.0, q.1) ∙ e)
 
 within_volume : (a v : ℕ) (k q : FileKey) → IsLeBy by_file (a, v, 0) k → IsLeBy by_file k q → is_file_of a v q ≡ true → is_file_of a v k ≡ true
 within_volume a v k q from to e =
     let here : VolumeKey = (k.0, k.1) in
-    let after = first_part (by_volume (a, v) here) (nat_cmp 0 k.2) from in
-    let before = subst (λ (p : VolumeKey). is_gt (by_volume here p) ≡ false) (sym (the_volume a v (q.0, q.1) e)) (first_part (by_volume here (q.0, q.1)) (nat_cmp k.2 q.2) to) in
-    sym (at_volume a v here) ∙ both_ways (by_volume (a, v) here) (by_volume here (a, v)) (volume_total.antisymm (a, v) here) after before
+    let after = first_part (volume_order (a, v) here) (nat_cmp 0 k.2) from in
+    let before = subst (λ (p : VolumeKey). is_gt (volume_order here p) ≡ false) (sym (the_volume a v (q.0, q.1) e)) (first_part (volume_order here (q.0, q.1)) (nat_cmp k.2 q.2) to) in
+    sym (at_volume a v here) ∙ both_ways (volume_order (a, v) here) (volume_order here (a, v)) (volume_total.antisymm (a, v) here) after before
 
 -- where the first key from there on is no file of the volume, the volume has none
 pub no_file_of_volume : (s : BTreeSet FileKey) (r rest : List FileKey) (a v : ℕ) (k : FileKey) → set.IsKeyRangeOf by_file (Included (a, v, 0)) Unbounded s r → r ≡ k ∷ rest

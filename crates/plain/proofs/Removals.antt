@@ -8,7 +8,7 @@ use Rattle.affinity.specs.Geometry.{group}
 use Rattle.message.specs.declared.Msg.TheVariants.{Delete, Punch}
 use Rattle.plain.specs.State.{State, IsState, Set, Map, VolumeKey, FileKey, BlockKey, dropping, clearing, is_volume, is_file, is_block, is_file_of, is_block_of, is_block_of_file, one_if, group_count}
 use Rattle.plain.specs.Serial.{effect}
-use Rattle.plain.specs.Server.{StripeKey, is_stripe, by_volume, by_file}
+use Rattle.plain.specs.Server.{StripeKey, is_stripe, volume_order, by_file}
 use Rattle.plain.specs.Removals.{without_blocks, without_files}
 use Rattle.plain.proofs.Keys.{and_cond, at_volume, at_file, the_block, picks_file, picks_block}
 use Rattle.plain.proofs.ServerCounts.{one_more}
@@ -16,7 +16,7 @@ use Rattle.plain.proofs.Writes.{AreCounts}
 
 -- ---- what answers as a removal says is the set or map without the key
 
-pub no_label_of : {X : Type 0} (m n : Map VolumeKey X) (a v : ℕ) → ((k : VolumeKey) → n k ≡ cond (is_at (by_volume (a, v)) k) None (m k)) → n ≡ clearing (is_volume a v) m
+pub no_label_of : {X : Type 0} (m n : Map VolumeKey X) (a v : ℕ) → ((k : VolumeKey) → n k ≡ cond (is_at (volume_order (a, v)) k) None (m k)) → n ≡ clearing (is_volume a v) m
 no_label_of m n a v h i k = (h k ∙ ap (λ b. cond b None (m k)) (at_volume a v k)) i
 
 pub no_file : (s t : Set FileKey) (a v f : ℕ) → ((k : FileKey) → t k ≡ cond (is_at (by_file (a, v, f)) k) false (s k)) → t ≡ dropping (is_file a v f) s

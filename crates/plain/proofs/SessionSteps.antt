@@ -11,7 +11,7 @@ use Rattle.message.specs.Lines.{lines}
 use Rattle.message.specs.Grammar.{message_of}
 use Rattle.message.specs.Reader.{GivesLine, PassesLine, IsClosed, IsAtEndOf, LosesFront}
 use Rattle.plain.specs.State.{State}
-use Rattle.plain.specs.Output.{answer_line, state_after_line, state_after_lines, output_lines, joined, serial_out, with_newlines, AnswersWholeLines, IsBeginning, Writes}
+use Rattle.plain.specs.Output.{answer_line, state_after_line, state_after_lines, output_lines, joined, serial_out, with_newlines, AnswersWholeLines, IsBeginning, WritesOutput}
 use Rattle.plain.specs.Progress.{HasAnswered}
 use Rattle.plain.proofs.OutputLemmas.{state_after_lines-append, joined-one_more, take-output_lines}
 use Rattle.plain.proofs.Taking.{takes_nothing, takes_line, takes_long_line}
@@ -28,8 +28,8 @@ appends_bare (Some xs) (Some ys) first rest w none_first none h =
     sym (ap (λ z. ys ++ z) none ∙ append-nil ys) ∙ h ∙ ap (λ z. z ++ w) (ap (λ z. xs ++ z) none_first ∙ append-nil xs)
 
 -- nothing waited at the start, and what waited at the end was written
-pub writes_sent : (input old known sent : Option (List ℕ)) (first waiting rest : List ℕ) (P : List ℕ → List ℕ → Type 0) → first ≡ [] → Writes input (append_known old first) (append_known known waiting) P
-    → Appends (append_known known waiting) (append_known sent rest) [] → rest ≡ [] → Writes input old sent P
+pub writes_sent : (input old known sent : Option (List ℕ)) (first waiting rest : List ℕ) (P : List ℕ → List ℕ → Type 0) → first ≡ [] → WritesOutput input (append_known old first) (append_known known waiting) P
+    → Appends (append_known known waiting) (append_known sent rest) [] → rest ≡ [] → WritesOutput input old sent P
 writes_sent None old known sent first waiting rest P none_first h kept none = tt
 writes_sent (Some input) old known sent first waiting rest P none_first h kept none =
     (h.0, appends_bare old sent first rest h.0 none_first none (appends_more (append_known old first) (append_known known waiting) (append_known sent rest) h.0 h.1 kept), h.2)
@@ -37,7 +37,7 @@ writes_sent (Some input) old known sent first waiting rest P none_first h kept n
 -- ---- how a session ends
 
 writes_all : (g : Geometry) (start : State) (input left : Option (List ℕ)) (ended : Bool) (x : State) (old new : Option (List ℕ)) → HasAnswered g start input left ended x old new → IfSome left (λ bs. bs ≡ [])
-    → Writes input old new (λ bytes written. written ≡ serial_out g start bytes)
+    → WritesOutput input old new (λ bytes written. written ≡ serial_out g start bytes)
 writes_all g start None left ended x old new h all = tt
 writes_all g start (Some input) None ended x old new h all = absurd (none-some h.taken.0 h.taken.1)
 writes_all g start (Some input) (Some bs) ended x old new h all =
@@ -46,7 +46,7 @@ writes_all g start (Some input) (Some bs) ended x old new h all =
     (joined (output_lines g start h.answered), h.output, sym (ap (λ z. joined (output_lines g start z)) (t.to_come ∙ ap (λ z. h.answered ++ z) none_left ∙ append-nil h.answered)))
 
 writes_whole_lines : (g : Geometry) (start : State) (input left now_left : Option (List ℕ)) (ended : Bool) (x : State) (old new : Option (List ℕ)) → HasAnswered g start input left ended x old new
-    → ended ≡ false → IfSome left (λ bs. LosesFront bs now_left) → Writes input old new (AnswersWholeLines g start now_left)
+    → ended ≡ false → IfSome left (λ bs. LosesFront bs now_left) → WritesOutput input old new (AnswersWholeLines g start now_left)
 writes_whole_lines g start None left now_left ended x old new h going lost = tt
 writes_whole_lines g start (Some input) None now_left ended x old new h going lost = absurd (none-some h.taken.0 h.taken.1)
 writes_whole_lines g start (Some input) (Some bs) now_left ended x old new h going lost =
@@ -67,7 +67,7 @@ writes_whole_lines g start (Some input) (Some bs) now_left ended x old new h goi
     )
 
 writes_beginning : (g : Geometry) (start : State) (input left : Option (List ℕ)) (ended : Bool) (x : State) (old new : Option (List ℕ)) → HasAnswered g start input left ended x old new
-    → Writes input old new (IsBeginning g start)
+    → WritesOutput input old new (IsBeginning g start)
 writes_beginning g start None left ended x old new h = tt
 writes_beginning g start (Some input) left ended x old new h =
     let t = h.taken.2 in (
@@ -117,17 +117,17 @@ module _ {g : Geometry} {start : State} {input left : Option (List ℕ)} {ended 
       }
 
   -- nothing was left
-  pub ends : HasAnswered g start input left ended x old new → IfSome left (λ bs. bs ≡ []) → Writes input old new (λ bytes written. written ≡ serial_out g start bytes)
+  pub ends : HasAnswered g start input left ended x old new → IfSome left (λ bs. bs ≡ []) → WritesOutput input old new (λ bytes written. written ≡ serial_out g start bytes)
   ends h all = writes_all g start input left ended x old new h all
 
   -- the end was found
-  pub ends_now : (now_left : Option (List ℕ)) → HasAnswered g start input left ended x old new → IfSome left (λ bs. IsAtEndOf bs now_left) → Writes input old new (λ bytes written. written ≡ serial_out g start bytes)
+  pub ends_now : (now_left : Option (List ℕ)) → HasAnswered g start input left ended x old new → IfSome left (λ bs. IsAtEndOf bs now_left) → WritesOutput input old new (λ bytes written. written ≡ serial_out g start bytes)
   ends_now now_left h at_end = ends h (IfSome_then left at_end (λ bs e. e.none))
 
   -- a read failed
-  pub fails : (now_left : Option (List ℕ)) → HasAnswered g start input left ended x old new → ended ≡ false → IfSome left (λ bs. LosesFront bs now_left) → Writes input old new (AnswersWholeLines g start now_left)
+  pub fails : (now_left : Option (List ℕ)) → HasAnswered g start input left ended x old new → ended ≡ false → IfSome left (λ bs. LosesFront bs now_left) → WritesOutput input old new (AnswersWholeLines g start now_left)
   fails now_left h going lost = writes_whole_lines g start input left now_left ended x old new h going lost
 
   -- the session stopped behind a line
-  pub stops_short : HasAnswered g start input left ended x old new → Writes input old new (IsBeginning g start)
+  pub stops_short : HasAnswered g start input left ended x old new → WritesOutput input old new (IsBeginning g start)
   stops_short h = writes_beginning g start input left ended x old new h

@@ -10,11 +10,11 @@ use Rattle.message.specs.Reader.{first_line, behind_first_line, GivesLine, Passe
 use Rattle.message.proofs.Keywords.{too_long}
 use Rattle.message.proofs.ReaderLemmas.{lines-first}
 use Rattle.plain.specs.Output.{with_newlines}
-use Rattle.plain.specs.Progress.{AreTaken, Takes}
+use Rattle.plain.specs.Progress.{AreTaken, TakesLines}
 use Rattle.plain.proofs.LineLemmas.{first_has_none, first_ends}
 use Rattle.plain.proofs.OutputLemmas.{with_newlines-one_more, are_lines-one_more}
 
-pub takes_nothing : (input : Option (List ℕ)) → Takes input input false []
+pub takes_nothing : (input : Option (List ℕ)) → TakesLines input input false []
 takes_nothing None = tt
 takes_nothing (Some bytes) = (bytes, refl, record { to_come = refl; are_lines = tt; whole = inr refl })
 
@@ -29,8 +29,8 @@ first_taken input rest ended now_ended taken t going more closes = record {
 }
 
 -- a line that was given
-pub takes_line : (input left now_left : Option (List ℕ)) (ended now_ended : Bool) (taken : List (List ℕ)) (line : List ℕ) → Takes input left ended taken → ended ≡ false
-    → IfSome left (λ bs. GivesLine line bs now_left) → IsClosed left now_ended → Takes input now_left now_ended (taken ++ line ∷ [])
+pub takes_line : (input left now_left : Option (List ℕ)) (ended now_ended : Bool) (taken : List (List ℕ)) (line : List ℕ) → TakesLines input left ended taken → ended ≡ false
+    → IfSome left (λ bs. GivesLine line bs now_left) → IsClosed left now_ended → TakesLines input now_left now_ended (taken ++ line ∷ [])
 takes_line None left now_left ended now_ended taken line t going found closes = tt
 takes_line (Some input) None now_left ended now_ended taken line t going found closes = absurd (none-some t.0 t.1)
 takes_line (Some input) (Some bs) now_left ended now_ended taken line t going found closes =
@@ -45,9 +45,9 @@ takes_line (Some input) (Some bs) now_left ended now_ended taken line t going fo
 pub record TakesNoMessage (input now_left : Option (List ℕ)) (now_ended : Bool) (taken : List (List ℕ)) : Type 0 where
   pub line : List ℕ
   pub no_message : message_of line ≡ None
-  pub takes : Takes input now_left now_ended (taken ++ line ∷ [])
+  pub takes : TakesLines input now_left now_ended (taken ++ line ∷ [])
 
-pub takes_long_line : (input left now_left : Option (List ℕ)) (ended now_ended : Bool) (taken : List (List ℕ)) → Takes input left ended taken → ended ≡ false
+pub takes_long_line : (input left now_left : Option (List ℕ)) (ended now_ended : Bool) (taken : List (List ℕ)) → TakesLines input left ended taken → ended ≡ false
     → IfSome left (λ bs. PassesLine bs now_left) → IsClosed left now_ended → TakesNoMessage input now_left now_ended taken
 takes_long_line None left now_left ended now_ended taken t going found closes =
     record { line = replicate {A = ℕ} 1101 0; no_message = sym (too_long (replicate {A = ℕ} 1101 0) (omega (arith, length-replicate {A = ℕ} 1101 0))); takes = tt }

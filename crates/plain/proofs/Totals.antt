@@ -8,7 +8,7 @@ use Rattle.affinity.specs.declared.geometry.Geometry.{Geometry}
 use Rattle.plain.specs.declared.server.Server.{Server}
 use Rattle.plain.specs.State.{State, IsState, one_if, file_count, block_count, over_volumes}
 use Rattle.plain.specs.Serial.{file_bits}
-use Rattle.plain.specs.Server.{server_state, by_volume, by_file, by_block}
+use Rattle.plain.specs.Server.{server_state, volume_order, by_file, by_block}
 use Rattle.plain.proofs.Sums.{one_if-le}
 use Rattle.plain.proofs.Counts.{bits-lt, file_count-le, block_count-le, over_volumes-le}
 use Rattle.plain.proofs.Lengths.{volumes_length, files_length, blocks_length}
@@ -40,7 +40,7 @@ small : (g : Geometry) (c : ℕ) → g.aggregates * (g.volumes * c) ≤ 4 * (8 *
 small g c = mul-le g.aggregates (g.volumes * c) 4 (8 * c) g.aggregates_range.1 (mul-le g.volumes c 8 c g.volumes_range.1 (omega arith))
 
 module _ (g : Geometry) (server : Server) (is : IsState g (server_state server)) where
-  pub volumes_total : set.IsOrdered by_volume server.made → set.btree_set_len server.made ≡ over_volumes g (λ a v. one_if ((server_state server).made (a, v)))
+  pub volumes_total : set.IsOrdered volume_order server.made → set.btree_set_len server.made ≡ over_volumes g (λ a v. one_if ((server_state server).made (a, v)))
   volumes_total ordered = sym (volumes_length g server.made ordered is.made)
 
   pub files_total : set.IsOrdered by_file server.files → set.btree_set_len server.files ≡ over_volumes g (file_count g (server_state server))

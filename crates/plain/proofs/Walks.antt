@@ -19,7 +19,7 @@ use Rattle.affinity.specs.declared.geometry.Geometry.{Geometry}
 use Rattle.plain.specs.declared.server.Server.{Server}
 use Rattle.plain.specs.State.{FileKey, is_file, sum_below, one_if, file_count, block_count}
 use Rattle.plain.specs.Serial.{file_bits}
-use Rattle.plain.specs.Server.{server_state, IsCounted, by_volume, by_file}
+use Rattle.plain.specs.Server.{server_state, IsCounted, volume_order, by_file}
 use Rattle.plain.proofs.Keys.{at_volume, at_file, the_volume, the_file, picks_volume, picks_file}
 use Rattle.plain.proofs.Counts.{block_count-by_stripe}
 use Rattle.plain.proofs.Sums.{sum_same, sum_zero, sum_below-same, sum_below_changed}
@@ -75,12 +75,12 @@ module _ (a v n : ℕ) where
 
   inside : (k : FileKey) → is_between k ≡ true → (◌≡◌ {A = FileKey} (a, v, k.2) k) × (k.2 < n)
   inside k e =
-      let parts = not_past (by_volume (a, v) (k.0, k.1)) (nat_cmp 0 k.2) (nat_cmp n k.2) e in
+      let parts = not_past (volume_order (a, v) (k.0, k.1)) (nat_cmp 0 k.2) (nat_cmp n k.2) e in
       let volume = the_volume a v (k.0, k.1) (sym (at_volume a v (k.0, k.1)) ∙ parts.0) in
       ((λ i. ((volume i).0, (volume i).1, k.2)), below_from n k.2 parts.1)
 
   between : (i : ℕ) → i < n → is_between (a, v, i) ≡ true
-  between i lt = tied_not_past (by_volume (a, v) (a, v)) (nat_cmp 0 i) (nat_cmp n i) (at_volume a v (a, v) ∙ picks_volume a v) (zero_up_to i) (from_below n i lt)
+  between i lt = tied_not_past (volume_order (a, v) (a, v)) (nat_cmp 0 i) (nat_cmp n i) (at_volume a v (a, v) ∙ picks_volume a v) (zero_up_to i) (from_below n i lt)
 
 -- ---- the elements with those keys add up to what lies at each number below n
 

@@ -62,6 +62,6 @@ abbrev pub IsBeginning : Geometry → State → List ℕ → List ℕ → Type 0
 IsBeginning g start input written = (n : ℕ) × (written ≡ joined (take n (output_lines g start (lines input))))
 
 -- Where the input is known, what was written behind the old bytes is so.
-abbrev pub Writes : Option (List ℕ) → Option (List ℕ) → Option (List ℕ) → (List ℕ → List ℕ → Type 0) → Type 0
-Writes None old new P = Unit {0}
-Writes (Some input) old new P = (written : List ℕ) × Appends old new written × P input written
+abbrev pub WritesOutput : Option (List ℕ) → Option (List ℕ) → Option (List ℕ) → (List ℕ → List ℕ → Type 0) → Type 0
+WritesOutput None old new P = Unit {0}
+WritesOutput (Some input) old new P = (written : List ℕ) × Appends old new written × P input written

@@ -14,13 +14,13 @@ pub record AreTaken (input rest : List ℕ) (ended : Bool) (taken : List (List �
   pub whole : (ended ≡ true) ⊎ (input ≡ with_newlines taken ++ rest)
 
 -- the same of an input that may be unknown
-abbrev pub Takes : Option (List ℕ) → Option (List ℕ) → Bool → List (List ℕ) → Type 0
-Takes None left ended taken = Unit {0}
-Takes (Some input) left ended taken = (rest : List ℕ) × (left ≡ Some rest) × AreTaken input rest ended taken
+abbrev pub TakesLines : Option (List ℕ) → Option (List ℕ) → Bool → List (List ℕ) → Type 0
+TakesLines None left ended taken = Unit {0}
+TakesLines (Some input) left ended taken = (rest : List ℕ) × (left ≡ Some rest) × AreTaken input rest ended taken
 
 -- From a state on, a session has answered lines of its input behind what was written before. So much of the input is left, this is its state now, and this is what was written.
 pub record HasAnswered (g : Geometry) (start : State) (input left : Option (List ℕ)) (ended : Bool) (now : State) (before written : Option (List ℕ)) : Type 0 where
   pub answered : List (List ℕ)
-  pub taken : Takes input left ended answered
+  pub taken : TakesLines input left ended answered
   pub state : now ≡ state_after_lines g start answered
   pub output : Appends before written (joined (output_lines g start answered))

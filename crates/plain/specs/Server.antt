@@ -10,11 +10,11 @@ use Rattle.plain.specs.State.{State, IsState, VolumeKey, FileKey, BlockKey, grou
 
 -- ---- the orders of the keys
 
-abbrev pub by_volume : VolumeKey → VolumeKey → Ordering
-by_volume x y = ordering_then (nat_cmp x.0 y.0) (nat_cmp x.1 y.1)
+abbrev pub volume_order : VolumeKey → VolumeKey → Ordering
+volume_order x y = ordering_then (nat_cmp x.0 y.0) (nat_cmp x.1 y.1)
 
 abbrev pub by_file : FileKey → FileKey → Ordering
-by_file x y = ordering_then (by_volume (x.0, x.1) (y.0, y.1)) (nat_cmp x.2 y.2)
+by_file x y = ordering_then (volume_order (x.0, x.1) (y.0, y.1)) (nat_cmp x.2 y.2)
 
 abbrev pub by_block : BlockKey → BlockKey → Ordering
 by_block x y = ordering_then (by_file (x.0, x.1, x.2) (y.0, y.1, y.2)) (nat_cmp x.3 y.3)
@@ -22,11 +22,11 @@ by_block x y = ordering_then (by_file (x.0, x.1, x.2) (y.0, y.1, y.2)) (nat_cmp 
 -- the state that the maps hold
 abbrev pub server_state : Server → State
 server_state server = record {
-  made = set.contains by_volume server.made;
-  sealed = set.contains by_volume server.sealed;
+  made = set.contains volume_order server.made;
+  sealed = set.contains volume_order server.sealed;
   files = set.contains by_file server.files;
   blocks = map.get by_block server.blocks;
-  labels = map.get by_volume server.labels;
+  labels = map.get volume_order server.labels;
 }
 
 -- ---- the blocks of each stripe (a, v, s)

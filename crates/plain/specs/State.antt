@@ -3,7 +3,7 @@ use Rattle.std.specs.Prelude.{◌≡◌, ℕ, zero, suc, ◌+◌, ◌<◌, ◌�
 use Rattle.affinity.specs.declared.geometry.Geometry.{Geometry}
 use Rattle.affinity.specs.Geometry.{group}
 use Rattle.message.specs.declared.Block.{Block}
-use Rattle.message.specs.Messages.{IsBlock, AreBytes}
+use Rattle.message.specs.Messages.{IsBlock, AreSizedBytes}
 
 -- ---- sets and maps
 
@@ -108,5 +108,5 @@ pub record IsState (g : Geometry) (x : State) : Type 0 where
   pub blocks : (k : BlockKey) → is_some (x.blocks k) ≡ true → (k.3 < g.blocks) × (x.files (k.0, k.1, k.2) ≡ true)
   pub labels : (k : VolumeKey) → is_some (x.labels k) ≡ x.made k
   pub content : (k : BlockKey) → IfSome (x.blocks k) IsBlock
-  pub label_content : (k : VolumeKey) → IfSome (x.labels k) (AreBytes 32)
+  pub label_content : (k : VolumeKey) → IfSome (x.labels k) (AreSizedBytes 32)
   pub quota : (a v s : ℕ) → group_count g x a v s ≤ g.quota

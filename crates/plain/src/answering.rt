@@ -1,11 +1,11 @@
 //! A session of the serial server: line after line is answered.
 
-ghost use Rattle.std.specs.Prelude.{◌≡◌, ◌≤◌, ℕ, List, Option, Some, true, false, option_map, IfOk, OnOk, IsErrOf, IsFalse, MatchBool, vec_len};
+ghost use Rattle.std.specs.Prelude.{◌≡◌, ◌≤◌, ◌++◌, ℕ, List, [], Option, Some, true, false, option_map, IfOk, OnOk, OnErr, IsErrOf, IsFalse, MatchBool, vec_len};
 ghost use Rattle.std.specs.Io.KnownBytes.{Appends, IsAtEnd};
 ghost use Rattle.message.specs.Grammar.{message_of};
 ghost use Rattle.message.specs.Reader.{unread, is_drained, source, KnowsEnd};
-ghost use Rattle.message.specs.Waiting.{so_far};
-ghost use Rattle.message.specs.Lines.{block};
+ghost use Rattle.message.specs.Waiting.{FitsReply, so_far};
+ghost use Rattle.message.specs.Lines.{block_in_word};
 ghost use Rattle.message.specs.Heads.{IsAsked, asking, writing};
 ghost use Rattle.affinity.specs.Kind.{is_changing};
 ghost use Rattle.plain.specs.ByKind.{reply_when};
@@ -14,7 +14,7 @@ ghost use Rattle.plain.specs.Server.{server_state, IsConsistent};
 ghost use Rattle.message.specs.Replies.{reply_line};
 ghost use Rattle.plain.specs.Serial.{reply_to, next_state};
 ghost use Rattle.plain.specs.Progress.{HasAnswered};
-ghost use Rattle.plain.specs.Output.{serial_out, answer_line, state_after_line, AnswersWholeLines, IsBeginning, Writes};
+ghost use Rattle.plain.specs.Output.{serial_out, answer_line, state_after_line, AnswersWholeLines, IsBeginning, WritesOutput};
 
 use crate::PlainFault;
 use crate::server::Server;
@@ -23,242 +23,227 @@ use message::{
     Block, Found, Head, LentReader, LineReader, Loan, Msg, Refusal, ReplyBuffer, WriteFault,
     head_of_line, parse_line, read_block,
 };
-use std::alloc::Global;
+use std::alloc::{AllocError, Global};
 use std::io::{Read, Write};
 use std::marker::PhantomData;
 
 /// Answers one message.
-fn answer_message<W: Write>(
+fn answer_message(
     g: &Geometry,
     m: &Msg,
     server: &mut Server,
     out: &mut ReplyBuffer,
-    w: &mut W,
-) -> Result<(), PlainFault>
-    requires { IsConsistent g.now server.old }
+) -> Result<(), AllocError>
+    requires sound { IsConsistent g.now server.old }
+    requires room { FitsReply out.old }
     ensures sound { IsConsistent g.now server.new }
     ensures state { OnOk result (server_state server.new
         ≡ next_state g.now (server_state server.old) m.now) }
-    ensures added { OnOk result (Appends (so_far (W.contents w.old) out.old)
-        (so_far (W.contents w.new) out.new)
-        (reply_line (reply_to g.now (server_state server.old) m.now))) }
-    ensures out_of_memory { IsErrOf result PlainFault.OutOfMemory →
-        (out.new ≡ out.old) × (w.new ≡ w.old) }
-    ensures no_read { IsErrOf result PlainFault.Read → ⊥ }
+    ensures added { OnOk result (out.new ≡ out.old
+        ++ reply_line (reply_to g.now (server_state server.old) m.now)) }
+    ensures out_of_memory { OnErr result (out.new ≡ out.old) }
 {
     if let Some(content) = server.block_shown(g, m) {
-        out.add_block(content, w)?;
+        out.add_block(content);
         return Ok(());
     }
     match &server.answer(g, m) {
         Ok(reply) => {
-            out.add_reply(reply, w)?;
+            out.add_reply(reply);
             Ok(())
         }
-        Err(_) => Err(PlainFault::OutOfMemory),
+        Err(_) => Err(AllocError),
     }
 }
 
 /// Answers a message that changes something and has no data.
-fn answer_change<W: Write>(
+fn answer_change(
     g: &Geometry,
     kind: Kind,
     numbers: [u16; 4],
     server: &mut Server,
     out: &mut ReplyBuffer,
-    w: &mut W,
-) -> Result<(), PlainFault>
+) -> Result<(), AllocError>
     requires asked { IsAsked kind numbers (Some (asking kind numbers)) }
     requires changes { is_changing kind ≡ true }
     requires sound { IsConsistent g.now server.old }
+    requires room { FitsReply out.old }
     ensures sound { IsConsistent g.now server.new }
     ensures state { OnOk result (server_state server.new
         ≡ next_state g.now (server_state server.old) (asking kind numbers)) }
-    ensures added { OnOk result (Appends (so_far (W.contents w.old) out.old)
-        (so_far (W.contents w.new) out.new)
-        (reply_line (reply_to g.now (server_state server.old) (asking kind numbers)))) }
-    ensures out_of_memory { IsErrOf result PlainFault.OutOfMemory →
-        (out.new ≡ out.old) × (w.new ≡ w.old) }
-    ensures no_read { IsErrOf result PlainFault.Read → ⊥ }
+    ensures added { OnOk result (out.new ≡ out.old
+        ++ reply_line (reply_to g.now (server_state server.old) (asking kind numbers))) }
+    ensures out_of_memory { OnErr result (out.new ≡ out.old) }
 {
-    match server.carry_out(g, kind, numbers) {
-        Ok(why) => {
-            add_outcome(why, out, w)?;
-            Ok(())
-        }
-        Err(_) => Err(PlainFault::OutOfMemory),
-    }
+    let why = server.carry_out(g, kind, numbers)?;
+    add_outcome(why, out);
+    Ok(())
 }
 
 /// Adds what a message is told that changes something.
-fn add_outcome<W: Write>(
-    why: Option<Refusal>,
-    out: &mut ReplyBuffer,
-    w: &mut W,
-) -> Result<(), WriteFault>
-    ensures added { OnOk result (Appends (so_far (W.contents w.old) out.old)
-        (so_far (W.contents w.new) out.new) (reply_line (reply_when why))) }
+fn add_outcome(why: Option<Refusal>, out: &mut ReplyBuffer)
+    requires { FitsReply out.old }
+    ensures { out.new ≡ out.old ++ reply_line (reply_when why) }
 {
     match why {
-        Some(why) => out.add_refusal(why, w),
-        None => out.add_done(w),
+        Some(why) => out.add_refusal(why),
+        None => out.add_done(),
     }
 }
 
 /// Answers a message that changes nothing.
 #[inline(never)]
-fn answer_question<W: Write>(
+fn answer_question(
     g: &Geometry,
     kind: Kind,
     numbers: [u16; 4],
     server: &Server,
     out: &mut ReplyBuffer,
-    w: &mut W,
-) -> Result<(), WriteFault>
+)
     requires asked { IsAsked kind numbers (Some (asking kind numbers)) }
     requires asks { is_changing kind ≡ false }
     requires sound { IsConsistent g.now server.now }
+    requires room { FitsReply out.old }
     ensures state { server_state server.now
         ≡ next_state g.now (server_state server.now) (asking kind numbers) }
-    ensures added { OnOk result (Appends (so_far (W.contents w.old) out.old)
-        (so_far (W.contents w.new) out.new)
-        (reply_line (reply_to g.now (server_state server.now) (asking kind numbers)))) }
+    ensures added { out.new ≡ out.old
+        ++ reply_line (reply_to g.now (server_state server.now) (asking kind numbers)) }
 {
     if let Some(content) = server.block_by(g, kind, numbers) {
-        return out.add_block(content, w);
+        out.add_block(content);
+        return;
     }
     if let Some(why) = server.refusal_by(g, kind, numbers) {
-        return out.add_refusal(why, w);
+        out.add_refusal(why);
+        return;
     }
     let [a, v, _, _] = numbers;
     match kind {
-        Kind::List => out.add_reply(&server.list_files(g, a, v), w),
-        Kind::Usage => out.add_reply(&server.usage_of(g, a, v), w),
-        _ => out.add_reply(&server.reply_by(g, kind, numbers), w),
+        Kind::List => out.add_reply(&server.list_files(g, a, v)),
+        Kind::Usage => out.add_reply(&server.usage_of(g, a, v)),
+        _ => out.add_reply(&server.reply_by(g, kind, numbers)),
     }
 }
 
 /// Answers a `write` with these numbers, of which these may be the digits.
 #[inline(never)]
-fn answer_write<W: Write>(
+fn answer_write(
     g: &Geometry,
     numbers: [u16; 4],
     digits: &[u8],
     server: &mut Server,
     out: &mut ReplyBuffer,
-    w: &mut W,
-) -> Result<(), PlainFault>
-    requires { IsConsistent g.now server.old }
+) -> Result<(), AllocError>
+    requires sound { IsConsistent g.now server.old }
+    requires room { FitsReply out.old }
     ensures sound { IsConsistent g.now server.new }
     ensures state { OnOk result (server_state server.new ≡ state_after_line g.now
-        (server_state server.old) (option_map (writing numbers) (block digits.now))) }
-    ensures added { OnOk result (Appends (so_far (W.contents w.old) out.old)
-        (so_far (W.contents w.new) out.new) (answer_line g.now (server_state server.old)
-        (option_map (writing numbers) (block digits.now)))) }
-    ensures out_of_memory { IsErrOf result PlainFault.OutOfMemory →
-        (out.new ≡ out.old) × (w.new ≡ w.old) }
-    ensures no_read { IsErrOf result PlainFault.Read → ⊥ }
+        (server_state server.old) (option_map (writing numbers) (block_in_word digits.now))) }
+    ensures added { OnOk result (out.new ≡ out.old ++ answer_line g.now (server_state server.old)
+        (option_map (writing numbers) (block_in_word digits.now))) }
+    ensures out_of_memory { OnErr result (out.new ≡ out.old) }
 {
     let mut content = Block([0; 512]);
     if read_block(digits, &mut content).is_none() {
-        out.add_no_message(w)?;
+        out.add_no_message();
         return Ok(());
     }
-    match server.write(g, numbers, &content) {
-        Ok(why) => {
-            add_outcome(why, out, w)?;
-            Ok(())
-        }
-        Err(_) => Err(PlainFault::OutOfMemory),
-    }
+    let why = server.write(g, numbers, &content)?;
+    add_outcome(why, out);
+    Ok(())
 }
 
 /// Answers a line by the message that it spells, whatever that is.
 #[inline(never)]
-fn answer_spelled<W: Write>(
+fn answer_spelled(
     g: &Geometry,
     line: &[u8],
     server: &mut Server,
     out: &mut ReplyBuffer,
-    w: &mut W,
-) -> Result<(), PlainFault>
-    requires { IsConsistent g.now server.old }
+) -> Result<(), AllocError>
+    requires sound { IsConsistent g.now server.old }
+    requires room { FitsReply out.old }
     ensures sound { IsConsistent g.now server.new }
     ensures state { OnOk result (server_state server.new
         ≡ state_after_line g.now (server_state server.old) (message_of line.now)) }
-    ensures added { OnOk result (Appends (so_far (W.contents w.old) out.old)
-        (so_far (W.contents w.new) out.new)
-        (answer_line g.now (server_state server.old) (message_of line.now))) }
-    ensures out_of_memory { IsErrOf result PlainFault.OutOfMemory →
-        (out.new ≡ out.old) × (w.new ≡ w.old) }
-    ensures no_read { IsErrOf result PlainFault.Read → ⊥ }
+    ensures added { OnOk result (out.new ≡ out.old
+        ++ answer_line g.now (server_state server.old) (message_of line.now)) }
+    ensures out_of_memory { OnErr result (out.new ≡ out.old) }
 {
     match &parse_line(line) {
-        Some(m) => answer_message(g, m, server, out, w),
+        Some(m) => answer_message(g, m, server, out),
         None => {
-            out.add_no_message(w)?;
+            out.add_no_message();
             Ok(())
         }
     }
 }
 
 /// Answers a message without data.
-fn answer_asked<W: Write>(
+fn answer_asked(
     g: &Geometry,
     kind: Kind,
     numbers: [u16; 4],
     server: &mut Server,
     out: &mut ReplyBuffer,
-    w: &mut W,
-) -> Result<(), PlainFault>
+) -> Result<(), AllocError>
     requires asked { IsAsked kind numbers (Some (asking kind numbers)) }
     requires sound { IsConsistent g.now server.old }
+    requires room { FitsReply out.old }
     ensures sound { IsConsistent g.now server.new }
     ensures state { OnOk result (server_state server.new
         ≡ next_state g.now (server_state server.old) (asking kind numbers)) }
-    ensures added { OnOk result (Appends (so_far (W.contents w.old) out.old)
-        (so_far (W.contents w.new) out.new)
-        (reply_line (reply_to g.now (server_state server.old) (asking kind numbers)))) }
-    ensures out_of_memory { IsErrOf result PlainFault.OutOfMemory →
-        (out.new ≡ out.old) × (w.new ≡ w.old) }
-    ensures no_read { IsErrOf result PlainFault.Read → ⊥ }
+    ensures added { OnOk result (out.new ≡ out.old
+        ++ reply_line (reply_to g.now (server_state server.old) (asking kind numbers))) }
+    ensures out_of_memory { OnErr result (out.new ≡ out.old) }
 {
     if changing(kind) {
-        answer_change(g, kind, numbers, server, out, w)
+        answer_change(g, kind, numbers, server, out)
     } else {
-        answer_question(g, kind, numbers, server, out, w)?;
+        answer_question(g, kind, numbers, server, out);
         Ok(())
     }
 }
 
 /// Answers one line.
-fn answer_line<W: Write>(
+fn answer_line(
     g: &Geometry,
     line: &[u8],
     server: &mut Server,
     out: &mut ReplyBuffer,
-    w: &mut W,
-) -> Result<(), PlainFault>
-    requires { IsConsistent g.now server.old }
+) -> Result<(), AllocError>
+    requires sound { IsConsistent g.now server.old }
+    requires room { FitsReply out.old }
     ensures sound { IsConsistent g.now server.new }
     ensures state { OnOk result (server_state server.new
         ≡ state_after_line g.now (server_state server.old) (message_of line.now)) }
-    ensures added { OnOk result (Appends (so_far (W.contents w.old) out.old)
-        (so_far (W.contents w.new) out.new)
-        (answer_line g.now (server_state server.old) (message_of line.now))) }
-    ensures out_of_memory { IsErrOf result PlainFault.OutOfMemory →
-        (out.new ≡ out.old) × (w.new ≡ w.old) }
-    ensures no_read { IsErrOf result PlainFault.Read → ⊥ }
+    ensures added { OnOk result (out.new ≡ out.old
+        ++ answer_line g.now (server_state server.old) (message_of line.now)) }
+    ensures out_of_memory { OnErr result (out.new ≡ out.old) }
 {
     match head_of_line(line) {
         Head::NoMessage => {
-            out.add_no_message(w)?;
+            out.add_no_message();
             Ok(())
         }
-        Head::Asks(kind, numbers) => answer_asked(g, kind, numbers, server, out, w),
-        Head::Writes(numbers, digits) => answer_write(g, numbers, digits, server, out, w),
-        Head::SetsLabel => answer_spelled(g, line, server, out, w),
+        Head::Asks(kind, numbers) => answer_asked(g, kind, numbers, server, out),
+        Head::Writes(numbers, digits) => answer_write(g, numbers, digits, server, out),
+        Head::SetsLabel => answer_spelled(g, line, server, out),
     }
+}
+
+/// Writes what waits where a read may wait, and where the answer to the next line has no room.
+fn send_before_line<R: Read, W: Write>(
+    lines: &LineReader<R>,
+    out: &mut ReplyBuffer,
+    w: &mut W,
+) -> Result<(), WriteFault>
+    ensures room { OnOk result (FitsReply out.new) }
+    ensures kept { OnOk result (Appends (so_far (W.contents w.old) out.old)
+        (so_far (W.contents w.new) out.new) []) }
+{
+    out.send_before_read(lines, w)?;
+    out.make_room(w)
 }
 
 /// Answers the next line, unless the input has ended: whether it has not.
@@ -277,17 +262,17 @@ fn answer_next<R: Read + Drop, W: Write>(
         IfOk result (λ more. MatchBool more
         (HasAnswered g.now start input (unread R.remaining lines.new) (is_drained lines.new)
         (server_state server.new) before (so_far (W.contents w.new) out.new))
-        (Writes input before (so_far (W.contents w.new) out.new)
+        (WritesOutput input before (so_far (W.contents w.new) out.new)
         (λ bytes written. written ≡ serial_out g.now start bytes))) }
     ensures read { (start : State) (input before : Option (List ℕ)) →
         HasAnswered g.now start input (unread R.remaining lines.old) (is_drained lines.old)
         (server_state server.old) before (so_far (W.contents w.old) out.old) →
-        IsErrOf result PlainFault.Read → Writes input before (so_far (W.contents w.new) out.new)
+        IsErrOf result PlainFault.Read → WritesOutput input before (so_far (W.contents w.new) out.new)
         (AnswersWholeLines g.now start (R.remaining (source lines.new))) }
     ensures out_of_memory { (start : State) (input before : Option (List ℕ)) →
         HasAnswered g.now start input (unread R.remaining lines.old) (is_drained lines.old)
         (server_state server.old) before (so_far (W.contents w.old) out.old) →
-        IsErrOf result PlainFault.OutOfMemory → Writes input before
+        IsErrOf result PlainFault.OutOfMemory → WritesOutput input before
         (so_far (W.contents w.new) out.new) (IsBeginning g.now start) }
     ensures knows { KnowsEnd R.remaining lines.old → KnowsEnd R.remaining lines.new }
     ensures end { KnowsEnd R.remaining lines.old →
@@ -296,14 +281,14 @@ fn answer_next<R: Read + Drop, W: Write>(
     if lines.is_drained() {
         return Ok(false);
     }
-    out.send_before_read(lines, w)?;
+    send_before_line(lines, out, w)?;
     match lines.next_line() {
-        Ok(Found::Line) => {
-            answer_line(g, lines.line(), server, out, w)?;
-            Ok(true)
-        }
+        Ok(Found::Line) => match answer_line(g, lines.line(), server, out) {
+            Ok(()) => Ok(true),
+            Err(_) => Err(PlainFault::OutOfMemory),
+        },
         Ok(Found::TooLong) => {
-            out.add_no_message(w)?;
+            out.add_no_message();
             Ok(true)
         }
         Ok(Found::End) => Ok(false),
@@ -322,15 +307,15 @@ fn answer_all<R: Read + Drop, W: Write>(
     requires sound { IsConsistent g.now server.old }
     requires begun { is_drained lines.old ≡ false }
     requires knows { KnowsEnd R.remaining lines.old }
-    ensures ok { OnOk result (Writes (unread R.remaining lines.old)
+    ensures ok { OnOk result (WritesOutput (unread R.remaining lines.old)
         (so_far (W.contents w.old) out.old) (so_far (W.contents w.new) out.new)
         (λ input written. written ≡ serial_out g.now (server_state server.old) input)) }
     ensures end { OnOk result (IsAtEnd (R.remaining (source lines.new))) }
-    ensures read { IsErrOf result PlainFault.Read → Writes (unread R.remaining lines.old)
+    ensures read { IsErrOf result PlainFault.Read → WritesOutput (unread R.remaining lines.old)
         (so_far (W.contents w.old) out.old) (so_far (W.contents w.new) out.new)
         (AnswersWholeLines g.now (server_state server.old) (R.remaining (source lines.new))) }
     ensures out_of_memory { IsErrOf result PlainFault.OutOfMemory →
-        Writes (unread R.remaining lines.old)
+        WritesOutput (unread R.remaining lines.old)
         (so_far (W.contents w.old) out.old) (so_far (W.contents w.new) out.new)
         (IsBeginning g.now (server_state server.old)) }
 {
@@ -359,15 +344,15 @@ pub(crate) fn answer_lent<'a, R: Read, W: Write, L: Loan>(
     requires name { reader.ghost_name ≡ L.name }
     requires room { 1101 ≤ vec_len buffer }
     ensures same { result.1.ghost_name ≡ reader.entry.ghost_name }
-    ensures ok { OnOk result.0 (Writes (R.remaining reader.old)
+    ensures ok { OnOk result.0 (WritesOutput (R.remaining reader.old)
         (so_far (W.contents w.old) out.old) (so_far (W.contents w.new) out.new)
         (λ input written. written ≡ serial_out g.now empty input)) }
     ensures end { OnOk result.0 (IsAtEnd (R.remaining result.1.now)) }
-    ensures read { IsErrOf result.0 PlainFault.Read → Writes (R.remaining reader.old)
+    ensures read { IsErrOf result.0 PlainFault.Read → WritesOutput (R.remaining reader.old)
         (so_far (W.contents w.old) out.old) (so_far (W.contents w.new) out.new)
         (AnswersWholeLines g.now empty (R.remaining result.1.now)) }
     ensures out_of_memory { IsErrOf result.0 PlainFault.OutOfMemory →
-        Writes (R.remaining reader.old)
+        WritesOutput (R.remaining reader.old)
         (so_far (W.contents w.old) out.old) (so_far (W.contents w.new) out.new)
         (IsBeginning g.now empty) }
 {

@@ -3,7 +3,7 @@
 ghost use Rattle.std.specs.Prelude.{◌≡◌, ◌≤◌, ℕ, List, Option, IfOk, OnOk, IsErrOf, vec_len};
 ghost use Rattle.std.specs.Io.KnownBytes.{IsAtEnd};
 ghost use Rattle.plain.specs.State.{empty};
-ghost use Rattle.plain.specs.Output.{serial_out, AnswersWholeLines, IsBeginning, Writes};
+ghost use Rattle.plain.specs.Output.{serial_out, AnswersWholeLines, IsBeginning, WritesOutput};
 
 use crate::PlainFault;
 use crate::answering::answer_lent;
@@ -38,12 +38,12 @@ pub fn serve_from<R: Read, W: Write>(
     r: &mut R,
     w: &mut W,
 ) -> Result<(), PlainFault>
-    ensures ok { OnOk result (Writes (R.remaining r.old) (W.contents w.old) (W.contents w.new)
+    ensures ok { OnOk result (WritesOutput (R.remaining r.old) (W.contents w.old) (W.contents w.new)
         (λ input written. written ≡ serial_out g.now empty input)) }
     ensures end { OnOk result (IsAtEnd (R.remaining r.new)) }
-    ensures read { IsErrOf result PlainFault.Read → Writes (R.remaining r.old) (W.contents w.old)
+    ensures read { IsErrOf result PlainFault.Read → WritesOutput (R.remaining r.old) (W.contents w.old)
         (W.contents w.new) (AnswersWholeLines g.now empty (R.remaining r.new)) }
-    ensures out_of_memory { IsErrOf result PlainFault.OutOfMemory → Writes (R.remaining r.old)
+    ensures out_of_memory { IsErrOf result PlainFault.OutOfMemory → WritesOutput (R.remaining r.old)
         (W.contents w.old) (W.contents w.new) (IsBeginning g.now empty) }
 {
     let Ok(buffer) = read_buffer(alloc) else {
@@ -79,12 +79,12 @@ pub fn serve_plain<R: Read + Drop, W: Write>(
     r: R,
     w: &mut W,
 ) -> Result<(), PlainFault>
-    ensures ok { OnOk result (Writes (R.remaining r) (W.contents w.old) (W.contents w.new)
+    ensures ok { OnOk result (WritesOutput (R.remaining r) (W.contents w.old) (W.contents w.new)
         (λ input written. written ≡ serial_out g.now empty input)) }
-    ensures read { IsErrOf result PlainFault.Read → Writes (R.remaining r) (W.contents w.old)
+    ensures read { IsErrOf result PlainFault.Read → WritesOutput (R.remaining r) (W.contents w.old)
         (W.contents w.new)
         (λ input written. (left : Option (List ℕ)) × AnswersWholeLines g.now empty left input written) }
-    ensures out_of_memory { IsErrOf result PlainFault.OutOfMemory → Writes (R.remaining r)
+    ensures out_of_memory { IsErrOf result PlainFault.OutOfMemory → WritesOutput (R.remaining r)
         (W.contents w.old) (W.contents w.new) (IsBeginning g.now empty) }
 {
     let mut reader = r;

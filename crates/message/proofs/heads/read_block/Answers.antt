@@ -1,12 +1,12 @@
 use Rattle.std.proofs.Common.{◌≡◌, ℕ, List, Option, Some, None}
 use Rattle.std.specs.Prelude.{MatchOption}
-use Rattle.message.specs.Lines.{block, bytes_in_word}
+use Rattle.message.specs.Lines.{block_in_word, bytes_in_word}
 use Rattle.message.proofs.Blocks.{bytes_block, no_block}
 use Rattle.message.proofs.heads.read_block.Goals as goal
 
 -- what is told of the bytes is told of the block
 told : (r : Option (Unit {0})) (digits out : List ℕ) → MatchOption r (bytes_in_word 512 digits ≡ None) (λ _. bytes_in_word 512 digits ≡ Some out)
-    → MatchOption r (block digits ≡ None) (λ _. block digits ≡ Some (record { 0 = out }))
+    → MatchOption r (block_in_word digits ≡ None) (λ _. block_in_word digits ≡ Some (record { 0 = out }))
 told (Some u) digits out h = bytes_block digits (record { 0 = out }) h
 told None digits out h = no_block digits h
 

@@ -3,7 +3,7 @@ use Rattle.std.specs.Prelude.{unwrap_or}
 use Rattle.std.specs.Map.{lookup}
 use Rattle.std.specs.BTreeMap.{is_at}
 use Rattle.plain.specs.State.{empty, IsState}
-use Rattle.plain.specs.Server.{server_state, by_volume, by_file, by_block}
+use Rattle.plain.specs.Server.{server_state, volume_order, by_file, by_block}
 use Rattle.std.specs.List.{list_any}
 use Rattle.plain.specs.declared.server.Server.{Server}
 use Rattle.plain.proofs.ServerCounts.{none_counted}
@@ -16,11 +16,11 @@ made_of c = record { made = c.new.result; sealed = c.new-2.result; labels = c.ne
 
 is_empty : (c : goal.After-new-6) → server_state (made_of c) ≡ empty
 is_empty c = λ i. record {
-  made = λ k. list_any (is_at (by_volume k)) (c.new.ensures.empty i);
-  sealed = λ k. list_any (is_at (by_volume k)) (c.new-2.ensures.empty i);
+  made = λ k. list_any (is_at (volume_order k)) (c.new.ensures.empty i);
+  sealed = λ k. list_any (is_at (volume_order k)) (c.new-2.ensures.empty i);
   files = λ k. list_any (is_at (by_file k)) (c.new-4.ensures.empty i);
   blocks = λ k. lookup (is_at (by_block k)) (c.new-5.ensures.empty i);
-  labels = λ k. lookup (is_at (by_volume k)) (c.new-3.ensures.empty i);
+  labels = λ k. lookup (is_at (volume_order k)) (c.new-3.ensures.empty i);
 }
 
 pub returns-clause-sound : goal.returns-clause-sound
