@@ -4,7 +4,7 @@ use Rattle.std.specs.Prelude.{Result, Ok, Err, OnErr, OnOk}
 use Rattle.std.proofs.lemmas.Bool.{true≢false}
 use Rattle.std.proofs.KnownBytes.{Appends-trans}
 use Rattle.std.specs.Io.KnownBytes.{Appends}
-use Rattle.machine.specs.Machine.{Handed}
+use Rattle.machine.specs.Machine.{MachineView}
 use Rattle.serving.specs.Going.{Goes}
 use Rattle.serving.specs.Lines.{AreKnown, Line, is_answered, text}
 use Rattle.serving.specs.Rows.{Says}
@@ -13,20 +13,20 @@ use Rattle.legal_runs.proofs.Lists.{all_join}
 
 -- ---- what lines say
 
-texts_both : (said more : List Line) → joined (map text (said ++ more)) ≡ joined (map text said) ++ joined (map text more)
+pub texts_both : (said more : List Line) → joined (map text (said ++ more)) ≡ joined (map text said) ++ joined (map text more)
 texts_both [] more = refl
 texts_both (x ∷ said) more = ap (λ z. text x ++ z) (texts_both said more) ∙ sym (append_assoc (text x) (joined (map text said)) (joined (map text more)))
 
 -- ---- fewer lines in the row
 
-pub forgets : (keeps : Type 0) (start now : Handed) (row : List Line) (input left : Option (List ℕ)) (ended : Bool) (before written : Option (List ℕ))
+pub forgets : (keeps : Type 0) (start now : MachineView) (row : List Line) (input left : Option (List ℕ)) (ended : Bool) (before written : Option (List ℕ))
     → Goes keeps start now row input left ended before written → Goes keeps start now row input left ended None None
 forgets keeps start now row input left ended before written h =
     record { taken = h.taken; said = h.said; takes = h.takes; serving = h.serving; output = tt }
 
 module _ (keeps : Type 0) where
   -- Lines at the front of the row were written.
-  pub says_on : (start m : Handed) (row rest : List Line) (old now : Option (List ℕ)) → Says row rest old now
+  pub says_on : (start m : MachineView) (row rest : List Line) (old now : Option (List ℕ)) → Says row rest old now
       → (input left : Option (List ℕ)) (ended : Bool) (before : Option (List ℕ)) → Goes keeps start m row input left ended before old
       → Goes keeps start m rest input left ended before now
   says_on start m row rest old now says input left ended before h =

@@ -12,14 +12,14 @@ use Rattle.legal_runs.specs.declared.outcomes.Outcome.{Outcome}
 use Rattle.legal_runs.specs.declared.outcomes.Outcome.TheVariants as outcomes
 use Rattle.legal_runs.specs.declared.outcomes.Step.TheVariants as steps
 use Rattle.machine.proofs.Events.{core_holds, core_step}
-use Rattle.machine.specs.Machine.{Handed}
+use Rattle.machine.specs.Machine.{MachineView}
 use Rattle.machine.specs.Steps.{IsCoreStep}
 use Rattle.machine.specs.declared.hands.Hand.{Hand}
 use Rattle.message.specs.Grammar.{message_of}
 use Rattle.message.specs.declared.Msg.{Msg}
 use Rattle.message.specs.declared.Reply.{Reply}
-use Rattle.scheduler.specs.Calls.{answered}
-use Rattle.scheduler.specs.Kept.{Kept}
+use Rattle.scheduler.specs.Calls.{answer_outcome}
+use Rattle.scheduler.specs.Kept.{CoreView}
 use Rattle.serving.specs.Lines.{Answered, AreKnown, IsKnown, Line, NoMessage, OutOfRange, Unanswered, answer_one, asked, asked_in, next_ticket, ticketed}
 use Rattle.serving.specs.Going.{Goes}
 use Rattle.serving.specs.Runs.{Holds, IsQuiet, Passes}
@@ -74,8 +74,8 @@ module _ (g : Geometry) (told : List (ℕ × Reply)) (ticket : ℕ) (reply : Rep
       (known_still n (message_of l) known k.0, lines_answered (next_ticket n (asked_in g (message_of l))) ls said row k.1)
 
 -- A message was answered, and so is its line in the row.
-pub answered_goes_on : (keeps : Type 0) (old new : Handed) (ticket : ℕ) (reply : Reply) → Passes keeps old new [] ((ticket, reply) ∷ [])
-    → (row : List Line) (start : Handed) (input left : Option (List ℕ)) (ended : Bool) (before written : Option (List ℕ))
+pub answered_goes_on : (keeps : Type 0) (old new : MachineView) (ticket : ℕ) (reply : Reply) → Passes keeps old new [] ((ticket, reply) ∷ [])
+    → (row : List Line) (start : MachineView) (input left : Option (List ℕ)) (ended : Bool) (before written : Option (List ℕ))
     → Goes keeps start old row input left ended before written
     → Goes keeps start new (map (answer_one ticket reply) row) input left ended before written
 answered_goes_on keeps old new ticket reply p row start input left ended before written h =
@@ -98,33 +98,26 @@ answered_goes_on keeps old new ticket reply p row start input left ended before 
     }
 
 -- A message was answered with this reply, or none was.
-abbrev pub IsAnswered : Type 0 → Handed → Handed → Option (ℕ × Reply) → Type 0
+abbrev pub IsAnswered : Type 0 → MachineView → MachineView → Option (ℕ × Reply) → Type 0
 IsAnswered keeps old new None = IsQuiet keeps old new
 IsAnswered keeps old new (Some told) = Holds new × Passes keeps old new [] (told ∷ [])
 
-pub is_answered_so : (keeps : Type 0) (old new : Kept) (r : Option (ℕ × Reply)) → IsCoreStep keeps old new steps.Answer (answered r)
+pub is_answered_so : (keeps : Type 0) (old new : CoreView) (r : Option (ℕ × Reply)) → IsCoreStep keeps old new steps.Answer (answer_outcome r)
     → (hands : List Hand) → Holds (record { core = old; hands = hands })
     → IsAnswered keeps (record { core = old; hands = hands }) (record { core = new; hands = hands }) r
 is_answered_so keeps old new None k hands h = core_is_quiet keeps old new steps.Answer outcomes.Idle k refl refl refl hands h
 is_answered_so keeps old new (Some a) k hands h =
-    let was : Handed = record { core = old; hands = hands } in
-    let now : Handed = record { core = new; hands = hands } in
+    let was : MachineView = record { core = old; hands = hands } in
+    let now : MachineView = record { core = new; hands = hands } in
     let outcome = outcomes.Answered a.0 a.1 in (
       core_holds keeps old new hands steps.Answer outcome h k refl,
       step_passes keeps was now steps.Answer outcome (core_step keeps old new hands steps.Answer outcome h k),
     )
 
--- Where none is answered, none was logged.
-pub none_to_answer : (w new : World) (logged : List Replied) (r : Option (ℕ × Reply)) → (answered r, new) ≡ answer w logged → r ≡ None
-    → logged ≡ []
-none_to_answer w new [] r e none = refl
-none_to_answer w new (a ∷ as') r e none =
-    let idle : outcomes.Idle ≡ outcomes.Answered a.0 a.2 = ap answered (sym none) ∙ ap (λ (x : Outcome × World). x.0) e in cc
-
 -- ---- what is logged
 
 -- One message was answered: the others are still logged, and nothing else has changed.
-pub one_answered : (w new : World) (logged : List Replied) (told : ℕ × Reply) → (answered (Some told), new) ≡ answer w logged
+pub one_answered : (w new : World) (logged : List Replied) (told : ℕ × Reply) → (answer_outcome (Some told), new) ≡ answer w logged
     → (new ≡ record w { logged = new.logged }) × (length logged ≡ suc (length new.logged))
 one_answered w new [] told e =
     let idle : outcomes.Answered told.0 told.1 ≡ outcomes.Idle = ap (λ (x : Outcome × World). x.0) e in cc
@@ -136,7 +129,7 @@ one_answered w new (a ∷ as') told e =
     )
 
 -- where none was
-pub none_answered : (keeps : Type 0) (old new : Handed) (r : Option (ℕ × Reply)) → ((told : ℕ × Reply) → r ≡ Some told → ⊥)
+pub none_answered : (keeps : Type 0) (old new : MachineView) (r : Option (ℕ × Reply)) → ((told : ℕ × Reply) → r ≡ Some told → ⊥)
     → IsAnswered keeps old new r → IsQuiet keeps old new
 none_answered keeps old new (Some told) not a = absurd (not told refl)
 none_answered keeps old new None not a = a

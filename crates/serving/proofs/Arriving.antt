@@ -14,16 +14,16 @@ use Rattle.machine.specs.Stages.{events_of}
 use Rattle.machine.specs.Steps.{IsCoreStep}
 use Rattle.machine.specs.declared.hands.Hand.{Hand}
 use Rattle.message.specs.Messages.{is_in_range}
-use Rattle.scheduler.specs.Calls.{arrived as arrived_so}
-use Rattle.scheduler.specs.Kept.{Kept, world_of}
-use Rattle.machine.specs.Machine.{Handed}
+use Rattle.scheduler.specs.Calls.{arrive_outcome as arrived_so}
+use Rattle.scheduler.specs.Kept.{CoreView, world_of}
+use Rattle.machine.specs.Machine.{MachineView}
 use Rattle.message.specs.Grammar.{message_of}
 use Rattle.message.specs.declared.Msg.{Msg}
 use Rattle.message.specs.declared.Reply.{Reply}
 use Rattle.plain.specs.Order.{messages}
 use Rattle.serving.specs.Going.{IsServing}
 use Rattle.serving.specs.Lines.{AreKnown, IsKnown, Line, OutOfRange, Unanswered, asked, asked_in, next_ticket, ticketed, Answered, NoMessage}
-use Rattle.serving.specs.Reads.{IsRefused, IsTaken, TakesMessage}
+use Rattle.serving.specs.Reads.{IsRefusedLine, IsTaken, TakesMessage}
 use Rattle.serving.specs.Runs.{Holds, Passes}
 use Rattle.serving.proofs.Chain.{passes_on}
 use Rattle.serving.proofs.Serial.{asked-append, messages-ticketed}
@@ -45,7 +45,7 @@ known_push g told n (y ∷ ls) l (x ∷ row) known k one =
           (subst (λ (t : ℕ). IsKnown g told t (message_of l) known) (next-append n (asked_in g (message_of y)) (asked g ls)) one),
     )
 
-module _ (keeps : Type 0) (start old : Handed) (taken : List (List ℕ)) (said row : List Line) (s : IsServing keeps start old taken said row) where
+module _ (keeps : Type 0) (start old : MachineView) (taken : List (List ℕ)) (said row : List Line) (s : IsServing keeps start old taken said row) where
   abbrev g : Geometry
   g = start.core.geometry
 
@@ -56,7 +56,7 @@ module _ (keeps : Type 0) (start old : Handed) (taken : List (List ℕ)) (said r
       ∙ ap (next_ticket start.core.next) (messages-ticketed start.core.next (asked g taken))
 
   -- A line was read, and its message has arrived, if it takes a ticket.
-  takes_in : (new : Handed) (line : List ℕ) (known : Line) → Passes keeps old new (ticketed old.core.next (asked_in g (message_of line))) []
+  takes_in : (new : MachineView) (line : List ℕ) (known : Line) → Passes keeps old new (ticketed old.core.next (asked_in g (message_of line))) []
       → IsKnown g s.told old.core.next (message_of line) known → IsServing keeps start new (taken ++ line ∷ []) said (row ++ known ∷ [])
   takes_in new line known p k =
       let come = ticketed start.core.next (asked g taken) in
@@ -88,7 +88,7 @@ known_anyway g told n (Some m) (Unanswered t) k = k
 known_anyway g told n (Some m) (Answered t r) k = let none = k.2.1 in absurd (omega (arith, none))
 
 -- A line is taken.
-pub serves_taken : (keeps : Type 0) (start old new : Handed) (taken : List (List ℕ)) (said row : List Line) (line : List ℕ) (known : Line)
+pub serves_taken : (keeps : Type 0) (start old new : MachineView) (taken : List (List ℕ)) (said row : List Line) (line : List ℕ) (known : Line)
     → IsTaken keeps old new (message_of line) known → IsServing keeps start old taken said row
     → IsServing keeps start new (taken ++ line ∷ []) said (row ++ known ∷ [])
 serves_taken keeps start old new taken said row line known t s =
@@ -128,11 +128,11 @@ module _ (k : ℕ) (w x : World) where
   is_refused false true false true new e = let o : outcomes.ArriveRefused arrivals.Range ≡ outcomes.ArriveRefused arrivals.Full = ap (λ (z : Outcome × World). z.0) e in cc
   is_refused false true false false new e = let o : outcomes.ArriveRefused arrivals.Range ≡ outcomes.Ticket k = ap (λ (z : Outcome × World). z.0) e in cc
 
-module _ (keeps : Type 0) (old new : Kept) (m : Msg) (hands : List Hand) (h : Holds (record { core = old; hands = hands })) where
-  abbrev was : Handed
+module _ (keeps : Type 0) (old new : CoreView) (m : Msg) (hands : List Hand) (h : Holds (record { core = old; hands = hands })) where
+  abbrev was : MachineView
   was = record { core = old; hands = hands }
 
-  abbrev now : Handed
+  abbrev now : MachineView
   now = record { core = new; hands = hands }
 
   with_ticket : (t : ℕ) → IsCoreStep keeps old new (steps.Arrive m) (outcomes.Ticket t) → is_in_range old.geometry m ≡ true → t ≡ old.next
@@ -162,7 +162,7 @@ module _ (keeps : Type 0) (old new : Kept) (m : Msg) (hands : List Hand) (h : Ho
       }
 
   refused : (why : ArriveRefusal) → why ≢ arrivals.Range → IsCoreStep keeps old new (steps.Arrive m) (outcomes.ArriveRefused why)
-      → (outcomes.ArriveRefused why, world_of new) ≡ arrive old.geometry (world_of old) m → IsRefused keeps was now m why
+      → (outcomes.ArriveRefused why, world_of new) ≡ arrive old.geometry (world_of old) m → IsRefusedLine keeps was now m why
   refused why not_range step e = record {
     quiet = core_is_quiet keeps old new (steps.Arrive m) (outcomes.ArriveRefused why) step refl refl refl hands h;
     refused = sym (ap (λ (x : Outcome × World). x.0) e);

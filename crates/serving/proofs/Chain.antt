@@ -11,7 +11,7 @@ use Rattle.legal_runs.specs.Runs.{IsLegal, answered, arrived, last}
 use Rattle.legal_runs.specs.World.{Entry}
 use Rattle.message.specs.declared.Reply.{Reply}
 use Rattle.machine.proofs.Running.{after-append, safe-append}
-use Rattle.machine.specs.Machine.{Handed, machine_of}
+use Rattle.machine.specs.Machine.{MachineView, machine_of}
 use Rattle.machine.specs.Stages.{AreSafe, Stage, device_after, events_of}
 use Rattle.serving.specs.Runs.{Passes}
 
@@ -22,7 +22,7 @@ rises events = count_by (λ e. e.rose) events
 rises-append : (es fs : List Event) → rises (es ++ fs) ≡ rises es + rises fs
 rises-append es fs = sum_by-append (λ (e : Event). if e.rose then 1 else 0) es fs
 
-pub passes_on : (keeps : Type 0) (old mid new : Handed) (come more : List Entry) (told others : List (ℕ × Reply))
+pub passes_on : (keeps : Type 0) (old mid new : MachineView) (come more : List Entry) (told others : List (ℕ × Reply))
     → Passes keeps old mid come told → Passes keeps mid new more others → Passes keeps old new (come ++ more) (told ++ others)
 passes_on keeps old mid new come more told others h k =
     let g = old.core.geometry in

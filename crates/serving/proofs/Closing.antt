@@ -1,5 +1,5 @@
 -- A session that reads no more, and what it promises in the end.
-use Rattle.std.proofs.Common.{◌≡◌, ℕ, zero, suc, ◌≤◌, ◌-◌, ◌^◌, Bool, true, false, List, [], Option, Some, None, refl, ap, sym, ◌∙◌, subst, length, map, replicate, append-nil}
+use Rattle.std.proofs.Common.{◌≡◌, ℕ, zero, suc, ◌≤◌, ◌-◌, ◌^◌, ◌++◌, Bool, true, false, List, [], Option, Some, None, refl, ap, sym, ◌∙◌, subst, length, map, replicate, append-nil}
 use Rattle.std.specs.Prelude.{Result, Ok, Err, IfSome, ◌&&◌}
 use Rattle.message.specs.Waiting.{so_far}
 use Rattle.std.proofs.lemmas.Bool.{true≢false}
@@ -8,29 +8,31 @@ use Rattle.legal_runs.proofs.Full.{last_none_out}
 use Rattle.legal_runs.proofs.Idle.{idle_sound, none_out}
 use Rattle.legal_runs.specs.Events.{Hands}
 use Rattle.legal_runs.specs.Laws.{IsIdle, full}
-use Rattle.machine.specs.Machine.{Handed, hand_of as hand_in, machine_of}
+use Rattle.machine.specs.Machine.{MachineView, hand_of as hand_in, machine_of}
 use Rattle.machine.specs.Stages.{events_of}
 use Rattle.message.specs.Grammar.{message_of}
 use Rattle.message.specs.Messages.{is_in_range}
 use Rattle.message.specs.Reader.{GivesLine}
 use Rattle.message.specs.declared.Msg.{Msg}
-use Rattle.parcel.specs.Run.{Asked}
-use Rattle.scheduler.specs.Kept.{Kept, world_of}
+use Rattle.parcel.specs.Run.{JobView}
+use Rattle.scheduler.specs.Kept.{CoreView, world_of}
 use Rattle.serving.specs.Ends.{EndsSo, IsWoundUp}
 use Rattle.serving.specs.Going.{Goes}
 use Rattle.serving.specs.Lending.{IsHome}
 use Rattle.serving.specs.Lines.{Line}
 use Rattle.serving.specs.Rows.{RowView, comes_next}
 use Rattle.serving.specs.Serve.{PromisesAll}
-use Rattle.serving.specs.Runs.{Holds, hand_of, with_lent}
-use Rattle.serving.specs.Session.{EndsBy, HasGone, HasStopped, IsServed, IsUnderWay, IsUnderWayFrom, Place, ReadsOrStops, Start, machine, start_machine, unless}
+use Rattle.serving.specs.Runs.{Holds, lent_hand, with_lent}
+use Rattle.serving.specs.Session.{EndsBy, HasGone, HasStopped, IsReady, IsServed, IsUnderWay, IsUnderWayFrom, SessionView, ReadsOrStops, machine, known_unless}
+use Rattle.serving.specs.Telling.{Start, start_machine}
 use Rattle.serving.specs.declared.session.Stop.TheVariants as stops
 use Rattle.serving.specs.declared.server.ServeFault.{ServeFault}
 use Rattle.serving.specs.declared.server.ServeFault.TheVariants as faults
+use Rattle.workers.specs.Desk.{Desk}
 use Rattle.serving.proofs.Promises.{runs_to_device, runs_to_last_ticket, runs_to_read, runs_to_write, runs_whole}
 use Rattle.serving.proofs.Starting.{holds_at_start, starts}
 use Rattle.serving.proofs.Served.{ends_at_device, ends_at_read, ends_exhausted, ends_whole}
-use Rattle.serving.proofs.Under.{begun, gone}
+use Rattle.serving.proofs.Under.{begins_at, begun, gone, to_row}
 
 -- ---- what it promises
 
@@ -39,62 +41,63 @@ so_far_none None = refl
 so_far_none (Some bytes) = ap (λ (l : List ℕ). Some l) (append-nil bytes)
 
 -- nothing is out once all is home
-all_empty : (n : ℕ) → full (map hand_in (map hand_of (replicate n None))) ≡ 0
+all_empty : (n : ℕ) → full (map hand_in (map lent_hand (replicate n None))) ≡ 0
 all_empty zero = refl
 all_empty (suc n) = all_empty n
 
-module _ (keeps : Type 0) (s : Start) (p : Place) (u : IsUnderWay keeps s p) where
-  abbrev start : Handed
+module _ (keeps : Type 0) (s : Start) (p : SessionView) (u : IsUnderWay keeps s p) where
+  abbrev start : MachineView
   start = start_machine s
 
-  abbrev now : Handed
+  abbrev now : MachineView
   now = machine p
 
-  by_line : (left : Option (List ℕ)) (drained : Bool) (line : List ℕ) (m : Msg) → Goes keeps start now [] s.input left drained s.before p.contents
+  by_line : (left : Option (List ℕ)) (drained : Bool) (line : List ℕ) (m : Msg) → Goes keeps start now [] s.input left drained s.before p.told
       → now.core.failed ≡ false → now.core.next ≡ 2 ^ 64 - 1 → IfSome left (λ bs. (rest : Option (List ℕ)) × GivesLine line bs rest)
       → message_of line ≡ Some m → is_in_range start.core.geometry m ≡ true
-      → EndsSo start.core now.core s.input p.behind s.before p.contents (Err faults.Exhausted)
+      → EndsSo start.core now.core s.input p.behind s.before p.told (Err faults.Exhausted)
   by_line None drained line m h works next found is fits =
-      ends_exhausted keeps start now u.idle s.input None p.behind drained s.before p.contents line m h works next tt is fits
+      ends_exhausted keeps start now u.idle s.input None p.behind drained s.before p.told line m h works next tt is fits
   by_line (Some bs) drained line m h works next found is fits =
-      ends_exhausted keeps start now u.idle s.input (Some bs) found.0 drained s.before p.contents line m h works next found.1 is fits
+      ends_exhausted keeps start now u.idle s.input (Some bs) found.0 drained s.before p.told line m h works next found.1 is fits
 
   -- what was written, where the output works and no answer waits
   written : (row : List Line) (left : Option (List ℕ)) (drained : Bool) → HasGone keeps s p left drained → p.row.lines ≡ row → p.broken ≡ false → p.out ≡ []
-      → Goes keeps start now row s.input left drained s.before p.contents
+      → Goes keeps start now row s.input left drained s.before p.told
   written row left drained h is whole sent =
-      subst (λ (w : Option (List ℕ)). Goes keeps start now row s.input left drained s.before w) (so_far_none p.contents)
-      (subst (λ (o : List ℕ). Goes keeps start now row s.input left drained s.before (so_far p.contents o)) sent
-      (subst (λ (b : Bool). Goes keeps start now row s.input left drained (unless b s.before) (unless b (so_far p.contents p.out))) whole
-      (subst (λ (l : List Line). Goes keeps start now l s.input left drained (unless p.broken s.before) (unless p.broken (so_far p.contents p.out))) is h)))
+      subst (λ (w : Option (List ℕ)). Goes keeps start now row s.input left drained s.before w) (so_far_none p.told)
+      (subst (λ (o : List ℕ). Goes keeps start now row s.input left drained s.before (so_far p.told o)) sent
+      (subst (λ (b : Bool). Goes keeps start now row s.input left drained (known_unless b s.before) (known_unless b (so_far p.told p.out))) whole
+      (subst (λ (l : List Line). Goes keeps start now l s.input left drained (known_unless p.broken s.before) (known_unless p.broken (so_far p.told p.out)))
+      is (to_row keeps s p left drained h))))
 
   module _ (k : IsServed p) where
-    all_said : (left : Option (List ℕ)) (drained : Bool) → HasGone keeps s p left drained → Goes keeps start now [] s.input left drained s.before p.contents
+    all_said : (left : Option (List ℕ)) (drained : Bool) → HasGone keeps s p left drained → Goes keeps start now [] s.input left drained s.before p.told
     all_said left drained h = written [] left drained h k.row k.whole k.sent
 
-    at_end : HasStopped keeps s p stops.End → PromisesAll keeps start p.core s.input p.behind s.before p.contents (Ok tt)
+    at_end : HasStopped keeps s p stops.End → PromisesAll keeps start p.core s.input p.behind s.before p.told (Ok tt)
     at_end h =
         let g = all_said h.left h.drained h.gone in
-        let e = ends_whole keeps start now u.idle s.input h.left h.drained s.before p.contents g k.works h.why.0 in
+        let e = ends_whole keeps start now u.idle s.input h.left h.drained s.before p.told g k.works h.why.0 in
         record {
-          run = λ no_doubt stands. runs_whole keeps start now u.idle s.input h.left h.drained s.before p.contents no_doubt stands g h.why.0;
+          run = λ no_doubt stands. runs_whole keeps start now u.idle s.input h.left h.drained s.before p.told no_doubt stands g h.why.0;
           ends = (e.0, e.1, h.why.1, e.3);
         }
 
-    at_fault : HasStopped keeps s p stops.Fault → PromisesAll keeps start p.core s.input p.behind s.before p.contents (Err faults.Read)
+    at_fault : HasStopped keeps s p stops.Fault → PromisesAll keeps start p.core s.input p.behind s.before p.told (Err faults.Read)
     at_fault h =
         let g = all_said h.left h.drained h.gone in
         record {
-          run = λ no_doubt stands. runs_to_read keeps start now u.idle s.input h.left h.drained s.before p.contents no_doubt stands g;
-          ends = ends_at_read keeps start now u.idle s.input h.left p.behind s.before p.contents
-              (subst (λ (b : Bool). Goes keeps start now [] s.input h.left b s.before p.contents) h.why.0 g) k.works h.why.1;
+          run = λ no_doubt stands. runs_to_read keeps start now u.idle s.input h.left h.drained s.before p.told no_doubt stands g;
+          ends = ends_at_read keeps start now u.idle s.input h.left p.behind s.before p.told
+              (subst (λ (b : Bool). Goes keeps start now [] s.input h.left b s.before p.told) h.why.0 g) k.works h.why.1;
         }
 
-    exhausted : HasStopped keeps s p stops.Exhausted → PromisesAll keeps start p.core s.input p.behind s.before p.contents (Err faults.Exhausted)
+    exhausted : HasStopped keeps s p stops.Exhausted → PromisesAll keeps start p.core s.input p.behind s.before p.told (Err faults.Exhausted)
     exhausted h =
         let g = all_said h.left h.drained h.gone in
         record {
-          run = λ no_doubt stands. runs_to_last_ticket keeps start now u.idle s.input h.left h.drained s.before p.contents no_doubt stands g;
+          run = λ no_doubt stands. runs_to_last_ticket keeps start now u.idle s.input h.left h.drained s.before p.told no_doubt stands g;
           ends = by_line h.left h.drained h.why.1.0 h.why.1.1 g k.works h.why.0 h.why.1.2 h.why.1.3 h.why.1.4;
         }
 
@@ -106,7 +109,7 @@ module _ (keeps : Type 0) (s : Start) (p : Place) (u : IsUnderWay keeps s p) whe
     wound_up h =
         let r = h.serving.passes in
         let none : full (machine_of now).hands ≡ 0 =
-        ap (λ (l : List (Option Asked)). full (map hand_in (map hand_of l))) home ∙ all_empty (length p.desk.lent) in
+        ap (λ (l : List (Option JobView)). full (map hand_in (map lent_hand l))) home ∙ all_empty (length p.desk.lent) in
         record {
           none_out = ap (λ (w : Hands). w.core.out) (sym r.ends)
               ∙ last_none_out start.core.geometry (machine_of start) (events_of r.stages) r.legal (none_out (world_of start.core) u.idle)
@@ -115,22 +118,22 @@ module _ (keeps : Type 0) (s : Start) (p : Place) (u : IsUnderWay keeps s p) whe
         }
 
     device_ends : p.core.failed ≡ true → p.broken ≡ false → p.out ≡ [] → comes_next p.row.lines ≡ false
-        → PromisesAll keeps start p.core s.input p.behind s.before p.contents (Err faults.Device)
+        → PromisesAll keeps start p.core s.input p.behind s.before p.told (Err faults.Device)
     device_ends failed whole sent last =
         let at = gone keeps s p p.stop u.reads in
         let g = written p.row.lines at.0 at.1 at.2 refl whole sent in
         record {
-          run = λ no_doubt stands. runs_to_device keeps start now u.idle s.input at.0 at.1 s.before p.contents no_doubt stands p.row.lines g last;
-          ends = ends_at_device keeps start now u.idle p.row.lines s.input at.0 at.1 s.before p.contents g failed (wound_up g);
+          run = λ no_doubt stands. runs_to_device keeps start now u.idle s.input at.0 at.1 s.before p.told no_doubt stands p.row.lines g last;
+          ends = ends_at_device keeps start now u.idle p.row.lines s.input at.0 at.1 s.before p.told g failed (wound_up g);
         }
 
-    write_ends : (p.core.failed ≡ false → p.core.ran ≡ []) → PromisesAll keeps start p.core s.input p.behind s.before p.contents (Err faults.Write)
+    write_ends : (p.core.failed ≡ false → p.core.ran ≡ []) → PromisesAll keeps start p.core s.input p.behind s.before p.told (Err faults.Write)
     write_ends ran =
         let at = gone keeps s p p.stop u.reads in
         record {
-          run = λ no_doubt stands. runs_to_write keeps start now u.idle s.input at.0 at.1 (unless p.broken s.before)
-              (unless p.broken (so_far p.contents p.out)) no_doubt stands p.row.lines p.contents at.2;
-          ends = (wound_up at.2, ran);
+          run = λ no_doubt stands. runs_to_write keeps start now u.idle s.input at.0 at.1 (known_unless p.broken s.before)
+              (known_unless p.broken p.told) no_doubt stands (at.2.waiting ++ p.row.lines) p.told at.2.goes;
+          ends = (wound_up at.2.goes, ran);
         }
 
   stopped : (stop : _) → p.stop ≡ Some stop → HasStopped keeps s p stop
@@ -138,7 +141,7 @@ module _ (keeps : Type 0) (s : Start) (p : Place) (u : IsUnderWay keeps s p) whe
 
   -- By what has ended it, it promises all that a server does.
   pub promises_by : (result : Result (Unit {0}) ServeFault) → EndsBy p result
-      → PromisesAll keeps start p.core s.input p.behind s.before p.contents result
+      → PromisesAll keeps start p.core s.input p.behind s.before p.told result
   promises_by (Ok tt) e = at_end e.0 (stopped stops.End e.1)
   promises_by (Err faults.Read) e = at_fault e.0 (stopped stops.Fault e.1)
   promises_by (Err faults.Exhausted) e = exhausted e.0 (stopped stops.Exhausted e.1)
@@ -148,10 +151,10 @@ module _ (keeps : Type 0) (s : Start) (p : Place) (u : IsUnderWay keeps s p) whe
   promises_by (Err faults.OutOfMemory) e = absurd e
 
 -- Where a session has served since a start, and this has ended it, it promises so of that start.
-pub promises_from : (keeps : Type 0) (o : Option Start) (s : Start) (p q : Place) → o ≡ Some s → IsUnderWayFrom keeps o p → p ≡ q
-    → (result : Result (Unit {0}) ServeFault) → EndsBy q result → PromisesAll keeps (start_machine s) p.core s.input p.behind s.before p.contents result
+pub promises_from : (keeps : Type 0) (o : Option Start) (s : Start) (p q : SessionView) → o ≡ Some s → IsUnderWayFrom keeps o p → p ≡ q
+    → (result : Result (Unit {0}) ServeFault) → EndsBy q result → PromisesAll keeps (start_machine s) p.core s.input p.behind s.before p.told result
 promises_from keeps o s p q is u same result e =
-    promises_by keeps s p (begun keeps o s p is u) result (subst (λ (x : Place). EndsBy x result) (sym same) e)
+    promises_by keeps s p (begun keeps o s p is u) result (subst (λ (x : SessionView). EndsBy x result) (sym same) e)
 
 -- ---- where it begins
 
@@ -159,23 +162,24 @@ promises_from keeps o s p q is u same result e =
 pub not_drained : (ended none_held : Bool) → ended ≡ false → (ended && none_held) ≡ false
 not_drained ended none_held not_ended = ap (λ (b : Bool). b && none_held) not_ended
 
-pub holds_first : (core : Kept) (lent : List (Option Asked)) (n : ℕ) → lent ≡ replicate n None → IsIdle (world_of core) → Holds (with_lent core lent)
-holds_first core lent n none idle = subst (λ (l : List (Option Asked)). Holds (with_lent core l)) (sym none)
+pub holds_first : (core : CoreView) (lent : List (Option JobView)) (n : ℕ) → lent ≡ replicate n None → IsIdle (world_of core) → Holds (with_lent core lent)
+holds_first core lent n none idle = subst (λ (l : List (Option JobView)). Holds (with_lent core l)) (sym none)
     (holds_at_start core n (idle_sound (world_of core) idle core.geometry))
 
-pub places_first : (lent : List (Option Asked)) (n : ℕ) → lent ≡ replicate n None → length lent ≡ n
-places_first lent n none = ap (λ (l : List (Option Asked)). length l) none ∙ length-replicate n None
+pub places_first : (lent : List (Option JobView)) (n : ℕ) → lent ≡ replicate n None → length lent ≡ n
+places_first lent n none = ap (λ (l : List (Option JobView)). length l) none ∙ length-replicate n None
 
-module _ (keeps : Type 0) (s : Start) (row : RowView) (out : List ℕ) (left : Option (List ℕ)) (drained ended : Bool) (behind : Option (List ℕ)) where
+module _ (keeps : Type 0) (s : Start) (desk : Desk) (row : RowView) (out : List ℕ) (left : Option (List ℕ)) (drained ended : Bool)
+    (behind : Option (List ℕ)) where
   -- Before its first read a server is under way.
-  pub first : IsIdle (world_of s.core) → row.lines ≡ [] → row.slots ≤ s.core.slots → out ≡ [] → left ≡ s.input → drained ≡ false
-      → ended ≡ false → (n : ℕ) → s.desk.bench.slots ≡ n → s.desk.lent ≡ replicate n None
+  pub first : IsIdle (world_of s.core) → s.core.doubt ≡ [] → row.lines ≡ [] → row.slots ≤ s.core.slots → out ≡ [] → left ≡ s.input
+      → drained ≡ false → ended ≡ false → desk.bench.slots ≡ s.places → desk.lent ≡ replicate s.places None
       → IsUnderWay keeps s (record {
         core = s.core;
-        desk = s.desk;
+        desk = desk;
         row = row;
         out = out;
-        contents = s.before;
+        told = s.before;
         broken = false;
         stop = None;
         left = left;
@@ -183,19 +187,45 @@ module _ (keeps : Type 0) (s : Start) (row : RowView) (out : List ℕ) (left : O
         ended = ended;
         behind = behind;
       })
-  first idle none fits none_waits all begun not_ended n places lent =
+  first idle sure none fits none_waits all begun not_ended places lent =
       let start = start_machine s in
       record {
         idle = idle;
+        sure = sure;
         fits = fits;
-        holds = holds_first s.core s.desk.lent n lent idle;
-        bench = refl;
-        places = places_first s.desk.lent n lent ∙ sym places;
+        holds = holds_first s.core desk.lent s.places lent idle;
+        places = places_first desk.lent s.places lent ∙ sym places;
         knows = λ e. absurd (true≢false (sym e ∙ not_ended));
-        reads = subst (λ (l : List Line). Goes keeps start start l s.input left drained s.before (so_far s.before out)) (sym none)
-            (subst (λ (o : List ℕ). Goes keeps start start [] s.input left drained s.before (so_far s.before o)) (sym none_waits)
-            (subst (λ (w : Option (List ℕ)). Goes keeps start start [] s.input left drained s.before w) (sym (so_far_none s.before))
-            (subst (λ (d : Bool). Goes keeps start start [] s.input left d s.before s.before) (sym begun)
-            (subst (λ (l : Option (List ℕ)). Goes keeps start start [] s.input l false s.before s.before) (sym all)
-            (starts keeps start s.input s.before)))));
+        reads = record {
+          waiting = [];
+          are_answered = tt;
+          out_is = none_waits;
+          goes = subst (λ (l : List (Option JobView)). Goes keeps start (with_lent s.core l) row.lines s.input left drained s.before s.before) (sym lent)
+              (subst (λ (l : List Line). Goes keeps start start l s.input left drained s.before s.before) (sym none)
+              (subst (λ (d : Bool). Goes keeps start start [] s.input left d s.before s.before) (sym begun)
+              (subst (λ (l : Option (List ℕ)). Goes keeps start start [] s.input l false s.before s.before) (sym all)
+              (starts keeps start s.input s.before))));
+        };
       }
+
+-- A call that may begin is under way.
+pub first_at : (keeps : Type 0) (o : Option Start) (core : CoreView) (desk : Desk) (row : RowView) (out : List ℕ) (left input told : Option (List ℕ))
+    (drained ended : Bool) (behind : Option (List ℕ)) (places : ℕ) → IsReady o core places input told row → (core.failed ≡ false → core.doubt ≡ [])
+    → out ≡ [] → left ≡ input → drained ≡ false → ended ≡ false → desk.bench.slots ≡ places → desk.lent ≡ replicate places None
+    → IsUnderWayFrom keeps o (record {
+      core = core;
+      desk = desk;
+      row = row;
+      out = out;
+      told = told;
+      broken = false;
+      stop = None;
+      left = left;
+      drained = drained;
+      ended = ended;
+      behind = behind;
+    })
+first_at keeps o core desk row out left input told drained ended behind places r none none_waits all begun not_ended slots lent =
+    let s : Start = record { core = core; places = places; input = input; before = told } in
+    begins_at keeps o s _ r.is
+    (first keeps s desk row out left drained ended behind r.idle (none r.works) r.none r.fits none_waits all begun not_ended slots lent)

@@ -3,7 +3,7 @@ use Rattle.std.proofs.Common.{◌≡◌, ℕ, List, [], ◌∷◌, map, refl, li
 use Rattle.std.specs.Prelude.{codes}
 use Rattle.affinity.specs.Geometry.{small}
 use Rattle.message.specs.Grammar.{kind_named, message_of}
-use Rattle.message.specs.Lines.{number}
+use Rattle.message.specs.Lines.{number_in_word}
 use Rattle.message.specs.declared.Msg.TheVariants.{MakeVol, Create, Summary as AskSummary}
 use Rattle.message.specs.declared.Reply.TheVariants.{Done, Summary}
 use Rattle.plain.specs.Output.{joined, output_lines}
@@ -17,7 +17,7 @@ abbrev four_lines : List (List ℕ)
 four_lines = codes "makevol 0 0" ∷ codes "makevol 9 0" ∷ codes "hello" ∷ codes "summary" ∷ []
 
 messages_in_range_take_tickets : asked small four_lines ≡ MakeVol 0 0 ∷ AskSummary ∷ []
-unfolding message_of kind_named number
+unfolding message_of kind_named number_in_word
 messages_in_range_take_tickets = refl
 
 tickets_follow_one_another : ticketed 7 (MakeVol 0 0 ∷ Create 0 0 0 ∷ AskSummary ∷ []) ≡ (7, MakeVol 0 0) ∷ (8, Create 0 0 0) ∷ (9, AskSummary) ∷ []
@@ -28,22 +28,22 @@ the_next_ticket = refl
 
 -- The second message was answered before the first: the first line waits for it.
 one_is_answered : AreKnown small ((8, Summary 1 0 0) ∷ []) 7 four_lines (Unanswered 7 ∷ OutOfRange ∷ NoMessage ∷ Answered 8 (Summary 1 0 0) ∷ [])
-unfolding message_of kind_named number
+unfolding message_of kind_named number_in_word
 one_is_answered = ((refl, refl), (refl, (tt, ((refl, refl, (0, lit≤ tt, refl)), tt))))
 
 -- No reply is known that was not given.
 not_answered_yet : AreKnown small [] 7 (codes "summary" ∷ []) (Answered 7 (Summary 1 0 0) ∷ []) → ⊥
-unfolding message_of kind_named number
+unfolding message_of kind_named number_in_word
 not_answered_yet h = let none = h.0.2.1 in absurd (omega (arith, none))
 
 -- Nor is one known by the ticket of another message.
 not_by_another_ticket : AreKnown small ((8, Done) ∷ []) 7 (codes "makevol 0 0" ∷ []) (Answered 8 Done ∷ []) → ⊥
-unfolding message_of kind_named number
+unfolding message_of kind_named number_in_word
 not_by_another_ticket h = cc
 
 -- A line out of range takes no ticket.
 no_ticket_out_of_range : AreKnown small [] 7 (codes "makevol 9 0" ∷ []) (Unanswered 7 ∷ []) → ⊥
-unfolding message_of kind_named number
+unfolding message_of kind_named number_in_word
 no_ticket_out_of_range h = cc
 
 -- What these lines say is what the serial server writes.
@@ -51,5 +51,5 @@ what_they_say : joined (map text (Answered 7 Done ∷ OutOfRange ∷ NoMessage �
 what_they_say = refl
 
 the_same_as_the_serial_server : joined (output_lines small empty (codes "makevol 0 0" ∷ codes "makevol 9 0" ∷ codes "hello" ∷ [])) ≡ codes "done\nerror range\nerror line\n"
-unfolding message_of kind_named number
+unfolding message_of kind_named number_in_word
 the_same_as_the_serial_server = refl

@@ -2,13 +2,13 @@
 use Rattle.std.proofs.Common.{◌≡◌, ℕ, Bool, List, [], ◌∷◌, ◌++◌, Option, Some, None, refl, sym, subst}
 use Rattle.std.specs.Prelude.{if◌then◌else◌}
 use Rattle.affinity.specs.declared.geometry.Geometry.{Geometry}
-use Rattle.machine.specs.Machine.{Handed}
+use Rattle.machine.specs.Machine.{MachineView}
 use Rattle.message.specs.Grammar.{message_of}
 use Rattle.message.specs.declared.Msg.{Msg}
 use Rattle.message.specs.declared.Reply.{Reply}
 use Rattle.serving.specs.Going.{IsServing}
 use Rattle.serving.specs.Lines.{Answered, AreKnown, IsKnown, Line, NoMessage, OutOfRange, Unanswered, asked, asked_in, next_ticket}
-use Rattle.serving.specs.Rows.{AreFrom, AreInOrder, with_tickets}
+use Rattle.serving.specs.Rows.{AreFrom, AreConsecutive, with_tickets}
 use Rattle.serving.proofs.Arriving.{next_is}
 use Rattle.serving.proofs.Tickets.{next-append}
 
@@ -46,17 +46,17 @@ module _ (g : Geometry) (told : List (ℕ × Reply)) where
       (row_follows (next_ticket n (asked_in g o)) ls row k.1))
 
   rest_follows : (n : ℕ) (ls : List (List ℕ)) (said row : List Line) → AreKnown g told n ls (said ++ row)
-      → AreInOrder (with_tickets row ++ Unanswered (next_ticket n (asked g ls)) ∷ [])
+      → AreConsecutive (with_tickets row ++ Unanswered (next_ticket n (asked g ls)) ∷ [])
   rest_follows n ls [] row k = (n, row_follows n ls row k)
   rest_follows n [] (known ∷ said) row k = absurd k
   rest_follows n (l ∷ ls) (known ∷ said) row k =
       let o = message_of l in
-      subst (λ (last : ℕ). AreInOrder (with_tickets row ++ Unanswered last ∷ [])) (behind_one n o ls)
+      subst (λ (last : ℕ). AreConsecutive (with_tickets row ++ Unanswered last ∷ [])) (behind_one n o ls)
       (rest_follows (next_ticket n (asked_in g o)) ls said row k.1)
 
 -- The next ticket is behind those of the row.
-pub next_follows : (keeps : Type 0) (start now : Handed) (taken : List (List ℕ)) (said row : List Line) → IsServing keeps start now taken said row
-    → AreInOrder (with_tickets row ++ Unanswered now.core.next ∷ [])
+pub next_follows : (keeps : Type 0) (start now : MachineView) (taken : List (List ℕ)) (said row : List Line) → IsServing keeps start now taken said row
+    → AreConsecutive (with_tickets row ++ Unanswered now.core.next ∷ [])
 next_follows keeps start now taken said row s =
-    subst (λ (last : ℕ). AreInOrder (with_tickets row ++ Unanswered last ∷ [])) (sym (next_is keeps start now taken said row s))
+    subst (λ (last : ℕ). AreConsecutive (with_tickets row ++ Unanswered last ∷ [])) (sym (next_is keeps start now taken said row s))
     (rest_follows start.core.geometry s.told start.core.next taken said row s.known)

@@ -11,7 +11,7 @@ use Rattle.legal_runs.specs.Events.{Hands}
 use Rattle.legal_runs.specs.Laws.{IsIdle}
 use Rattle.legal_runs.specs.Runs.{answered, arrived, last}
 use Rattle.legal_runs.specs.World.{World, held}
-use Rattle.machine.specs.Machine.{Handed, machine_of}
+use Rattle.machine.specs.Machine.{MachineView, machine_of}
 use Rattle.machine.specs.Stages.{events_of}
 use Rattle.message.specs.Grammar.{message_of}
 use Rattle.message.specs.Messages.{is_in_range}
@@ -125,7 +125,7 @@ length-ticketed : (n : ℕ) (ms : List Msg) → length (ticketed n ms) ≡ lengt
 length-ticketed n [] = refl
 length-ticketed n (m ∷ ms) = let l = length-ticketed (n + 1) ms in omega (arith, l)
 
-idle_inside : (w : World) → IsIdle w → inside w ≡ 0
+pub idle_inside : (w : World) → IsIdle w → inside w ≡ 0
 idle_inside w h = let waits = ap length h.none_waits in let holds = ap length h.none_held in omega (arith, waits, holds)
 
 none_long : {A : Type 0} (xs : List A) → length xs ≤ 0 → xs ≡ []
@@ -135,7 +135,7 @@ none_long (x ∷ xs) h = absurd (omega (arith, h))
 none_inside : (w : World) → inside w ≤ 0 → IsIdle w
 none_inside w h = record { none_waits = none_long w.waiting (omega (arith, h)); none_held = none_long (held w) (omega (arith, h)) }
 
-module _ (keeps : Type 0) (start now : Handed) (idle : IsIdle (world_of start.core)) where
+module _ (keeps : Type 0) (start now : MachineView) (idle : IsIdle (world_of start.core)) where
   serving_inside : (taken : List (List ℕ)) (said row : List Line) → IsServing keeps start now taken said row
       → inside (world_of now.core) ≤ length row
   serving_inside taken said row s =

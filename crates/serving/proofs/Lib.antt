@@ -25,5 +25,7 @@ pub mod Under
 pub mod Promises
 pub mod Closing
 pub mod Told
+pub mod Holding
+pub mod Silence
 -- ---- this crate's own
 mod Examples

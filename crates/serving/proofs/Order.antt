@@ -5,7 +5,7 @@ use Rattle.std.proofs.Common.{if◌then◌else◌, ◌==◌, drop, take, length,
 use Rattle.std.proofs.lemmas.Bool.{ne_eqb}
 use Rattle.message.specs.declared.Reply.{Reply}
 use Rattle.serving.specs.Lines.{Answered, Line, NoMessage, OutOfRange, Unanswered, answer_one}
-use Rattle.serving.specs.Rows.{AreFrom, AreInOrder, IsOf}
+use Rattle.serving.specs.Rows.{AreFrom, AreConsecutive, IsOf}
 
 -- a line that has a ticket is that ticket's
 pub ticket_in : (line : Line) → ((ticket : ℕ) × (line ≡ Unanswered ticket)) ⊎ ((ticket : ℕ) × (reply : Reply) × (line ≡ Answered ticket reply))
@@ -116,5 +116,5 @@ module _ (ticket : ℕ) (reply : Reply) where
   from_looked (suc k) n [] from = from
   from_looked (suc k) n (line ∷ row) from = (of_answered n line from.0, from_looked k (n + 1) row from.1)
 
-  pub looked_in_order : (k : ℕ) (row : List Line) → AreInOrder row → AreInOrder (looked k row)
+  pub looked_in_order : (k : ℕ) (row : List Line) → AreConsecutive row → AreConsecutive (looked k row)
   looked_in_order k row order = (order.0, from_looked k order.0 row order.1)

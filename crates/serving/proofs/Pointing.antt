@@ -1,8 +1,8 @@
 -- Steps of a consistency point: what is left of it, and that they fail only where the device does.
 use Rattle.std.proofs.Common.{◌≡◌, ◌≢◌, ℕ, ◌-◌, true, false, List, [], length, Option, Some, None, Result, Ok, Err, refl, ap, sym, ◌∙◌}
-use Rattle.std.specs.Prelude.{Bool, if◌then◌else◌, is_none, is_some, nat_lt, OnErr, OnOk}
+use Rattle.std.specs.Prelude.{Bool, if◌then◌else◌, is_some, nat_lt, OnOk}
 use Rattle.std.proofs.lemmas.Option.{none-some, same_Some}
-use Rattle.legal_runs.specs.Events.{fewer, flip_refusal, not_ended, piece_refusal, point_refusal}
+use Rattle.legal_runs.specs.Events.{fewer, point_refusal}
 use Rattle.legal_runs.specs.World.{Entry, World, held}
 use Rattle.legal_runs.specs.declared.outcomes.PointRefusal.{PointRefusal}
 use Rattle.legal_runs.specs.declared.outcomes.PointRefusal.TheVariants as points
@@ -28,12 +28,6 @@ refused_so old new why made points.Held h failed = ap (λ (w : World). w.failed)
 refused_so old new why made points.Running h failed = ap (λ (w : World). w.failed) h.1 ∙ failed h.0
 refused_so old new why made points.NotRunning h failed = ap (λ (w : World). w.failed) h.1 ∙ failed h.0
 refused_so old new why made points.Unfinished h failed = ap (λ (w : World). w.failed) h.1 ∙ failed h.0
-
--- Where all pieces are written, the end is refused only by a device that has failed.
-pub flip_fails : (old new : World) (made : Type 0) (refusal : PointRefusal) → old.left ≡ Some 0
-    → IsPointStep old new (flip_refusal old) made (Err refusal) → new.failed ≡ true
-flip_fails old new made refusal left h = refused_so old new (flip_refusal old) made refusal h
-    (λ e. failed_so old.failed (not_ended old.left) refusal e (λ d. absurd (none-some refusal (ap not_ended (sym left) ∙ d))))
 
 -- ---- where a point is to begin and none is in progress
 
@@ -89,19 +83,3 @@ pub piece_left : (old new : World) (r : Result ℕ PointRefusal) (n : ℕ) → I
     → OnOk r (new.left ≡ Some (n - 1))
 piece_left old new (Ok k) n h e = ap (λ (w : World). w.left) h.2 ∙ ap Some (h.1 ∙ ap fewer e)
 piece_left old new (Err why) n h e = tt
-
--- while one is in progress a piece is refused only by a device that has failed
-refused_piece : (old new : World) (n : ℕ) (why : PointRefusal) → old.left ≡ Some n → (piece_refusal old ≡ Some why) × (new ≡ old) → new.failed ≡ true
-refused_piece old new n why e h =
-    ap (λ (w : World). w.failed) h.1
-    ∙ failed_so old.failed (if is_none old.left then Some points.NotRunning else None) why h.0
-    (λ d. absurd (none-some why (ap (λ (o : Option ℕ). if is_none o then Some points.NotRunning else None) (sym e) ∙ d)))
-
-pub piece_fails : (old new : World) (r : Result ℕ PointRefusal) (n : ℕ) → IsPieceStep old new r → old.left ≡ Some n → OnErr r (new.failed ≡ true)
-piece_fails old new (Ok k) n h e = tt
-piece_fails old new (Err points.Device) n h e = ap (λ (w : World). w.failed) h.2
-piece_fails old new (Err points.Failed) n h e = refused_piece old new n points.Failed e h
-piece_fails old new (Err points.Running) n h e = refused_piece old new n points.Running e h
-piece_fails old new (Err points.NotRunning) n h e = refused_piece old new n points.NotRunning e h
-piece_fails old new (Err points.Held) n h e = refused_piece old new n points.Held e h
-piece_fails old new (Err points.Unfinished) n h e = refused_piece old new n points.Unfinished e h

@@ -4,10 +4,10 @@ use Rattle.std.specs.Prelude.{Ok, Err}
 use Rattle.std.specs.Io.KnownBytes.{IsAtEnd}
 use Rattle.std.proofs.lemmas.Option.{none-some, same_Some}
 use Rattle.legal_runs.specs.Laws.{IsIdle}
-use Rattle.machine.specs.Machine.{Handed}
+use Rattle.machine.specs.Machine.{MachineView}
 use Rattle.message.specs.Lines.{lines}
-use Rattle.plain.specs.Progress.{Takes}
-use Rattle.scheduler.specs.Kept.{Kept, StandsNow, world_of}
+use Rattle.plain.specs.Progress.{TakesLines}
+use Rattle.scheduler.specs.Kept.{CoreView, StandsNow, world_of}
 use Rattle.serving.specs.Ends.{HasServed}
 use Rattle.serving.specs.Going.{Goes}
 use Rattle.serving.specs.Lines.{Line}
@@ -20,7 +20,7 @@ use Rattle.serving.proofs.Starting.{starts}
 
 -- ---- the run
 
-all_taken : (input left : Option (List ℕ)) (ended : Bool) (taken : List (List ℕ)) → Takes input left ended taken → IsAtEnd left → AreAll input taken
+all_taken : (input left : Option (List ℕ)) (ended : Bool) (taken : List (List ℕ)) → TakesLines input left ended taken → IsAtEnd left → AreAll input taken
 all_taken None left ended taken t at_end = tt
 all_taken (Some input) None ended taken t at_end = absurd (none-some t.0 t.1)
 all_taken (Some input) (Some bs) ended taken t at_end =
@@ -28,7 +28,7 @@ all_taken (Some input) (Some bs) ended taken t at_end =
     t.2.to_come ∙ ap (λ l. taken ++ lines l) none ∙ append-nil taken
 
 -- where the core at the end is as it always is
-module _ (keeps : Type 0) (start now : Handed) (idle : IsIdle (world_of start.core)) (input left : Option (List ℕ)) (ended : Bool)
+module _ (keeps : Type 0) (start now : MachineView) (idle : IsIdle (world_of start.core)) (input left : Option (List ℕ)) (ended : Bool)
     (before written : Option (List ℕ)) (no_doubt : now.core.failed ≡ false → now.core.doubt ≡ []) (stands : keeps → StandsNow now.core) where
   pub runs_whole : Goes keeps start now [] input left ended before written → IsAtEnd left
       → HasRunSo keeps start now.core input before written (Ok tt)
@@ -59,7 +59,7 @@ module _ (keeps : Type 0) (start now : Handed) (idle : IsIdle (world_of start.co
 
 -- ---- a server that was refused
 
-module _ (keeps : Type 0) (core : Kept) (places : ℕ) (idle : IsIdle (world_of core))
+module _ (keeps : Type 0) (core : CoreView) (places : ℕ) (idle : IsIdle (world_of core))
     (no_doubt : core.failed ≡ false → core.doubt ≡ []) (stands : keeps → StandsNow core) (input before : Option (List ℕ)) where
   not_run : HasServed keeps (with_lent core (replicate places None)) core [] input before before
   not_run =

@@ -8,26 +8,26 @@ use Rattle.legal_runs.specs.World.{Entry}
 use Rattle.legal_runs.specs.declared.outcomes.Outcome.TheVariants as outcomes
 use Rattle.legal_runs.specs.declared.outcomes.Step.TheVariants as steps
 use Rattle.machine.proofs.Events.{a_job, back_holds, back_step, was_result}
-use Rattle.machine.specs.Machine.{Handed}
-use Rattle.machine.specs.Steps.{IsStep}
+use Rattle.machine.specs.Machine.{MachineView}
+use Rattle.machine.specs.Steps.{IsMachineStep}
 use Rattle.machine.specs.declared.hands.Hand.{Hand}
 use Rattle.machine.specs.declared.hands.Hand.TheVariants as has
-use Rattle.parcel.specs.Run.{Asked, IsRun}
+use Rattle.parcel.specs.Run.{JobView, IsJobRun}
 use Rattle.parcel.specs.declared.job.Done.{Done}
 use Rattle.scheduler.specs.Jobs.{IsResultOf}
-use Rattle.scheduler.specs.Kept.{Kept, StandsNow, world_of}
-use Rattle.serving.specs.Runs.{Holds, IsQuiet, Passes, hand_of, with_lent}
+use Rattle.scheduler.specs.Kept.{CoreView, StandsNow, world_of}
+use Rattle.serving.specs.Runs.{Holds, IsQuiet, Passes, lent_hand, with_lent}
 use Rattle.serving.proofs.Chain.{passes_on}
 use Rattle.serving.proofs.Stretches.{step_passes}
 use Rattle.workers.specs.Rule.{lent_at}
 
 -- ---- hands and places
 
-pub hands-set : (lent : List (Option Asked)) (k : ℕ) (o : Option Asked) → map hand_of (set lent k o) ≡ set (map hand_of lent) k (hand_of o)
+pub hands-set : (lent : List (Option JobView)) (k : ℕ) (o : Option JobView) → map lent_hand (set lent k o) ≡ set (map lent_hand lent) k (lent_hand o)
 hands-set [] zero o = refl
 hands-set [] (suc k) o = refl
 hands-set (x ∷ lent) zero o = refl
-hands-set (x ∷ lent) (suc k) o = ap (λ (l : List Hand). hand_of x ∷ l) (hands-set lent k o)
+hands-set (x ∷ lent) (suc k) o = ap (λ (l : List Hand). lent_hand x ∷ l) (hands-set lent k o)
 
 set-twice : (hands : List Hand) (k : ℕ) (a b : Hand) → set (set hands k a) k b ≡ set hands k b
 set-twice [] zero a b = refl
@@ -46,25 +46,25 @@ set-length (y ∷ xs) (suc k) x = ap suc (set-length xs k x)
 
 -- ---- a result
 
-module _ (keeps : Type 0) (core : Kept) (lent : List (Option Asked)) (none : core.failed ≡ false → core.doubt ≡ [])
-    (stands : keeps → StandsNow core) (h : Holds (with_lent core lent)) (k : ℕ) (within : k < length lent) (job : Asked) (done : Done)
-    (is : lent_at lent k ≡ Some job) (run : IsRun job done) where
+module _ (keeps : Type 0) (core : CoreView) (lent : List (Option JobView)) (none : core.failed ≡ false → core.doubt ≡ [])
+    (stands : keeps → StandsNow core) (h : Holds (with_lent core lent)) (k : ℕ) (within : k < length lent) (job : JobView) (done : Done)
+    (is : lent_at lent k ≡ Some job) (run : IsJobRun job done) where
   abbrev hands : List Hand
-  hands = map hand_of lent
+  hands = map lent_hand lent
 
   abbrev ran : List Hand
   ran = set hands k (has.Result done)
 
   job_there : slice_get hands k ≡ Some (has.Job job)
-  job_there = slice_get-map hand_of lent k ∙ ap (option_map hand_of) (read_at lent k None (Some job) within is)
+  job_there = slice_get-map lent_hand lent k ∙ ap (option_map lent_hand) (read_at lent k None (Some job) within is)
 
-  moved : IsStep keeps (record { core = core; hands = hands }) (record { core = core; hands = ran }) (steps.Run k) outcomes.Ran
+  moved : IsMachineStep keeps (record { core = core; hands = hands }) (record { core = core; hands = ran }) (steps.Run k) outcomes.Ran
       × Holds (record { core = core; hands = ran })
   moved = a_job keeps core hands none stands h k (has.Job job) (has.Result done) true job_there (refl, (done, refl, run)) refl
 
   result_there : slice_get ran k ≡ Some (has.Result done)
   result_there =
-      let many = length-map lent hand_of in
+      let many = length-map lent lent_hand in
       let long = set-length hands k (has.Result done) in
       read_at ran k has.Empty (has.Result done) (omega (arith, within, many, long))
       (get_or-set_same hands k (has.Result done) has.Empty (omega (arith, within, many)))
@@ -72,13 +72,13 @@ module _ (keeps : Type 0) (core : Kept) (lent : List (Option Asked)) (none : cor
   pub came_back : IsResultOf core.geometry (world_of core) done
   came_back = was_result keeps core ran none stands moved.1 k done result_there
 
-  module _ (new : Kept) (geometry : new.geometry ≡ core.geometry) (same : new.medium ≡ core.medium) (found : Entry × List Entry)
+  module _ (new : CoreView) (geometry : new.geometry ≡ core.geometry) (same : new.medium ≡ core.medium) (found : Entry × List Entry)
       (one_out : out_with (world_of core) done.ticket ≡ Some found) (told : found.0 ≡ (done.ticket, done.message))
       (world : world_of new ≡ give_back core.geometry (world_of core) found) where
-    abbrev at : List Hand → Kept → Handed
+    abbrev at : List Hand → CoreView → MachineView
     at l c = record { core = c; hands = l }
 
-    emptied : set ran k has.Empty ≡ map hand_of (set lent k None)
+    emptied : set ran k has.Empty ≡ map lent_hand (set lent k None)
     emptied = set-twice hands k (has.Result done) has.Empty ∙ sym (hands-set lent k None)
 
     passes : Passes keeps (at hands core) (at (set ran k has.Empty) new) [] []

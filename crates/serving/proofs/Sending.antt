@@ -11,15 +11,15 @@ use Rattle.legal_runs.specs.declared.outcomes.Outcome.TheVariants as outcomes
 use Rattle.legal_runs.specs.declared.outcomes.Step.TheVariants as steps
 use Rattle.legal_runs.specs.Runs.{answers}
 use Rattle.machine.proofs.Events.{failed_step, grant_holds, grant_step, no_grant_step, position_within, still_holds}
-use Rattle.machine.specs.Machine.{Handed, hand_of as to_hand}
-use Rattle.machine.specs.Steps.{IsStep}
+use Rattle.machine.specs.Machine.{MachineView, hand_of as to_hand}
+use Rattle.machine.specs.Steps.{IsMachineStep}
 use Rattle.machine.specs.declared.hands.Hand.{Hand}
 use Rattle.machine.specs.declared.hands.Hand.TheVariants as has
 use Rattle.message.specs.declared.Reply.{Reply}
-use Rattle.parcel.specs.Run.{Asked}
+use Rattle.parcel.specs.Run.{JobView}
 use Rattle.scheduler.specs.Calls.{IsGrantOf, IsNoGrant}
-use Rattle.scheduler.specs.Kept.{Kept, StandsNow, world_of}
-use Rattle.serving.specs.Runs.{Holds, IsQuiet, Passes, hand_of, with_lent}
+use Rattle.scheduler.specs.Kept.{CoreView, StandsNow, world_of}
+use Rattle.serving.specs.Runs.{Holds, IsQuiet, Passes, lent_hand, with_lent}
 use Rattle.serving.proofs.Returning.{hands-set}
 use Rattle.serving.proofs.Stretches.{step_passes}
 use Rattle.workers.specs.Rule.{lent_at}
@@ -29,55 +29,55 @@ use Rattle.workers.specs.Rule.{lent_at}
 abbrev vacant : Hand → Bool
 vacant h = is_empty (to_hand h)
 
-same_test : (o : Option Asked) → vacant (hand_of o) ≡ is_none o
+same_test : (o : Option JobView) → vacant (lent_hand o) ≡ is_none o
 same_test None = refl
 same_test (Some job) = refl
 
-first_place : (lent : List (Option Asked)) → position vacant (map hand_of lent) ≡ position is_none lent
-first_place lent = λ i. of (at lent i) (length-map lent hand_of i)
+first_place : (lent : List (Option JobView)) → position vacant (map lent_hand lent) ≡ position is_none lent
+first_place lent = λ i. of (at lent i) (length-map lent lent_hand i)
   where
     of : ℕ → ℕ → Option ℕ
     of n m = if nat_lt n m then Some n else None
 
-    at : (lent : List (Option Asked)) → position_or_len vacant (map hand_of lent) ≡ position_or_len is_none lent
+    at : (lent : List (Option JobView)) → position_or_len vacant (map lent_hand lent) ≡ position_or_len is_none lent
     at [] = refl
     at (o ∷ lent) = λ i. if not (same_test o i) then 1 + at lent i else 0
 
-nothing_in : (o : Option Asked) → is_none o ≡ true → o ≡ None
+nothing_in : (o : Option JobView) → is_none o ≡ true → o ≡ None
 nothing_in None e = refl
 nothing_in (Some job) e = absurd (true≢false (sym e))
 
-pub nothing_there : (lent : List (Option Asked)) (k : ℕ) → position is_none lent ≡ Some k → lent_at lent k ≡ None
+pub nothing_there : (lent : List (Option JobView)) (k : ℕ) → position is_none lent ≡ Some k → lent_at lent k ≡ None
 nothing_there lent k first = nothing_in (lent_at lent k) (position-Some is_none lent k None first).1
 
 -- what an offer answers there
-pub offered : (o : Option Asked) (P : Type 0) (Q : Asked → Type 0) → o ≡ None → MatchOption o P Q → P
-offered o P Q none h = subst (λ (o : Option Asked). MatchOption o P Q) none h
+pub offered : (o : Option JobView) (P : Type 0) (Q : JobView → Type 0) → o ≡ None → MatchOption o P Q → P
+offered o P Q none h = subst (λ (o : Option JobView). MatchOption o P Q) none h
 
 -- ---- the grant
 
-module _ (keeps : Type 0) (old new : Kept) (lent : List (Option Asked)) (none : old.failed ≡ false → old.doubt ≡ [])
+module _ (keeps : Type 0) (old new : CoreView) (lent : List (Option JobView)) (none : old.failed ≡ false → old.doubt ≡ [])
     (stands : keeps → StandsNow old) (geometry : new.geometry ≡ old.geometry) (same : new.medium ≡ old.medium)
     (h : Holds (with_lent old lent)) (k : ℕ) (first : position is_none lent ≡ Some k) where
   abbrev hands : List Hand
-  hands = map hand_of lent
+  hands = map lent_hand lent
 
   least : position vacant hands ≡ Some k
   least = first_place lent ∙ first
 
   -- a step that answers nothing
   quiet : (after : List Hand) (outcome : Outcome) → answers outcome ≡ [] → Holds (record { core = new; hands = after })
-      → IsStep keeps (record { core = old; hands = hands }) (record { core = new; hands = after }) steps.Grant outcome
+      → IsMachineStep keeps (record { core = old; hands = hands }) (record { core = new; hands = after }) steps.Grant outcome
       → IsQuiet keeps (with_lent old lent) (record { core = new; hands = after })
   quiet after outcome none_told holds step =
-      let was : Handed = record { core = old; hands = hands } in
-      let now : Handed = record { core = new; hands = after } in
+      let was : MachineView = record { core = old; hands = hands } in
+      let now : MachineView = record { core = new; hands = after } in
       record {
         holds = holds;
         passes = subst (λ (l : List (ℕ × Reply)). Passes keeps was now [] l) none_told (step_passes keeps was now steps.Grant outcome step);
       }
 
-  pub goes_out : (job : Asked) → IsGrantOf old.geometry (world_of old) (world_of new) job
+  pub goes_out : (job : JobView) → IsGrantOf old.geometry (world_of old) (world_of new) job
       → IsQuiet keeps (with_lent old lent) (with_lent new (set lent k (Some job)))
   goes_out job g = subst (λ (l : List Hand). IsQuiet keeps (with_lent old lent) (record { core = new; hands = l })) (sym (hands-set lent k (Some job)))
       (quiet (set hands k (has.Job job)) (outcomes.Granted k job.ticket) refl

@@ -11,7 +11,7 @@ use Rattle.legal_runs.proofs.Arrivals.{answered_by_ticket, arrived_by_ticket, se
 use Rattle.legal_runs.proofs.Idle.{idle_sound}
 use Rattle.legal_runs.proofs.Told.{IsIn}
 use Rattle.legal_runs.specs.Events.{Hands}
-use Rattle.legal_runs.specs.Laws.{IsIdle, IsSound}
+use Rattle.legal_runs.specs.Laws.{IsIdle, IsSoundWorld}
 use Rattle.legal_runs.specs.World.{Entry}
 use Rattle.legal_runs.specs.Runs.{arrived}
 use Rattle.message.proofs.ReaderLemmas.{lines-first}
@@ -23,27 +23,27 @@ use Rattle.message.specs.declared.Msg.{Msg}
 use Rattle.message.specs.declared.Reply.{Reply}
 use Rattle.plain.specs.Order.{by_ticket, messages, told}
 use Rattle.plain.specs.Output.{AnswersWholeLines, joined, output_lines, state_after_lines, with_newlines}
-use Rattle.plain.specs.Progress.{AreTaken, Takes}
+use Rattle.plain.specs.Progress.{AreTaken, TakesLines}
 use Rattle.plain.specs.Serial.{fold}
 use Rattle.plain.specs.State.{State}
 use Rattle.scheduler.specs.Kept.{StandsNow, world_of}
-use Rattle.serving.specs.Ends.{AreFirst, AreServed, EndsSo, HasServed, IsWoundUp, settled}
+use Rattle.serving.specs.Ends.{AreFirst, AreServed, EndsSo, HasServed, IsWoundUp, settled_in}
 use Rattle.serving.specs.Going.{Goes, IsServing}
 use Rattle.serving.specs.Lines.{AreKnown, Line, asked, text, ticketed}
-use Rattle.machine.specs.Machine.{Handed, machine_of}
+use Rattle.machine.specs.Machine.{MachineView, machine_of}
 use Rattle.machine.specs.Stages.{events_of}
 use Rattle.serving.specs.declared.server.ServeFault.TheVariants as faults
 use Rattle.serving.proofs.Inside.{idle_again}
 use Rattle.serving.proofs.Serial.{AreTold, all_said, asked_leads_there, messages-ticketed, said_is_serial}
 
-module _ (keeps : Type 0) (start now : Handed) (idle : IsIdle (world_of start.core)) where
+module _ (keeps : Type 0) (start now : MachineView) (idle : IsIdle (world_of start.core)) where
   abbrev g : Geometry
   g = start.core.geometry
 
   abbrev x : State
-  x = settled start.core
+  x = settled_in start.core
 
-  pub sound : IsSound g (world_of start.core)
+  pub sound : IsSoundWorld g (world_of start.core)
   sound = idle_sound (world_of start.core) idle g
 
   -- ---- of a run
@@ -57,7 +57,7 @@ module _ (keeps : Type 0) (start now : Handed) (idle : IsIdle (world_of start.co
         (answered_by_ticket g (machine_of start) (events_of s.passes.stages) s.passes.legal sound idle p
         (subst (IsIn p) (sym s.passes.told_are) is)))
 
-    leads : IsIdle (world_of now.core) → settled now.core ≡ state_after_lines g x taken
+    leads : IsIdle (world_of now.core) → settled_in now.core ≡ state_after_lines g x taken
     leads ends =
         let e = s.passes.ends in
         ap (λ (w : Hands). w.core.settled) (sym e)
@@ -71,7 +71,7 @@ module _ (keeps : Type 0) (start now : Handed) (idle : IsIdle (world_of start.co
 
   -- all that was taken is answered
   served : (taken : List (List ℕ)) (said : List Line) → IsServing keeps start now taken said [] → IsIdle (world_of now.core)
-      → AreServed g x (settled now.core) taken (joined (map text said))
+      → AreServed g x (settled_in now.core) taken (joined (map text said))
   served taken said s ends = record {
     output = ap joined (all_said g s.told x start.core.next taken said (all_told taken said [] s) s.known s.answered);
     state = leads taken said [] s ends;
@@ -94,7 +94,7 @@ module _ (keeps : Type 0) (start now : Handed) (idle : IsIdle (world_of start.co
         (
           joined (map text h.said),
           h.output,
-          subst (λ (ls : List (List ℕ)). AreServed g x (settled now.core) ls (joined (map text h.said))) (sym all)
+          subst (λ (ls : List (List ℕ)). AreServed g x (settled_in now.core) ls (joined (map text h.said))) (sym all)
               (served h.taken h.said h.serving ends),
         ),
       )
@@ -164,7 +164,7 @@ module _ (keeps : Type 0) (start now : Handed) (idle : IsIdle (world_of start.co
       ∙ ap (λ ls. take (length h.said) (output_lines g x ls)) (sym h.takes.2.to_come) in
       (failed, wound_up, (joined (map text h.said), h.output, (length h.said, ap joined all)))
 
-  pub first_taken : (input left : Option (List ℕ)) (ended : Bool) (taken : List (List ℕ)) → Takes input left ended taken → AreFirst input taken
+  pub first_taken : (input left : Option (List ℕ)) (ended : Bool) (taken : List (List ℕ)) → TakesLines input left ended taken → AreFirst input taken
   first_taken None left ended taken t = tt
   first_taken (Some input) left ended taken t = (lines t.0, t.2.to_come)
 

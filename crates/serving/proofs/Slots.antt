@@ -11,7 +11,7 @@ use Rattle.legal_runs.specs.World.{Entry, World}
 use Rattle.legal_runs.specs.declared.outcomes.ArriveRefusal.TheVariants as arrivals
 use Rattle.legal_runs.specs.declared.outcomes.Outcome.{Outcome}
 use Rattle.legal_runs.specs.declared.outcomes.Outcome.TheVariants as outcomes
-use Rattle.machine.specs.Machine.{Handed, machine_of}
+use Rattle.machine.specs.Machine.{MachineView, machine_of}
 use Rattle.machine.specs.Stages.{events_of}
 use Rattle.message.specs.Messages.{is_in_range}
 use Rattle.message.specs.declared.Msg.{Msg}
@@ -23,7 +23,7 @@ use Rattle.serving.specs.Going.{Goes}
 use Rattle.serving.specs.Lines.{Line}
 use Rattle.serving.specs.Runs.{Passes, inside}
 
-pub passes_count : (keeps : Type 0) (old new : Handed) (come : List Entry) (told : List (ℕ × Reply)) → Passes keeps old new come told
+pub passes_count : (keeps : Type 0) (old new : MachineView) (come : List Entry) (told : List (ℕ × Reply)) → Passes keeps old new come told
     → inside (world_of new.core) + length told ≡ inside (world_of old.core) + length come
 passes_count keeps old new come told p =
     let run = run_counts old.core.geometry (machine_of old) (events_of p.stages) p.legal in
@@ -47,7 +47,7 @@ run_slots g old [] legal = refl
 run_slots g old (event ∷ events) legal =
     run_slots g event.world events legal.1 ∙ move_slots g old.core event.world.core _ (moves g old event legal.0)
 
-pub passes_slots : (keeps : Type 0) (old new : Handed) (come : List Entry) (told : List (ℕ × Reply)) → Passes keeps old new come told
+pub passes_slots : (keeps : Type 0) (old new : MachineView) (come : List Entry) (told : List (ℕ × Reply)) → Passes keeps old new come told
     → new.core.slots ≡ old.core.slots
 passes_slots keeps old new come told p =
     ap (λ (w : Hands). w.core.slots) (sym p.ends) ∙ run_slots old.core.geometry (machine_of old) (events_of p.stages) p.legal
@@ -73,7 +73,7 @@ isnt_full g w m few = of w.failed (not (is_in_range g m)) (w.next == 2 ^ 64 - 1)
     of false false false false le e = cc
 
 -- Where fewer lines are in the row than there are slots, a message finds one.
-pub finds_a_slot : (keeps : Type 0) (start now : Handed) → IsIdle (world_of start.core) → (row : List Line) (input left : Option (List ℕ))
+pub finds_a_slot : (keeps : Type 0) (start now : MachineView) → IsIdle (world_of start.core) → (row : List Line) (input left : Option (List ℕ))
     (ended : Bool) (before written : Option (List ℕ)) (m : Msg) → Goes keeps start now row input left ended before written
     → length row < start.core.slots → (arrive now.core.geometry (world_of now.core) m).0 ≢ outcomes.ArriveRefused arrivals.Full
 finds_a_slot keeps start now idle row input left ended before written m h few =

@@ -2,24 +2,24 @@
 use Rattle.std.proofs.Common.{◌≡◌, ℕ, zero, suc, false, List, [], Option, Some, None, refl, ap, sym, ◌∙◌, subst, map, inr, add-zero, append-nil, replicate}
 use Rattle.std.specs.Io.KnownBytes.{Appends}
 use Rattle.std.proofs.lemmas.Option.{none-some}
-use Rattle.legal_runs.specs.Laws.{IsSound}
-use Rattle.machine.specs.Machine.{Handed, IsHandOf, hand_at, ticket_in}
+use Rattle.legal_runs.specs.Laws.{IsSoundWorld}
+use Rattle.machine.specs.Machine.{MachineView, IsHandOf, hand_at, ticket_in}
 use Rattle.machine.specs.declared.hands.Hand.TheVariants as has
-use Rattle.plain.specs.Progress.{Takes}
-use Rattle.scheduler.specs.Kept.{Kept, world_of}
+use Rattle.plain.specs.Progress.{TakesLines}
+use Rattle.scheduler.specs.Kept.{CoreView, world_of}
 use Rattle.serving.specs.Going.{Goes}
-use Rattle.serving.specs.Runs.{Holds, Passes, hand_of, with_lent}
+use Rattle.serving.specs.Runs.{Holds, Passes, lent_hand, with_lent}
 
 -- ---- nothing is lent
 
-all_empty : (n i : ℕ) → hand_at (map hand_of (replicate n None)) i ≡ has.Empty
+all_empty : (n i : ℕ) → hand_at (map lent_hand (replicate n None)) i ≡ has.Empty
 all_empty zero i = refl
 all_empty (suc n) zero = refl
 all_empty (suc n) (suc i) = all_empty n i
 
 -- ---- nothing has happened
 
-takes_none : (input : Option (List ℕ)) → Takes input input false []
+takes_none : (input : Option (List ℕ)) → TakesLines input input false []
 takes_none None = tt
 takes_none (Some input) = (input, refl, record { to_come = refl; are_lines = tt; whole = inr refl })
 
@@ -27,7 +27,7 @@ adds_none : (known : Option (List ℕ)) → Appends known known []
 adds_none None = tt
 adds_none (Some bytes) = sym (append-nil bytes)
 
-module _ (keeps : Type 0) (start : Handed) where
+module _ (keeps : Type 0) (start : MachineView) where
   pub stays : Passes keeps start start [] []
   stays = record {
     stages = [];
@@ -52,10 +52,10 @@ module _ (keeps : Type 0) (start : Handed) where
 
 -- ---- what is lent
 
-none_in_hand : (n i ticket : ℕ) → ticket_in (hand_at (map hand_of (replicate n None)) i) ≡ Some ticket → ⊥
+none_in_hand : (n i ticket : ℕ) → ticket_in (hand_at (map lent_hand (replicate n None)) i) ≡ Some ticket → ⊥
 none_in_hand n i ticket at = none-some (ticket) (sym (ap ticket_in (all_empty n i)) ∙ at)
 
-pub holds_at_start : (core : Kept) (n : ℕ) → IsSound core.geometry (world_of core) → Holds (with_lent core (replicate n None))
+pub holds_at_start : (core : CoreView) (n : ℕ) → IsSoundWorld core.geometry (world_of core) → Holds (with_lent core (replicate n None))
 holds_at_start core n sound = record {
   sound = sound;
   each = λ i. subst (IsHandOf core.geometry (world_of core)) (sym (all_empty n i)) tt;

@@ -9,13 +9,13 @@ use Rattle.legal_runs.specs.declared.outcomes.ArriveRefusal.{ArriveRefusal}
 use Rattle.legal_runs.specs.declared.outcomes.ArriveRefusal.TheVariants as arrivals
 use Rattle.legal_runs.specs.declared.outcomes.Outcome.{Outcome}
 use Rattle.legal_runs.specs.declared.outcomes.Outcome.TheVariants as outcomes
-use Rattle.machine.specs.Machine.{Handed}
+use Rattle.machine.specs.Machine.{MachineView}
 use Rattle.message.specs.Grammar.{message_of}
 use Rattle.message.specs.Messages.{is_in_range}
 use Rattle.message.specs.Reader.{GivesLine}
 use Rattle.message.specs.declared.Msg.{Msg}
 use Rattle.scheduler.specs.Kept.{world_of}
-use Rattle.serving.specs.Reads.{IsRefused, stop_of}
+use Rattle.serving.specs.Reads.{IsRefusedLine, stop_of}
 use Rattle.serving.specs.Session.{IsStop}
 use Rattle.serving.proofs.Tickets.{quiet_ticket}
 use Rattle.serving.proofs.Stretches.{still_failed}
@@ -66,8 +66,8 @@ gives line None now_left found = tt
 gives line (Some bs) now_left found = (now_left, found)
 
 -- Where there is a slot for it, no more is read for the reason that this tells.
-pub stops_at_refusal : (keeps : Type 0) (old new : Handed) (left now_left behind : Option (List ℕ)) (drained : Bool) (line : List ℕ) (m : Msg)
-    (why : ArriveRefusal) → message_of line ≡ Some m → IfSome left (λ bs. GivesLine line bs now_left) → IsRefused keeps old new m why
+pub stops_at_refusal : (keeps : Type 0) (old new : MachineView) (left now_left behind : Option (List ℕ)) (drained : Bool) (line : List ℕ) (m : Msg)
+    (why : ArriveRefusal) → message_of line ≡ Some m → IfSome left (λ bs. GivesLine line bs now_left) → IsRefusedLine keeps old new m why
     → ((arrive old.core.geometry (world_of old.core) m).0 ≢ outcomes.ArriveRefused arrivals.Full)
     → IsStop old.core.geometry new.core left drained behind (stop_of why)
 stops_at_refusal keeps old new left now_left behind drained line m arrivals.Range is found r fits = absurd (r.not_range refl)

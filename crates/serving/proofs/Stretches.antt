@@ -1,13 +1,12 @@
 -- One step of a run, behind those before it.
 use Rattle.std.proofs.Common.{◌≡◌, ℕ, Bool, List, [], ◌∷◌, ◌++◌, Result, Ok, Err, refl, ap, sym, ◌∙◌, subst, take, append-nil, false, true, ◌≤◌, ◌+◌, add-zero, zero, suc, arith, Option}
-use Rattle.std.specs.Prelude.{OnErr, OnOk, drop, length, if◌then◌else◌}
+use Rattle.std.specs.Prelude.{OnErr, drop, length, if◌then◌else◌}
 use Rattle.affinity.specs.declared.geometry.Geometry.{Geometry}
-use Rattle.legal_runs.proofs.Apart.{length_held}
 use Rattle.legal_runs.proofs.Failures.{failure_lasts}
 use Rattle.legal_runs.specs.Events.{Event, Hands, batch}
-use Rattle.legal_runs.specs.Laws.{IsSound, moves_what_is_out}
+use Rattle.legal_runs.specs.Laws.{moves_what_is_out}
 use Rattle.legal_runs.specs.Runs.{IsLegal, answers, arrives, last}
-use Rattle.legal_runs.specs.World.{Entry, Replied, World}
+use Rattle.legal_runs.specs.World.{Entry, World}
 use Rattle.legal_runs.specs.declared.outcomes.CoreFault.{CoreFault}
 use Rattle.legal_runs.specs.declared.outcomes.CoreFault.TheVariants as faults
 use Rattle.legal_runs.specs.declared.outcomes.Outcome.{Outcome}
@@ -16,22 +15,22 @@ use Rattle.legal_runs.specs.declared.outcomes.PointRefusal.{PointRefusal}
 use Rattle.legal_runs.specs.declared.outcomes.Step.{Step}
 use Rattle.legal_runs.specs.declared.outcomes.Step.TheVariants as steps
 use Rattle.machine.proofs.Events.{core_holds, core_step}
-use Rattle.machine.specs.Machine.{Handed, machine_of}
-use Rattle.machine.specs.Steps.{IsCoreStep, IsStep}
+use Rattle.machine.specs.Machine.{MachineView, machine_of}
+use Rattle.machine.specs.Steps.{IsCoreStep, IsMachineStep}
 use Rattle.machine.specs.declared.hands.Hand.{Hand}
 use Rattle.message.specs.declared.Reply.{Reply}
-use Rattle.scheduler.specs.Calls.{Counts, IsCalled, IsLogStep, log_rose, logged, point_rose, stepped}
-use Rattle.scheduler.specs.Kept.{Kept, StandsThroughout, world_of}
+use Rattle.scheduler.specs.Calls.{CountsFailure, IsCalled, IsLogStep, log_rose, log_outcome, point_rose, step_outcome}
+use Rattle.scheduler.specs.Kept.{CoreView, StandsThroughout, world_of}
 use Rattle.serving.specs.Lines.{Line, asked, ticketed}
 use Rattle.serving.specs.Going.{Goes}
 use Rattle.serving.specs.Runs.{Holds, IsQuiet, Passes}
 use Rattle.serving.proofs.Chain.{passes_on}
 
-counted : (b : Bool) (old new : ℕ) → Counts b old new → new ≡ old + (0 + (if b then 1 else 0))
+counted : (b : Bool) (old new : ℕ) → CountsFailure b old new → new ≡ old + (0 + (if b then 1 else 0))
 counted true old new h = h
 counted false old new h = h ∙ sym (add-zero old)
 
-module _ (keeps : Type 0) (old new : Handed) (step : Step) (outcome : Outcome) (k : IsStep keeps old new step outcome) where
+module _ (keeps : Type 0) (old new : MachineView) (step : Step) (outcome : Outcome) (k : IsMachineStep keeps old new step outcome) where
   abbrev event : Event
   event = record { step = step; outcome = outcome; rose = k.rose; world = machine_of new }
 
@@ -50,7 +49,7 @@ module _ (keeps : Type 0) (old new : Handed) (step : Step) (outcome : Outcome) (
   }
 
 -- A stretch in which nothing arrives and nothing is answered leaves what is known of the lines.
-pub quiet_goes_on : (keeps : Type 0) (old new : Handed) → Passes keeps old new [] [] → (row : List Line) (start : Handed)
+pub quiet_goes_on : (keeps : Type 0) (old new : MachineView) → Passes keeps old new [] [] → (row : List Line) (start : MachineView)
     (input left : Option (List ℕ)) (ended : Bool) (before written : Option (List ℕ)) → Goes keeps start old row input left ended before written
     → Goes keeps start new row input left ended before written
 quiet_goes_on keeps old new p row start input left ended before written h =
@@ -77,18 +76,18 @@ run_fails : (g : Geometry) (old : Hands) (events : List Event) → IsLegal g old
 run_fails g old [] legal failed = failed
 run_fails g old (event ∷ events) legal failed = run_fails g event.world events legal.1 (failure_lasts g old event legal.0 failed).failed
 
-pub still_failed : (keeps : Type 0) (old new : Handed) (come : List Entry) (told : List (ℕ × Reply)) → Passes keeps old new come told
+pub still_failed : (keeps : Type 0) (old new : MachineView) (come : List Entry) (told : List (ℕ × Reply)) → Passes keeps old new come told
     → old.core.failed ≡ true → new.core.failed ≡ true
 still_failed keeps old new come told p failed =
     ap (λ (w : Hands). w.core.failed) (sym p.ends) ∙ run_fails old.core.geometry (machine_of old) _ p.legal failed
 
 -- A step of the core alone, in which nothing arrives or is answered, and nothing goes out or comes back.
-pub core_is_quiet : (keeps : Type 0) (old new : Kept) (step : Step) (outcome : Outcome) → IsCoreStep keeps old new step outcome
+pub core_is_quiet : (keeps : Type 0) (old new : CoreView) (step : Step) (outcome : Outcome) → IsCoreStep keeps old new step outcome
     → moves_what_is_out step ≡ false → arrives step outcome ≡ [] → answers outcome ≡ [] → (hands : List Hand)
     → Holds (record { core = old; hands = hands }) → IsQuiet keeps (record { core = old; hands = hands }) (record { core = new; hands = hands })
 core_is_quiet keeps old new step outcome k still none_come none_told hands h =
-    let was : Handed = record { core = old; hands = hands } in
-    let now : Handed = record { core = new; hands = hands } in
+    let was : MachineView = record { core = old; hands = hands } in
+    let now : MachineView = record { core = new; hands = hands } in
     record {
       holds = core_holds keeps old new hands step outcome h k still;
       passes = subst (λ (es : List Entry). Passes keeps was now es []) none_come
@@ -98,16 +97,16 @@ core_is_quiet keeps old new step outcome k still none_come none_told hands h =
 
 -- ---- logs
 
-no_answer_of_log : (r : Result ℕ CoreFault) → answers (logged r) ≡ []
+no_answer_of_log : (r : Result ℕ CoreFault) → answers (log_outcome r) ≡ []
 no_answer_of_log (Ok count) = refl
 no_answer_of_log (Err why) = refl
 
-pub log_is_quiet : (keeps : Type 0) (old new : Kept) (n : ℕ) (r : Result ℕ CoreFault)
-    → IsCalled old.geometry (world_of old) (world_of new) (steps.Log n) (logged r) (log_rose r) → new.geometry ≡ old.geometry
-    → Counts (log_rose r) old.medium.faults new.medium.faults → (keeps → StandsThroughout (batch (world_of old) n) old new)
+pub log_is_quiet : (keeps : Type 0) (old new : CoreView) (n : ℕ) (r : Result ℕ CoreFault)
+    → IsCalled old.geometry (world_of old) (world_of new) (steps.Log n) (log_outcome r) (log_rose r) → new.geometry ≡ old.geometry
+    → CountsFailure (log_rose r) old.medium.faults new.medium.faults → (keeps → StandsThroughout (batch (world_of old) n) old new)
     → (hands : List Hand) → Holds (record { core = old; hands = hands })
     → IsQuiet keeps (record { core = old; hands = hands }) (record { core = new; hands = hands })
-log_is_quiet keeps old new n r called geometry counts moments = core_is_quiet keeps old new (steps.Log n) (logged r)
+log_is_quiet keeps old new n r called geometry counts moments = core_is_quiet keeps old new (steps.Log n) (log_outcome r)
     (record { rose = log_rose r; called = called; geometry = geometry; failures = counts; any_moment = moments }) refl refl (no_answer_of_log r)
 
 none_behind_all : {A : Type 0} (n : ℕ) (xs : List A) → length xs ≤ n → drop n xs ≡ []
@@ -122,23 +121,6 @@ all_in_front (suc n) [] le = refl
 all_in_front zero (x ∷ xs) le = absurd (omega (arith, le))
 all_in_front (suc n) (x ∷ xs) le = ap (λ l. x ∷ l) (all_in_front n xs (omega (arith, le)))
 
-all_ran : (g : Geometry) (w : World) → IsSound g w → length w.ran ≤ w.slots
-all_ran g w h = let fits = h.fits in let parts = length_held w in omega (arith, fits, parts)
-
--- Where there are no more, all that ran is logged.
-pub logs_all : (g : Geometry) (old new : World) (n : ℕ) (r : Result ℕ CoreFault) → IsLogStep g old new n r → IsSound g old → n ≡ old.slots
-    → OnOk r ((new.ran ≡ []) × (new.logged ≡ old.logged ++ old.ran))
-logs_all g old new n (Ok count) h sound all =
-    let few : length old.ran ≤ n = let le = all_ran g old sound in omega (arith, le, all) in (
-      ap (λ (w : World). w.ran) h.2 ∙ none_behind_all n old.ran few,
-      ap (λ (w : World). w.logged) h.2 ∙ ap (λ (l : List Replied). old.logged ++ l) (all_in_front n old.ran few),
-    )
-logs_all g old new n (Err why) h sound all = tt
-
-pub log_works : (g : Geometry) (old new : World) (n : ℕ) (r : Result ℕ CoreFault) → IsLogStep g old new n r → OnOk r (new.failed ≡ false)
-log_works g old new n (Ok count) h = ap (λ (w : World). w.failed) h.2 ∙ h.0
-log_works g old new n (Err why) h = tt
-
 pub log_fails : (g : Geometry) (old new : World) (n : ℕ) (r : Result ℕ CoreFault) → IsLogStep g old new n r → OnErr r (new.failed ≡ true)
 log_fails g old new n (Ok count) h = tt
 log_fails g old new n (Err faults.Device) h = ap (λ (w : World). w.failed) h.2
@@ -147,32 +129,32 @@ log_fails g old new n (Err faults.Failed) h = ap (λ (w : World). w.failed) h.1 
 -- ---- steps of a point
 
 no_answer_of_point : {T : Type 0} (made : T → Outcome) → ((x : T) → answers (made x) ≡ []) → (r : Result T PointRefusal)
-    → answers (stepped made r) ≡ []
+    → answers (step_outcome made r) ≡ []
 no_answer_of_point made none (Ok x) = none x
 no_answer_of_point made none (Err why) = refl
 
-module _ (keeps : Type 0) (old new : Kept) (geometry : new.geometry ≡ old.geometry) (moments : keeps → StandsThroughout [] old new) where
+module _ (keeps : Type 0) (old new : CoreView) (geometry : new.geometry ≡ old.geometry) (moments : keeps → StandsThroughout [] old new) where
   abbrev IsStepOf : Step → Outcome → Bool → Type 0
-  IsStepOf step outcome rose = IsCalled old.geometry (world_of old) (world_of new) step outcome rose → Counts rose old.medium.faults new.medium.faults
+  IsStepOf step outcome rose = IsCalled old.geometry (world_of old) (world_of new) step outcome rose → CountsFailure rose old.medium.faults new.medium.faults
       → (hands : List Hand) → Holds (record { core = old; hands = hands })
       → IsQuiet keeps (record { core = old; hands = hands }) (record { core = new; hands = hands })
 
-  pub point_is_quiet : (r : Result (Unit {0}) PointRefusal) → IsStepOf steps.Point (stepped (λ _. outcomes.Pointed) r) (point_rose r)
-  point_is_quiet r called counts = core_is_quiet keeps old new steps.Point (stepped (λ _. outcomes.Pointed) r)
+  pub point_is_quiet : (r : Result (Unit {0}) PointRefusal) → IsStepOf steps.Point (step_outcome (λ _. outcomes.Pointed) r) (point_rose r)
+  point_is_quiet r called counts = core_is_quiet keeps old new steps.Point (step_outcome (λ _. outcomes.Pointed) r)
       (record { rose = point_rose r; called = called; geometry = geometry; failures = counts; any_moment = moments }) refl refl
       (no_answer_of_point (λ _. outcomes.Pointed) (λ _. refl) r)
 
-  pub cut_is_quiet : (r : Result (Unit {0}) PointRefusal) → IsStepOf steps.Cut (stepped (λ _. outcomes.Cut) r) (point_rose r)
-  cut_is_quiet r called counts = core_is_quiet keeps old new steps.Cut (stepped (λ _. outcomes.Cut) r)
+  pub cut_is_quiet : (r : Result (Unit {0}) PointRefusal) → IsStepOf steps.Cut (step_outcome (λ _. outcomes.Cut) r) (point_rose r)
+  cut_is_quiet r called counts = core_is_quiet keeps old new steps.Cut (step_outcome (λ _. outcomes.Cut) r)
       (record { rose = point_rose r; called = called; geometry = geometry; failures = counts; any_moment = moments }) refl refl
       (no_answer_of_point (λ _. outcomes.Cut) (λ _. refl) r)
 
-  pub piece_is_quiet : (r : Result ℕ PointRefusal) → IsStepOf steps.Piece (stepped outcomes.Left r) (point_rose r)
-  piece_is_quiet r called counts = core_is_quiet keeps old new steps.Piece (stepped outcomes.Left r)
+  pub piece_is_quiet : (r : Result ℕ PointRefusal) → IsStepOf steps.Piece (step_outcome outcomes.Left r) (point_rose r)
+  piece_is_quiet r called counts = core_is_quiet keeps old new steps.Piece (step_outcome outcomes.Left r)
       (record { rose = point_rose r; called = called; geometry = geometry; failures = counts; any_moment = moments }) refl refl
       (no_answer_of_point outcomes.Left (λ _. refl) r)
 
-  pub flip_is_quiet : (r : Result (Unit {0}) PointRefusal) → IsStepOf steps.Flip (stepped (λ _. outcomes.Flipped) r) (point_rose r)
-  flip_is_quiet r called counts = core_is_quiet keeps old new steps.Flip (stepped (λ _. outcomes.Flipped) r)
+  pub flip_is_quiet : (r : Result (Unit {0}) PointRefusal) → IsStepOf steps.Flip (step_outcome (λ _. outcomes.Flipped) r) (point_rose r)
+  flip_is_quiet r called counts = core_is_quiet keeps old new steps.Flip (step_outcome (λ _. outcomes.Flipped) r)
       (record { rose = point_rose r; called = called; geometry = geometry; failures = counts; any_moment = moments }) refl refl
       (no_answer_of_point (λ _. outcomes.Flipped) (λ _. refl) r)

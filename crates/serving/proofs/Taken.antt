@@ -2,7 +2,7 @@
 use Rattle.std.proofs.Common.{◌≡◌, ℕ, true, false, Bool, List, [], ◌∷◌, ◌++◌, Option, Some, None, sym, refl, subst}
 use Rattle.std.specs.Prelude.{IfSome, ◌&&◌}
 use Rattle.std.specs.Io.KnownBytes.{IsAtEnd}
-use Rattle.machine.specs.Machine.{Handed}
+use Rattle.machine.specs.Machine.{MachineView}
 use Rattle.message.specs.Grammar.{message_of}
 use Rattle.message.specs.Reader.{GivesLine, IsAtEndOf, IsClosed, PassesLine}
 use Rattle.message.specs.declared.Msg.{Msg}
@@ -15,16 +15,16 @@ use Rattle.serving.proofs.Arriving.{serves_taken}
 use Rattle.serving.proofs.Starting.{stays}
 
 -- A line that is no message takes no ticket.
-pub takes_none : (keeps : Type 0) (m : Handed) → Holds m → IsTaken keeps m m None NoMessage
+pub takes_none : (keeps : Type 0) (m : MachineView) → Holds m → IsTaken keeps m m None NoMessage
 takes_none keeps m h = record { holds = h; passes = stays keeps m; is_known = tt }
 
 -- Where nothing happens, nothing arrives or is answered.
-pub still : (keeps : Type 0) (m : Handed) → Holds m → IsQuiet keeps m m
+pub still : (keeps : Type 0) (m : MachineView) → Holds m → IsQuiet keeps m m
 still keeps m h = record { holds = h; passes = stays keeps m }
 
 -- ---- the next line
 
-module _ (keeps : Type 0) (start old new : Handed) (row : List Line) (known : Line) (input left now_left : Option (List ℕ)) (ended now_ended : Bool)
+module _ (keeps : Type 0) (start old new : MachineView) (row : List Line) (known : Line) (input left now_left : Option (List ℕ)) (ended now_ended : Bool)
     (before written : Option (List ℕ)) (going : ended ≡ false) (closes : IsClosed left now_ended) where
   -- It was given.
   pub line_goes_on : (line : List ℕ) → IsTaken keeps old new (message_of line) known → IfSome left (λ bs. GivesLine line bs now_left)

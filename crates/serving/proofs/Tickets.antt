@@ -5,7 +5,7 @@ use Rattle.legal_runs.proofs.Moves.{Answers, Arrives, Backs, Grants, Logs, Move,
 use Rattle.legal_runs.specs.Events.{Event, Hands}
 use Rattle.legal_runs.specs.Runs.{IsLegal, arrived, arrives, last}
 use Rattle.legal_runs.specs.World.{Entry, World}
-use Rattle.machine.specs.Machine.{Handed, machine_of}
+use Rattle.machine.specs.Machine.{MachineView, machine_of}
 use Rattle.machine.specs.Stages.{events_of}
 use Rattle.message.specs.declared.Msg.{Msg}
 use Rattle.message.specs.declared.Reply.{Reply}
@@ -49,7 +49,7 @@ run_next g old (event ∷ events) legal =
     ∙ ap (next_ticket old.core.next) (sym (messages-append come (arrived events)))
 
 -- Where nothing arrives, the next ticket stays.
-pub quiet_ticket : (keeps : Type 0) (old new : Handed) (told : List (ℕ × Reply)) → Passes keeps old new [] told
+pub quiet_ticket : (keeps : Type 0) (old new : MachineView) (told : List (ℕ × Reply)) → Passes keeps old new [] told
     → new.core.next ≡ old.core.next
 quiet_ticket keeps old new told p =
     ap (λ (w : Hands). w.core.next) (sym p.ends) ∙ run_next old.core.geometry (machine_of old) (events_of p.stages) p.legal

@@ -16,18 +16,18 @@ use Rattle.legal_runs.proofs.Elements.{contains_in, holds_of, in_contained}
 use Rattle.legal_runs.proofs.SerialLogs.{answered_came, left_in_order, logged_begins, one_message, still_serial}
 use Rattle.legal_runs.proofs.Told.{IsIn, in_left, in_right}
 use Rattle.legal_runs.specs.Events.{Event, Hands, loggable}
-use Rattle.legal_runs.specs.Laws.{AreAscending, IsIdle, IsSerialLog, said}
+use Rattle.legal_runs.specs.Laws.{AreAscending, IsIdle, IsSerialLog, ticket_replies}
 use Rattle.legal_runs.specs.Runs.{answered, answered_messages, arrived, arrives, last, went}
 use Rattle.legal_runs.specs.World.{Entry, Replied, entry}
-use Rattle.machine.specs.Machine.{Handed, machine_of}
+use Rattle.machine.specs.Machine.{MachineView, machine_of}
 use Rattle.machine.specs.Stages.{Stage, StandsForRun, device_after, events_of}
 use Rattle.message.specs.Grammar.{message_of}
 use Rattle.message.specs.declared.Msg.{Msg}
 use Rattle.message.specs.declared.Reply.{Reply}
 use Rattle.plain.specs.Serial.{fold}
 use Rattle.plain.specs.State.{State}
-use Rattle.scheduler.specs.Kept.{Kept, world_of}
-use Rattle.serving.specs.Ends.{HasRun, HasServed, settled}
+use Rattle.scheduler.specs.Kept.{CoreView, world_of}
+use Rattle.serving.specs.Ends.{HasRunLines, HasServed, settled_in}
 use Rattle.serving.specs.Lines.{Answered, AreKnown, IsKnown, Line, NoMessage, OutOfRange, Unanswered, asked, asked_in, is_answered, next_ticket, text, ticketed}
 use Rattle.serving.specs.Told.{AreKept, HoldsLog, IsKept}
 use Rattle.serving.proofs.Tickets.{ticketed-append}
@@ -41,8 +41,8 @@ arrived_parted (event ∷ events) (suc k) =
     append_assoc (arrives event.step event.outcome) (arrived (take k events)) (arrived (drop k events))
     ∙ ap (λ es. arrives event.step event.outcome ++ es) (arrived_parted events k)
 
-module _ (keeps : Type 0) (start : Handed) (new : Kept) (input : Option (List ℕ)) (taken : List (List ℕ)) (stages : List Stage)
-    (idle : IsIdle (world_of start.core)) (none : start.core.doubt ≡ []) (r : HasRun keeps start new input taken stages) where
+module _ (keeps : Type 0) (start : MachineView) (new : CoreView) (input : Option (List ℕ)) (taken : List (List ℕ)) (stages : List Stage)
+    (idle : IsIdle (world_of start.core)) (none : start.core.doubt ≡ []) (r : HasRunLines keeps start new input taken stages) where
   abbrev g : Geometry
   g = start.core.geometry
 
@@ -53,7 +53,7 @@ module _ (keeps : Type 0) (start : Handed) (new : Kept) (input : Option (List �
   events = events_of stages
 
   -- What stands for the run since event k holds all that was logged by then.
-  holds_since : (k : ℕ) (c : List ℕ) → StandsForRun g w events k c → HoldsLog g (settled start.core) (arrived events) (went w (take k events)) c
+  holds_since : (k : ℕ) (c : List ℕ) → StandsForRun g w events k c → HoldsLog g (settled_in start.core) (arrived events) (went w (take k events)) c
   holds_since k c s =
       let after = s.left.after in
       let found = left_in_order g w events after s.left.log r.legal idle none s.left.is_log in
@@ -62,28 +62,28 @@ module _ (keeps : Type 0) (start : Handed) (new : Kept) (input : Option (List �
       let whole : went w (take after events) ++ some ≡ went w (take k events) ++ (first.0 ++ some) =
       ap (λ (l : List Replied). l ++ some) first.1 ∙ append_assoc (went w (take k events)) first.0 some in
       let all = arrived_parted events after in
-      let serial : IsSerialLog g (settled start.core) (arrived events) (went w (take after events) ++ some) =
-      subst (λ (es : List Entry). IsSerialLog g (settled start.core) es (went w (take after events) ++ some)) all
-      (still_serial g (settled start.core) (arrived (take after events)) (arrived (drop after events)) (went w (take after events) ++ some)
+      let serial : IsSerialLog g (settled_in start.core) (arrived events) (went w (take after events) ++ some) =
+      subst (λ (es : List Entry). IsSerialLog g (settled_in start.core) es (went w (take after events) ++ some)) all
+      (still_serial g (settled_in start.core) (arrived (take after events)) (arrived (drop after events)) (went w (take after events) ++ some)
       (subst AreAscending (sym all) (run_ascending g w events r.legal)) found.1) in
       record {
         more = first.0 ++ some;
-        serial = subst (IsSerialLog g (settled start.core) (arrived events)) whole serial;
+        serial = subst (IsSerialLog g (settled_in start.core) (arrived events)) whole serial;
         stands = s.is ∙ ap (λ (x : State). Some x) s.left.state
-            ∙ ap (λ (ms : List Msg). Some (fold g (settled start.core) ms)) (found.2 ∙ ap loggable whole);
+            ∙ ap (λ (ms : List Msg). Some (fold g (settled_in start.core) ms)) (found.2 ∙ ap loggable whole);
       }
 
   -- So does what a crash leaves since event k ended.
   pub holds_logged : keeps → (k : ℕ) (c : List ℕ) → k ≤ length stages
       → left_since new.medium (moment (device_after start.core.medium (take k stages))) c
-      → HoldsLog g (settled start.core) (ticketed start.core.next (asked g taken)) (went w (take k events)) c
+      → HoldsLog g (settled_in start.core) (ticketed start.core.next (asked g taken)) (went w (take k events)) c
   holds_logged kept k c le since =
-      subst (λ (es : List Entry). HoldsLog g (settled start.core) es (went w (take k events)) c) r.arrived_are
+      subst (λ (es : List Entry). HoldsLog g (settled_in start.core) es (went w (take k events)) c) r.arrived_are
       (holds_since k c (r.crash kept k c le since))
 
   -- And in the end all that was logged.
   pub holds_all : keeps → (c : List ℕ) → Leaves new.medium c
-      → HoldsLog g (settled start.core) (ticketed start.core.next (asked g taken)) (went w events) c
+      → HoldsLog g (settled_in start.core) (ticketed start.core.next (asked g taken)) (went w events) c
   holds_all kept c left =
       let n = length stages in
       let at_end : device_after start.core.medium (take n stages) ≡ new.medium =
@@ -91,7 +91,7 @@ module _ (keeps : Type 0) (start : Handed) (new : Kept) (input : Option (List �
       let since : left_since new.medium (moment (device_after start.core.medium (take n stages))) c =
       subst (λ (m : Medium). left_since new.medium (moment m) c) (sym at_end) (counts_now new.medium (moment new.medium) c (omega arith) left) in
       let long : length events ≤ n = omega (arith, length-map stages (λ (s : Stage). s.event)) in
-      subst (λ (es : List Event). HoldsLog g (settled start.core) (ticketed start.core.next (asked g taken)) (went w es) c) (take_all n events long)
+      subst (λ (es : List Event). HoldsLog g (settled_in start.core) (ticketed start.core.next (asked g taken)) (went w es) c) (take_all n events long)
       (holds_logged kept n c (omega arith) since)
 
 -- ---- the lines
@@ -126,13 +126,13 @@ module _ (g : Geometry) (replies : List (ℕ × Reply)) (log : List Replied) (wh
       )
 
 -- the message that was answered so
-said_of : (as' : List Replied) (p : ℕ × Reply) → IsIn p (said as') → (m : Msg) × IsIn (p.0, m, p.1) as'
+said_of : (as' : List Replied) (p : ℕ × Reply) → IsIn p (ticket_replies as') → (m : Msg) × IsIn (p.0, m, p.1) as'
 said_of [] p is = absurd is
 said_of (a ∷ as') p is = ⊎_elim
     (λ (e : p ≡ (a.0, a.2)). (a.1, inl (λ i. ((e i).0, a.1, (e i).1))))
     (λ later. let h = said_of as' p later in (h.0, inr h.1)) is
 
-module _ (keeps : Type 0) (start : Handed) (new : Kept) (row : List Line) (input before written : Option (List ℕ))
+module _ (keeps : Type 0) (start : MachineView) (new : CoreView) (row : List Line) (input before written : Option (List ℕ))
     (idle : IsIdle (world_of start.core)) (h : HasServed keeps start new row input before written) where
   abbrev run_log : List Replied
   run_log = went (machine_of start) (events_of h.stages)

@@ -1,8 +1,10 @@
 -- A session stays under way: one lemma for each kind of step, and what being under way tells.
-use Rattle.std.proofs.Common.{◌≡◌, ◌≢◌, ◌≤◌, ◌<◌, ℕ, Bool, true, false, List, [], ◌∷◌, ◌++◌, Option, Some, None, refl, ap, sym, ◌∙◌, subst, length, map, arith}
+use Rattle.std.proofs.Common.{◌≡◌, ◌≢◌, ◌≤◌, ◌<◌, ℕ, Bool, true, false, List, [], ◌∷◌, ◌++◌, Option, Some, None, refl, ap, sym, ◌∙◌, subst, length, map, drop, append_assoc, append-nil, arith}
 use Rattle.std.specs.Prelude.{IfSome, IsTrue}
 use Rattle.std.specs.Io.KnownBytes.{Appends, IsAtEnd}
 use Rattle.affinity.specs.declared.geometry.Geometry.{Geometry}
+use Rattle.std.proofs.lemmas.Bool.{true≢false}
+use Rattle.legal_runs.proofs.Lists.{all_join}
 use Rattle.legal_runs.specs.Events.{arrive}
 use Rattle.legal_runs.specs.Laws.{IsIdle}
 use Rattle.legal_runs.specs.declared.outcomes.ArriveRefusal.TheVariants as arrivals
@@ -12,20 +14,24 @@ use Rattle.message.specs.Reader.{GivesLine, IsClosed, PassesLine}
 use Rattle.message.specs.Waiting.{so_far}
 use Rattle.message.specs.declared.Msg.{Msg}
 use Rattle.message.specs.declared.Reply.{Reply}
-use Rattle.scheduler.specs.Kept.{Kept, world_of}
+use Rattle.scheduler.specs.Kept.{CoreView, StandsNow, world_of}
 use Rattle.serving.specs.Going.{Goes}
-use Rattle.serving.specs.Lines.{Line, Unanswered, answer_one}
+use Rattle.plain.specs.Output.{joined}
+use Rattle.serving.specs.Lines.{AreAnswered, Answered, Line, NoMessage, OutOfRange, Unanswered, answer_one, is_answered, text}
 use Rattle.serving.specs.Reads.{IsTaken}
-use Rattle.serving.specs.Rows.{AreInOrder, RowView, Says, with_tickets}
+use Rattle.serving.specs.Rows.{AreConsecutive, RowView, Says, comes_next, next_text, with_tickets}
 use Rattle.serving.specs.Runs.{Holds, IsQuiet, Passes, with_lent}
-use Rattle.serving.specs.Session.{HasGone, HasStopped, IsStop, IsUnderWay, IsUnderWayFrom, Place, ReadsOrStops, Start, machine, start_machine, unless}
+use Rattle.atomic_table.specs.Seated.{TableId}
+use Rattle.serving.specs.Session.{HasGone, IsAt, HasStopped, IsStop, IsUnderWay, IsUnderWayFrom, SessionView, ReadsOrStops, machine, known_unless}
+use Rattle.serving.specs.Telling.{MayTell, Start, start_machine}
 use Rattle.serving.specs.declared.session.Stop.{Stop}
 use Rattle.serving.specs.declared.session.Stop.TheVariants as stops
 use Rattle.workers.specs.Desk.{Desk}
-use Rattle.serving.proofs.Advancing.{forgets, says_on}
+use Rattle.serving.proofs.Advancing.{forgets, says_on, texts_both}
 use Rattle.serving.proofs.Answering.{answered_goes_on}
 use Rattle.serving.proofs.Following.{next_follows}
 use Rattle.serving.proofs.Inside.{idle_again}
+use Rattle.serving.proofs.Served.{has_served}
 use Rattle.serving.proofs.Slots.{finds_a_slot}
 use Rattle.serving.proofs.Stretches.{quiet_goes_on, still_failed}
 use Rattle.serving.proofs.Taken.{line_goes_on, long_line_goes_on}
@@ -33,7 +39,7 @@ use Rattle.serving.proofs.Tickets.{quiet_ticket}
 
 -- ---- why no more is read stays so
 
-why_on : (g : Geometry) (old new : Kept) (left : Option (List ℕ)) (drained : Bool) (behind : Option (List ℕ)) (stop : Stop) → new.next ≡ old.next
+why_on : (g : Geometry) (old new : CoreView) (left : Option (List ℕ)) (drained : Bool) (behind : Option (List ℕ)) (stop : Stop) → new.next ≡ old.next
     → (old.failed ≡ true → new.failed ≡ true) → IsStop g old left drained behind stop → IsStop g new left drained behind stop
 why_on g old new left drained behind stops.End next failed h = h
 why_on g old new left drained behind stops.Fault next failed h = h
@@ -41,16 +47,45 @@ why_on g old new left drained behind stops.Exhausted next failed h = (next ∙ h
 why_on g old new left drained behind stops.Failed next failed h = failed h
 
 -- what was said of a row, where the output may have failed
-says_unless : (b : Bool) (row rest : List Line) (old now : Option (List ℕ)) → Says row rest old now → Says row rest (unless b old) (unless b now)
+says_unless : (b : Bool) (row rest : List Line) (old now : Option (List ℕ)) → Says row rest old now → Says row rest (known_unless b old) (known_unless b now)
 says_unless true row rest old now says = record { said = says.said; were = says.were; are_answered = says.are_answered; output = tt }
 says_unless false row rest old now says = says
 
-pub says_none : (row : List Line) (old now : Option (List ℕ)) → Appends old now [] → Says row row old now
-says_none row old now appends = record { said = []; were = refl; are_answered = tt; output = appends }
+-- What waits is said behind what was told.
+says_waiting : (waiting row : List Line) (out : List ℕ) (told : Option (List ℕ)) → AreAnswered waiting → out ≡ joined (map text waiting)
+    → Says (waiting ++ row) row told (so_far told out)
+says_waiting waiting row out None answered is = record { said = waiting; were = refl; are_answered = answered; output = tt }
+says_waiting waiting row out (Some bytes) answered is =
+    record { said = waiting; were = refl; are_answered = answered; output = ap (λ (l : List ℕ). bytes ++ l) is }
+
+-- A line that is answered is left by a further answer.
+is_left : (ticket : ℕ) (reply : Reply) (line : Line) → is_answered line ≡ true → answer_one ticket reply line ≡ line
+is_left ticket reply NoMessage answered = refl
+is_left ticket reply OutOfRange answered = refl
+is_left ticket reply (Unanswered t) answered = absurd (true≢false (sym answered))
+is_left ticket reply (Answered t r) answered = refl
+
+are_left : (ticket : ℕ) (reply : Reply) (waiting row : List Line) → AreAnswered waiting
+    → map (answer_one ticket reply) (waiting ++ row) ≡ waiting ++ map (answer_one ticket reply) row
+are_left ticket reply [] row answered = refl
+are_left ticket reply (line ∷ waiting) row answered =
+    ap (λ (x : Line). x ∷ map (answer_one ticket reply) (waiting ++ row)) (is_left ticket reply line answered.0)
+    ∙ ap (λ (l : List Line). line ∷ l) (are_left ticket reply waiting row answered.1)
+
+-- the oldest line, where it is answered, and the others
+pub record Fronts (lines rest : List Line) : Type 0 where
+  pub line : Line
+  pub were : lines ≡ line ∷ rest
+  pub answered : is_answered line ≡ true
+  pub says : next_text lines ≡ text line
+
+fronts : (lines rest : List Line) → rest ≡ drop 1 lines → comes_next lines ≡ true → Fronts lines rest
+fronts [] rest is next = absurd (true≢false (sym next))
+fronts (line ∷ lines) rest is next = record { line = line; were = ap (λ (l : List Line). line ∷ l) (sym is); answered = next; says = refl }
 
 module _ (keeps : Type 0) where
-  module _ (s : Start) (p : Place) where
-    reads_on : (q : Place) → q.core.next ≡ p.core.next → (p.core.failed ≡ true → q.core.failed ≡ true) → q.left ≡ p.left → q.drained ≡ p.drained
+  module _ (s : Start) (p : SessionView) where
+    reads_on : (q : SessionView) → q.core.next ≡ p.core.next → (p.core.failed ≡ true → q.core.failed ≡ true) → q.left ≡ p.left → q.drained ≡ p.drained
         → q.behind ≡ p.behind
         → ((left : Option (List ℕ)) (drained : Bool) → HasGone keeps s p left drained → HasGone keeps s q left drained)
         → (stop : Option Stop) → ReadsOrStops keeps s p stop → ReadsOrStops keeps s q stop
@@ -70,29 +105,37 @@ module _ (keeps : Type 0) where
     gone None h = (p.left, p.drained, h)
     gone (Some stop) h = (h.left, h.drained, h.gone)
 
+    -- All that was answered in the output leads to the row, whether it waits or not.
+    pub to_row : (left : Option (List ℕ)) (drained : Bool) → HasGone keeps s p left drained
+        → Goes keeps (start_machine s) (machine p) p.row.lines s.input left drained (known_unless p.broken s.before) (known_unless p.broken (so_far p.told p.out))
+    to_row left drained h =
+        says_on keeps (start_machine s) (machine p) (h.waiting ++ p.row.lines) p.row.lines (known_unless p.broken p.told) (known_unless p.broken (so_far p.told p.out))
+        (says_unless p.broken (h.waiting ++ p.row.lines) p.row.lines p.told (so_far p.told p.out)
+        (says_waiting h.waiting p.row.lines p.out p.told h.are_answered h.out_is)) s.input left drained (known_unless p.broken s.before) h.goes
+
   -- ---- what being under way tells
 
-  pub holds_of : (o : Option Start) (p : Place) → IsUnderWayFrom keeps o p → Holds (machine p)
+  pub holds_of : (o : Option Start) (p : SessionView) → IsUnderWayFrom keeps o p → Holds (machine p)
   holds_of None p u = absurd u
   holds_of (Some s) p u = u.holds
 
-  pub places_of : (o : Option Start) (p : Place) → IsUnderWayFrom keeps o p → length p.desk.lent ≡ p.desk.bench.slots
+  pub places_of : (o : Option Start) (p : SessionView) → IsUnderWayFrom keeps o p → length p.desk.lent ≡ p.desk.bench.slots
   places_of None p u = absurd u
   places_of (Some s) p u = u.places
 
-  pub knows_of : (o : Option Start) (p : Place) → IsUnderWayFrom keeps o p → IsTrue p.ended → IsAtEnd p.behind
+  pub knows_of : (o : Option Start) (p : SessionView) → IsUnderWayFrom keeps o p → IsTrue p.ended → IsAtEnd p.behind
   knows_of None p u = absurd u
   knows_of (Some s) p u = u.knows
 
-  pub idle_of : (o : Option Start) (p : Place) → IsUnderWayFrom keeps o p → p.row.lines ≡ [] → IsIdle (world_of p.core)
+  pub idle_of : (o : Option Start) (p : SessionView) → IsUnderWayFrom keeps o p → p.row.lines ≡ [] → IsIdle (world_of p.core)
   idle_of None p u none = absurd u
   idle_of (Some s) p u none =
       let k = gone s p p.stop u.reads in
-      idle_again keeps (start_machine s) (machine p) u.idle s.input k.0 k.1 (unless p.broken s.before) (unless p.broken (so_far p.contents p.out))
-      (subst (λ (l : List Line). Goes keeps (start_machine s) (machine p) l s.input k.0 k.1 (unless p.broken s.before)
-      (unless p.broken (so_far p.contents p.out))) none k.2)
+      idle_again keeps (start_machine s) (machine p) u.idle s.input k.0 k.1 (known_unless p.broken s.before) (known_unless p.broken (so_far p.told p.out))
+      (subst (λ (l : List Line). Goes keeps (start_machine s) (machine p) l s.input k.0 k.1 (known_unless p.broken s.before)
+      (known_unless p.broken (so_far p.told p.out))) none (to_row s p k.0 k.1 k.2))
 
-  pub failed_of : (o : Option Start) (p : Place) → IsUnderWayFrom keeps o p → p.stop ≡ Some stops.Failed → p.core.failed ≡ true
+  pub failed_of : (o : Option Start) (p : SessionView) → IsUnderWayFrom keeps o p → p.stop ≡ Some stops.Failed → p.core.failed ≡ true
   failed_of None p u is = absurd u
   failed_of (Some s) p u is =
       let h : HasStopped keeps s p stops.Failed = subst (λ (o : Option Stop). ReadsOrStops keeps s p o) is u.reads in
@@ -101,130 +144,213 @@ module _ (keeps : Type 0) where
   -- ---- steps
 
   -- The machine goes on.
-  pub on_machine : (o : Option Start) (p : Place) (core : Kept) (desk : Desk) → IsUnderWayFrom keeps o p
+  pub on_machine : (o : Option Start) (p : SessionView) (core : CoreView) (desk : Desk) → IsUnderWayFrom keeps o p
       → IsQuiet keeps (machine p) (with_lent core desk.lent) → desk.bench ≡ p.desk.bench → length desk.lent ≡ length p.desk.lent
       → IsUnderWayFrom keeps o (record p { core = core; desk = desk })
   on_machine None p core desk u k bench places = absurd u
   on_machine (Some s) p core desk u k bench places =
-      let q : Place = record p { core = core; desk = desk } in
+      let q : SessionView = record p { core = core; desk = desk } in
       record {
         idle = u.idle;
+        sure = u.sure;
         fits = u.fits;
         holds = k.holds;
-        bench = bench ∙ u.bench;
         places = places ∙ u.places ∙ ap (λ (z : _). z.slots) (sym bench);
         knows = u.knows;
         reads = reads_on s p q (quiet_ticket keeps (machine p) (machine q) [] k.passes) (still_failed keeps (machine p) (machine q) [] [] k.passes)
             refl refl refl
-            (λ left drained h. quiet_goes_on keeps (machine p) (machine q) k.passes p.row.lines (start_machine s) s.input left drained
-            (unless p.broken s.before) (unless p.broken (so_far p.contents p.out)) h) p.stop u.reads;
+            (λ left drained h. record {
+              waiting = h.waiting;
+              are_answered = h.are_answered;
+              out_is = h.out_is;
+              goes = quiet_goes_on keeps (machine p) (machine q) k.passes (h.waiting ++ p.row.lines) (start_machine s) s.input left drained
+                  (known_unless p.broken s.before) (known_unless p.broken p.told) h.goes;
+            }) p.stop u.reads;
       }
 
   -- A message is answered, and so is its line in the row.
-  pub on_answer : (o : Option Start) (p : Place) (core : Kept) (row : RowView) (ticket : ℕ) (reply : Reply) → IsUnderWayFrom keeps o p
+  pub on_answer : (o : Option Start) (p : SessionView) (core : CoreView) (row : RowView) (ticket : ℕ) (reply : Reply) → IsUnderWayFrom keeps o p
       → Holds (with_lent core p.desk.lent) × Passes keeps (machine p) (with_lent core p.desk.lent) [] ((ticket, reply) ∷ [])
       → row.lines ≡ map (answer_one ticket reply) p.row.lines → row.slots ≡ p.row.slots
       → IsUnderWayFrom keeps o (record p { core = core; row = row })
   on_answer None p core row ticket reply u k is slots = absurd u
   on_answer (Some s) p core row ticket reply u k is slots =
-      let q : Place = record p { core = core; row = row } in
-      let told = (ticket, reply) ∷ [] in
+      let q : SessionView = record p { core = core; row = row } in
+      let replies = (ticket, reply) ∷ [] in
       record {
         idle = u.idle;
+        sure = u.sure;
         fits = subst (λ (n : ℕ). n ≤ s.core.slots) (sym slots) u.fits;
         holds = k.0;
-        bench = u.bench;
         places = u.places;
         knows = u.knows;
-        reads = reads_on s p q (quiet_ticket keeps (machine p) (machine q) told k.1) (still_failed keeps (machine p) (machine q) [] told k.1)
+        reads = reads_on s p q (quiet_ticket keeps (machine p) (machine q) replies k.1) (still_failed keeps (machine p) (machine q) [] replies k.1)
             refl refl refl
-            (λ left drained h. subst (λ (l : List Line). Goes keeps (start_machine s) (machine q) l s.input left drained (unless p.broken s.before)
-            (unless p.broken (so_far p.contents p.out))) (sym is)
-            (answered_goes_on keeps (machine p) (machine q) ticket reply k.1 p.row.lines (start_machine s) s.input left drained
-            (unless p.broken s.before) (unless p.broken (so_far p.contents p.out)) h)) p.stop u.reads;
+            (λ left drained h. record {
+              waiting = h.waiting;
+              are_answered = h.are_answered;
+              out_is = h.out_is;
+              goes = subst (λ (l : List Line). Goes keeps (start_machine s) (machine q) l s.input left drained (known_unless p.broken s.before)
+                  (known_unless p.broken p.told))
+                  (are_left ticket reply h.waiting p.row.lines h.are_answered ∙ ap (λ (l : List Line). h.waiting ++ l) (sym is))
+                  (answered_goes_on keeps (machine p) (machine q) ticket reply k.1 (h.waiting ++ p.row.lines) (start_machine s) s.input left drained
+                  (known_unless p.broken s.before) (known_unless p.broken p.told) h.goes);
+            }) p.stop u.reads;
       }
 
-  -- Lines at the front of the row were written.
-  pub on_say : (o : Option Start) (p : Place) (row : RowView) (out : List ℕ) (contents : Option (List ℕ)) → IsUnderWayFrom keeps o p
-      → Says p.row.lines row.lines (so_far p.contents p.out) (so_far contents out) → row.slots ≡ p.row.slots
-      → IsUnderWayFrom keeps o (record p { row = row; out = out; contents = contents })
-  on_say None p row out contents u says slots = absurd u
-  on_say (Some s) p row out contents u says slots = record {
+  -- The oldest line of the row waits to be told.
+  pub on_say : (o : Option Start) (p : SessionView) (row : RowView) (out : List ℕ) → IsUnderWayFrom keeps o p
+      → row.lines ≡ drop 1 p.row.lines → comes_next p.row.lines ≡ true → out ≡ p.out ++ next_text p.row.lines → row.slots ≡ p.row.slots
+      → IsUnderWayFrom keeps o (record p { row = row; out = out })
+  on_say None p row out u is next added slots = absurd u
+  on_say (Some s) p row out u is next added slots =
+      let f = fronts p.row.lines row.lines is next in
+      let one = f.line ∷ [] in
+      record {
+        idle = u.idle;
+        sure = u.sure;
+        fits = subst (λ (n : ℕ). n ≤ s.core.slots) (sym slots) u.fits;
+        holds = u.holds;
+        places = u.places;
+        knows = u.knows;
+        reads = reads_on s p (record p { row = row; out = out }) refl (λ x. x) refl refl refl
+            (λ left drained h. record {
+              waiting = h.waiting ++ one;
+              are_answered = all_join (λ line. is_answered line ≡ true) h.waiting one h.are_answered (f.answered, tt);
+              out_is = added ∙ ap (λ (l : List ℕ). l ++ next_text p.row.lines) h.out_is
+                  ∙ ap (λ (l : List ℕ). joined (map text h.waiting) ++ l) (f.says ∙ sym (append-nil (text f.line))) ∙ sym (texts_both h.waiting one);
+              goes = subst (λ (l : List Line). Goes keeps (start_machine s) (machine p) l s.input left drained (known_unless p.broken s.before)
+                  (known_unless p.broken p.told))
+                  (ap (λ (l : List Line). h.waiting ++ l) f.were ∙ sym (append_assoc h.waiting one row.lines)) h.goes;
+            }) p.stop u.reads;
+      }
+
+  -- All that waits is told.
+  pub on_tell : (o : Option Start) (p : SessionView) (out : List ℕ) (told : Option (List ℕ)) → IsUnderWayFrom keeps o p
+      → out ≡ [] → Appends p.told told p.out → IsUnderWayFrom keeps o (record p { out = out; told = told })
+  on_tell None p out told u none appends = absurd u
+  on_tell (Some s) p out told u none appends = record {
     idle = u.idle;
-    fits = subst (λ (n : ℕ). n ≤ s.core.slots) (sym slots) u.fits;
+    sure = u.sure;
+    fits = u.fits;
     holds = u.holds;
-    bench = u.bench;
     places = u.places;
     knows = u.knows;
-    reads = reads_on s p (record p { row = row; out = out; contents = contents }) refl (λ f. f) refl refl refl
-        (λ left drained h. says_on keeps (start_machine s) (machine p) p.row.lines row.lines (unless p.broken (so_far p.contents p.out))
-        (unless p.broken (so_far contents out)) (says_unless p.broken p.row.lines row.lines (so_far p.contents p.out) (so_far contents out) says)
-        s.input left drained (unless p.broken s.before) h) p.stop u.reads;
+    reads = reads_on s p (record p { out = out; told = told }) refl (λ x. x) refl refl refl
+        (λ left drained h. record {
+          waiting = [];
+          are_answered = tt;
+          out_is = none;
+          goes = says_on keeps (start_machine s) (machine p) (h.waiting ++ p.row.lines) p.row.lines (known_unless p.broken p.told)
+              (known_unless p.broken told)
+              (says_unless p.broken (h.waiting ++ p.row.lines) p.row.lines p.told told (record {
+                said = h.waiting;
+                were = refl;
+                are_answered = h.are_answered;
+                output = subst (λ (l : List ℕ). Appends p.told told l) h.out_is appends;
+              })) s.input left drained (known_unless p.broken s.before) h.goes;
+        }) p.stop u.reads;
   }
 
-  -- Some were, and then the output has failed.
-  pub on_break : (o : Option Start) (p : Place) (row : RowView) (out : List ℕ) (contents written : Option (List ℕ)) → IsUnderWayFrom keeps o p
-      → Says p.row.lines row.lines (so_far p.contents p.out) written → row.slots ≡ p.row.slots
-      → IsUnderWayFrom keeps o (record p { row = row; out = out; contents = contents; broken = true })
-  on_break None p row out contents written u says slots = absurd u
-  on_break (Some s) p row out contents written u says slots = record {
+  -- It could not be told.
+  pub on_break : (o : Option Start) (p : SessionView) (told : Option (List ℕ)) → IsUnderWayFrom keeps o p
+      → IsUnderWayFrom keeps o (record p { told = told; broken = true })
+  on_break None p told u = absurd u
+  on_break (Some s) p told u = record {
     idle = u.idle;
-    fits = subst (λ (n : ℕ). n ≤ s.core.slots) (sym slots) u.fits;
+    sure = u.sure;
+    fits = u.fits;
     holds = u.holds;
-    bench = u.bench;
     places = u.places;
     knows = u.knows;
-    reads = reads_on s p (record p { row = row; out = out; contents = contents; broken = true }) refl (λ f. f) refl refl refl
-        (λ left drained h. forgets keeps (start_machine s) (machine p) row.lines s.input left drained (unless p.broken s.before) (unless p.broken written)
-        (says_on keeps (start_machine s) (machine p) p.row.lines row.lines (unless p.broken (so_far p.contents p.out))
-        (unless p.broken written) (says_unless p.broken p.row.lines row.lines (so_far p.contents p.out) written says)
-        s.input left drained (unless p.broken s.before) h)) p.stop u.reads;
+    reads = reads_on s p (record p { told = told; broken = true }) refl (λ x. x) refl refl refl
+        (λ left drained h. record {
+          waiting = h.waiting;
+          are_answered = h.are_answered;
+          out_is = h.out_is;
+          goes = forgets keeps (start_machine s) (machine p) (h.waiting ++ p.row.lines) s.input left drained (known_unless p.broken s.before)
+              (known_unless p.broken p.told) h.goes;
+        }) p.stop u.reads;
   }
+
+  -- What waits may be told, where the core is as it always is.
+  pub may_tell : (o : Option Start) (p : SessionView) → IsUnderWayFrom keeps o p → p.broken ≡ false → (p.core.failed ≡ false → p.core.doubt ≡ [])
+      → (keeps → StandsNow p.core) → MayTell keeps o p.told p.core p.out
+  may_tell None p u whole none stands = absurd u
+  may_tell (Some s) p u whole none stands =
+      let k = gone s p p.stop u.reads in
+      let h = k.2 in
+      record {
+        idle = u.idle;
+        sure = u.sure;
+        next = h.waiting;
+        row = p.row.lines;
+        served = has_served keeps (start_machine s) (machine p) u.idle (h.waiting ++ p.row.lines) s.input k.0 k.1 s.before p.told
+            (subst (λ (b : Bool). Goes keeps (start_machine s) (machine p) (h.waiting ++ p.row.lines) s.input k.0 k.1 (known_unless b s.before)
+            (known_unless b p.told)) whole h.goes) none stands;
+        are_answered = h.are_answered;
+        bytes_are = h.out_is;
+      }
 
   -- ---- lines that are read
 
   -- From a place where it reads, to what was read: how the start sees it.
-  pub reading : (s : Start) (p : Place) → p.stop ≡ None → IsUnderWay keeps s p → HasGone keeps s p p.left p.drained
+  pub reading : (s : Start) (p : SessionView) → p.stop ≡ None → IsUnderWay keeps s p → HasGone keeps s p p.left p.drained
   reading s p is u = subst (λ (o : Option Stop). ReadsOrStops keeps s p o) is u.reads
 
-  module _ (p : Place) (core : Kept) (row : RowView) (left : Option (List ℕ)) (drained ended : Bool) (behind : Option (List ℕ))
+  module _ (p : SessionView) (core : CoreView) (row : RowView) (left : Option (List ℕ)) (drained ended : Bool) (behind : Option (List ℕ))
       (none : p.stop ≡ None) (slots : row.slots ≡ p.row.slots) (knows : IsTrue ended → IsAtEnd behind) where
-    abbrev next : Place
+    abbrev next : SessionView
     next = record p { core = core; row = row; left = left; drained = drained; ended = ended; behind = behind }
 
     reads_next : (s : Start) → IsUnderWay keeps s p → Holds (machine next) → HasGone keeps s next left drained → IsUnderWay keeps s next
     reads_next s u holds gone = record {
       idle = u.idle;
+      sure = u.sure;
       fits = subst (λ (n : ℕ). n ≤ s.core.slots) (sym slots) u.fits;
       holds = holds;
-      bench = u.bench;
       places = u.places;
       knows = knows;
       reads = subst (λ (x : Option Stop). ReadsOrStops keeps s next x) (sym none) gone;
     }
 
     module _ (known : Line) (pushed : row.lines ≡ p.row.lines ++ known ∷ []) (going : p.drained ≡ false) (closes : IsClosed p.left drained) where
+      at_end : (waiting : List Line) → (waiting ++ p.row.lines) ++ known ∷ [] ≡ waiting ++ row.lines
+      at_end waiting = append_assoc waiting p.row.lines (known ∷ []) ∙ ap (λ (l : List Line). waiting ++ l) (sym pushed)
+
       -- A line is read.
       pub on_line : (o : Option Start) (line : List ℕ) → IsUnderWayFrom keeps o p → IsTaken keeps (machine p) (machine next) (message_of line) known
           → IfSome p.left (λ bs. GivesLine line bs left) → IsUnderWayFrom keeps o next
       on_line None line u t found = absurd u
       on_line (Some s) line u t found =
-          let written = unless p.broken (so_far p.contents p.out) in
-          reads_next s u t.holds
-          (subst (λ (l : List Line). Goes keeps (start_machine s) (machine next) l s.input left drained (unless p.broken s.before) written) (sym pushed)
-          (line_goes_on keeps (start_machine s) (machine p) (machine next) p.row.lines known s.input p.left left p.drained drained
-          (unless p.broken s.before) written going closes line t found (reading s p none u)))
+          let h = reading s p none u in
+          let told = known_unless p.broken p.told in
+          reads_next s u t.holds (record {
+            waiting = h.waiting;
+            are_answered = h.are_answered;
+            out_is = h.out_is;
+            goes = subst (λ (l : List Line). Goes keeps (start_machine s) (machine next) l s.input left drained (known_unless p.broken s.before) told)
+                (at_end h.waiting)
+                (line_goes_on keeps (start_machine s) (machine p) (machine next) (h.waiting ++ p.row.lines) known s.input p.left left p.drained drained
+                (known_unless p.broken s.before) told going closes line t found h.goes);
+          })
 
       -- One that is too long is read.
       pub on_long_line : (o : Option Start) → IsUnderWayFrom keeps o p → IsTaken keeps (machine p) (machine next) None known
           → IfSome p.left (λ bs. PassesLine bs left) → IsUnderWayFrom keeps o next
       on_long_line None u t found = absurd u
       on_long_line (Some s) u t found =
-          let written = unless p.broken (so_far p.contents p.out) in
-          reads_next s u t.holds
-          (subst (λ (l : List Line). Goes keeps (start_machine s) (machine next) l s.input left drained (unless p.broken s.before) written) (sym pushed)
-          (long_line_goes_on keeps (start_machine s) (machine p) (machine next) p.row.lines known s.input p.left left p.drained drained
-          (unless p.broken s.before) written going closes t found (reading s p none u)))
+          let h = reading s p none u in
+          let told = known_unless p.broken p.told in
+          reads_next s u t.holds (record {
+            waiting = h.waiting;
+            are_answered = h.are_answered;
+            out_is = h.out_is;
+            goes = subst (λ (l : List Line). Goes keeps (start_machine s) (machine next) l s.input left drained (known_unless p.broken s.before) told)
+                (at_end h.waiting)
+                (long_line_goes_on keeps (start_machine s) (machine p) (machine next) (h.waiting ++ p.row.lines) known s.input p.left left p.drained drained
+                (known_unless p.broken s.before) told going closes t found h.goes);
+          })
 
     -- No more is read for this reason.
     pub on_stop : (o : Option Start) (stop : Stop) → IsUnderWayFrom keeps o p → IsQuiet keeps (machine p) (machine next) → row.lines ≡ p.row.lines
@@ -232,45 +358,56 @@ module _ (keeps : Type 0) where
     on_stop None stop u k same why = absurd u
     on_stop (Some s) stop u k same why =
         let h = reading s p none u in
-        let written = unless p.broken (so_far p.contents p.out) in
+        let told = known_unless p.broken p.told in
         record {
           idle = u.idle;
+          sure = u.sure;
           fits = subst (λ (n : ℕ). n ≤ s.core.slots) (sym slots) u.fits;
           holds = k.holds;
-          bench = u.bench;
           places = u.places;
           knows = knows;
           reads = record {
             left = p.left;
             drained = p.drained;
-            gone = subst (λ (l : List Line). Goes keeps (start_machine s) (machine next) l s.input p.left p.drained (unless p.broken s.before) written)
-                (sym same) (quiet_goes_on keeps (machine p) (machine next) k.passes p.row.lines (start_machine s) s.input p.left p.drained
-                (unless p.broken s.before) written h);
-            why = subst (λ (y : Geometry). IsStop y core p.left p.drained behind stop) h.serving.passes.geometry why;
+            gone = record {
+              waiting = h.waiting;
+              are_answered = h.are_answered;
+              out_is = h.out_is;
+              goes = subst (λ (l : List Line). Goes keeps (start_machine s) (machine next) l s.input p.left p.drained (known_unless p.broken s.before) told)
+                  (ap (λ (l : List Line). h.waiting ++ l) (sym same))
+                  (quiet_goes_on keeps (machine p) (machine next) k.passes (h.waiting ++ p.row.lines) (start_machine s) s.input p.left p.drained
+                  (known_unless p.broken s.before) told h.goes);
+            };
+            why = subst (λ (y : Geometry). IsStop y core p.left p.drained behind stop) h.goes.serving.passes.geometry why;
           };
         }
 
   -- The next ticket is behind those of the row.
-  pub follows : (o : Option Start) (p : Place) → p.stop ≡ None → IsUnderWayFrom keeps o p
-      → AreInOrder (with_tickets p.row.lines ++ Unanswered p.core.next ∷ [])
+  pub follows : (o : Option Start) (p : SessionView) → p.stop ≡ None → IsUnderWayFrom keeps o p
+      → AreConsecutive (with_tickets p.row.lines ++ Unanswered p.core.next ∷ [])
   follows None p none u = absurd u
   follows (Some s) p none u =
-      let h = reading s p none u in
+      let h = to_row s p p.left p.drained (reading s p none u) in
       next_follows keeps (start_machine s) (machine p) h.taken h.said p.row.lines h.serving
 
   -- Where the row has room for a line, its message isn't refused for want of a slot.
-  pub has_slot : (o : Option Start) (p : Place) (m : Msg) → p.stop ≡ None → IsUnderWayFrom keeps o p → length p.row.lines < p.row.slots
+  pub has_slot : (o : Option Start) (p : SessionView) (m : Msg) → p.stop ≡ None → IsUnderWayFrom keeps o p → length p.row.lines < p.row.slots
       → (arrive p.core.geometry (world_of p.core) m).0 ≢ ArriveRefused arrivals.Full
   has_slot None p m none u room = absurd u
   has_slot (Some s) p m none u room =
       let fits = u.fits in
-      finds_a_slot keeps (start_machine s) (machine p) u.idle p.row.lines s.input p.left p.drained (unless p.broken s.before)
-      (unless p.broken (so_far p.contents p.out)) m (reading s p none u) (omega (arith, room, fits))
+      finds_a_slot keeps (start_machine s) (machine p) u.idle p.row.lines s.input p.left p.drained (known_unless p.broken s.before)
+      (known_unless p.broken (so_far p.told p.out)) m (to_row s p p.left p.drained (reading s p none u)) (omega (arith, room, fits))
+
+-- ---- the bench
+
+pub at_still : (bench : Option TableId) (old new crew : TableId) → new ≡ old → IsAt bench old crew → IsAt bench new crew
+at_still bench old new crew same at = record { same = same ∙ at.same; is = at.is ∙ ap (λ (b : TableId). Some b) (sym same) }
 
 -- ---- where it begins
 
-pub begins_at : (keeps : Type 0) (o : Option Start) (s : Start) (p : Place) → o ≡ Some s → IsUnderWay keeps s p → IsUnderWayFrom keeps o p
+pub begins_at : (keeps : Type 0) (o : Option Start) (s : Start) (p : SessionView) → o ≡ Some s → IsUnderWay keeps s p → IsUnderWayFrom keeps o p
 begins_at keeps o s p is u = subst (λ (o : Option Start). IsUnderWayFrom keeps o p) (sym is) u
 
-pub begun : (keeps : Type 0) (o : Option Start) (s : Start) (p : Place) → o ≡ Some s → IsUnderWayFrom keeps o p → IsUnderWay keeps s p
+pub begun : (keeps : Type 0) (o : Option Start) (s : Start) (p : SessionView) → o ≡ Some s → IsUnderWayFrom keeps o p → IsUnderWay keeps s p
 begun keeps o s p is u = subst (λ (o : Option Start). IsUnderWayFrom keeps o p) is u

@@ -6,16 +6,16 @@ use Rattle.affinity.specs.declared.geometry.Geometry.{Geometry}
 use Rattle.disk.specs.Moments.{left_since, moment}
 use Rattle.legal_runs.specs.Laws.{IsIdle}
 use Rattle.legal_runs.specs.Runs.{IsLegal, answered, arrived, last}
-use Rattle.machine.specs.Machine.{Handed, machine_of}
+use Rattle.machine.specs.Machine.{MachineView, machine_of}
 use Rattle.machine.specs.Stages.{AreSafe, Stage, StandsForRun, device_after, events_of}
 use Rattle.machine.specs.declared.hands.Hand.{Hand}
 use Rattle.message.specs.Grammar.{message_of}
 use Rattle.message.specs.Lines.{lines}
 use Rattle.message.specs.Messages.{is_in_range}
 use Rattle.message.specs.declared.Msg.{Msg}
-use Rattle.plain.specs.Output.{AnswersWholeLines, IsBeginning, Writes, joined, output_lines, state_after_lines}
+use Rattle.plain.specs.Output.{AnswersWholeLines, IsBeginning, WritesOutput, joined, output_lines, state_after_lines}
 use Rattle.plain.specs.State.{State}
-use Rattle.scheduler.specs.Kept.{Kept, world_of}
+use Rattle.scheduler.specs.Kept.{CoreView, world_of}
 use Rattle.serving.specs.Lines.{AreKnown, Line, asked, is_answered, text, ticketed}
 use Rattle.serving.specs.declared.server.ServeFault.{ServeFault}
 use Rattle.serving.specs.declared.server.ServeFault.TheVariants as faults
@@ -52,7 +52,7 @@ AreFirst (Some input) taken = (more : List (List ℕ)) × (lines input ≡ taken
 
 -- From the start there is a legal run to the core at the end, whose tickets go in order to the messages in range of the first
 -- lines of the input: its events, each with the device as it left it.
-pub record HasRun (keeps : Type 0) (start : Handed) (new : Kept)
+pub record HasRunLines (keeps : Type 0) (start : MachineView) (new : CoreView)
     (input : Option (List ℕ)) (taken : List (List ℕ)) (stages : List Stage) : Type 0 where
   pub first : AreFirst input taken
   pub legal : IsLegal start.core.geometry (machine_of start) (events_of stages)
@@ -72,11 +72,11 @@ pub record HasRun (keeps : Type 0) (start : Handed) (new : Kept)
 
 -- Behind what was written there is such a run: each line that was written is of a line that is no message or is out of range, or
 -- of one that was answered in the run. These lines that were read are not answered in the output.
-pub record HasServed (keeps : Type 0) (start : Handed) (new : Kept) (row : List Line)
+pub record HasServed (keeps : Type 0) (start : MachineView) (new : CoreView) (row : List Line)
     (input before written : Option (List ℕ)) : Type 0 where
   pub taken : List (List ℕ)
   pub stages : List Stage
-  pub run : HasRun keeps start new input taken stages
+  pub run : HasRunLines keeps start new input taken stages
   pub said : List Line
   pub known : AreKnown start.core.geometry (answered (events_of stages)) start.core.next taken (said ++ row)
   pub are_answered : AllByRecursion (λ line. is_answered line ≡ true) said
@@ -84,26 +84,26 @@ pub record HasServed (keeps : Type 0) (start : Handed) (new : Kept) (row : List 
 
 -- ---- what each answer says of the core before and after, of the input and what is left of it, and of what was written
 
-abbrev pub settled : Kept → State
-settled core = (world_of core).settled
+abbrev pub settled_in : CoreView → State
+settled_in core = (world_of core).settled
 
 -- No message is out with a worker, and each that was logged is answered.
-pub record IsWoundUp (core : Kept) : Type 0 where
+pub record IsWoundUp (core : CoreView) : Type 0 where
   pub none_out : core.out ≡ []
   pub none_logged : core.logged ≡ []
 
 -- Where each line that was read is answered, nothing waits or is held, and the device works. Where the device or the output has failed,
 -- the core is wound up; and where the output alone has, each message that ran is logged.
-abbrev pub EndsSo : Kept → Kept → Option (List ℕ) → Option (List ℕ) → Option (List ℕ)
+abbrev pub EndsSo : CoreView → CoreView → Option (List ℕ) → Option (List ℕ) → Option (List ℕ)
     → Option (List ℕ) → Result (Unit {0}) ServeFault → Type 0
 EndsSo old new input left before written (Ok _) = IsIdle (world_of new) × (new.failed ≡ false) × IsAtEnd left
-    × Writes input before written (λ bytes w. AreServed old.geometry (settled old) (settled new) (lines bytes) w)
+    × WritesOutput input before written (λ bytes w. AreServed old.geometry (settled_in old) (settled_in new) (lines bytes) w)
 EndsSo old new input left before written (Err faults.Read) = IsIdle (world_of new) × (new.failed ≡ false)
-    × Writes input before written (ServesWholeLines old.geometry (settled old) (settled new) left)
+    × WritesOutput input before written (ServesWholeLines old.geometry (settled_in old) (settled_in new) left)
 EndsSo old new input left before written (Err faults.Exhausted) = IsIdle (world_of new) × (new.failed ≡ false) × (new.next ≡ 2 ^ 64 - 1)
-    × Writes input before written (ServesLinesBefore old.geometry (settled old) (settled new))
+    × WritesOutput input before written (ServesLinesBefore old.geometry (settled_in old) (settled_in new))
 EndsSo old new input left before written (Err faults.Device) = (new.failed ≡ true) × IsWoundUp new
-    × Writes input before written (IsBeginning old.geometry (settled old))
+    × WritesOutput input before written (IsBeginning old.geometry (settled_in old))
 EndsSo old new input left before written (Err faults.Write) = IsWoundUp new × (new.failed ≡ false → new.ran ≡ [])
 EndsSo old new input left before written (Err faults.NoWorkers) = (new ≡ old) × (left ≡ input) × (written ≡ before)
 EndsSo old new input left before written (Err faults.OutOfMemory) = (new ≡ old) × (left ≡ input) × (written ≡ before)

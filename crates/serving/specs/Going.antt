@@ -2,16 +2,16 @@
 use Rattle.std.specs.Prelude.{◌≡◌, ℕ, Bool, true, List, ◌++◌, map, Option}
 use Rattle.std.specs.Io.KnownBytes.{Appends}
 use Rattle.std.specs.List.{AllByRecursion}
-use Rattle.machine.specs.Machine.{Handed}
+use Rattle.machine.specs.Machine.{MachineView}
 use Rattle.message.specs.declared.Reply.{Reply}
 use Rattle.plain.specs.Output.{joined}
-use Rattle.plain.specs.Progress.{Takes}
+use Rattle.plain.specs.Progress.{TakesLines}
 use Rattle.serving.specs.Lines.{AreKnown, Line, asked, is_answered, text, ticketed}
 use Rattle.serving.specs.Runs.{Passes}
 
 -- From its start the server has come to this machine. It has taken these lines, of which the first ones are answered in the
 -- output, and the others are the row.
-pub record IsServing (keeps : Type 0) (start now : Handed) (taken : List (List ℕ)) (said row : List Line) : Type 0 where
+pub record IsServing (keeps : Type 0) (start now : MachineView) (taken : List (List ℕ)) (said row : List Line) : Type 0 where
   -- each ticket that was answered, with its reply
   pub told : List (ℕ × Reply)
   -- the lines have given their messages to the core, in order
@@ -22,10 +22,10 @@ pub record IsServing (keeps : Type 0) (start now : Handed) (taken : List (List �
 
 -- From its start the server has come to this machine and this row of lines. It has taken lines of the input, of which this is
 -- left, and it has written the answers to those that are not in the row.
-pub record Goes (keeps : Type 0) (start now : Handed) (row : List Line)
+pub record Goes (keeps : Type 0) (start now : MachineView) (row : List Line)
     (input left : Option (List ℕ)) (ended : Bool) (before written : Option (List ℕ)) : Type 0 where
   pub taken : List (List ℕ)
   pub said : List Line
-  pub takes : Takes input left ended taken
+  pub takes : TakesLines input left ended taken
   pub serving : IsServing keeps start now taken said row
   pub output : Appends before written (joined (map text said))

@@ -7,4 +7,5 @@ pub mod Lending
 pub mod Reads
 pub mod Ends
 pub mod Serve
+pub mod Telling
 pub mod Session

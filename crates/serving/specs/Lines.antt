@@ -1,6 +1,6 @@
 -- Which lines take a ticket, and what is known of each line that was read.
 use Rattle.std.specs.Prelude.{◌≡◌, ℕ, ◌+◌, ◌==◌, Bool, true, false, List, [], ◌∷◌, ◌++◌, if◌then◌else◌, Option, Some, None}
-use Rattle.std.specs.List.{Contains}
+use Rattle.std.specs.List.{AllByRecursion, Contains}
 use Rattle.affinity.specs.declared.geometry.Geometry.{Geometry}
 use Rattle.legal_runs.specs.World.{Entry}
 use Rattle.message.specs.declared.Msg.{Msg}
@@ -56,6 +56,10 @@ AreKnown g replies n _ _ = ⊥
 abbrev pub is_answered : Line → Bool
 is_answered (Unanswered ticket) = false
 is_answered _ = true
+
+-- each of them is
+abbrev pub AreAnswered : List Line → Type 0
+AreAnswered lines = AllByRecursion (λ line. is_answered line ≡ true) lines
 
 -- the line of the output. None is written for a line that is not answered yet.
 abbrev pub text : Line → List ℕ

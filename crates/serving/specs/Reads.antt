@@ -4,7 +4,7 @@ use Rattle.legal_runs.specs.Events.{arrive}
 use Rattle.legal_runs.specs.declared.outcomes.ArriveRefusal.{ArriveRefusal}
 use Rattle.legal_runs.specs.declared.outcomes.ArriveRefusal.TheVariants as arrivals
 use Rattle.legal_runs.specs.declared.outcomes.Outcome.TheVariants.{ArriveRefused}
-use Rattle.machine.specs.Machine.{Handed}
+use Rattle.machine.specs.Machine.{MachineView}
 use Rattle.message.specs.Grammar.{message_of}
 use Rattle.message.specs.declared.Msg.{Msg}
 use Rattle.scheduler.specs.Kept.{world_of}
@@ -14,28 +14,28 @@ use Rattle.serving.specs.declared.session.Stop.{Stop}
 use Rattle.serving.specs.declared.session.Stop.TheVariants as stops
 
 -- A line of this message, or of none, is taken: the message arrives, if it takes a ticket, and this is known of the line.
-pub record IsTaken (keeps : Type 0) (old new : Handed) (m : Option Msg) (known : Line) : Type 0 where
+pub record IsTaken (keeps : Type 0) (old new : MachineView) (m : Option Msg) (known : Line) : Type 0 where
   pub holds : Holds new
   pub passes : Passes keeps old new (ticketed old.core.next (asked_in old.core.geometry m)) []
   pub is_known : IsKnown old.core.geometry [] old.core.next m known
 
 -- The message is refused for this reason. That it is out of range is none: it is known of its line.
-pub record IsRefused (keeps : Type 0) (old new : Handed) (m : Msg) (why : ArriveRefusal) : Type 0 where
+pub record IsRefusedLine (keeps : Type 0) (old new : MachineView) (m : Msg) (why : ArriveRefusal) : Type 0 where
   pub quiet : IsQuiet keeps old new
   pub refused : (arrive old.core.geometry (world_of old.core) m).0 ≡ ArriveRefused why
   pub not_range : why ≢ arrivals.Range
 
 -- This is known of the line of the message, which is taken; or the message is refused.
-abbrev pub TakesMessage : Type 0 → Handed → Handed → Msg → Result Line ArriveRefusal → Type 0
+abbrev pub TakesMessage : Type 0 → MachineView → MachineView → Msg → Result Line ArriveRefusal → Type 0
 TakesMessage keeps old new m (Ok known) = IsTaken keeps old new (Some m) known
-TakesMessage keeps old new m (Err why) = IsRefused keeps old new m why
+TakesMessage keeps old new m (Err why) = IsRefusedLine keeps old new m why
 
 -- The line is taken, and is the last of the new row; or its message is refused, and the row is the same.
-abbrev pub TakesLine : Type 0 → Handed → List Line → Handed → List Line → List ℕ → Result (Unit {0}) ArriveRefusal → Type 0
+abbrev pub TakesLine : Type 0 → MachineView → List Line → MachineView → List Line → List ℕ → Result (Unit {0}) ArriveRefusal → Type 0
 TakesLine keeps old row new new_row line (Ok _) =
     (known : Line) × IsTaken keeps old new (message_of line) known × (new_row ≡ row ++ known ∷ [])
 TakesLine keeps old row new new_row line (Err why) =
-    (m : Msg) × (message_of line ≡ Some m) × IsRefused keeps old new m why × (new_row ≡ row)
+    (m : Msg) × (message_of line ≡ Some m) × IsRefusedLine keeps old new m why × (new_row ≡ row)
 
 -- why no more is read where a message is refused so
 abbrev pub stop_of : ArriveRefusal → Stop

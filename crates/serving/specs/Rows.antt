@@ -61,8 +61,8 @@ AreFrom ticket [] = Unit {0}
 AreFrom ticket (line ∷ ticketed) = IsOf ticket line × AreFrom (ticket + 1) ticketed
 
 -- their tickets go up by one
-abbrev pub AreInOrder : List Line → Type 0
-AreInOrder ticketed = (first : ℕ) × AreFrom first ticketed
+abbrev pub AreConsecutive : List Line → Type 0
+AreConsecutive ticketed = (first : ℕ) × AreFrom first ticketed
 
 -- those that are messages with tickets
 abbrev pub with_tickets : List Line → List Line

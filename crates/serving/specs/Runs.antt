@@ -2,23 +2,23 @@
 use Rattle.std.specs.Prelude.{◌≡◌, ◌+◌, ℕ, List, [], map, length, count_by, Option, Some, None}
 use Rattle.legal_runs.specs.Runs.{IsLegal, answered, arrived, last}
 use Rattle.legal_runs.specs.World.{Entry, World, held}
-use Rattle.machine.specs.Machine.{Handed, HoldsJobs, machine_of}
+use Rattle.machine.specs.Machine.{MachineView, HoldsJobs, machine_of}
 use Rattle.machine.specs.Stages.{AreSafe, Stage, device_after, events_of}
 use Rattle.machine.specs.declared.hands.Hand.{Hand}
 use Rattle.machine.specs.declared.hands.Hand.TheVariants as has
 use Rattle.message.specs.declared.Reply.{Reply}
-use Rattle.parcel.specs.Run.{Asked}
-use Rattle.scheduler.specs.Kept.{Kept, world_of}
+use Rattle.parcel.specs.Run.{JobView}
+use Rattle.scheduler.specs.Kept.{CoreView, world_of}
 
 -- ---- the core and the places
 
 -- each place is a hand: empty where nothing is lent, and else with the job that is lent there
-abbrev pub hand_of : Option Asked → Hand
-hand_of None = has.Empty
-hand_of (Some job) = has.Job job
+abbrev pub lent_hand : Option JobView → Hand
+lent_hand None = has.Empty
+lent_hand (Some job) = has.Job job
 
-abbrev pub with_lent : Kept → List (Option Asked) → Handed
-with_lent core lent = record { core = core; hands = map hand_of lent }
+abbrev pub with_lent : CoreView → List (Option JobView) → MachineView
+with_lent core lent = record { core = core; hands = map lent_hand lent }
 
 -- ---- a stretch of a run
 
@@ -28,7 +28,7 @@ inside w = length w.waiting + length (held w)
 
 -- From one machine to the other there is a legal run, in which these messages arrive and these are answered: its events, each with
 -- the device as it left it.
-pub record Passes (keeps : Type 0) (old new : Handed) (come : List Entry) (told : List (ℕ × Reply)) : Type 0 where
+pub record Passes (keeps : Type 0) (old new : MachineView) (come : List Entry) (told : List (ℕ × Reply)) : Type 0 where
   pub stages : List Stage
   pub legal : IsLegal old.core.geometry (machine_of old) (events_of stages)
   pub ends : last (machine_of old) (events_of stages) ≡ machine_of new
@@ -44,10 +44,10 @@ pub record Passes (keeps : Type 0) (old new : Handed) (come : List Entry) (told 
 -- ---- what the hands have
 
 -- Each hand that isn't empty has the job of a message that is out, or what came of it; each message in one hand.
-abbrev pub Holds : Handed → Type 0
+abbrev pub Holds : MachineView → Type 0
 Holds m = HoldsJobs m.core.geometry (world_of m.core) m.hands
 
 -- A stretch of a run in which no message arrives and none is answered, and at whose end the hands have what they should.
-pub record IsQuiet (keeps : Type 0) (old new : Handed) : Type 0 where
+pub record IsQuiet (keeps : Type 0) (old new : MachineView) : Type 0 where
   pub holds : Holds new
   pub passes : Passes keeps old new [] []

@@ -1,12 +1,12 @@
 -- What a server promises of its whole call, by the answer that it gives.
 use Rattle.std.specs.Prelude.{◌≡◌, ◌≢◌, ℕ, false, List, [], Option, Some, None, Result, Ok, Err}
-use Rattle.machine.specs.Machine.{Handed}
+use Rattle.machine.specs.Machine.{MachineView}
 use Rattle.machine.specs.Stages.{Stage}
 use Rattle.message.specs.Lines.{lines}
 use Rattle.oplog.specs.Layout.{layout_of}
 use Rattle.oplog.specs.Stands.{in_force, named_area}
-use Rattle.scheduler.specs.Kept.{Kept, StandsNow}
-use Rattle.serving.specs.Ends.{EndsSo, HasRun, HasServed}
+use Rattle.scheduler.specs.Kept.{CoreView, StandsNow}
+use Rattle.serving.specs.Ends.{EndsSo, HasRunLines, HasServed}
 use Rattle.serving.specs.Lines.{Line}
 use Rattle.serving.specs.Rows.{comes_next}
 use Rattle.serving.specs.declared.server.ServeFault.{ServeFault}
@@ -18,18 +18,19 @@ AreAll None taken = Unit {0}
 AreAll (Some input) taken = lines input ≡ taken
 
 -- There is a run behind what was written, and each line of the input is answered in the output.
-pub record HasServedAll (keeps : Type 0) (start : Handed) (new : Kept) (input before written : Option (List ℕ)) : Type 0 where
+pub record HasServedAll (keeps : Type 0) (start : MachineView) (new : CoreView) (input before written : Option (List ℕ)) : Type 0 where
   pub served : HasServed keeps start new [] input before written
   pub all : AreAll input served.taken
 
 -- There is a run behind what was written. Each line that was taken is answered in the output, but for a row of them where the device
 -- failed, of which the first was not answered. Where the output failed it is open what was written.
-abbrev pub HasRunSo : Type 0 → Handed → Kept → Option (List ℕ) → Option (List ℕ) → Option (List ℕ) → Result (Unit {0}) ServeFault → Type 0
+abbrev pub HasRunSo : Type 0 → MachineView → CoreView → Option (List ℕ) → Option (List ℕ) → Option (List ℕ)
+    → Result (Unit {0}) ServeFault → Type 0
 HasRunSo keeps start new input before written (Ok _) = HasServedAll keeps start new input before written
 HasRunSo keeps start new input before written (Err faults.Device) =
     (row : List Line) × HasServed keeps start new row input before written × (comes_next row ≡ false)
 HasRunSo keeps start new input before written (Err faults.Write) =
-    (taken : List (List ℕ)) × (stages : List Stage) × HasRun keeps start new input taken stages
+    (taken : List (List ℕ)) × (stages : List Stage) × HasRunLines keeps start new input taken stages
 HasRunSo keeps start new input before written (Err _) = HasServed keeps start new [] input before written
 
 -- It is refused for want of workers just where there are none.
@@ -49,12 +50,12 @@ HasWorkers (Err faults.NoWorkers) = ⊥
 HasWorkers _ = Unit {0}
 
 -- no record of the log is in force
-abbrev pub HasEmptyLog : Kept → Type 0
+abbrev pub HasEmptyLog : CoreView → Type 0
 HasEmptyLog c = in_force (layout_of c.geometry) (named_area (layout_of c.geometry) c.medium.now) c.medium.now ≡ []
 
 -- What a server promises of its whole call, by its answer: of the run behind it, where the core at the end is as it always is, and of
 -- its end.
-pub record PromisesAll (keeps : Type 0) (start : Handed) (new : Kept) (input behind before written : Option (List ℕ))
+pub record PromisesAll (keeps : Type 0) (start : MachineView) (new : CoreView) (input behind before written : Option (List ℕ))
     (result : Result (Unit {0}) ServeFault) : Type 0 where
   pub run : (new.failed ≡ false → new.doubt ≡ []) → (keeps → StandsNow new) → HasRunSo keeps start new input before written result
   pub ends : EndsSo start.core new input behind before written result

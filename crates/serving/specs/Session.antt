@@ -1,19 +1,22 @@
 -- Where a session is, that it is under way since its start, and how a call moves it.
-use Rattle.std.specs.Prelude.{◌≡◌, ◌≤◌, ◌-◌, ◌^◌, ℕ, Bool, true, false, List, [], length, Option, Some, None, IfSome, IsTrue, Result, Ok, Err}
+use Rattle.std.specs.Prelude.{◌≡◌, ◌≤◌, ◌-◌, ◌^◌, ℕ, Bool, true, false, List, [], ◌++◌, length, map, Option, Some, None, IfSome, IsTrue, Result, Ok, Err}
 use Rattle.std.specs.Io.KnownBytes.{IsAtEnd}
+use Rattle.atomic_table.specs.Seated.{TableId}
 use Rattle.affinity.specs.declared.geometry.Geometry.{Geometry}
 use Rattle.legal_runs.specs.Laws.{IsIdle}
-use Rattle.machine.specs.Machine.{Handed}
+use Rattle.machine.specs.Machine.{MachineView}
 use Rattle.message.specs.Grammar.{message_of}
 use Rattle.message.specs.Messages.{is_in_range}
 use Rattle.message.specs.Reader.{GivesLine, LosesFront}
-use Rattle.message.specs.Waiting.{so_far}
 use Rattle.message.specs.declared.Msg.{Msg}
-use Rattle.scheduler.specs.Kept.{Kept, world_of}
+use Rattle.plain.specs.Output.{joined}
+use Rattle.scheduler.specs.Kept.{CoreView, world_of}
 use Rattle.serving.specs.Going.{Goes}
 use Rattle.serving.specs.Lending.{IsHome}
+use Rattle.serving.specs.Lines.{AreAnswered, Line, text}
 use Rattle.serving.specs.Rows.{RowView, comes_next}
 use Rattle.serving.specs.Runs.{Holds, with_lent}
+use Rattle.serving.specs.Telling.{Start, start_machine}
 use Rattle.serving.specs.declared.session.Halt.{Halt}
 use Rattle.serving.specs.declared.session.Halt.TheVariants as halts
 use Rattle.serving.specs.declared.session.Stop.{Stop}
@@ -24,22 +27,15 @@ use Rattle.workers.specs.Desk.{Desk}
 
 -- ---- where a session is
 
--- where the call of a server begins: its core and its desk, the input, and what was written before
-pub record Start : Type 0 where
-  pub core : Kept
-  pub desk : Desk
-  pub input : Option (List ℕ)
-  pub before : Option (List ℕ)
-
-pub record Place : Type 0 where
+pub record SessionView : Type 0 where
   -- the core, and what is lent
-  pub core : Kept
+  pub core : CoreView
   pub desk : Desk
-  -- the lines that were read and are not answered in the output, and the answers that wait behind what was written
+  -- the lines that were read and are not answered in the output, and the answers that wait to be told behind what was told
   pub row : RowView
   pub out : List ℕ
-  pub contents : Option (List ℕ)
-  -- whether the output has failed, and why no more is read, if it is so
+  pub told : Option (List ℕ)
+  -- whether telling has failed, and why no more is read, if it is so
   pub broken : Bool
   pub stop : Option Stop
   -- what is unread, whether all of it is, whether its end was seen, and what the reader has left behind what is held
@@ -49,16 +45,13 @@ pub record Place : Type 0 where
   pub behind : Option (List ℕ)
 
 -- the core with what is lent
-abbrev pub start_machine : Start → Handed
-start_machine s = with_lent s.core s.desk.lent
-
-abbrev pub machine : Place → Handed
+abbrev pub machine : SessionView → MachineView
 machine p = with_lent p.core p.desk.lent
 
 -- ---- why no more is read
 
 -- Where so much was left of the input when it was last read, and so much is left behind: this is why no more is read.
-abbrev pub IsStop : Geometry → Kept → Option (List ℕ) → Bool → Option (List ℕ) → Stop → Type 0
+abbrev pub IsStop : Geometry → CoreView → Option (List ℕ) → Bool → Option (List ℕ) → Stop → Type 0
 IsStop g now left drained behind stops.End = IsAtEnd left × IsAtEnd behind
 IsStop g now left drained behind stops.Fault = (drained ≡ false) × IfSome left (λ bs. LosesFront bs behind)
 IsStop g now left drained behind stops.Exhausted = (now.next ≡ 2 ^ 64 - 1)
@@ -69,79 +62,97 @@ IsStop g now left drained behind stops.Failed = now.failed ≡ true
 -- ---- under way
 
 -- known, unless the output has failed
-abbrev pub unless : Bool → Option (List ℕ) → Option (List ℕ)
-unless true known = None
-unless false known = known
+abbrev pub known_unless : Bool → Option (List ℕ) → Option (List ℕ)
+known_unless true known = None
+known_unless false known = known
 
--- From the start a legal run has led to this place, and so much of the input is left.
-abbrev pub HasGone : Type 0 → Start → Place → Option (List ℕ) → Bool → Type 0
-HasGone keeps s p left drained = Goes keeps (start_machine s) (machine p) p.row.lines s.input left drained
-    (unless p.broken s.before) (unless p.broken (so_far p.contents p.out))
+-- From the start a legal run has led to this place, and so much of the input is left. The answers that wait are those of the next lines
+-- that are to be told, each of which is answered in the run; behind them are the lines of the row.
+pub record HasGone (keeps : Type 0) (s : Start) (p : SessionView) (left : Option (List ℕ)) (drained : Bool) : Type 0 where
+  pub waiting : List Line
+  pub are_answered : AreAnswered waiting
+  pub out_is : p.out ≡ joined (map text waiting)
+  pub goes : Goes keeps (start_machine s) (machine p) (waiting ++ p.row.lines) s.input left drained
+      (known_unless p.broken s.before) (known_unless p.broken p.told)
 
 -- So it has, and no more is read for this reason.
-pub record HasStopped (keeps : Type 0) (s : Start) (p : Place) (stop : Stop) : Type 0 where
+pub record HasStopped (keeps : Type 0) (s : Start) (p : SessionView) (stop : Stop) : Type 0 where
   pub left : Option (List ℕ)
   pub drained : Bool
   pub gone : HasGone keeps s p left drained
   pub why : IsStop s.core.geometry p.core left drained p.behind stop
 
-abbrev pub ReadsOrStops : Type 0 → Start → Place → Option Stop → Type 0
+abbrev pub ReadsOrStops : Type 0 → Start → SessionView → Option Stop → Type 0
 ReadsOrStops keeps s p None = HasGone keeps s p p.left p.drained
 ReadsOrStops keeps s p (Some stop) = HasStopped keeps s p stop
 
-pub record IsUnderWay (keeps : Type 0) (s : Start) (p : Place) : Type 0 where
-  -- nothing was in the core at the start, and the row has no more places than it has slots
+pub record IsUnderWay (keeps : Type 0) (s : Start) (p : SessionView) : Type 0 where
+  -- nothing was in the core or in doubt at the start, and the row has no more places than it has slots
   pub idle : IsIdle (world_of s.core)
+  pub sure : s.core.doubt ≡ []
   pub fits : p.row.slots ≤ s.core.slots
-  -- the machine holds what it should, and the desk is the bench's
+  -- the machine holds what it should
   pub holds : Holds (machine p)
-  pub bench : p.desk.bench ≡ s.desk.bench
   pub places : length p.desk.lent ≡ p.desk.bench.slots
   pub knows : IsTrue p.ended → IsAtEnd p.behind
   pub reads : ReadsOrStops keeps s p p.stop
 
 -- Before a call has begun there is no start, and no place is under way.
-abbrev pub IsUnderWayFrom : Type 0 → Option Start → Place → Type 0
+abbrev pub IsUnderWayFrom : Type 0 → Option Start → SessionView → Type 0
 IsUnderWayFrom keeps None p = ⊥
 IsUnderWayFrom keeps (Some s) p = IsUnderWay keeps s p
+
+-- A call may begin at this start: nothing is in the core, which works, and the row is empty and has no more places than it has slots.
+pub record IsReady (start : Option Start) (core : CoreView) (places : ℕ) (input told : Option (List ℕ)) (row : RowView) : Type 0 where
+  pub is : start ≡ Some (record { core = core; places = places; input = input; before = told })
+  pub idle : IsIdle (world_of core)
+  pub works : core.failed ≡ false
+  pub none : row.lines ≡ []
+  pub fits : row.slots ≤ core.slots
+
+-- The desk and those who work belong to this bench.
+pub record IsAt (bench : Option TableId) (desk crew : TableId) : Type 0 where
+  pub same : desk ≡ crew
+  pub is : bench ≡ Some desk
 
 -- ---- how a call moves it
 
 -- No line was read, and the output has not failed.
-abbrev pub IsAsBefore : Place → Place → Type 0
+abbrev pub IsAsBefore : SessionView → SessionView → Type 0
 IsAsBefore old new = (new.stop ≡ old.stop) × (new.broken ≡ old.broken)
 
 -- No line was read, and this has halted it, if anything has.
-abbrev pub Moves : {A : Type 0} → Place → Place → Result A Halt → Type 0
+abbrev pub Moves : {A : Type 0} → SessionView → SessionView → Result A Halt → Type 0
 Moves old new (Ok _) = IsAsBefore old new
 Moves old new (Err halts.Device) = IsAsBefore old new × (new.core.failed ≡ true)
 Moves old new (Err halts.Write) = new.stop ≡ old.stop
 
 -- It reads on, or it has stopped for this reason. The output has not failed.
-abbrev pub Reads : {A : Type 0} → Place → Place → Result A Stop → Type 0
-Reads old new (Ok _) = (new.stop ≡ None) × (new.broken ≡ old.broken)
-Reads old new (Err stop) = (new.stop ≡ Some stop) × (new.broken ≡ old.broken)
+abbrev pub StopsBy : {A : Type 0} → SessionView → SessionView → Result A Stop → Type 0
+StopsBy old new (Ok _) = (new.stop ≡ None) × (new.broken ≡ old.broken)
+StopsBy old new (Err stop) = (new.stop ≡ Some stop) × (new.broken ≡ old.broken)
 
 -- What has halted it: the device has failed; or the output, of which nothing is known then.
-abbrev pub HaltsBy : Halt → Place → Type 0
+abbrev pub HaltsBy : Halt → SessionView → Type 0
 HaltsBy halts.Device p = (p.core.failed ≡ true) × (p.broken ≡ false)
 HaltsBy halts.Write p = Unit {0}
 
 -- ---- the end
 
 -- Each line that was read is answered in the output, and nothing has failed.
-pub record IsServed (p : Place) : Type 0 where
+pub record IsServed (p : SessionView) : Type 0 where
   pub row : p.row.lines ≡ []
   pub sent : p.out ≡ []
   pub works : p.core.failed ≡ false
   pub whole : p.broken ≡ false
 
 -- What ended it, by the answer of the call. Where something has failed, all jobs are back, and what was logged is answered.
-abbrev pub EndsBy : Place → Result (Unit {0}) ServeFault → Type 0
+abbrev pub EndsBy : SessionView → Result (Unit {0}) ServeFault → Type 0
 EndsBy p (Ok _) = IsServed p × (p.stop ≡ Some stops.End)
 EndsBy p (Err faults.Read) = IsServed p × (p.stop ≡ Some stops.Fault)
 EndsBy p (Err faults.Exhausted) = IsServed p × (p.stop ≡ Some stops.Exhausted)
 EndsBy p (Err faults.Device) =
-    IsHome p.desk.lent × (p.core.logged ≡ []) × (p.core.failed ≡ true) × (p.broken ≡ false) × (p.out ≡ []) × (comes_next p.row.lines ≡ false)
+    IsHome p.desk.lent × (p.core.logged ≡ []) × (p.core.failed ≡ true) × (p.broken ≡ false) × (p.out ≡ [])
+    × (comes_next p.row.lines ≡ false)
 EndsBy p (Err faults.Write) = IsHome p.desk.lent × (p.core.logged ≡ []) × (p.core.failed ≡ false → p.core.ran ≡ [])
 EndsBy p (Err _) = ⊥

@@ -23,8 +23,8 @@ pub(crate) trait Duty {
 
     ghost use Rattle.std.specs.Prelude.{◌≡◌, ℕ, None, replicate};
 
-    /// Whether it can be begun.
-    ghost can_begin: { Self → Type 0 };
+    /// Whether it can be begun at a bench of this many places.
+    ghost can_begin: { Self → ℕ → Type 0 };
 
     /// What comes of it at a bench of this many places, where nothing is lent at first.
     ghost gives: { Self → ℕ → Self.Output → Type 0 };
@@ -35,7 +35,7 @@ pub(crate) trait Duty {
         crew: Crew<'c, T, G>,
         desk: DispatchSeat,
     ) -> (Self::Output, DispatchSeat)
-        requires can_begin { can_begin self }
+        requires can_begin { can_begin self crew.bench.now.slots }
         requires bench { desk.bench ≡ crew.bench.now }
         requires lent { desk.lent ≡ replicate crew.bench.now.slots None }
         ensures gives { gives self crew.entry.bench.now.slots result.0 }
@@ -43,8 +43,8 @@ pub(crate) trait Duty {
 
     /// Leaves it undone, since there is no memory or a worker can't be started.
     fn decline(self) -> Self::Output
-        requires can_begin { can_begin self }
-        ensures gives { (places : ℕ) → gives self places result };
+        requires can_begin { (places : ℕ) × can_begin self places }
+        ensures gives { (places : ℕ) → can_begin self places → gives self places result };
 }
 
 /// Does a duty while workers run at a bench of as many places. Declines it where there is no
@@ -57,7 +57,7 @@ pub(crate) fn with_workers<T: Threads + Wait + Sync, G: Gate + Sync, S: Duty<Out
     duty: S,
 ) -> A
     requires places { workers ≤ 64 }
-    requires can_begin { S.can_begin duty }
+    requires can_begin { S.can_begin duty workers }
     ensures { S.gives duty workers result }
 {
     let Ok((bench, desk, seats)) = Bench::open(alloc, workers, workers) else {
@@ -68,7 +68,7 @@ pub(crate) fn with_workers<T: Threads + Wait + Sync, G: Gate + Sync, S: Duty<Out
         thread::scope_env(),
         rt,
         move |scope| -> A
-            requires can_begin { S.can_begin duty }
+            requires can_begin { S.can_begin duty bench.now.slots }
             requires desk { (desk.bench ≡ bench.now) × (desk.lent ≡ replicate bench.now.slots None) }
             requires seats { All (λ w. w ≡ bench.now) seats.items }
             ensures { S.gives duty bench.entry.now.slots result }

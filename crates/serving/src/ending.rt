@@ -8,22 +8,10 @@ ghost use Rattle.serving.specs.Serve.{HasEmptyLog};
 ghost use Rattle.serving.specs.Session.{EndsBy, HaltsBy, Moves};
 
 use crate::server::ServeFault;
-use crate::session::{Beginning, Halt, Session, Stop};
-use disk::Disk;
-use std::io::{Read, Write};
-use std::sync::Wait;
-use workers::Gate;
+use crate::session::{Environment, Halt, Session, Stop};
+use std::io::Read;
 
-impl<'c, 'w, B: Beginning, T: Wait, D: Disk, R: Read, W: Write, G: Gate> Session<
-    'c,
-    'w,
-    B,
-    T,
-    D,
-    R,
-    W,
-    G,
-> {
+impl<'c, R: Read, E: Environment> Session<'c, R, E> {
     /// Where the device has failed: nothing more is logged. Jobs that are out come back, and the lines next in order are still
     /// written.
     fn end_without_device(&mut self) -> Result<(), Halt>
@@ -100,7 +88,7 @@ impl<'c, 'w, B: Beginning, T: Wait, D: Disk, R: Read, W: Write, G: Gate> Session
         ensures moves { Moves self.old self.new result }
         ensures all { OnOk result ((self.new.row.lines ≡ []) × (self.new.out ≡ [])) }
         ensures works { OnOk result (self.new.core.failed ≡ false) }
-        ensures emptied { OnOk result (D.keeps → HasEmptyLog self.new.core) }
+        ensures emptied { OnOk result (E.Device.keeps → HasEmptyLog self.new.core) }
     {
         self.answer_the_rest()?;
         self.make_last_point()
@@ -112,7 +100,7 @@ impl<'c, 'w, B: Beginning, T: Wait, D: Disk, R: Read, W: Write, G: Gate> Session
         requires stopped { self.old.stop ≡ Some stop }
         requires whole { self.old.broken ≡ false }
         ensures ends { EndsBy self.new result }
-        ensures emptied { OnOk result (D.keeps → HasEmptyLog self.new.core) }
+        ensures emptied { OnOk result (E.Device.keeps → HasEmptyLog self.new.core) }
     {
         match stop {
             Stop::End => match self.end_whole() {
@@ -164,7 +152,7 @@ impl<'c, 'w, B: Beginning, T: Wait, D: Disk, R: Read, W: Write, G: Gate> Session
         requires reads { self.old.stop ≡ None }
         requires whole { self.old.broken ≡ false }
         ensures ends { EndsBy self.new result }
-        ensures emptied { OnOk result (D.keeps → HasEmptyLog self.new.core) }
+        ensures emptied { OnOk result (E.Device.keeps → HasEmptyLog self.new.core) }
     {
         match self.serve_lines() {
             Ok(stop) => self.end_for(stop),

@@ -2,7 +2,7 @@
 //! contract is the law.
 
 ghost use Rattle.std.specs.Prelude.{◌≡◌, ◌≢◌, ◌+◌, ◌<◌, ◌≤◌, ◌++◌, ◌-◌, ◌^◌, ℕ, Bool, true, false, List, [], length, map, take, Option, Some, None, Ok, Err, IfSome};
-ghost use Rattle.std.specs.Io.KnownBytes.{IsAtEnd};
+ghost use Rattle.std.specs.Io.KnownBytes.{Appends, IsAtEnd};
 ghost use Rattle.std.specs.List.{AllByRecursion, Contains};
 ghost use Rattle.affinity.specs.declared.geometry.Geometry.{Geometry};
 ghost use Rattle.disk.specs.Device.{Leaves};
@@ -17,17 +17,20 @@ ghost use Rattle.message.specs.Grammar.{message_of};
 ghost use Rattle.message.specs.Messages.{is_in_range};
 ghost use Rattle.message.specs.Reader.{GivesLine, LosesFront};
 ghost use Rattle.message.specs.declared.Msg.{Msg};
+ghost use Rattle.message.specs.Replies.{reply_line};
 ghost use Rattle.message.specs.declared.Reply.{Reply};
+ghost use Rattle.message.specs.declared.Reply.TheVariants.{Done};
 ghost use Rattle.plain.specs.Order.{told};
 ghost use Rattle.plain.specs.Output.{output_lines, state_after_lines};
 ghost use Rattle.plain.specs.Serial.{fold};
 ghost use Rattle.plain.specs.State.{State};
-ghost use Rattle.scheduler.specs.Kept.{Kept, StandsNow, world_of};
-ghost use Rattle.serving.specs.Ends.{EndsSo, HasRun, HasServed, IsWoundUp, settled};
+ghost use Rattle.scheduler.specs.Kept.{CoreView, StandsNow, world_of};
+ghost use Rattle.serving.specs.Ends.{EndsSo, HasRunLines, HasServed, IsWoundUp, settled_in};
 ghost use Rattle.serving.specs.Going.{Goes};
 ghost use Rattle.serving.specs.Told.{AreKept, HoldsLog};
+ghost use Rattle.serving.specs.Telling.{HoldsTold, MayTell, Start};
 ghost use Rattle.serving.specs.Lines.{AreKnown, Line, asked, is_answered, text, ticketed};
-ghost use Rattle.machine.specs.Machine.{Handed, machine_of};
+ghost use Rattle.machine.specs.Machine.{MachineView, machine_of};
 ghost use Rattle.machine.specs.Stages.{Stage, device_after, events_of};
 ghost use Rattle.serving.specs.Runs.{Passes, inside};
 ghost use Rattle.serving.specs.declared.server.ServeFault.TheVariants as faults;
@@ -46,18 +49,19 @@ pub fn known_lines_are_serial()
 
 /// A stretch of a run that goes on where another ended makes one stretch with it.
 pub fn stretches_join<D: Disk>()
-    ensures { (old mid new : Handed) (come more : List Entry) (replies others : List (ℕ × Reply)) → Passes D.keeps old mid come replies
+    ensures { (old mid new : MachineView) (come more : List Entry) (replies others : List (ℕ × Reply)) → Passes D.keeps old mid come replies
         → Passes D.keeps mid new more others → Passes D.keeps old new (come ++ more) (replies ++ others) }
 {}
 
 /// How many messages wait or are held grows by the arrivals, less the answered ones, and always as many fit in. So a
 /// message isn't refused for want of a slot while fewer lines are read and not answered in the output than there are slots.
 pub fn what_is_inside_is_what_arrived_less_what_was_answered<D: Disk>()
-    ensures count { (old new : Handed) (come : List Entry) (replies : List (ℕ × Reply)) → Passes D.keeps old new come replies
+    ensures count { (old new : MachineView) (come : List Entry) (replies : List (ℕ × Reply)) → Passes D.keeps old new come replies
         → inside (world_of new.core) + length replies ≡ inside (world_of old.core) + length come }
-    ensures slots { (old new : Handed) (come : List Entry) (replies : List (ℕ × Reply)) → Passes D.keeps old new come replies
+    ensures slots { (old new : MachineView) (come : List Entry) (replies : List (ℕ × Reply)) → Passes D.keeps old new come replies
         → new.core.slots ≡ old.core.slots }
-    ensures a_slot { (start now : Handed) (row : List Line) (input left : Option (List ℕ)) (ended : Bool) (before written : Option (List ℕ))
+    ensures a_slot { (start now : MachineView) (row : List Line) (input left : Option (List ℕ)) (ended : Bool)
+        (before written : Option (List ℕ))
         (m : Msg) → IsIdle (world_of start.core) → Goes D.keeps start now row input left ended before written
         → length row < start.core.slots
         → (arrive now.core.geometry (world_of now.core) m).0 ≢ outcomes.ArriveRefused arrivals.Full }
@@ -65,7 +69,7 @@ pub fn what_is_inside_is_what_arrived_less_what_was_answered<D: Disk>()
 
 /// No more messages wait or are held than there are lines that were read and are not answered in the output.
 pub fn each_message_inside_has_its_line<D: Disk>()
-    ensures { (start now : Handed) (row : List Line) (input left : Option (List ℕ)) (ended : Bool) (before written : Option (List ℕ))
+    ensures { (start now : MachineView) (row : List Line) (input left : Option (List ℕ)) (ended : Bool) (before written : Option (List ℕ))
         → IsIdle (world_of start.core) → Goes D.keeps start now row input left ended before written
         → inside (world_of now.core) ≤ length row }
 {}
@@ -76,21 +80,23 @@ pub fn each_message_inside_has_its_line<D: Disk>()
 /// answered, nothing waits or is held, and it has settled what the serial server reaches. For each line that was written
 /// there is a legal run.
 pub fn serving_ends_as_the_serial_server<D: Disk>()
-    ensures whole { (start now : Handed) (input left : Option (List ℕ)) (ended : Bool) (before written : Option (List ℕ))
+    ensures whole { (start now : MachineView) (input left : Option (List ℕ)) (ended : Bool) (before written : Option (List ℕ))
         → IsIdle (world_of start.core) → Goes D.keeps start now [] input left ended before written → now.core.failed ≡ false → IsAtEnd left
         → EndsSo start.core now.core input left before written (Ok tt) }
-    ensures read { (start now : Handed) (input left behind before written : Option (List ℕ)) → IsIdle (world_of start.core)
+    ensures read { (start now : MachineView) (input left behind before written : Option (List ℕ)) → IsIdle (world_of start.core)
         → Goes D.keeps start now [] input left false before written → now.core.failed ≡ false → IfSome left (λ bs. LosesFront bs behind)
         → EndsSo start.core now.core input behind before written (Err faults.Read) }
-    ensures exhausted { (start now : Handed) (input left behind : Option (List ℕ)) (ended : Bool) (before written : Option (List ℕ))
+    ensures exhausted { (start now : MachineView) (input left behind : Option (List ℕ)) (ended : Bool) (before written : Option (List ℕ))
         (line : List ℕ) (m : Msg) → IsIdle (world_of start.core) → Goes D.keeps start now [] input left ended before written
         → now.core.failed ≡ false → now.core.next ≡ 2 ^ 64 - 1 → IfSome left (λ bs. GivesLine line bs behind)
         → message_of line ≡ Some m → is_in_range start.core.geometry m ≡ true
         → EndsSo start.core now.core input behind before written (Err faults.Exhausted) }
-    ensures device { (start now : Handed) (row : List Line) (input left : Option (List ℕ)) (ended : Bool) (before written : Option (List ℕ))
+    ensures device { (start now : MachineView) (row : List Line) (input left : Option (List ℕ)) (ended : Bool)
+        (before written : Option (List ℕ))
         → IsIdle (world_of start.core) → Goes D.keeps start now row input left ended before written → now.core.failed ≡ true
         → IsWoundUp now.core → EndsSo start.core now.core input left before written (Err faults.Device) }
-    ensures run { (start now : Handed) (row : List Line) (input left : Option (List ℕ)) (ended : Bool) (before written : Option (List ℕ))
+    ensures run { (start now : MachineView) (row : List Line) (input left : Option (List ℕ)) (ended : Bool)
+        (before written : Option (List ℕ))
         → IsIdle (world_of start.core) → Goes D.keeps start now row input left ended before written
         → (now.core.failed ≡ false → now.core.doubt ≡ []) → (D.keeps → StandsNow now.core)
         → HasServed D.keeps start now.core row input before written }
@@ -101,17 +107,30 @@ pub fn serving_ends_as_the_serial_server<D: Disk>()
 /// leaves what stands for where all that was logged by then leads, perhaps with more of the messages that arrived; and so, when the
 /// server has ended, for all that was logged in the run.
 pub fn what_was_told_is_on_the_device<D: Disk>()
-    ensures logged { (start : Handed) (new : Kept) (input : Option (List ℕ)) (taken : List (List ℕ)) (stages : List Stage)
-        → IsIdle (world_of start.core) → start.core.doubt ≡ [] → HasRun D.keeps start new input taken stages → D.keeps
+    ensures logged { (start : MachineView) (new : CoreView) (input : Option (List ℕ)) (taken : List (List ℕ)) (stages : List Stage)
+        → IsIdle (world_of start.core) → start.core.doubt ≡ [] → HasRunLines D.keeps start new input taken stages → D.keeps
         → (k : ℕ) (c : List ℕ) → k ≤ length stages → left_since new.medium (moment (device_after start.core.medium (take k stages))) c
-        → HoldsLog start.core.geometry (settled start.core) (ticketed start.core.next (asked start.core.geometry taken))
+        → HoldsLog start.core.geometry (settled_in start.core) (ticketed start.core.next (asked start.core.geometry taken))
         (went (machine_of start) (take k (events_of stages))) c }
-    ensures left { (start : Handed) (new : Kept) (input : Option (List ℕ)) (taken : List (List ℕ)) (stages : List Stage)
-        → IsIdle (world_of start.core) → start.core.doubt ≡ [] → HasRun D.keeps start new input taken stages → D.keeps
+    ensures left { (start : MachineView) (new : CoreView) (input : Option (List ℕ)) (taken : List (List ℕ)) (stages : List Stage)
+        → IsIdle (world_of start.core) → start.core.doubt ≡ [] → HasRunLines D.keeps start new input taken stages → D.keeps
         → (c : List ℕ) → Leaves new.medium c
-        → HoldsLog start.core.geometry (settled start.core) (ticketed start.core.next (asked start.core.geometry taken))
+        → HoldsLog start.core.geometry (settled_in start.core) (ticketed start.core.next (asked start.core.geometry taken))
         (went (machine_of start) (events_of stages)) c }
-    ensures told { (start : Handed) (new : Kept) (row : List Line) (input before written : Option (List ℕ))
+    ensures told { (start : MachineView) (new : CoreView) (row : List Line) (input before written : Option (List ℕ))
         → IsIdle (world_of start.core) → (h : HasServed D.keeps start new row input before written)
         → AreKept start.core.geometry (went (machine_of start) (events_of h.stages)) start.core.next h.taken (map text h.said) }
+{}
+
+/// What may be told is on the device: once it is told, whatever a crash leaves of the device, as it was then, holds all that was told.
+pub fn what_may_be_told_is_on_the_device<D: Disk>()
+    ensures { (s : Start) (told later : Option (List ℕ)) (now : CoreView) (bytes : List ℕ) → MayTell D.keeps (Some s) told now bytes
+        → D.keeps → Appends told later bytes → (c : List ℕ) → Leaves now.medium c → HoldsTold s later c }
+{}
+
+/// Nothing may be told too early: as long as each message that has arrived is still inside, waiting or held, no call may tell that one
+/// was carried out.
+pub fn nothing_is_told_before_it_is_answered<D: Disk>()
+    ensures { (s : Start) (told : Option (List ℕ)) (now : CoreView) → inside (world_of now) + s.core.next ≡ now.next
+        → MayTell D.keeps (Some s) told now (reply_line Done) → ⊥ }
 {}

@@ -7,12 +7,10 @@ ghost use Rattle.scheduler.specs.Kept.{world_of};
 ghost use Rattle.serving.specs.Serve.{HasEmptyLog};
 ghost use Rattle.serving.specs.Session.{Moves};
 
-use crate::session::{Beginning, Halt, Session};
-use disk::Disk;
+use crate::session::{Environment, Halt, Session};
 use legal_runs::PointRefusal;
-use std::io::{Read, Write};
-use std::sync::Wait;
-use workers::Gate;
+use message::Reply;
+use std::io::Read;
 
 /// When consistency points are due. A wrong count makes them at other times, which no contract forbids.
 #[derive(Clone, Copy, Debug, PartialEq, Eq)]
@@ -29,9 +27,11 @@ impl Course {
         Course { every, since: 0 }
     }
 
-    /// A record was logged, and is answered.
-    pub(crate) fn count(&mut self) {
-        self.since = self.since.saturating_add(1);
+    /// A message is answered so. Counts it if it changed something, and so was logged.
+    pub(crate) fn count(&mut self, reply: &Reply) {
+        if matches!(reply, Reply::Done) {
+            self.since = self.since.saturating_add(1);
+        }
     }
 
     /// A consistency point has begun.
@@ -51,16 +51,7 @@ fn tells_of_held(why: PointRefusal) -> bool
     matches!(why, PointRefusal::Held)
 }
 
-impl<'c, 'w, B: Beginning, T: Wait, D: Disk, R: Read, W: Write, G: Gate> Session<
-    'c,
-    'w,
-    B,
-    T,
-    D,
-    R,
-    W,
-    G,
-> {
+impl<'c, R: Read, E: Environment> Session<'c, R, E> {
     /// Whether a consistency point is due by the number of records. None is while one is in progress.
     pub(crate) fn point_is_due(&self) -> bool {
         self.core.left().is_none() && self.course.is_due()
@@ -161,7 +152,7 @@ impl<'c, 'w, B: Beginning, T: Wait, D: Disk, R: Read, W: Write, G: Gate> Session
         ensures moves { Moves self.old self.new result }
         ensures same { (self.new.row ≡ self.old.row) × (self.new.out ≡ self.old.out) }
         ensures works { OnOk result (self.new.core.failed ≡ false) }
-        ensures emptied { OnOk result (D.keeps → HasEmptyLog self.new.core) }
+        ensures emptied { OnOk result (E.Device.keeps → HasEmptyLog self.new.core) }
     {
         let Err(_) = self.core.point() else {
             return Ok(());
@@ -175,7 +166,7 @@ impl<'c, 'w, B: Beginning, T: Wait, D: Disk, R: Read, W: Write, G: Gate> Session
         ensures moves { Moves self.old self.new result }
         ensures same { (self.new.row ≡ self.old.row) × (self.new.out ≡ self.old.out) }
         ensures works { OnOk result (self.new.core.failed ≡ false) }
-        ensures emptied { OnOk result (D.keeps → HasEmptyLog self.new.core) }
+        ensures emptied { OnOk result (E.Device.keeps → HasEmptyLog self.new.core) }
     {
         self.finish_point()?;
         self.make_point()

@@ -4,19 +4,17 @@ ghost use Rattle.std.specs.Prelude.{◌≡◌, ◌<◌, ◌++◌, ◌⊎◌, Lis
 ghost use Rattle.machine.specs.declared.hands.Hand.{Hand};
 ghost use Rattle.serving.specs.Lines.{OutOfRange, Unanswered};
 ghost use Rattle.serving.specs.Reads.{TakesLine, TakesMessage, stop_of};
-ghost use Rattle.serving.specs.Rows.{AreInOrder, with_tickets};
+ghost use Rattle.serving.specs.Rows.{AreConsecutive, with_tickets};
 ghost use Rattle.serving.specs.Runs.{Holds};
-ghost use Rattle.serving.specs.Session.{Reads};
+ghost use Rattle.serving.specs.Session.{StopsBy};
 
 use crate::row::{Line, Row};
-use crate::session::{Beginning, Session, Stop};
+use crate::session::{Environment, Session, Stop};
 use disk::Disk;
 use legal_runs::ArriveRefusal;
 use message::{Found, Msg, parse_line};
 use scheduler::Core;
-use std::io::{Read, Write};
-use std::sync::Wait;
-use workers::Gate;
+use std::io::Read;
 
 /// Takes a message in: what is known of its line then, or why it isn't taken.
 fn take_message<D: Disk>(core: &mut Core<D>, m: &Msg) -> Result<Line, ArriveRefusal>
@@ -37,7 +35,7 @@ fn take_message<D: Disk>(core: &mut Core<D>, m: &Msg) -> Result<Line, ArriveRefu
 /// Takes a line into the row, and its message into the core; or tells why its message isn't taken.
 fn take_line<D: Disk>(core: &mut Core<D>, row: &mut Row, line: &[u8]) -> Result<(), ArriveRefusal>
     requires room { length row.old.lines < row.old.slots }
-    requires order { AreInOrder (with_tickets row.old.lines ++ Unanswered core.old.next ∷ []) }
+    requires order { AreConsecutive (with_tickets row.old.lines ++ Unanswered core.old.next ∷ []) }
     ensures takes { (hands : List Hand) → Holds (record { core = core.old; hands = hands })
         → TakesLine D.keeps (record { core = core.old; hands = hands }) row.old.lines
         (record { core = core.new; hands = hands }) row.new.lines line.now result }
@@ -68,21 +66,12 @@ fn stop_for(why: ArriveRefusal) -> Stop
     }
 }
 
-impl<'c, 'w, B: Beginning, T: Wait, D: Disk, R: Read, W: Write, G: Gate> Session<
-    'c,
-    'w,
-    B,
-    T,
-    D,
-    R,
-    W,
-    G,
-> {
+impl<'c, R: Read, E: Environment> Session<'c, R, E> {
     /// Reads the next line, for which there is room; or tells why no more are read.
     fn read_next(&mut self) -> Result<(), Stop>
         requires reads { self.old.stop ≡ None }
         requires room { length self.old.row.lines < self.old.row.slots }
-        ensures { Reads self.old self.new result }
+        ensures { StopsBy self.old self.new result }
     {
         if self.lines.is_drained() {
             self.stop = Some(Stop::End);
@@ -115,7 +104,7 @@ impl<'c, 'w, B: Beginning, T: Wait, D: Disk, R: Read, W: Write, G: Gate> Session
     /// Reads lines that are held, one after the other, with no read of the input, while there is room for them in the row.
     fn read_held(&mut self) -> Result<(), Stop>
         requires reads { self.old.stop ≡ None }
-        ensures { Reads self.old self.new result }
+        ensures { StopsBy self.old self.new result }
     {
         for _ in self.row.len()..self.row.slots() {
             if !self.row.has_room() {
@@ -133,7 +122,7 @@ impl<'c, 'w, B: Beginning, T: Wait, D: Disk, R: Read, W: Write, G: Gate> Session
     /// more are read.
     pub(crate) fn read_more(&mut self, may_wait: bool) -> Result<bool, Stop>
         requires reads { self.old.stop ≡ None }
-        ensures { Reads self.old self.new result }
+        ensures { StopsBy self.old self.new result }
     {
         let before = self.row.len();
         if !may_wait {

@@ -3,7 +3,7 @@
 ghost use Rattle.std.specs.Prelude.{◌≡◌, ◌<◌, ◌≤◌, ◌+◌, ◌↔◌, ◌++◌, ◌∷◌, [], IfOk, IsTrue, MatchOption, ℕ, drop, length, map, take};
 ghost use Rattle.std.specs.VecDeque.{deque_len};
 ghost use Rattle.serving.specs.Lines.{Line, answer_one};
-ghost use Rattle.serving.specs.Rows.{AreFrom, AreInOrder, AreLeft, IsOf, with_tickets};
+ghost use Rattle.serving.specs.Rows.{AreFrom, AreConsecutive, AreLeft, IsOf, comes_next, with_tickets};
 
 use message::Reply;
 use std::alloc::{AllocError, Global};
@@ -51,14 +51,14 @@ pub(crate) struct Row {
 impl Model for Row {
     ghost use Rattle.std.specs.Prelude.{◌≡◌, ◌≤◌, ℕ, length};
     ghost use Rattle.std.specs.VecDeque.{deque_capacity};
-    ghost use Rattle.serving.specs.Rows.{AreInOrder, RowView, ticketed_among, lines_of};
+    ghost use Rattle.serving.specs.Rows.{AreConsecutive, RowView, ticketed_among, lines_of};
 
     ghost Value = { RowView };
 
     ghost view = { λ r. record { lines = lines_of r.kinds.items r.ticketed.items; slots = r.slots } };
 
     ghost invariant = { λ r. (r.slots ≤ deque_capacity r.kinds) × (r.slots ≤ deque_capacity r.ticketed) × (length r.kinds.items ≤ r.slots)
-        × (ticketed_among r.kinds.items ≡ length r.ticketed.items) × AreInOrder r.ticketed.items };
+        × (ticketed_among r.kinds.items ≡ length r.ticketed.items) × AreConsecutive r.ticketed.items };
 }
 
 /// Puts the reply to the message with this ticket to a line, where it is that message's and not answered.
@@ -83,7 +83,7 @@ fn first_ticket(ticketed: &VecDeque<Line>) -> Option<u64>
 
 /// The place of the line that a reply to this ticket can change, if there is one.
 fn places_of(ticketed: &VecDeque<Line>, ticket: u64) -> Range<usize>
-    requires { AreInOrder ticketed.now.items }
+    requires { AreConsecutive ticketed.now.items }
     ensures within { (result.start ≤ result.end) × (result.end ≤ deque_len ticketed.now) }
     ensures before { AreLeft ticket (take result.start ticketed.now.items) }
     ensures behind { AreLeft ticket (drop result.end ticketed.now.items) }
@@ -144,12 +144,22 @@ impl Row {
         }
     }
 
+    /// Whether the oldest line is answered, so that it is the next one of the output.
+    pub(crate) fn comes_next(&self) -> bool
+        ensures { result ≡ comes_next self.now.lines }
+    {
+        match self.front() {
+            Some(Line::Unanswered(_)) | None => false,
+            Some(Line::NoMessage | Line::OutOfRange | Line::Answered(..)) => true,
+        }
+    }
+
     /// Puts a line after the others; its ticket is the one behind theirs, if it has one. It is inlined, so that no line is copied
     /// with the room for a reply that it doesn't have.
     #[inline(always)]
     pub(crate) fn push(&mut self, line: Line)
         requires room { length self.old.lines < self.old.slots }
-        requires order { (ticket : ℕ) → IsOf ticket line → AreInOrder (with_tickets self.old.lines ++ line ∷ []) }
+        requires order { (ticket : ℕ) → IsOf ticket line → AreConsecutive (with_tickets self.old.lines ++ line ∷ []) }
         ensures lines { self.new.lines ≡ self.old.lines ++ line ∷ [] }
         ensures slots { self.new.slots ≡ self.old.slots }
     {

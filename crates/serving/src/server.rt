@@ -1,18 +1,20 @@
 //! The whole call of a server: its memory, its workers and its end.
 
-ghost use Rattle.std.specs.Prelude.{◌≡◌, ◌≤◌, ℕ, false, List, [], None, Ok, Err, IfOk, MatchResult, OnOk, Some, replicate, vec_len};
+ghost use Rattle.std.specs.Prelude.{◌≡◌, ◌≤◌, false, [], None, Ok, Err, IfOk, MatchResult, OnOk, Some, replicate, vec_len};
 ghost use Rattle.legal_runs.specs.Laws.{IsIdle};
 ghost use Rattle.scheduler.specs.Kept.{world_of};
 ghost use Rattle.serving.specs.Ends.{EndsSo};
 ghost use Rattle.serving.specs.Runs.{with_lent};
 ghost use Rattle.serving.specs.Serve.{HasBegun, HasEmptyLog, HasRunSo, RefusesNone};
+ghost use Rattle.serving.specs.Session.{IsReady};
 
 use crate::crew::{Crew, Duty, with_workers};
 use crate::points::Course;
 use crate::row::Row;
-use crate::session::{Beginning, Session};
+use crate::session::{Benched, Session, With};
+use crate::telling::Teller;
 use disk::Disk;
-use message::{LentReader, LineReader, Loan, ReplyBuffer};
+use message::{LentReader, LineReader, Loan, ReplyBuffer, WriteFault};
 use scheduler::Core;
 use std::alloc::{AllocError, Global};
 use std::io::{Read, Write};
@@ -74,42 +76,48 @@ fn take_buffers(alloc: Global, slots: usize) -> Result<Buffers, AllocError>
 
 // What the calling thread of a server has: it serves with it.
 #[derive(Drop)]
-struct Serving<'a, 'b, D: Disk, R, W> {
+struct Serving<'a, D: Disk, R, L> {
     core: Core<D>,
     reader: &'a mut R,
-    writer: &'b mut W,
+    teller: L,
     buffers: Buffers,
     every: u64,
 }
 
-// Serves the lines of a reader that is lent, and gives it back with the writer.
-fn serve_lent<'a, 'b, 'c, T: Wait, R: Read, W: Write, D: Disk, G: Gate, L: Loan, B: Beginning>(
-    serving: Serving<'a, 'b, D, R, W>,
+// Serves the lines of a reader that is lent, and gives it back with whom they were told.
+fn serve_lent<
+    'a,
+    'c,
+    T: Wait + 'c,
+    R: Read,
+    L: Teller<D> + 'c,
+    D: Disk + 'c,
+    G: Gate + 'c,
+    N: Loan,
+    B: Benched + 'c,
+>(
+    serving: Serving<'a, D, R, L>,
     crew: Crew<'c, T, G>,
     desk: DispatchSeat,
-    of: PhantomData<L>,
-    begun: PhantomData<B>,
+    of: PhantomData<N>,
+    _at: PhantomData<B>,
 ) -> (
-    (Core<D>, Result<(), ServeFault>, &'a mut R, &'b mut W),
+    (Core<D>, Result<(), ServeFault>, &'a mut R, L),
     DispatchSeat,
 )
-    requires reader { serving.reader.ghost_name ≡ L.name }
-    requires writer { serving.writer.ghost_name ≡ B.output }
-    requires start { B.start ≡ Some (record {
-      core = serving.core;
-      desk = desk;
-      input = R.remaining serving.reader.now;
-      before = W.contents serving.writer.now;
-    }) }
-    requires can_begin { (IsIdle (world_of serving.core)) × (serving.core.failed ≡ false) × (1101 ≤ vec_len serving.buffers.input)
-        × (serving.buffers.out ≡ []) × (serving.buffers.row.lines ≡ []) × (serving.buffers.row.slots ≤ serving.core.slots) }
+    requires reader { serving.reader.ghost_name ≡ N.name }
+    requires at { B.bench ≡ Some desk.bench }
+    requires can_begin { IsReady L.start serving.core crew.bench.now.slots (R.remaining serving.reader.now) (L.told serving.teller)
+        serving.buffers.row }
+    requires input { 1101 ≤ vec_len serving.buffers.input }
+    requires none_waits { serving.buffers.out ≡ [] }
     requires bench { desk.bench ≡ crew.bench.now }
     requires lent { desk.lent ≡ replicate crew.bench.now.slots None }
-    ensures same { (result.0.2.ghost_name ≡ serving.entry.reader.ghost_name) × (result.0.3.ghost_name ≡ serving.entry.writer.ghost_name) }
-    ensures run { HasRunSo D.keeps (with_lent serving.entry.core desk.lent) result.0.0 (R.remaining serving.entry.reader.now)
-        (W.contents serving.entry.writer.now) (W.contents result.0.3.now) result.0.1 }
+    ensures same { result.0.2.ghost_name ≡ serving.entry.reader.ghost_name }
+    ensures run { HasRunSo D.keeps (with_lent serving.entry.core (replicate crew.entry.bench.now.slots None)) result.0.0
+        (R.remaining serving.entry.reader.now) (L.told serving.entry.teller) (L.told result.0.3) result.0.1 }
     ensures ends { EndsSo serving.entry.core result.0.0 (R.remaining serving.entry.reader.now) (R.remaining result.0.2.now)
-        (W.contents serving.entry.writer.now) (W.contents result.0.3.now) result.0.1 }
+        (L.told serving.entry.teller) (L.told result.0.3) result.0.1 }
     ensures emptied { OnOk result.0.1 (D.keeps → HasEmptyLog result.0.0) }
     ensures begun { HasBegun result.0.1 }
     ensures desk { result.1.bench ≡ desk.bench }
@@ -117,13 +125,14 @@ fn serve_lent<'a, 'b, 'c, T: Wait, R: Read, W: Write, D: Disk, G: Gate, L: Loan,
     let Serving {
         core,
         reader,
-        writer,
+        teller,
         buffers,
         every,
     } = serving;
     let Buffers { input, row, out } = buffers;
+    core.stands();
     let lines = LineReader::new(LentReader { reader, of }, input);
-    let mut session = Session::<B, T, D, LentReader<R, L>, W, G> {
+    let mut session = Session::<LentReader<R, N>, With<D, L, T, G, B>> {
         core,
         desk,
         row,
@@ -131,10 +140,9 @@ fn serve_lent<'a, 'b, 'c, T: Wait, R: Read, W: Write, D: Disk, G: Gate, L: Loan,
         course: Course::new(every),
         lines,
         stop: None,
-        w: writer,
+        teller,
         broken: false,
         crew,
-        of: begun,
     };
     let ended = session.serve_all();
     session.core.stands();
@@ -142,30 +150,29 @@ fn serve_lent<'a, 'b, 'c, T: Wait, R: Read, W: Write, D: Disk, G: Gate, L: Loan,
         core,
         desk,
         lines,
-        w,
+        teller,
         ..
     } = session;
     let LentReader { reader, of: _ } = lines.into_inner();
-    ((core, ended, reader, w), desk)
+    ((core, ended, reader, teller), desk)
 }
 
-impl<'a, 'b, D: Disk, R: Read, W: Write> Duty for Serving<'a, 'b, D, R, W> {
-    type Output = (Core<D>, Result<(), ServeFault>, &'a mut R, &'b mut W);
+impl<'a, D: Disk, R: Read, L: Teller<D>> Duty for Serving<'a, D, R, L> {
+    type Output = (Core<D>, Result<(), ServeFault>, &'a mut R, L);
 
-    ghost use Rattle.std.specs.Prelude.{◌≡◌, ◌≤◌, ℕ, false, List, [], None, OnOk, replicate, vec_len};
-    ghost use Rattle.legal_runs.specs.Laws.{IsIdle};
-    ghost use Rattle.scheduler.specs.Kept.{world_of};
+    ghost use Rattle.std.specs.Prelude.{◌≡◌, ◌≤◌, [], None, OnOk, replicate, vec_len};
     ghost use Rattle.serving.specs.Ends.{EndsSo};
     ghost use Rattle.serving.specs.Runs.{with_lent};
     ghost use Rattle.serving.specs.Serve.{HasEmptyLog, HasRunSo, HasWorkers};
+    ghost use Rattle.serving.specs.Session.{IsReady};
 
-    ghost can_begin = { λ s. IsIdle (world_of s.core) × (s.core.failed ≡ false) × (1101 ≤ vec_len s.buffers.input) × (s.buffers.out ≡ [])
-        × (s.buffers.row.lines ≡ []) × (s.buffers.row.slots ≤ s.core.slots) };
+    ghost can_begin = { λ s places. IsReady L.start s.core places (R.remaining s.reader.now) (L.told s.teller) s.buffers.row
+        × (1101 ≤ vec_len s.buffers.input) × (s.buffers.out ≡ []) };
 
-    ghost gives = { λ s places end. (end.2.ghost_name ≡ s.reader.ghost_name) × (end.3.ghost_name ≡ s.writer.ghost_name)
+    ghost gives = { λ s places end. (end.2.ghost_name ≡ s.reader.ghost_name)
         × HasRunSo D.keeps (with_lent s.core (replicate places None)) end.0 (R.remaining s.reader.now)
-        (W.contents s.writer.now) (W.contents end.3.now) end.1
-        × EndsSo s.core end.0 (R.remaining s.reader.now) (R.remaining end.2.now) (W.contents s.writer.now) (W.contents end.3.now) end.1
+        (L.told s.teller) (L.told end.3) end.1
+        × EndsSo s.core end.0 (R.remaining s.reader.now) (R.remaining end.2.now) (L.told s.teller) (L.told end.3) end.1
         × OnOk end.1 (D.keeps → HasEmptyLog end.0)
         × HasWorkers end.1 };
 
@@ -174,21 +181,21 @@ impl<'a, 'b, D: Disk, R: Read, W: Write> Duty for Serving<'a, 'b, D, R, W> {
         crew: Crew<'c, T, G>,
         desk: DispatchSeat,
     ) -> (
-        (Core<D>, Result<(), ServeFault>, &'a mut R, &'b mut W),
+        (Core<D>, Result<(), ServeFault>, &'a mut R, L),
         DispatchSeat,
     ) {
-        serve_lent::<T, R, W, D, G, Brand, Brand>(self, crew, desk, PhantomData, PhantomData)
+        serve_lent::<T, R, L, D, G, Brand, Brand>(self, crew, desk, PhantomData, PhantomData)
     }
 
-    fn decline(self) -> (Core<D>, Result<(), ServeFault>, &'a mut R, &'b mut W) {
+    fn decline(self) -> (Core<D>, Result<(), ServeFault>, &'a mut R, L) {
         let Serving {
             core,
             reader,
-            writer,
+            teller,
             ..
         } = self;
         core.stands();
-        (core, Err(ServeFault::OutOfMemory), reader, writer)
+        (core, Err(ServeFault::OutOfMemory), reader, teller)
     }
 }
 
@@ -197,6 +204,190 @@ fn come_back<T>(lent: &mut T)
     ensures { lent.new ≡ lent.old }
 {
     let _ = lent;
+}
+
+/// Answers each line that a reader has left with one line, which it tells, while so many workers, each a thread of its own, run
+/// the messages. The lines and the core are as the serial server would leave them, whatever the workers do when. A consistency
+/// point is made after `every` records, if that isn't 0, where the log has no room, and at the end. All memory is taken before
+/// the first read, and the threads have ended when it returns. Lines are told under the condition of `Teller::tell` and in no other
+/// way.
+///
+/// # Errors
+///
+/// The core, as it is then, and a fault. `ServeFault::NoWorkers` where there are none, and `ServeFault::OutOfMemory` where there
+/// is no memory or a thread can't be started: nothing was read or told. Then `ServeFault::Read`, `ServeFault::Exhausted`,
+/// `ServeFault::Device` and `ServeFault::Write`, as they say.
+pub fn serve_to<
+    T: Threads + Wait + Sync,
+    R: Read,
+    L: Teller<D> + Drop,
+    D: Disk + Drop,
+    G: Gate + Sync,
+>(
+    alloc: Global,
+    rt: &T,
+    core: Core<D>,
+    r: &mut R,
+    teller: L,
+    workers: usize,
+    every: u64,
+    gate: &G,
+) -> (Result<Core<D>, ServeError<D>>, L)
+    requires start { L.start ≡ Some (record { core = core; places = workers; input = R.remaining r.old; before = L.told teller }) }
+    requires idle { IsIdle (world_of core) }
+    requires works { core.failed ≡ false }
+    requires few { workers ≤ 64 }
+    ensures run { MatchResult result.0
+        (λ after. HasRunSo D.keeps (with_lent core (replicate workers None)) after (R.remaining r.old)
+        (L.told teller) (L.told result.1) (Ok tt))
+        (λ e. HasRunSo D.keeps (with_lent core (replicate workers None)) e.core (R.remaining r.old)
+        (L.told teller) (L.told result.1) (Err e.fault)) }
+    ensures ends { MatchResult result.0
+        (λ after. EndsSo core after (R.remaining r.old) (R.remaining r.new) (L.told teller) (L.told result.1) (Ok tt))
+        (λ e. EndsSo core e.core (R.remaining r.old) (R.remaining r.new) (L.told teller) (L.told result.1) (Err e.fault)) }
+    ensures no_workers { MatchResult result.0 (λ _. RefusesNone workers (Ok tt)) (λ e. RefusesNone workers (Err e.fault)) }
+    ensures emptied { IfOk result.0 (λ after. D.keeps → HasEmptyLog after) }
+{
+    core.stands();
+    if workers == 0 {
+        return (
+            Err(ServeError {
+                core,
+                fault: ServeFault::NoWorkers,
+            }),
+            teller,
+        );
+    }
+    let Ok(buffers) = take_buffers(alloc, core.slots()) else {
+        return (
+            Err(ServeError {
+                core,
+                fault: ServeFault::OutOfMemory,
+            }),
+            teller,
+        );
+    };
+    let serving = Serving {
+        core,
+        reader: r,
+        teller,
+        buffers,
+        every,
+    };
+    let (core, ended, reader, teller) = with_workers(rt, alloc, workers, gate, serving);
+    come_back(reader);
+    match ended {
+        Ok(()) => (Ok(core), teller),
+        Err(fault) => (Err(ServeError { core, fault }), teller),
+    }
+}
+
+/// Where the call of a server for a writer began, and the loan of the writer.
+trait Beginning {
+    ghost use Rattle.std.specs.Prelude.{Option};
+    ghost use Rattle.std.specs.Borrow.{GName};
+    ghost use Rattle.serving.specs.Telling.{Start};
+
+    /// The start, once the call has begun.
+    ghost start: { Option Start };
+
+    /// The loan of the writer.
+    ghost name: { GName };
+}
+
+impl Beginning for Brand {
+    ghost use Rattle.std.specs.Prelude.{None};
+
+    ghost start = { None };
+
+    ghost name = { 0 };
+}
+
+// A writer that is lent, and is told lines. Its type names the loan, so that no other writer can be put in its place.
+#[derive(Drop)]
+struct Output<'w, W, B: Beginning> {
+    w: &'w mut W,
+    of: PhantomData<B>,
+    ghost same: { w.ghost_name ≡ B.name },
+}
+
+impl<'w, D: Disk, W: Write, B: Beginning> Teller<D> for Output<'w, W, B> {
+    ghost start = { B.start };
+
+    ghost told = { λ o. W.contents o.w.now };
+
+    fn tell(&mut self, lines: &[u8], _core: &Core<D>) -> Result<(), WriteFault> {
+        if self.w.write_all(lines).is_err() {
+            return Err(WriteFault);
+        }
+        if self.w.flush().is_err() {
+            return Err(WriteFault);
+        }
+        Ok(())
+    }
+}
+
+// With what a server serves, beside its core, its input and its output.
+struct Setting<'c, T, G> {
+    alloc: Global,
+    rt: &'c T,
+    workers: usize,
+    every: u64,
+    gate: &'c G,
+}
+
+// Serves for a writer that is lent, and gives it back.
+fn serve_writer<
+    'c,
+    'w,
+    T: Threads + Wait + Sync,
+    R: Read,
+    W: Write,
+    D: Disk + Drop,
+    G: Gate + Sync,
+    B: Beginning,
+>(
+    setting: Setting<'c, T, G>,
+    core: Core<D>,
+    r: &mut R,
+    w: &'w mut W,
+    of: PhantomData<B>,
+) -> (Result<Core<D>, ServeError<D>>, &'w mut W)
+    requires name { w.ghost_name ≡ B.name }
+    requires start { B.start ≡ Some (record {
+      core = core;
+      places = setting.workers;
+      input = R.remaining r.old;
+      before = W.contents w.now;
+    }) }
+    requires idle { IsIdle (world_of core) }
+    requires works { core.failed ≡ false }
+    requires few { setting.workers ≤ 64 }
+    ensures same { result.1.ghost_name ≡ w.entry.ghost_name }
+    ensures run { MatchResult result.0
+        (λ after. HasRunSo D.keeps (with_lent core (replicate setting.entry.workers None)) after (R.remaining r.old)
+        (W.contents w.entry.now) (W.contents result.1.now) (Ok tt))
+        (λ e. HasRunSo D.keeps (with_lent core (replicate setting.entry.workers None)) e.core (R.remaining r.old)
+        (W.contents w.entry.now) (W.contents result.1.now) (Err e.fault)) }
+    ensures ends { MatchResult result.0
+        (λ after. EndsSo core after (R.remaining r.old) (R.remaining r.new)
+        (W.contents w.entry.now) (W.contents result.1.now) (Ok tt))
+        (λ e. EndsSo core e.core (R.remaining r.old) (R.remaining r.new)
+        (W.contents w.entry.now) (W.contents result.1.now) (Err e.fault)) }
+    ensures no_workers { MatchResult result.0 (λ _. RefusesNone setting.entry.workers (Ok tt)) (λ e. RefusesNone setting.entry.workers (Err e.fault)) }
+    ensures emptied { IfOk result.0 (λ after. D.keeps → HasEmptyLog after) }
+{
+    let Setting {
+        alloc,
+        rt,
+        workers,
+        every,
+        gate,
+    } = setting;
+    let output = Output::<W, B> { w, of };
+    let (ended, output) = serve_to(alloc, rt, core, r, output, workers, every, gate);
+    let Output { w, of: _ } = output;
+    (ended, w)
 }
 
 /// Answers each line that a reader has left with one line of the output, while so many workers, each a thread of its own, run
@@ -235,31 +426,14 @@ pub fn serve<T: Threads + Wait + Sync, R: Read, W: Write, D: Disk + Drop, G: Gat
     ensures no_workers { MatchResult result (λ _. RefusesNone workers (Ok tt)) (λ e. RefusesNone workers (Err e.fault)) }
     ensures emptied { IfOk result (λ after. D.keeps → HasEmptyLog after) }
 {
-    core.stands();
-    if workers == 0 {
-        return Err(ServeError {
-            core,
-            fault: ServeFault::NoWorkers,
-        });
-    }
-    let Ok(buffers) = take_buffers(alloc, core.slots()) else {
-        return Err(ServeError {
-            core,
-            fault: ServeFault::OutOfMemory,
-        });
-    };
-    let serving = Serving {
-        core,
-        reader: r,
-        writer: w,
-        buffers,
+    let setting = Setting {
+        alloc,
+        rt,
+        workers,
         every,
+        gate,
     };
-    let (core, ended, reader, writer) = with_workers(rt, alloc, workers, gate, serving);
-    come_back(reader);
-    come_back(writer);
-    match ended {
-        Ok(()) => Ok(core),
-        Err(fault) => Err(ServeError { core, fault }),
-    }
+    let (ended, w) = serve_writer::<T, R, W, D, G, Brand>(setting, core, r, w, PhantomData);
+    come_back(w);
+    ended
 }

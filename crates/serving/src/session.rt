@@ -1,15 +1,16 @@
-//! A session: the core, the dispatcher's seat, the lines that were read, and the answers that wait, with the input and the output
-//! of the call. It is under way: from the start of the call a legal run has led to where it is.
+//! A session: the core, the dispatcher's seat, the lines that were read, and the answers that wait, with the input of the call and
+//! whom it tells. It is under way: from the start of the call a legal run has led to where it is.
 
 ghost use Rattle.std.specs.Prelude.{◌≡◌, ℕ, Option, None};
 
 use crate::crew::Crew;
 use crate::points::Course;
 use crate::row::Row;
+use crate::telling::Teller;
 use disk::Disk;
 use message::{LineReader, ReplyBuffer};
 use scheduler::Core;
-use std::io::{Read, Write};
+use std::io::Read;
 use std::marker::{Brand, Model, PhantomData};
 use std::sync::Wait;
 use workers::{DispatchSeat, Gate};
@@ -32,41 +33,74 @@ pub(crate) enum Stop {
 pub(crate) enum Halt {
     /// The device has failed.
     Device,
-    /// The output could not be written.
+    /// The lines could not be told.
     Write,
 }
 
-/// Where the call of a server began: the start of its run, and the loan of its output.
-pub(crate) trait Beginning {
+/// The bench of a session, fixed for the call.
+pub(crate) trait Benched {
     ghost use Rattle.std.specs.Prelude.{Option};
-    ghost use Rattle.std.specs.Borrow.{GName};
-    ghost use Rattle.serving.specs.Session.{Start};
+    ghost use Rattle.atomic_table.specs.Seated.{TableId};
 
-    /// The start, once the call has begun.
-    ghost start: { Option Start };
-
-    /// The loan of the output.
-    ghost output: { GName };
+    /// The bench, once the session has begun.
+    ghost bench: { Option TableId };
 }
 
-impl Beginning for Brand {
+impl Benched for Brand {
     ghost use Rattle.std.specs.Prelude.{None};
 
-    ghost start = { None };
+    ghost bench = { None };
+}
 
-    ghost output = { 0 };
+/// What a session works with, beside its input.
+pub(crate) trait Environment {
+    ghost use Rattle.std.specs.Prelude.{Option};
+    ghost use Rattle.atomic_table.specs.Seated.{TableId};
+
+    /// The device of the core.
+    type Device: Disk;
+
+    /// Whom it tells the lines.
+    type Teller: Teller<Self::Device>;
+
+    /// The calls that wait.
+    type Waits: Wait;
+
+    /// The gate that is told of jobs and answers.
+    type Gate: Gate;
+
+    /// The bench, once the session has begun.
+    ghost bench: { Option TableId };
+}
+
+/// The environment of these types.
+#[derive(Drop)]
+pub(crate) struct With<D, L, T, G, B> {
+    of: PhantomData<(D, L, T, G, B)>,
+}
+
+impl<D: Disk, L: Teller<D>, T: Wait, G: Gate, B: Benched> Environment for With<D, L, T, G, B> {
+    type Device = D;
+
+    type Teller = L;
+
+    type Waits = T;
+
+    type Gate = G;
+
+    ghost bench = { B.bench };
 }
 
 /// What a server has while it serves.
 #[derive(Drop)]
-pub(crate) struct Session<'c, 'w, B: Beginning, T: Wait, D: Disk, R: Read, W: Write, G: Gate> {
+pub(crate) struct Session<'c, R: Read, E: Environment> {
     /// The core.
-    pub(crate) core: Core<D>,
+    pub(crate) core: Core<E::Device>,
     /// The dispatcher's seat at the bench.
     pub(crate) desk: DispatchSeat,
     /// The lines that were read and are not answered in the output.
     pub(crate) row: Row,
-    /// The answers that wait to be written.
+    /// The answers that wait to be told.
     pub(crate) out: ReplyBuffer,
     /// When consistency points are due.
     pub(crate) course: Course,
@@ -74,30 +108,27 @@ pub(crate) struct Session<'c, 'w, B: Beginning, T: Wait, D: Disk, R: Read, W: Wr
     pub(crate) lines: LineReader<R>,
     /// Why no more of it is read, once that is so.
     pub(crate) stop: Option<Stop>,
-    /// The output.
-    pub(crate) w: &'w mut W,
-    /// Whether it has failed.
+    /// Whom it tells the lines.
+    pub(crate) teller: E::Teller,
+    /// Whether that has failed. Nothing more is told then.
     pub(crate) broken: bool,
     /// Who works for it.
-    pub(crate) crew: Crew<'c, T, G>,
-    pub(crate) of: PhantomData<B>,
-    pub(crate) ghost same: { w.ghost_name ≡ B.output },
+    pub(crate) crew: Crew<'c, E::Waits, E::Gate>,
 }
 
-impl<'c, 'w, B: Beginning, T: Wait, D: Disk, R: Read, W: Write, G: Gate> Model
-    for Session<'c, 'w, B, T, D, R, W, G> {
-    ghost use Rattle.std.specs.Prelude.{◌≡◌, Option, Some, IfSome};
+impl<'c, R: Read, E: Environment> Model for Session<'c, R, E> {
+    ghost use Rattle.std.specs.Prelude.{Option};
     ghost use Rattle.message.specs.Reader.{has_ended, is_drained, source, unread};
-    ghost use Rattle.serving.specs.Session.{IsUnderWayFrom, Place};
+    ghost use Rattle.serving.specs.Session.{IsAt, IsUnderWayFrom, SessionView};
 
-    ghost Value = { Place };
+    ghost Value = { SessionView };
 
     ghost view = { λ s. record {
       core = s.core;
       desk = s.desk;
       row = s.row;
       out = s.out;
-      contents = W.contents s.w.now;
+      told = E.Teller.told s.teller;
       broken = s.broken;
       stop = s.stop;
       left = unread R.remaining s.lines;
@@ -106,17 +137,17 @@ impl<'c, 'w, B: Beginning, T: Wait, D: Disk, R: Read, W: Write, G: Gate> Model
       behind = R.remaining (source s.lines);
     } };
 
-    ghost invariant = { λ s. IsUnderWayFrom D.keeps B.start (record {
+    ghost invariant = { λ s. IsUnderWayFrom E.Device.keeps E.Teller.start (record {
       core = s.core;
       desk = s.desk;
       row = s.row;
       out = s.out;
-      contents = W.contents s.w.now;
+      told = E.Teller.told s.teller;
       broken = s.broken;
       stop = s.stop;
       left = unread R.remaining s.lines;
       drained = is_drained s.lines;
       ended = has_ended s.lines;
       behind = R.remaining (source s.lines);
-    }) × (s.desk.bench ≡ s.crew.bench.now) };
+    }) × IsAt E.bench s.desk.bench s.crew.bench.now };
 }

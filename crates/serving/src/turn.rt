@@ -6,15 +6,12 @@ ghost use Rattle.scheduler.specs.Kept.{world_of};
 ghost use Rattle.serving.specs.Lending.{GoesTo, IsEndOfSending, IsHome, IsSent};
 ghost use Rattle.serving.specs.Session.{IsAsBefore, Moves};
 
-use crate::session::{Beginning, Halt, Session};
-use disk::Disk;
+use crate::session::{Environment, Halt, Session};
 use message::Reply;
 use scheduler::Granted;
 use std::hint::spin_loop;
-use std::io::{Read, Write};
-use std::sync::Wait;
+use std::io::Read;
 use std::thread::yield_now;
-use workers::Gate;
 
 /// How many messages may come back before what ran is logged: the log writes as many records with one write of their bodies and
 /// one of their gates.
@@ -93,16 +90,7 @@ fn pause(looks: usize) {
     }
 }
 
-impl<'c, 'w, B: Beginning, T: Wait, D: Disk, R: Read, W: Write, G: Gate> Session<
-    'c,
-    'w,
-    B,
-    T,
-    D,
-    R,
-    W,
-    G,
-> {
+impl<'c, R: Read, E: Environment> Session<'c, R, E> {
     /// Lets the eligible message with the least ticket go out to place k, the first where nothing is lent.
     fn send_to(&mut self, k: usize) -> Sent
         requires first { position is_none self.old.desk.lent ≡ Some k }

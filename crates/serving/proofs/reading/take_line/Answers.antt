@@ -1,6 +1,6 @@
 -- The lemmas on a line that is taken.
 use Rattle.std.proofs.Common.{Option, refl, sym, subst, ◌∙◌}
-use Rattle.machine.specs.Machine.{Handed}
+use Rattle.machine.specs.Machine.{MachineView}
 use Rattle.message.specs.declared.Msg.{Msg}
 use Rattle.serving.specs.Lines.{NoMessage}
 use Rattle.serving.specs.Reads.{IsTaken}
@@ -9,7 +9,7 @@ use Rattle.serving.proofs.reading.take_line.Goals as goal
 
 pub returns-in_default-clause-takes : goal.returns-in_default-clause-takes
 returns-in_default-clause-takes g c hands h =
-    let m : Handed = record { core = c.args.core.now; hands = hands } in (
+    let m : MachineView = record { core = c.args.core.now; hands = hands } in (
       NoMessage,
       subst (λ (o : Option Msg). IsTaken g.D.Disk.keeps m m o NoMessage)
           (sym (sym c.parse_line.ensures.value ∙ no_message c.parse_line.result c.in_default.not-Some)) (takes_none g.D.Disk.keeps m h),
@@ -18,8 +18,8 @@ returns-in_default-clause-takes g c hands h =
 
 pub returns-in-Ok-clause-takes : goal.returns-in-Ok-clause-takes
 returns-in-Ok-clause-takes g c hands h =
-    let old : Handed = record { core = c.args.core.now; hands = hands } in
-    let new : Handed = record { core = c.take_message.new.core; hands = hands } in (
+    let old : MachineView = record { core = c.args.core.now; hands = hands } in
+    let new : MachineView = record { core = c.take_message.new.core; hands = hands } in (
       c.in-Ok.known,
       subst (λ (o : Option Msg). IsTaken g.D.Disk.keeps old new o c.in-Ok.known) c.in-Some.ensures.value (c.in-Ok.ensures.takes hands h),
       c.push-in-Ok.ensures.lines,

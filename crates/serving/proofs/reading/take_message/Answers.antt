@@ -4,7 +4,7 @@ use Rattle.std.specs.Prelude.{Result}
 use Rattle.legal_runs.specs.Events.{arrive}
 use Rattle.legal_runs.specs.declared.outcomes.ArriveRefusal.{ArriveRefusal}
 use Rattle.machine.proofs.Events.{arrive_step}
-use Rattle.scheduler.specs.Calls.{arrived}
+use Rattle.scheduler.specs.Calls.{arrive_outcome}
 use Rattle.scheduler.specs.Kept.{world_of}
 use Rattle.serving.specs.Lines.{Unanswered}
 use Rattle.serving.specs.Reads.{TakesMessage}
@@ -18,7 +18,7 @@ returns-in-Ok g c =
     let m = c.args.m.now in
     record {
       ticket = inr (ap Unanswered (ticket_is_next old.geometry (world_of old) (world_of new) c.args.m.now c.in-Ok.ticket
-          (subst (λ (r : Result ℕ ArriveRefusal). (arrived r, world_of new) ≡ arrive old.geometry (world_of old) c.args.m.now) c.in-Ok.is c.arrive.ensures.world)));
+          (subst (λ (r : Result ℕ ArriveRefusal). (arrive_outcome r, world_of new) ≡ arrive old.geometry (world_of old) c.args.m.now) c.in-Ok.is c.arrive.ensures.world)));
       takes = λ hands h.
           subst (λ (r : Result ℕ ArriveRefusal). TakesMessage g.D.Disk.keeps (record { core = old; hands = hands }) (record { core = new; hands = hands })
           m (line_of g.D.Disk.keeps old new m hands h r)) (c.in-Ok.is)

@@ -4,7 +4,7 @@ use Rattle.std.proofs.lemmas.List.{length-set}
 use Rattle.serving.proofs.Order.{looked, looked_first, looked_in_order, looked_last, looks_at}
 use Rattle.serving.proofs.Rows.{lines_of-answered}
 use Rattle.serving.specs.Lines.{Line, answer_one}
-use Rattle.serving.specs.Rows.{AreInOrder, LineKind, RowView, ticketed_among, lines_of}
+use Rattle.serving.specs.Rows.{AreConsecutive, LineKind, RowView, ticketed_among, lines_of}
 use Rattle.serving.proofs.row.Row.answer.Goals as goal
 
 pub loop-k-init : goal.loop-k-init
@@ -28,7 +28,7 @@ invariant_of-self c =
       omega (arith, was.1, i.ticketed_capacity, i.slots),
       omega (arith, was.2, fewer, i.slots),
       same ∙ was.3 ∙ sym i.many,
-      subst (λ (l : List Line). AreInOrder l) (sym i.ticketed)
+      subst (λ (l : List Line). AreConsecutive l) (sym i.ticketed)
           (looked_in_order c.args.ticket c.args.reply c.loop-k.k c.self.inside.ticketed.items was.4),
     )
 

@@ -2,7 +2,7 @@
 use Rattle.std.proofs.Common.{◌++◌, ◌∷◌, [], List, ap, arith, length, subst, sym, ◌∙◌}
 use Rattle.std.proofs.lemmas.List.{length_push}
 use Rattle.serving.specs.Lines.{Line, NoMessage, OutOfRange}
-use Rattle.serving.specs.Rows.{AreInOrder, Ticketed, LineKind, Outside, RowView, Stray, ticketed_among, lines_of, with_tickets}
+use Rattle.serving.specs.Rows.{AreConsecutive, Ticketed, LineKind, Outside, RowView, Stray, ticketed_among, lines_of, with_tickets}
 use Rattle.serving.proofs.Order.{ticket_in}
 use Rattle.serving.proofs.Rows.{ticketed_among-append, fewer_are_ticketed, kinds_have_room, lines_of-append, lines_of-plain, tickets_of_lines}
 use Rattle.serving.proofs.row.Row.push.Goals as goal
@@ -90,8 +90,8 @@ invariant_of-self-in-Unanswered c =
       omega (arith, was.1, beside.capacity),
       omega (arith, more, room),
       omega (arith, among, ticketed, was.3),
-      subst (λ (l : List Line). AreInOrder l) (sym {A = List Line} beside.items)
-          (subst (λ (l : List Line). AreInOrder (l ++ c.args.line ∷ []))
+      subst (λ (l : List Line). AreConsecutive l) (sym {A = List Line} beside.items)
+          (subst (λ (l : List Line). AreConsecutive (l ++ c.args.line ∷ []))
           (ap (λ (v : RowView). with_tickets v.lines) (sym c.self.view_is) ∙ tickets_of_lines k.kinds.items k.ticketed.items was.4.0 was.3 was.4.1)
           (c.requires.order of.0 of.1)),
     )

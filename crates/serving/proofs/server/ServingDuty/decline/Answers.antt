@@ -5,11 +5,10 @@ use Rattle.serving.proofs.server.ServingDuty.decline.Goals as goal
 
 pub returns : goal.returns
 returns g c = record {
-  gives = λ places. (
+  gives = λ places can. (
     refl,
-    refl,
-    no_memory_ran g.D.Disk.keeps c.args.self.core places c.requires.can_begin.0 c.stands.ensures.no_doubt c.stands.ensures.now
-        (g.R.Read.remaining c.args.self.reader.now) (g.W.Write.contents c.args.self.writer.now),
+    no_memory_ran g.D.Disk.keeps c.args.self.core places can.0.idle c.stands.ensures.no_doubt c.stands.ensures.now
+        (g.R.Read.remaining c.args.self.reader.now) (g.L.Teller.told c.args.self.teller),
     (refl, refl, refl),
     tt,
     tt,

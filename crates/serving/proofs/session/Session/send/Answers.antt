@@ -1,13 +1,24 @@
--- It stays under way.
-use Rattle.std.proofs.Common.{refl}
-use Rattle.std.proofs.KnownBytes.{Appends-nil}
-use Rattle.serving.proofs.Under.{on_break, on_say, says_none}
+-- What waits may be told; and the session stays under way.
+use Rattle.std.proofs.Common.{ℕ, List, subst, sym}
+use Rattle.std.specs.Io.KnownBytes.{Appends}
+use Rattle.serving.specs.Telling.{MayTell}
+use Rattle.serving.proofs.Under.{may_tell, on_break, on_tell}
 use Rattle.serving.proofs.session.Session.send.Goals as goal
+
+pub tell-requires : goal.tell-requires
+tell-requires g c =
+    let s = c.self.inside in
+    record {
+      may = subst (λ (bytes : List ℕ). MayTell g.E.Device.Disk.keeps g.E.Teller.Teller.start (g.E.Teller.Teller.told s.teller) s.core bytes)
+          (sym c.waiting.ensures)
+          (may_tell g.E.Device.Disk.keeps _ _ c.self.invariant.0 c.if-self.false c.stands.ensures.no_doubt c.stands.ensures.now);
+    }
 
 pub invariant_of-self : goal.invariant_of-self
 invariant_of-self g c =
-    (on_say g.D.Disk.keeps _ _ _ _ _ c.self.invariant.0 (says_none _ _ _ c.in-Ok.ensures.kept) refl, c.self.invariant.1)
+    let told = subst (λ (bytes : List ℕ). Appends (g.E.Teller.Teller.told c.self.inside.teller) (g.E.Teller.Teller.told c.tell.new.self) bytes)
+    c.waiting.ensures c.in-Ok.ensures.told in
+    (on_tell g.E.Device.Disk.keeps _ _ _ _ c.self.invariant.0 c.clear.ensures told, c.self.invariant.1)
 
 pub invariant_of-self-in-Err : goal.invariant_of-self-in-Err
-invariant_of-self-in-Err g c =
-    (on_break g.D.Disk.keeps _ _ _ _ _ _ c.self.invariant.0 (says_none _ _ _ (Appends-nil _)) refl, c.self.invariant.1)
+invariant_of-self-in-Err g c = (on_break g.E.Device.Disk.keeps _ _ _ c.self.invariant.0, c.self.invariant.1)

@@ -1,15 +1,15 @@
 -- The lemma on places that are taken.
 use Rattle.std.proofs.Common.{List, Option, ap, sym, arith, ◌∙◌}
 use Rattle.std.specs.Prelude.{count_by, is_none, position}
-use Rattle.parcel.specs.Run.{Asked}
-use Rattle.serving.specs.Session.{Place}
+use Rattle.parcel.specs.Run.{JobView}
+use Rattle.serving.specs.Session.{SessionView}
 use Rattle.serving.proofs.Places.{fewer_free}
 use Rattle.serving.proofs.session.Session.send_all.Goals as goal
 
 pub loop-k-smaller : goal.loop-k-smaller
 loop-k-smaller g c =
     let went = c.in-Job.ensures.goes in
-    let now = ap (λ (lent : List (Option Asked)). count_by is_none lent) went.1 in
-    let first = ap (λ (p : Place). position is_none p.desk.lent) (sym c.self.view_is) ∙ sym c.in-Some.ensures in
+    let now = ap (λ (lent : List (Option JobView)). count_by is_none lent) went.1 in
+    let first = ap (λ (p : SessionView). position is_none p.desk.lent) (sym c.self.view_is) ∙ sym c.in-Some.ensures in
     let one = fewer_free c.loop-k.self.desk.lent c.in-Some.k went.0 first in
     omega (arith, now, one)

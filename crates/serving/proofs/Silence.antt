@@ -1,0 +1,89 @@
+-- Where all that has arrived is still inside, no reply may be told.
+use Rattle.std.proofs.Common.{◌≡◌, ℕ, ◌+◌, List, [], ◌∷◌, ◌++◌, Option, Some, None, ap, sym, subst, length, map, arith}
+use Rattle.std.specs.Prelude.{slice_index_or}
+use Rattle.std.specs.List.{AllByRecursion}
+use Rattle.std.proofs.lemmas.Bool.{true≢false}
+use Rattle.std.proofs.lemmas.List.{length-map}
+use Rattle.affinity.specs.declared.geometry.Geometry.{Geometry}
+use Rattle.legal_runs.proofs.Elements.{in_contained}
+use Rattle.legal_runs.specs.Events.{Hands}
+use Rattle.legal_runs.specs.Runs.{answered, arrived}
+use Rattle.legal_runs.specs.World.{Entry}
+use Rattle.machine.specs.Machine.{machine_of}
+use Rattle.machine.specs.Stages.{events_of}
+use Rattle.message.specs.Grammar.{message_of}
+use Rattle.message.specs.Replies.{reply_line}
+use Rattle.message.specs.declared.Msg.{Msg}
+use Rattle.message.specs.declared.Reply.{Reply}
+use Rattle.message.specs.declared.Reply.TheVariants.{Done}
+use Rattle.plain.specs.Order.{messages}
+use Rattle.plain.specs.Output.{joined}
+use Rattle.scheduler.specs.Kept.{CoreView, world_of}
+use Rattle.serving.specs.Lines.{Answered, AreAnswered, AreKnown, IsKnown, Line, NoMessage, OutOfRange, Unanswered, asked_in, next_ticket, text}
+use Rattle.serving.specs.Runs.{inside}
+use Rattle.serving.specs.Telling.{HasNoReply, MaySay, MayTell, Start, start_machine}
+use Rattle.serving.proofs.Counting.{run_counts}
+use Rattle.serving.proofs.Inside.{idle_inside}
+use Rattle.serving.proofs.Tickets.{run_next}
+
+-- ---- lines that are known where no reply was given
+
+next_counts : (n : ℕ) (ms : List Msg) → next_ticket n ms ≡ n + length ms
+next_counts n [] = omega arith
+next_counts n (m ∷ ms) = let k = next_counts (n + 1) ms in omega (arith, k)
+
+one_silent : (g : Geometry) (n : ℕ) (o : Option Msg) (line : Line) → IsKnown g [] n o line → AreAnswered (line ∷ []) → HasNoReply line
+one_silent g n o NoMessage k a = tt
+one_silent g n o OutOfRange k a = tt
+one_silent g n o (Unanswered t) k a = absurd (true≢false (sym a.0))
+one_silent g n None (Answered t reply) k a = absurd k
+one_silent g n (Some m) (Answered t reply) k a = absurd (in_contained [] (t, reply) k.2)
+
+all_silent : (g : Geometry) (n : ℕ) (ls : List (List ℕ)) (said next row : List Line) → AreKnown g [] n ls (said ++ (next ++ row)) → AreAnswered next
+    → AllByRecursion HasNoReply next
+all_silent g n ls [] [] row k a = tt
+all_silent g n [] [] (line ∷ next) row k a = absurd k
+all_silent g n (l ∷ ls) [] (line ∷ next) row k a =
+    (one_silent g n (message_of l) line k.0 (a.0, tt), all_silent g (next_ticket n (asked_in g (message_of l))) ls [] next row k.1 a.1)
+all_silent g n [] (line ∷ said) next row k a = absurd k
+all_silent g n (l ∷ ls) (line ∷ said) next row k a = all_silent g (next_ticket n (asked_in g (message_of l))) ls said next row k.1 a
+
+-- ---- the answers so far
+
+no_items : {A : Type 0} (xs : List A) → length xs ≡ 0 → xs ≡ []
+no_items [] none = λ i. []
+no_items (x ∷ xs) none = absurd (omega (arith, none))
+
+module _ (keeps : Type 0) (s : Start) (told : Option (List ℕ)) (now : CoreView) (bytes : List ℕ) (m : MaySay keeps s told now bytes)
+    (all_inside : inside (world_of now) + s.core.next ≡ now.next) where
+  none_answered : answered (events_of m.served.stages) ≡ []
+  none_answered =
+      let r = m.served.run in
+      let events = events_of m.served.stages in
+      let g = s.core.geometry in
+      let first = idle_inside (world_of s.core) m.idle in
+      let count = run_counts g (machine_of (start_machine s)) events r.legal in
+      let at_end = ap (λ (w : Hands). inside w.core) r.ends in
+      let next_at_end = ap (λ (w : Hands). w.core.next) r.ends in
+      let next = run_next g (machine_of (start_machine s)) events r.legal in
+      let tickets = next_counts s.core.next (messages (arrived events)) in
+      let many = length-map (arrived events) (λ (e : Entry). e.1) in
+      no_items (answered events) (omega (arith, all_inside, first, count, at_end, next_at_end, next, tickets, many))
+
+  pub is_silent : AllByRecursion HasNoReply m.next
+  is_silent = all_silent s.core.geometry s.core.next m.served.taken m.served.said m.next m.row
+      (subst (λ (l : List (ℕ × Reply)). AreKnown s.core.geometry l s.core.next m.served.taken (m.served.said ++ (m.next ++ m.row))) none_answered m.served.known)
+      m.are_answered
+
+-- No such line tells that a message was carried out.
+not_done : (ls : List Line) → AllByRecursion HasNoReply ls → reply_line Done ≡ joined (map text ls) → ⊥
+not_done [] all is = let h = ap (λ (l : List ℕ). length l) is in absurd (omega (arith, h))
+not_done (NoMessage ∷ ls) all is = let h = ap (λ (l : List ℕ). slice_index_or l 0 0) is in absurd (omega (arith, h))
+not_done (OutOfRange ∷ ls) all is = let h = ap (λ (l : List ℕ). slice_index_or l 0 0) is in absurd (omega (arith, h))
+not_done (Unanswered t ∷ ls) all is = absurd all.0
+not_done (Answered t reply ∷ ls) all is = absurd all.0
+
+pub nothing_done : (keeps : Type 0) (s : Start) (told : Option (List ℕ)) (now : CoreView) → inside (world_of now) + s.core.next ≡ now.next
+    → MayTell keeps (Some s) told now (reply_line Done) → ⊥
+nothing_done keeps s told now all_inside m =
+    not_done m.next (is_silent keeps s told now (reply_line Done) m all_inside) m.bytes_are

@@ -1,0 +1,14 @@
+use Rattle.std.proofs.Common.{Some}
+use Rattle.serving.proofs.server.serve.Given as goal
+
+-- where the call begins, and the loan of the writer
+abbrev pub ghosts-serve_writer : goal.ghosts-serve_writer
+ghosts-serve_writer g a = record {
+  start = Some (record {
+    core = a.core;
+    places = a.setting.workers;
+    input = g.R.Read.remaining a.r.now;
+    before = g.W.Write.contents a.w.now;
+  });
+  name = a.w.ghost_name;
+}

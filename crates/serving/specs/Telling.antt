@@ -1,0 +1,63 @@
+-- What a server may tell, and when.
+use Rattle.std.specs.Prelude.{◌≡◌, ℕ, List, [], ◌++◌, map, replicate, Option, Some, None}
+use Rattle.std.specs.Io.KnownBytes.{Appends}
+use Rattle.checkpoint.specs.Header.{HasHeader}
+use Rattle.checkpoint.specs.Refusals.{refused}
+use Rattle.legal_runs.specs.Laws.{IsIdle}
+use Rattle.legal_runs.specs.World.{Replied}
+use Rattle.machine.specs.Machine.{MachineView}
+use Rattle.plain.specs.Output.{joined}
+use Rattle.scheduler.specs.Kept.{CoreView, world_of}
+use Rattle.serving.specs.Ends.{AreFirst, HasServed, settled_in}
+use Rattle.serving.specs.Lines.{Answered, AreAnswered, Line, Unanswered, asked, text, ticketed}
+use Rattle.serving.specs.Runs.{with_lent}
+use Rattle.serving.specs.Told.{AreKept, HoldsLog}
+
+-- where the call of a server begins: its core, how many jobs it may lend, its input, and what was told before
+pub record Start : Type 0 where
+  pub core : CoreView
+  pub places : ℕ
+  pub input : Option (List ℕ)
+  pub before : Option (List ℕ)
+
+-- the core, of which nothing is lent
+abbrev pub start_machine : Start → MachineView
+start_machine s = with_lent s.core (replicate s.places None)
+
+-- What was told since the start is on a device of these bytes. It is lines for the first lines of the input; each that took a ticket is in a
+-- log with that reply; and the bytes stand for where the log leads from the state at the start, perhaps with more of the messages that
+-- arrived. They are opened again.
+pub record HoldsTold (s : Start) (told : Option (List ℕ)) (bytes : List ℕ) : Type 0 where
+  pub taken : List (List ℕ)
+  pub first : AreFirst s.input taken
+  pub lines : List (List ℕ)
+  pub output : Appends s.before told (joined lines)
+  pub log : List Replied
+  pub kept : AreKept s.core.geometry log s.core.next taken lines
+  pub holds : HoldsLog s.core.geometry (settled_in s.core) (ticketed s.core.next (asked s.core.geometry taken)) log bytes
+  pub header : HasHeader s.core.geometry bytes
+  pub not_refused : refused s.core.geometry bytes ≡ None
+
+-- These bytes may be told where this was told before. Since the start a legal run has led to the core as it is now, and a crash of its
+-- device leaves what holds all that was logged in that run. What was told are the first answers of the run, to the lines in order, and the
+-- bytes are the next ones.
+pub record MaySay (keeps : Type 0) (s : Start) (told : Option (List ℕ)) (now : CoreView) (bytes : List ℕ) : Type 0 where
+  -- at the start nothing was waiting, held or in doubt
+  pub idle : IsIdle (world_of s.core)
+  pub sure : s.core.doubt ≡ []
+  pub next : List Line
+  pub row : List Line
+  pub served : HasServed keeps (start_machine s) now (next ++ row) s.input s.before told
+  pub are_answered : AreAnswered next
+  pub bytes_are : bytes ≡ joined (map text next)
+
+-- Before a call has begun there is no start, and nothing may be told.
+abbrev pub MayTell : Type 0 → Option Start → Option (List ℕ) → CoreView → List ℕ → Type 0
+MayTell keeps None told now bytes = ⊥
+MayTell keeps (Some s) told now bytes = MaySay keeps s told now bytes
+
+-- a line that is answered without a message: it is none, or one that is out of range
+abbrev pub HasNoReply : Line → Type 0
+HasNoReply (Unanswered ticket) = ⊥
+HasNoReply (Answered ticket reply) = ⊥
+HasNoReply _ = Unit {0}
