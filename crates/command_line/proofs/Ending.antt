@@ -12,7 +12,7 @@ use Rattle.affinity.specs.Limits.{AreInRange}
 use Rattle.affinity.proofs.Numbers.{geometry_same}
 use Rattle.clap.specs.Words.{IsAmong, Kinds, Row, Text, kind_of}
 use Rattle.clap.specs.declared.error.kind.ErrorKind.{ErrorKind}
-use Rattle.plain.specs.Output.{Writes, IsBeginning}
+use Rattle.plain.specs.Output.{WritesOutput, IsBeginning}
 use Rattle.plain.specs.State.{empty}
 use Rattle.command_line.proofs.Options.{in_range}
 use Rattle.commands.specs.Ends.{EndsMaking, EndsServing}
@@ -22,10 +22,10 @@ use Rattle.command_line.proofs.Services.{service_same}
 use Rattle.disk.specs.declared.fault.FileFault.TheVariants as file
 use Rattle.command_line.specs.Ends.{Ends, EndsFormat, EndsHelp, EndsPlain, EndsRefused, EndsServe, EndsShow, status_at}
 use Rattle.commands.specs.Faults.{status_of}
-use Rattle.command_line.specs.Words.{Asks, AsksFormat, AsksNoService, AsksPlain, AsksServe, AsksShow, IsNamed, IsReason, IsRefused, command_of, findings, is_mistake}
+use Rattle.command_line.specs.Words.{Asks, AsksFormat, AsksNoService, AsksPlain, AsksServe, AsksShow, IsNamed, IsReason, AreRefused, command_of, findings, is_mistake}
 use Rattle.commands.specs.declared.faults.Fault.{Fault}
 use Rattle.commands.specs.declared.faults.Fault.TheVariants.{Read, Write, GeometryOutOfRange, OutOfMemory, Device, NoWorkers, NoTicketLeft, Format as ByFormat, Open as ByOpen}
-use Rattle.command_line.specs.declared.words.Refusal.TheVariants.{Fault as by_fault, Words as by_words}
+use Rattle.command_line.specs.declared.words.WordRefusal.TheVariants.{Fault as by_fault, Words as by_words}
 use Rattle.clap.specs.declared.error.Error.{Error}
 use Rattle.command_line.specs.declared.words.Request.{Request}
 use Rattle.command_line.specs.declared.words.Request.TheVariants.{Help, Plain, Format, Show, Serve}
@@ -39,7 +39,7 @@ mistake_among (x ∷ xs) k all among = elim among [
   | inr later ↦ mistake_among xs k (and_parts (is_mistake x) (list_all is_mistake xs) all).1 later
 ]
 
-pub ask_for_nothing : (words : List Text) (request : Request) → Asks words request → IsRefused words → ⊥
+pub ask_for_nothing : (words : List Text) (request : Request) → Asks words request → AreRefused words → ⊥
 ask_for_nothing words (Plain g) asks (inl wrong) = wrong.0 asks.0
 ask_for_nothing words (Plain g) asks (inr out_of_range) = out_of_range.3 (subst AreInRange asks.2 (in_range g))
 ask_for_nothing words (Format path g) asks (inl wrong) = wrong.0 asks.0
@@ -87,7 +87,7 @@ is_told (ByOpen fault) none = cc
 
 -- ---- want of memory while the words are read
 
-nothing_written : (g : Geometry) (input old : Option (List ℕ)) → Writes input old old (IsBeginning g empty)
+nothing_written : (g : Geometry) (input old : Option (List ℕ)) → WritesOutput input old old (IsBeginning g empty)
 nothing_written g None old = tt
 nothing_written g (Some bytes) old = ([], Appends-nil old, (0, refl))
 

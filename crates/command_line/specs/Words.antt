@@ -19,8 +19,8 @@ use Rattle.commands.specs.declared.faults.Fault.TheVariants.{GeometryOutOfRange,
 use Rattle.commands.specs.declared.service.Service.{Service}
 use Rattle.command_line.specs.declared.words.Request.{Request}
 use Rattle.command_line.specs.declared.words.Request.TheVariants.{Help, Plain, Format, Show, Serve}
-use Rattle.command_line.specs.declared.words.Refusal.{Refusal}
-use Rattle.command_line.specs.declared.words.Refusal.TheVariants.{Words, Fault}
+use Rattle.command_line.specs.declared.words.WordRefusal.{WordRefusal}
+use Rattle.command_line.specs.declared.words.WordRefusal.TheVariants.{Words, Fault}
 
 -- ---- the commands
 
@@ -149,12 +149,12 @@ device_at None = []
 device_at (Some command) = device_in command.1
 
 -- The geometry of these numbers, or their refusal.
-abbrev pub GivesGeometry : List ℕ → Result Geometry Refusal → Type 0
+abbrev pub GivesGeometry : List ℕ → Result Geometry WordRefusal → Type 0
 GivesGeometry numbers (Ok g) = numbers_of g ≡ numbers
 GivesGeometry numbers (Err refusal) = (refusal ≡ Fault GeometryOutOfRange) × (¬ (AreInRange numbers))
 
 -- The request, or its refusal, by the command.
-abbrev pub IsRequested : Option (Text × List Row) → Result Request Refusal → Type 0
+abbrev pub IsRequested : Option (Text × List Row) → Result Request WordRefusal → Type 0
 IsRequested command (Ok (Plain g)) = IsPlain command × (numbers_of g ≡ numbers_at command)
 IsRequested command (Ok (Format path g)) = IsNamed (codes "format") command × (path.now ≡ device_at command) × (numbers_of g ≡ numbers_at command)
 IsRequested command (Ok (Show path)) = IsNamed (codes "show") command × (path.now ≡ device_at command)
@@ -200,8 +200,8 @@ abbrev pub IsWrong : List Text → Type 0
 IsWrong words = (findings words ≢ []) × (list_all is_mistake (findings words) ≡ true)
 
 -- The words are refused.
-abbrev pub IsRefused : List Text → Type 0
-IsRefused words = IsWrong words ⊎ AsksOutOfRange words
+abbrev pub AreRefused : List Text → Type 0
+AreRefused words = IsWrong words ⊎ AsksOutOfRange words
 
 -- The words ask for this.
 abbrev pub Asks : List Text → Request → Type 0
@@ -212,21 +212,21 @@ Asks words (Show path) = AsksShow words path.now
 Asks words (Serve path s) = AsksServe words path.now s
 
 -- The words give no request for this reason. Memory may be wanting at any words.
-abbrev pub IsReason : List Text → Refusal → Type 0
+abbrev pub IsReason : List Text → WordRefusal → Type 0
 IsReason words (Words error) = IsAmong (kind_of error) (findings words) × (is_mistake (kind_of error) ≡ true)
 IsReason words (Fault OutOfMemory) = Unit {0}
 IsReason words (Fault GeometryOutOfRange) = AsksOutOfRange words
 IsReason words (Fault _) = ⊥
 
-abbrev pub no_memory : Refusal
+abbrev pub no_memory : WordRefusal
 no_memory = Fault OutOfMemory
 
 -- what an error of `clap` stands for, by its kind
-abbrev pub answer_by : Error → ErrorKind → Result Request Refusal
+abbrev pub answer_by : Error → ErrorKind → Result Request WordRefusal
 answer_by error kind.OutOfMemory = Err no_memory
 answer_by error DisplayHelp = Ok (Help error)
 answer_by error DisplayVersion = Ok (Help error)
 answer_by error _ = Err (Words error)
 
-abbrev pub answer_of : Error → Result Request Refusal
+abbrev pub answer_of : Error → Result Request WordRefusal
 answer_of error = answer_by error (kind_of error)

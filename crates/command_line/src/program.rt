@@ -2,11 +2,11 @@
 ghost use Rattle.std.specs.Prelude.{◌≡◌, ◌⊎◌, ℕ, List, [], ◌∷◌, codes, map, string_bytes};
 ghost use Rattle.affinity.specs.Geometry.{standard};
 ghost use Rattle.command_line.specs.Ends.{Ends, EndsFormat, EndsHelp, EndsPlain, EndsRefused, EndsServe, EndsShow};
-ghost use Rattle.command_line.specs.Words.{AsksFormat, AsksHelp, AsksNoService, AsksPlain, AsksServe, AsksShow, IsRefused};
+ghost use Rattle.command_line.specs.Words.{AsksFormat, AsksHelp, AsksNoService, AsksPlain, AsksServe, AsksShow, AreRefused};
 ghost use Rattle.affinity.specs.declared.geometry.Geometry.{Geometry};
 ghost use Rattle.commands.specs.declared.service.Service.{Service};
 
-use crate::words::{Refusal, Request, read_words};
+use crate::words::{Request, WordRefusal, read_words};
 use commands::{
     Fault, WRONG_WORDS, answer_input, format_device, report, serve_device, show_device,
 };
@@ -67,7 +67,7 @@ pub fn command<T: Files<File = File> + Threads + Wait + Sync, R: Read, W: Write,
         (W.contents w.old) (W.contents w.new) }
     ensures help { AsksHelp (map string_bytes words.now)
         → EndsHelp result × (R.remaining r.new ≡ R.remaining r.old) }
-    ensures refused { IsRefused (map string_bytes words.now)
+    ensures refused { AreRefused (map string_bytes words.now)
         → EndsRefused result × (r.new ≡ r.old) × (w.new ≡ w.old) }
     ensures unserved { AsksNoService (map string_bytes words.now)
         → (EndsHelp result × (R.remaining r.new ≡ R.remaining r.old))
@@ -76,8 +76,8 @@ pub fn command<T: Files<File = File> + Threads + Wait + Sync, R: Read, W: Write,
 {
     let request = match read_words(alloc, words) {
         Ok(request) => request,
-        Err(Refusal::Fault(fault)) => return report(fault, e),
-        Err(Refusal::Words(error)) => {
+        Err(WordRefusal::Fault(fault)) => return report(fault, e),
+        Err(WordRefusal::Words(error)) => {
             let _ = write!(e, "{error}");
             return WRONG_WORDS;
         }

@@ -66,30 +66,30 @@ pub enum Request<'a> {
 
 /// Why the words give no request.
 #[derive(Drop)]
-pub enum Refusal {
+pub enum WordRefusal {
     /// `clap` says what is wrong with them.
     Words(clap::Error),
     /// They are good, and something else is not.
     Fault(Fault),
 }
 
-impl From<AllocError> for Refusal {
+impl From<AllocError> for WordRefusal {
     ghost from_gives = { λ _ refusal. refusal ≡ no_memory };
 
-    fn from(_error: AllocError) -> Refusal {
-        Refusal::Fault(Fault::OutOfMemory)
+    fn from(_error: AllocError) -> WordRefusal {
+        WordRefusal::Fault(Fault::OutOfMemory)
     }
 }
 
 /// What an error of `clap` stands for: help, a mistake in the words, or want of memory.
-fn answered<'a>(error: clap::Error) -> Result<Request<'a>, Refusal>
+fn answered<'a>(error: clap::Error) -> Result<Request<'a>, WordRefusal>
     ensures { result ≡ answer_of error }
 {
     if error.kind() == ErrorKind::OutOfMemory {
-        return Err(Refusal::Fault(Fault::OutOfMemory));
+        return Err(WordRefusal::Fault(Fault::OutOfMemory));
     }
     if error.use_stderr() {
-        return Err(Refusal::Words(error));
+        return Err(WordRefusal::Words(error));
     }
     Ok(Request::Help(error))
 }
@@ -204,12 +204,12 @@ fn numbers_given(options: &ArgMatches<'_>) -> [u16; 8]
 }
 
 /// The geometry that the options ask for.
-fn geometry_given(options: &ArgMatches<'_>) -> Result<Geometry, Refusal>
+fn geometry_given(options: &ArgMatches<'_>) -> Result<Geometry, WordRefusal>
     ensures { GivesGeometry (numbers_in (rows_of (found_of options.now))) result }
 {
     match Geometry::new(numbers_given(options)) {
         Ok(geometry) => Ok(geometry),
-        Err(BadGeometry) => Err(Refusal::Fault(Fault::GeometryOutOfRange)),
+        Err(BadGeometry) => Err(WordRefusal::Fault(Fault::GeometryOutOfRange)),
     }
 }
 
@@ -232,7 +232,7 @@ fn device_given<'a>(options: &ArgMatches<'a>) -> &'a str
 }
 
 /// What the words ask for, where `clap` found nothing wrong with them.
-fn requested<'a>(matches: &ArgMatches<'a>) -> Result<Request<'a>, Refusal>
+fn requested<'a>(matches: &ArgMatches<'a>) -> Result<Request<'a>, WordRefusal>
     ensures { IsRequested (subcommand_rows_of matches.now) result }
 {
     match matches.subcommand() {
@@ -251,7 +251,7 @@ fn requested<'a>(matches: &ArgMatches<'a>) -> Result<Request<'a>, Refusal>
 }
 
 /// What the words ask for, the program's own name first.
-pub fn read_words<'a>(alloc: Global, words: &'a [String]) -> Result<Request<'a>, Refusal>
+pub fn read_words<'a>(alloc: Global, words: &'a [String]) -> Result<Request<'a>, WordRefusal>
     ensures ok { IfOk result (Asks (map string_bytes words.now)) }
     ensures err { IfErr result (IsReason (map string_bytes words.now)) }
 {

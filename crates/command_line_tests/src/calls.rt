@@ -1,5 +1,6 @@
 //! Calls of the program over memory: which words it takes, what it prints of them, and where.
 use command_line::{command, report_unread_words};
+use commands::{Fault, report};
 use std::alloc::{AllocError, Global};
 use std::fs::File;
 use std::io;
@@ -373,6 +374,19 @@ For more information, try '--help'.
         3,
         "waffd: out of memory\n",
     )
+}
+
+/// That no ticket was left to a message, which takes 2^64 of them to meet, is told so.
+#[test]
+fn that_no_ticket_is_left_has_its_text(rt: HostRuntime) -> Result<(), Fail> {
+    let mut faults = Vec::new(rt.alloc());
+    let status = report(Fault::NoTicketLeft, &mut faults);
+    let ended = Ended {
+        status,
+        output: Vec::new(rt.alloc()),
+        faults,
+    };
+    expect("tickets", &ended, 1, "", "waffd: no ticket left\n")
 }
 
 /// That the call ends with this status where neither output nor fault can be written.

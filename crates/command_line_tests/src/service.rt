@@ -60,11 +60,20 @@ fn expect_refused<T: System>(rt: &T, path: &str, rows: &[Refused<'_>]) -> Result
 
 /// The last but one: the point that was cut short in area 1 is finished before the record of its half is looked at. The
 /// last: a device is opened before its workers are counted.
-const REFUSED: [Refused<'static>; 9] = [
+const REFUSED: [Refused<'static>; 11] = [
     (&[(0, 0)], "", 1, "waffd: not formatted\n", &[(0, 0)]),
     (&[(8, 5)], "", 1, "waffd: bad geometry\n", &[(8, 5)]),
     (&[(64, 1)], "", 1, "waffd: bad version\n", &[(64, 1)]),
+    (&[(4488, 2)], "", 1, "waffd: bad piece 0\n", &[(4488, 2)]),
     (&[(4552, 1)], "", 1, "waffd: bad piece 1\n", &[(4552, 1)]),
+    // An image of the first version has no labels.
+    (
+        &[(4424, 1), (4488, 1), (4504, 1)],
+        "",
+        1,
+        "waffd: bad piece 0\n",
+        &[(4424, 1), (4488, 1), (4504, 1)],
+    ),
     (
         &[(192, 1), (196, 2)],
         "",
@@ -140,8 +149,8 @@ const THREE_DONE: &str = "done\ndone\ndone\n";
 const TWO_WRITES: &str = "makevol 0 0\ncreate 0 0 0\nwrite 0 0 0 0 61\nwrite 0 0 0 1 62\n";
 
 /// Behind the plain ones: a torn gate in the log, behind which no record counts; a point that was cut short, whose other half
-/// has a record of its own; and an image of the first version with a volume.
-const LIVES: [Life<'static>; 9] = [
+/// has a record of its own; an image of the first version with a volume; and one of the second, whose volume has a label.
+const LIVES: [Life<'static>; 10] = [
     (&[], "", "", "", 0, "0 0 0"),
     (&[], "--workers=1 --slots=1", MADE, MADE_REPLY, 0, "1 1 1"),
     (
@@ -191,6 +200,14 @@ const LIVES: [Life<'static>; 9] = [
         "",
         "label 0 0\nsetlabel 0 0 6162\nlabel 0 0\n",
         "label 00\ndone\nlabel 6162\n",
+        0,
+        "1 0 0",
+    ),
+    (
+        &[(4488, 1), (4504, 1)],
+        "",
+        "label 0 0\n",
+        "label 01\n",
         0,
         "1 0 0",
     ),

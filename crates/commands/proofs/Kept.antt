@@ -8,9 +8,9 @@ use Rattle.legal_runs.specs.Runs.{went}
 use Rattle.machine.specs.Machine.{machine_of}
 use Rattle.machine.specs.Stages.{events_of}
 use Rattle.plain.specs.Serial.{fold}
-use Rattle.scheduler.specs.Kept.{IsJustOpened, Kept}
+use Rattle.scheduler.specs.Kept.{IsJustOpened, CoreView}
 use Rattle.serving.proofs.Told.{holds_all, written_are_kept}
-use Rattle.serving.specs.Ends.{HasServed, settled}
+use Rattle.serving.specs.Ends.{HasServed, settled_in}
 use Rattle.serving.specs.Lines.{asked, text, ticketed}
 use Rattle.serving.specs.Told.{AreKept, HoldsLog}
 use Rattle.serving.specs.declared.server.ServeFault.{ServeFault}
@@ -18,23 +18,23 @@ use Rattle.serving.specs.declared.server.ServeFault.TheVariants as faults
 use Rattle.commands.proofs.OnDevice.{is_idle}
 use Rattle.commands.specs.Faults.{as_told}
 use Rattle.commands.specs.Kept.{HoldsWhatWasTold, KeepsWhatWasTold, UnlessUntold}
-use Rattle.commands.specs.Serving.{HasServedBy, StoodFor, at_start}
+use Rattle.commands.specs.Serving.{HasServedBy, StoodFor, machine_at_start}
 use Rattle.commands.specs.declared.faults.Fault.{Fault}
 use Rattle.commands.specs.declared.faults.Fault.TheVariants as ends
 use Rattle.commands.specs.declared.service.Service.{Service}
 
 module _ (keeps : Type 0) (s : Service) (old new : Medium) (end : Result (Unit {0}) ServeFault) (input left before written : Option (List ℕ))
     (h : HasServedBy keeps s old new end input left before written) where
-  held : (row : _) → HasServed keeps (at_start s h.start) h.now row input before written → keeps → (c : List ℕ) → Leaves new c
+  held : (row : _) → HasServed keeps (machine_at_start s h.start) h.now row input before written → keeps → (c : List ℕ) → Leaves new c
       → HoldsWhatWasTold old input before written c
   held row served keep c leaves =
       let g = h.start.geometry in
-      let x = settled h.start in
-      let log = went (machine_of (at_start s h.start)) (events_of served.stages) in
+      let x = settled_in h.start in
+      let log = went (machine_of (machine_at_start s h.start)) (events_of served.stages) in
       let idle = is_idle s.slots h.start h.fresh in
       let on_device : HoldsLog g x (ticketed 0 (asked g served.taken)) log c =
       subst (λ (t : ℕ). HoldsLog g x (ticketed t (asked g served.taken)) log c) h.fresh.next
-      (holds_all keeps (at_start s h.start) h.now input served.taken served.stages idle h.fresh.no_doubt served.run keep c
+      (holds_all keeps (machine_at_start s h.start) h.now input served.taken served.stages idle h.fresh.no_doubt served.run keep c
       (subst (λ (m : Medium). Leaves m c) h.given_back leaves)) in
       let state = fold g x (loggable (log ++ on_device.more)) in
       record {
@@ -47,7 +47,7 @@ module _ (keeps : Type 0) (s : Service) (old new : Medium) (end : Result (Unit {
         output = served.output;
         log = log;
         kept = subst (λ (t : ℕ). AreKept g log t served.taken (map text served.said)) h.fresh.next
-            (written_are_kept keeps (at_start s h.start) h.now row input before written idle served);
+            (written_are_kept keeps (machine_at_start s h.start) h.now row input before written idle served);
         holds = on_device;
         header = head g c state leaves.bytes on_device.stands;
         not_refused = fine g c state leaves.bytes on_device.stands;

@@ -13,26 +13,26 @@ use Rattle.machine.specs.Stages.{Stage}
 use Rattle.plain.specs.Serial.{fold}
 use Rattle.plain.specs.State.{State}
 use Rattle.message.specs.declared.Msg.{Msg}
-use Rattle.scheduler.specs.Kept.{IsJustOpened, Kept, StandsNow, world_of}
-use Rattle.serving.specs.Ends.{EndsSo, HasRun, settled}
+use Rattle.scheduler.specs.Kept.{IsJustOpened, CoreView, StandsNow, world_of}
+use Rattle.serving.specs.Ends.{EndsSo, HasRunLines, settled_in}
 use Rattle.serving.specs.Serve.{HasEmptyLog, HasRunSo, RefusesNone}
 use Rattle.serving.specs.declared.server.ServeFault.{ServeFault}
 use Rattle.serving.specs.declared.server.ServeFault.TheVariants as faults
 use Rattle.commands.specs.Faults.{as_told}
-use Rattle.commands.specs.Serving.{EndsOnDevice, HasLived, HasNoRecords, HasServedBy, HasServedNothing, IsLife, StandsFor, StoodFor, Went, at_start, run_behind}
+use Rattle.commands.specs.Serving.{EndsOnDevice, HasLived, HasNoRecords, HasServedBy, HasServedNothing, IsLife, StandsFor, StoodFor, Went, machine_at_start, run_behind}
 use Rattle.commands.specs.declared.service.Service.{Service}
 
 -- no message is in a core that was just opened
-pub is_idle : (slots : ℕ) (c : Kept) → IsJustOpened slots c → IsIdle (world_of c)
+pub is_idle : (slots : ℕ) (c : CoreView) → IsJustOpened slots c → IsIdle (world_of c)
 is_idle slots c just = record { none_waits = just.none_waits; none_held = rw (just.none_logged, just.none_ran, just.none_out) refl }
 
 -- ---- the run
 
 -- what is known of the core before and after
-module _ (keeps : Type 0) (s : Service) (old : Medium) (start now : Kept) (end : Result (Unit {0}) ServeFault)
+module _ (keeps : Type 0) (s : Service) (old : Medium) (start now : CoreView) (end : Result (Unit {0}) ServeFault)
     (input left before written : Option (List ℕ)) where
-  pub is_life : IsJustOpened s.slots start → (keeps → HasHeader start.geometry old.now) → (keeps → holds start.geometry old.now ≡ Some (settled start))
-      → (taken : List (List ℕ)) (stages : List Stage) → HasRun keeps (at_start s start) now input taken stages → keeps
+  pub is_life : IsJustOpened s.slots start → (keeps → HasHeader start.geometry old.now) → (keeps → holds start.geometry old.now ≡ Some (settled_in start))
+      → (taken : List (List ℕ)) (stages : List Stage) → HasRunLines keeps (machine_at_start s start) now input taken stages → keeps
       → IsLife s start old now.medium stages
   is_life fresh header stood taken stages run keep = λ k within. record {
     header = header keep;
@@ -43,8 +43,8 @@ module _ (keeps : Type 0) (s : Service) (old : Medium) (start now : Kept) (end :
   }
 
   abbrev pub has_served_by : IsJustOpened s.slots start → (keeps → HasHeader start.geometry old.now)
-      → (keeps → holds start.geometry old.now ≡ Some (settled start)) → (keeps → OpeningLeaves old start.medium)
-      → HasRunSo keeps (at_start s start) now input before written end → EndsSo start now input left before written end
+      → (keeps → holds start.geometry old.now ≡ Some (settled_in start)) → (keeps → OpeningLeaves old start.medium)
+      → HasRunSo keeps (machine_at_start s start) now input before written end → EndsSo start now input left before written end
       → (keeps → StandsNow now) → HasServedBy keeps s old now.medium end input left before written
   has_served_by fresh header stood opening run ends leaves = record {
     start = start;
@@ -57,7 +57,7 @@ module _ (keeps : Type 0) (s : Service) (old : Medium) (start now : Kept) (end :
     ends = ends;
     leaves = leaves;
     given_back = refl;
-    life = let behind = run_behind keeps (at_start s start) now input before written end run in is_life fresh header stood behind.0 behind.1 behind.2;
+    life = let behind = run_behind keeps (machine_at_start s start) now input before written end run in is_life fresh header stood behind.0 behind.1 behind.2;
   }
 
 -- such a service is one that has lived
@@ -74,49 +74,49 @@ has_lived keeps s old new (Err faults.Exhausted) input left before written h = (
 -- ---- what the device stands for
 
 -- a core that has not failed: its device stands for what is settled
-stands_for : (keeps : Type 0) (now : Kept) → now.doubt ≡ [] → (keeps → StandsNow now) → AreBytes now.medium.now
-    → StandsFor keeps now.medium now.geometry (settled now)
+stands_for : (keeps : Type 0) (now : CoreView) → now.doubt ≡ [] → (keeps → StandsNow now) → AreBytes now.medium.now
+    → StandsFor keeps now.medium now.geometry (settled_in now)
 stands_for keeps now none leaves bytes = record {
   now = λ k. one k now.medium.now (itself now.medium.now now.medium.loose bytes);
   each = one;
 }
   where
-    one : keeps → (c : List ℕ) → Leaves now.medium c → holds now.geometry c ≡ Some (settled now)
+    one : keeps → (c : List ℕ) → Leaves now.medium c → holds now.geometry c ≡ Some (settled_in now)
     one k c left =
         let some = leaves k c left in
         let nothing : take some.added now.doubt ≡ [] = rw none (take_all some.added [] (omega arith)) in
-        some.is ∙ ap (λ (ms : List Msg). Some (fold now.geometry (settled now) ms)) nothing
+        some.is ∙ ap (λ (ms : List Msg). Some (fold now.geometry (settled_in now) ms)) nothing
 
 -- ---- each end, in the words of the serial server
 
 -- no record of the log is in force, of the device as it comes back
-no_records : (now : Kept) (g : Geometry) (new : Medium) → now.geometry ≡ g → new ≡ now.medium → HasEmptyLog now → HasNoRecords g new
+no_records : (now : CoreView) (g : Geometry) (new : Medium) → now.geometry ≡ g → new ≡ now.medium → HasEmptyLog now → HasNoRecords g new
 no_records now g new same back none = rw (back, ← same) none
 
 module _ (keeps : Type 0) (s : Service) (old new : Medium) (end : Result (Unit {0}) ServeFault) (input left before written : Option (List ℕ))
     (h : HasServedBy keeps s old new end input left before written) (no_doubt : h.now.failed ≡ false → h.now.doubt ≡ [])
     (bytes : AreBytes new.now) where
-  abbrev stood_for : StoodFor keeps old h.start.geometry (settled h.start)
+  abbrev stood_for : StoodFor keeps old h.start.geometry (settled_in h.start)
   stood_for = record { header = h.header; stood = h.stood }
 
-  stands_so : h.now.geometry ≡ h.start.geometry → h.now.failed ≡ false → StandsFor keeps new h.start.geometry (settled h.now)
+  stands_so : h.now.geometry ≡ h.start.geometry → h.now.failed ≡ false → StandsFor keeps new h.start.geometry (settled_in h.now)
   stands_so same works =
       let own = stands_for keeps h.now (no_doubt works) h.leaves (subst (λ (m : Medium). AreBytes m.now) h.given_back bytes) in
-      subst (λ (m : Medium). StandsFor keeps m h.start.geometry (settled h.now)) (sym h.given_back)
-      (subst (λ (g : Geometry). StandsFor keeps h.now.medium g (settled h.now)) same own)
+      subst (λ (m : Medium). StandsFor keeps m h.start.geometry (settled_in h.now)) (sym h.given_back)
+      (subst (λ (g : Geometry). StandsFor keeps h.now.medium g (settled_in h.now)) same own)
 
   abbrev went : h.now.geometry ≡ h.start.geometry → h.now.failed ≡ false → Went keeps old new
   went same works = record {
     geometry = h.start.geometry;
-    start = settled h.start;
-    end = settled h.now;
+    start = settled_in h.start;
+    end = settled_in h.now;
     before = stood_for;
     after = stands_so same works;
   }
 
   served_nothing : h.now ≡ h.start → left ≡ input → written ≡ before → HasServedNothing keeps old new input left before written
   served_nothing same unread unwritten =
-      (went (ap (λ (c : Kept). c.geometry) same) (ap (λ (c : Kept). c.failed) same ∙ h.fresh.works), ap settled same, unread, unwritten)
+      (went (ap (λ (c : CoreView). c.geometry) same) (ap (λ (c : CoreView). c.failed) same ∙ h.fresh.works), ap settled_in same, unread, unwritten)
 
 -- what a service says of each of its ends
 pub ends_on_device : (keeps : Type 0) (s : Service) (old new : Medium) (end : Result (Unit {0}) ServeFault) (input left before written : Option (List ℕ))
@@ -137,9 +137,9 @@ ends_on_device keeps s old new (Err faults.Read) input left before written h no_
 ends_on_device keeps s old new (Err faults.Exhausted) input left before written h no_doubt bytes workers emptied =
     (workers, (went keeps s old new (Err faults.Exhausted) input left before written h no_doubt bytes h.run.run.geometry h.ends.1, h.ends.3))
 ends_on_device keeps s old new (Err faults.Device) input left before written h no_doubt bytes workers emptied =
-    (workers, (h.start.geometry, settled h.start, stood_for keeps s old new (Err faults.Device) input left before written h no_doubt bytes, h.ends.2))
+    (workers, (h.start.geometry, settled_in h.start, stood_for keeps s old new (Err faults.Device) input left before written h no_doubt bytes, h.ends.2))
 ends_on_device keeps s old new (Err faults.Write) input left before written h no_doubt bytes workers emptied =
-    (workers, (h.start.geometry, settled h.start, stood_for keeps s old new (Err faults.Write) input left before written h no_doubt bytes))
+    (workers, (h.start.geometry, settled_in h.start, stood_for keeps s old new (Err faults.Write) input left before written h no_doubt bytes))
 ends_on_device keeps s old new (Err faults.NoWorkers) input left before written h no_doubt bytes workers emptied =
     (workers, served_nothing keeps s old new (Err faults.NoWorkers) input left before written h no_doubt bytes h.ends.0 h.ends.1 h.ends.2)
 ends_on_device keeps s old new (Err faults.OutOfMemory) input left before written h no_doubt bytes workers emptied =

@@ -3,7 +3,7 @@ use Rattle.std.specs.Prelude.{◌≡◌, ℕ, List, Option, Result, Ok, Err}
 use Rattle.std.specs.Io.KnownBytes.{Appends, IsAtEnd}
 use Rattle.affinity.specs.declared.geometry.Geometry.{Geometry}
 use Rattle.plain.specs.State.{empty}
-use Rattle.plain.specs.Output.{serial_out, AnswersWholeLines, IsBeginning, Writes}
+use Rattle.plain.specs.Output.{serial_out, AnswersWholeLines, IsBeginning, WritesOutput}
 use Rattle.checkpoint.specs.declared.inspecting.Shown.{Shown}
 use Rattle.checkpoint.specs.Refusals.{IsRefused}
 use Rattle.checkpoint.specs.Shown.{IsShown}
@@ -14,10 +14,10 @@ use Rattle.commands.specs.declared.faults.Fault.TheVariants.{Read, Write, OutOfM
 
 -- What was written where the service came to this end, and what is left of the input: all that the serial server writes for the input, and nothing is left; the answers to all whole lines that were taken; the first lines of the output. A failed write leaves it open.
 abbrev pub EndsServing : Geometry → Result (Unit {0}) Fault → Option (List ℕ) → Option (List ℕ) → Option (List ℕ) → Option (List ℕ) → Type 0
-EndsServing g (Ok _) input left old new = Writes input old new (λ read written. written ≡ serial_out g empty read) × IsAtEnd left
-EndsServing g (Err Read) input left old new = Writes input old new (AnswersWholeLines g empty left)
+EndsServing g (Ok _) input left old new = WritesOutput input old new (λ read written. written ≡ serial_out g empty read) × IsAtEnd left
+EndsServing g (Err Read) input left old new = WritesOutput input old new (AnswersWholeLines g empty left)
 EndsServing g (Err Write) input left old new = Unit {0}
-EndsServing g (Err OutOfMemory) input left old new = Writes input old new (IsBeginning g empty)
+EndsServing g (Err OutOfMemory) input left old new = WritesOutput input old new (IsBeginning g empty)
 EndsServing g (Err _) input left old new = ⊥
 
 -- A device was made and its length told, or it was not made and nothing was written. A failed write leaves open what was written. What the file holds is open.

@@ -52,6 +52,6 @@ as_told (Ok _) = Ok tt
 as_told (Err fault) = Err (of_serve fault)
 
 -- the fault of the program where the file of a device can't be made or opened
-abbrev pub of_file : FileFault → Fault
-of_file file.Device = Device
-of_file file.OutOfMemory = OutOfMemory
+abbrev pub fault_of_file : FileFault → Fault
+fault_of_file file.Device = Device
+fault_of_file file.OutOfMemory = OutOfMemory

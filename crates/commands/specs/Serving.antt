@@ -12,20 +12,20 @@ use Rattle.disk.specs.declared.fault.FileFault.{FileFault}
 use Rattle.journal.specs.Opening.{IsRefusedUnwritten, OpeningLeaves}
 use Rattle.legal_runs.specs.Lives.{Ran}
 use Rattle.machine.specs.Lives.{IsRunLife}
-use Rattle.machine.specs.Machine.{Handed, machine_of}
+use Rattle.machine.specs.Machine.{MachineView, machine_of}
 use Rattle.machine.specs.Stages.{Stage, device_after, events_of}
 use Rattle.message.specs.Lines.{lines}
 use Rattle.oplog.specs.Layout.{layout_of}
 use Rattle.oplog.specs.Stands.{in_force, named_area}
-use Rattle.plain.specs.Output.{IsBeginning, Writes}
+use Rattle.plain.specs.Output.{IsBeginning, WritesOutput}
 use Rattle.plain.specs.State.{State}
-use Rattle.scheduler.specs.Kept.{IsJustOpened, Kept, StandsNow}
-use Rattle.serving.specs.Ends.{AreServed, EndsSo, HasRun, ServesLinesBefore, ServesWholeLines, settled}
+use Rattle.scheduler.specs.Kept.{IsJustOpened, CoreView, StandsNow}
+use Rattle.serving.specs.Ends.{AreServed, EndsSo, HasRunLines, ServesLinesBefore, ServesWholeLines, settled_in}
 use Rattle.serving.specs.Runs.{with_lent}
 use Rattle.serving.specs.Serve.{HasRunSo}
 use Rattle.serving.specs.declared.server.ServeFault.{ServeFault}
 use Rattle.serving.specs.declared.server.ServeFault.TheVariants as serve_faults
-use Rattle.commands.specs.Faults.{as_told, of_file}
+use Rattle.commands.specs.Faults.{as_told, fault_of_file}
 use Rattle.commands.specs.declared.faults.Fault.{Fault}
 use Rattle.commands.specs.declared.faults.Fault.TheVariants.{Read, Write, OutOfMemory, Device, NoWorkers, NoTicketLeft, Open}
 use Rattle.commands.specs.declared.service.Service.{Service}
@@ -74,13 +74,13 @@ HasServedNothing keeps old new input left before written = (w : Went keeps old n
 -- what it is.
 abbrev pub EndsOnDevice : Type 0 → Service → Medium → Medium → Result (Unit {0}) Fault → Option (List ℕ) → Option (List ℕ) → Option (List ℕ) → Option (List ℕ) → Type 0
 EndsOnDevice keeps s old new (Ok _) input left before written = (s.workers ≢ 0) × ((w : Went keeps old new) × (keeps → HasNoRecords w.geometry new)
-    × IsAtEnd left × Writes input before written (λ bytes out. AreServed w.geometry w.start w.end (lines bytes) out))
+    × IsAtEnd left × WritesOutput input before written (λ bytes out. AreServed w.geometry w.start w.end (lines bytes) out))
 EndsOnDevice keeps s old new (Err Read) input left before written = (s.workers ≢ 0) × ((w : Went keeps old new)
-    × Writes input before written (ServesWholeLines w.geometry w.start w.end left))
+    × WritesOutput input before written (ServesWholeLines w.geometry w.start w.end left))
 EndsOnDevice keeps s old new (Err NoTicketLeft) input left before written = (s.workers ≢ 0) × ((w : Went keeps old new)
-    × Writes input before written (ServesLinesBefore w.geometry w.start w.end))
+    × WritesOutput input before written (ServesLinesBefore w.geometry w.start w.end))
 EndsOnDevice keeps s old new (Err Device) input left before written = (s.workers ≢ 0) × ((g : Geometry) × (start : State) × StoodFor keeps old g start
-    × Writes input before written (IsBeginning g start))
+    × WritesOutput input before written (IsBeginning g start))
 EndsOnDevice keeps s old new (Err Write) input left before written = (s.workers ≢ 0) × ((g : Geometry) × (start : State) × StoodFor keeps old g start)
 EndsOnDevice keeps s old new (Err NoWorkers) input left before written = (s.workers ≡ 0) × HasServedNothing keeps old new input left before written
 EndsOnDevice keeps s old new (Err OutOfMemory) input left before written = (s.workers ≢ 0) × HasServedNothing keeps old new input left before written
@@ -91,12 +91,12 @@ EndsOnDevice keeps s old new (Err _) input left before written = ⊥
 -- ---- the run behind it
 
 -- the machine of a core that was just opened: each of the workers has a place, and nothing is lent there
-abbrev pub at_start : Service → Kept → Handed
-at_start s start = with_lent start (replicate s.workers None)
+abbrev pub machine_at_start : Service → CoreView → MachineView
+machine_at_start s start = with_lent start (replicate s.workers None)
 
 -- the run behind what was served, whatever the end: the lines that were taken, and the events, each with the device as it left it
-abbrev pub run_behind : (keeps : Type 0) (start : Handed) (now : Kept) (input before written : Option (List ℕ)) (end : Result (Unit {0}) ServeFault)
-    → HasRunSo keeps start now input before written end → (taken : List (List ℕ)) × (stages : List Stage) × HasRun keeps start now input taken stages
+abbrev pub run_behind : (keeps : Type 0) (start : MachineView) (now : CoreView) (input before written : Option (List ℕ)) (end : Result (Unit {0}) ServeFault)
+    → HasRunSo keeps start now input before written end → (taken : List (List ℕ)) × (stages : List Stage) × HasRunLines keeps start now input taken stages
 run_behind keeps start now input before written (Ok _) h = (h.served.taken, h.served.stages, h.served.run)
 run_behind keeps start now input before written (Err serve_faults.Device) h = (h.1.taken, h.1.stages, h.1.run)
 run_behind keeps start now input before written (Err serve_faults.Write) h = h
@@ -107,30 +107,30 @@ run_behind keeps start now input before written (Err serve_faults.OutOfMemory) h
 
 -- With this run it is a life of the device, in the sense of the law of lives in `machine`, for every k: it was opened, it made the run,
 -- and the crash comes at any moment since event k ended.
-abbrev pub IsLife : Service → Kept → Medium → Medium → List Stage → Type 0
+abbrev pub IsLife : Service → CoreView → Medium → Medium → List Stage → Type 0
 IsLife s start old new stages = (k : ℕ) → k ≤ length stages → IsRunLife (record {
   began = old;
   ended = new;
   since = moment (device_after start.medium (take k stages));
   geometry = start.geometry;
-  life = Ran (machine_of (at_start s start)) (events_of stages) k;
-}) (machine_of (at_start s start)) (events_of stages) k
+  life = Ran (machine_of (machine_at_start s start)) (events_of stages) k;
+}) (machine_of (machine_at_start s start)) (events_of stages) k
 
 -- The device was opened as a server in which no message is, which served and came to this end. Behind what was written there is a legal
 -- run of it, and a crash meanwhile leaves what a crash of that run may leave.
 pub record HasServedBy (keeps : Type 0) (s : Service) (old new : Medium) (end : Result (Unit {0}) ServeFault)
     (input left before written : Option (List ℕ)) : Type 0 where
-  pub start : Kept
-  pub now : Kept
+  pub start : CoreView
+  pub now : CoreView
   pub fresh : IsJustOpened s.slots start
   pub header : keeps → HasHeader start.geometry old.now
-  pub stood : keeps → holds start.geometry old.now ≡ Some (settled start)
+  pub stood : keeps → holds start.geometry old.now ≡ Some (settled_in start)
   pub opening : keeps → OpeningLeaves old start.medium
-  pub run : HasRunSo keeps (at_start s start) now input before written end
+  pub run : HasRunSo keeps (machine_at_start s start) now input before written end
   pub ends : EndsSo start now input left before written end
   pub leaves : keeps → StandsNow now
   pub given_back : new ≡ now.medium
-  pub life : keeps → let behind = run_behind keeps (at_start s start) now input before written end run in IsLife s start old new behind.1
+  pub life : keeps → let behind = run_behind keeps (machine_at_start s start) now input before written end run in IsLife s start old new behind.1
 
 -- So it was; or the device could not be opened. A crash while it is opened leaves what stands for the same, or is refused for the
 -- same fault.
@@ -144,7 +144,7 @@ HasLived keeps s old new end input left before written =
 -- The file could not be opened, or there was no memory for the words: nothing was read or written.
 pub record HasNotBegun (end : Result (Unit {0}) Fault) (input left before written : Option (List ℕ)) : Type 0 where
   pub why : FileFault
-  pub ends : end ≡ Err (of_file why)
+  pub ends : end ≡ Err (fault_of_file why)
   pub unread : left ≡ input
   pub unwritten : written ≡ before
 

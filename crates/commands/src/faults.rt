@@ -1,6 +1,6 @@
 //! What can go wrong once the words are read: the text that is printed of it, and the exit status.
 ghost use Rattle.std.specs.Prelude.{◌≡◌};
-ghost use Rattle.commands.specs.Faults.{status_of, of_file, of_plain, of_serve};
+ghost use Rattle.commands.specs.Faults.{status_of, fault_of_file, of_plain, of_serve};
 ghost use Rattle.commands.specs.declared.faults.Fault.TheVariants.{Format, Open, OutOfMemory};
 
 use checkpoint::{FormatFault, OpenFault};
@@ -98,7 +98,7 @@ impl From<ServeFault> for Fault {
 }
 
 impl From<FileFault> for Fault {
-    ghost from_gives = { λ from fault. fault ≡ of_file from };
+    ghost from_gives = { λ from fault. fault ≡ fault_of_file from };
 
     fn from(fault: FileFault) -> Fault {
         match fault {

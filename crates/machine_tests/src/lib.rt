@@ -4,7 +4,11 @@
 #[cfg(test)]
 mod areas;
 #[cfg(test)]
+mod cores;
+#[cfg(test)]
 mod drawing;
+#[cfg(test)]
+mod failing;
 #[cfg(test)]
 mod making;
 #[cfg(test)]

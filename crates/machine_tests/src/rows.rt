@@ -325,14 +325,6 @@ const LOG_FAILS: Life = Life {
         Does(Step::Run(0), Outcome::Ran),
         Does(Step::Back(0), Outcome::Back(0)),
         Does(Step::Log(1), Outcome::LogFault(CoreFault::Device)),
-        Does(Step::Grant, Outcome::Failed),
-        Arrives("summary", Outcome::ArriveRefused(ArriveRefusal::Failed)),
-        Does(Step::Answer, Outcome::Idle),
-        Does(Step::Log(1), Outcome::LogFault(CoreFault::Failed)),
-        Does(Step::Point, Outcome::PointRefused(PointRefusal::Failed)),
-        Does(Step::Cut, Outcome::PointRefused(PointRefusal::Failed)),
-        Does(Step::Piece, Outcome::PointRefused(PointRefusal::Failed)),
-        Does(Step::Flip, Outcome::PointRefused(PointRefusal::Failed)),
     ],
 };
 

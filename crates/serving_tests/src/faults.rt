@@ -5,7 +5,7 @@ use affinity::Geometry;
 use checkpoint::OpenFault;
 use disk::MemDisk;
 use harness::{
-    Crash, Found, KINDS, Questions, Seen, Wrong, device_with, expected, find, reopen, torn,
+    Crash, FoundAgain, KINDS, Questions, Seen, Wrong, device_with, expected, find, reopen, torn,
 };
 use serving::ServeFault;
 use std::alloc::Global;
@@ -44,10 +44,10 @@ pub(crate) struct Known {
 
 impl Known {
     /// Whether that is found.
-    pub(crate) fn is_told(&self, found: &Found) -> bool {
+    pub(crate) fn is_told(&self, found: &FoundAgain) -> bool {
         match found {
-            Found::Tells(told) => self.told == *told,
-            Found::Refuses(_) => false,
+            FoundAgain::Tells(told) => self.told == *told,
+            FoundAgain::Refuses(_) => false,
         }
     }
 }
@@ -120,8 +120,8 @@ impl Play {
     }
 
     /// Whether this may be found where so many lines were written.
-    pub(crate) fn allows(&self, answered: usize, found: &Found) -> bool {
-        let Found::Tells(told) = found else {
+    pub(crate) fn allows(&self, answered: usize, found: &FoundAgain) -> bool {
+        let FoundAgain::Tells(told) = found else {
             return false;
         };
         let answered = first(self.there.saturating_add(answered));

@@ -4,6 +4,8 @@
 #[cfg(test)]
 mod again;
 #[cfg(test)]
+mod crashing;
+#[cfg(test)]
 mod drawing;
 #[cfg(test)]
 mod faults;
@@ -13,6 +15,8 @@ mod lives;
 mod noting;
 #[cfg(test)]
 mod overlap;
+#[cfg(test)]
+mod pieces;
 #[cfg(test)]
 mod points;
 #[cfg(test)]
@@ -27,3 +31,4 @@ mod sessions;
 mod streams;
 #[cfg(test)]
 mod waiting;
+pub mod watching;

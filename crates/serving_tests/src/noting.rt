@@ -9,7 +9,7 @@ use std::sync::atomic::{AtomicBool, AtomicU64, Ordering};
 pub(crate) struct Count(AtomicU64);
 
 impl Count {
-    fn new() -> Count {
+    pub(crate) fn new() -> Count {
         Count(AtomicU64::new(0))
     }
 
@@ -17,11 +17,11 @@ impl Count {
         self.0.load(Ordering::SeqCst)
     }
 
-    fn set(&self, number: u64) {
+    pub(crate) fn set(&self, number: u64) {
         self.0.store(number, Ordering::SeqCst);
     }
 
-    fn add(&self, more: u64) {
+    pub(crate) fn add(&self, more: u64) {
         self.set(self.get().saturating_add(more));
     }
 }
@@ -55,6 +55,9 @@ pub(crate) struct Notes {
     pub(crate) cuts: Count,
     /// How often the root byte was written.
     pub(crate) points: Count,
+    pub(crate) syncs: Count,
+    /// Writes into the images of a server with 64 records in a half.
+    pub(crate) pieces: Count,
     pub(crate) reads: Count,
     /// Writes and flushes of the output.
     pub(crate) writes: Count,
@@ -86,6 +89,8 @@ impl Notes {
             logged: Count::new(),
             cuts: Count::new(),
             points: Count::new(),
+            syncs: Count::new(),
+            pieces: Count::new(),
             reads: Count::new(),
             writes: Count::new(),
             given: Count::new(),
@@ -108,6 +113,10 @@ impl Notes {
 
 /// Where the root byte lies.
 const ROOT: u64 = 64;
+
+/// Where the images of a server with 64 records in a half lie: after 128 bytes and two halves, each with 64 bytes before its gates and
+/// 520 for a record.
+const IMAGES: u64 = 128 + 2 * (64 + 64 + 64 * 520);
 
 /// Where the chain bytes of the two halves of the small server lie.
 const CHAINS: [u64; 2] = [128, 2276];
@@ -158,11 +167,13 @@ impl<D: Disk> Disk for Noting<'_, D> {
     fn write_at(&mut self, at: u64, bytes: &[u8]) -> Result<(), DiskFault> {
         self.notes.loose.add(gates_in(at, bytes));
         self.notes.points.add(u64::from(at == ROOT));
+        self.notes.pieces.add(u64::from(at >= IMAGES));
         self.notes.cuts.add(u64::from(opens_chain(at, bytes)));
         self.device.write_at(at, bytes)
     }
 
     fn sync(&mut self) -> Result<(), DiskFault> {
+        self.notes.syncs.add(1);
         let answer = self.device.sync();
         if answer.is_ok() {
             self.notes.logged.add(self.notes.loose.get());

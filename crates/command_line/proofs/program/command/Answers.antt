@@ -3,13 +3,13 @@ use Rattle.command_line.proofs.Ending.{ask_for_nothing, formatted, formatted_not
 use Rattle.command_line.proofs.Examples.{asks_alone}
 use Rattle.affinity.specs.Geometry.{standard}
 use Rattle.command_line.specs.Words.{IsReason}
-use Rattle.command_line.specs.declared.words.Refusal.{Refusal}
+use Rattle.command_line.specs.declared.words.WordRefusal.{WordRefusal}
 use Rattle.command_line.proofs.program.command.Goals as goal
 
 pub returns-in-Err-Fault-clause-served : goal.returns-in-Err-Fault-clause-served
 returns-in-Err-Fault-clause-served g c = λ geometry asks.
     let words = map string_bytes c.args.words.now in
-    let P : Refusal → Type 0 = λ refusal. IsReason words refusal in
+    let P : WordRefusal → Type 0 = λ refusal. IsReason words refusal in
     let reason = subst P c.in-Err-Fault.field-0-is c.in-Err-Fault.ensures.err in
     rw (c.report.ensures, c.in-Err-Fault.fault-is) (served_nothing words geometry c.in-Err-Fault.fault (g.R.Read.remaining c.args.r.now) (g.W.Write.contents c.args.w.now) asks reason)
 
@@ -29,7 +29,7 @@ returns-in-Err-clause-served g c = λ geometry asks.
 pub returns-in-Err-Fault-clause-formatted : goal.returns-in-Err-Fault-clause-formatted
 returns-in-Err-Fault-clause-formatted g c = λ path geometry asks.
     let words = map string_bytes c.args.words.now in
-    let P : Refusal → Type 0 = λ refusal. IsReason words refusal in
+    let P : WordRefusal → Type 0 = λ refusal. IsReason words refusal in
     let reason = subst P c.in-Err-Fault.field-0-is c.in-Err-Fault.ensures.err in
     rw (c.report.ensures, c.in-Err-Fault.fault-is) (formatted_nothing words path geometry c.in-Err-Fault.fault (g.W.Write.contents c.args.w.now) asks reason, refl)
 
@@ -47,7 +47,7 @@ returns-in-Err-clause-formatted g c = λ path geometry asks.
 pub returns-in-Err-Words-clause-formatted : goal.returns-in-Err-Words-clause-formatted
 returns-in-Err-Words-clause-formatted g c = λ path geometry asks.
     let words = map string_bytes c.args.words.now in
-    let P : Refusal → Type 0 = λ refusal. IsReason words refusal in
+    let P : WordRefusal → Type 0 = λ refusal. IsReason words refusal in
     let reason = subst P c.in-Err-Words.field-0-is c.in-Err-Words.ensures.err in
     absurd (no_mistake words c.in-Err-Words.error asks.0 reason)
 
@@ -56,7 +56,7 @@ returns-in-Err-Words-clause-formatted g c = λ path geometry asks.
 pub returns-in-Err-Fault-clause-shown : goal.returns-in-Err-Fault-clause-shown
 returns-in-Err-Fault-clause-shown g c = λ path asks.
     let words = map string_bytes c.args.words.now in
-    let P : Refusal → Type 0 = λ refusal. IsReason words refusal in
+    let P : WordRefusal → Type 0 = λ refusal. IsReason words refusal in
     let reason = subst P c.in-Err-Fault.field-0-is c.in-Err-Fault.ensures.err in
     rw (c.report.ensures, c.in-Err-Fault.fault-is) (shown_nothing words path c.in-Err-Fault.fault (g.W.Write.contents c.args.w.now) asks reason, refl)
 
@@ -74,7 +74,7 @@ returns-in-Err-clause-shown g c = λ path asks.
 pub returns-in-Err-Words-clause-shown : goal.returns-in-Err-Words-clause-shown
 returns-in-Err-Words-clause-shown g c = λ path asks.
     let words = map string_bytes c.args.words.now in
-    let P : Refusal → Type 0 = λ refusal. IsReason words refusal in
+    let P : WordRefusal → Type 0 = λ refusal. IsReason words refusal in
     let reason = subst P c.in-Err-Words.field-0-is c.in-Err-Words.ensures.err in
     absurd (no_mistake words c.in-Err-Words.error asks.0 reason)
 
@@ -83,7 +83,7 @@ returns-in-Err-Words-clause-shown g c = λ path asks.
 pub returns-in-Err-Fault-clause-served_on : goal.returns-in-Err-Fault-clause-served_on
 returns-in-Err-Fault-clause-served_on g c = λ path s asks.
     let words = map string_bytes c.args.words.now in
-    let P : Refusal → Type 0 = λ refusal. IsReason words refusal in
+    let P : WordRefusal → Type 0 = λ refusal. IsReason words refusal in
     let reason = subst P c.in-Err-Fault.field-0-is c.in-Err-Fault.ensures.err in
     rw (c.report.ensures, c.in-Err-Fault.fault-is)
     (served_on_nothing words path s c.in-Err-Fault.fault (g.R.Read.remaining c.args.r.now) (g.W.Write.contents c.args.w.now) asks reason)
@@ -102,7 +102,7 @@ returns-in-Err-clause-served_on g c = λ path s asks.
 pub returns-in-Err-Words-clause-served_on : goal.returns-in-Err-Words-clause-served_on
 returns-in-Err-Words-clause-served_on g c = λ path s asks.
     let words = map string_bytes c.args.words.now in
-    let P : Refusal → Type 0 = λ refusal. IsReason words refusal in
+    let P : WordRefusal → Type 0 = λ refusal. IsReason words refusal in
     let reason = subst P c.in-Err-Words.field-0-is c.in-Err-Words.ensures.err in
     absurd (no_mistake words c.in-Err-Words.error asks.0 reason)
 
@@ -119,7 +119,7 @@ returns-in-Err-clause-refused g c = λ wrong. absurd (ask_for_nothing (map strin
 pub returns-in-Err-Fault-clause-unserved : goal.returns-in-Err-Fault-clause-unserved
 returns-in-Err-Fault-clause-unserved g c = λ no_service.
     let words = map string_bytes c.args.words.now in
-    let P : Refusal → Type 0 = λ refusal. IsReason words refusal in
+    let P : WordRefusal → Type 0 = λ refusal. IsReason words refusal in
     let reason = subst P c.in-Err-Fault.field-0-is c.in-Err-Fault.ensures.err in
     rw (c.report.ensures, c.in-Err-Fault.fault-is) (inr (refused_by words c.in-Err-Fault.fault reason, refl, refl))
 
@@ -148,7 +148,7 @@ returns-in-Err-clause-plain g c = λ program are. returns-in-Err-clause-served g
 pub returns-in-Err-Words-clause-plain : goal.returns-in-Err-Words-clause-plain
 returns-in-Err-Words-clause-plain g c = λ program are.
     let words = map string_bytes c.args.words.now in
-    let P : Refusal → Type 0 = λ refusal. IsReason words refusal in
+    let P : WordRefusal → Type 0 = λ refusal. IsReason words refusal in
     let reason = subst P c.in-Err-Words.field-0-is c.in-Err-Words.ensures.err in
     absurd (no_mistake words c.in-Err-Words.error (asks_alone words program are).0 reason)
 

@@ -1,0 +1,82 @@
+//! What a machine says once a call of its device has failed.
+use crate::making::Row::{Arrives, Does};
+use crate::making::{Row, SMALL, goes_so, holds, machine_on};
+use harness::{Wrong, device_with};
+use legal_runs::{ArriveRefusal, CoreFault, Outcome, PointRefusal, Step};
+use std::alloc::Global;
+use std::process::Abort;
+use std::test::Fail;
+
+/// What is done, and the step behind it in which the device fails.
+const FAULTS: [(&[Row], Row); 5] = [
+    (
+        &[
+            Arrives("makevol 0 0", Outcome::Ticket(0)),
+            Does(Step::Grant, Outcome::Granted(0, 0)),
+            Does(Step::Run(0), Outcome::Ran),
+            Does(Step::Back(0), Outcome::Back(0)),
+        ],
+        Does(Step::Log(1), Outcome::LogFault(CoreFault::Device)),
+    ),
+    (
+        &[],
+        Does(Step::Point, Outcome::PointRefused(PointRefusal::Device)),
+    ),
+    (
+        &[],
+        Does(Step::Cut, Outcome::PointRefused(PointRefusal::Device)),
+    ),
+    (
+        &[Does(Step::Cut, Outcome::Cut)],
+        Does(Step::Piece, Outcome::PointRefused(PointRefusal::Device)),
+    ),
+    (
+        &[
+            Does(Step::Cut, Outcome::Cut),
+            Does(Step::Piece, Outcome::Left(2)),
+            Does(Step::Piece, Outcome::Left(1)),
+            Does(Step::Piece, Outcome::Left(0)),
+        ],
+        Does(Step::Flip, Outcome::PointRefused(PointRefusal::Device)),
+    ),
+];
+
+/// What comes of each step from then on.
+const FAILED: [Row; 8] = [
+    Arrives("summary", Outcome::ArriveRefused(ArriveRefusal::Failed)),
+    Does(Step::Grant, Outcome::Failed),
+    Does(Step::Log(1), Outcome::LogFault(CoreFault::Failed)),
+    Does(Step::Answer, Outcome::Idle),
+    Does(Step::Point, Outcome::PointRefused(PointRefusal::Failed)),
+    Does(Step::Cut, Outcome::PointRefused(PointRefusal::Failed)),
+    Does(Step::Piece, Outcome::PointRefused(PointRefusal::Failed)),
+    Does(Step::Flip, Outcome::PointRefused(PointRefusal::Failed)),
+];
+
+/// How many calls a new device meets in these rows.
+fn calls_of(rt: &impl Abort, alloc: Global, rows: &[Row]) -> Result<u64, Wrong> {
+    let mut machine = machine_on(alloc, device_with(alloc, SMALL, &[])?, 2, 2)?;
+    goes_so(rt, &mut machine, rows);
+    Ok(machine.into_core().into_disk().calls())
+}
+
+/// The first call of the device in a step fails alone. Then each step says that it has failed, and the device isn't called again.
+fn stays_failed(rt: &impl Abort, alloc: Global, before: &[Row], failing: Row) -> Result<(), Wrong> {
+    let calls = calls_of(rt, alloc, before)?.saturating_add(1);
+    let mut device = device_with(alloc, SMALL, &[])?;
+    device.fail_at(calls);
+    let mut machine = machine_on(alloc, device, 2, 2)?;
+    goes_so(rt, &mut machine, before);
+    goes_so(rt, &mut machine, &[failing]);
+    goes_so(rt, &mut machine, &FAILED);
+    holds(rt, machine.into_core().into_disk().calls() == calls);
+    Ok(())
+}
+
+#[test]
+fn what_has_failed_says_so_at_each_step(rt: HostRuntime) -> Result<(), Fail> {
+    for (before, failing) in FAULTS {
+        stays_failed(&rt, rt.alloc(), before, failing)?;
+    }
+    Ok(())
+}
