@@ -333,7 +333,7 @@ def is_installed(words):
 def try_all(folder):
     missing = [name for name, words in TOOLS.items() if not is_installed(words)]
     if missing:
-        print(f"not tried: examples/block_device, which needs {' and '.join(missing)}", flush=True)
+        check("examples/block_device is tried", f"it needs {' and '.join(missing)}")
         return
     disk = Disk(folder)
     disk.start()
