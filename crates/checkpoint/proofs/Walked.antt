@@ -13,7 +13,7 @@ use Rattle.disk.specs.Device.{AreBytes}
 use Rattle.disk.proofs.Bytes.{bytes-range, bytes_by_recursion}
 use Rattle.image.specs.Image.{AreGood, has_head, is_good, is_version, piece_in, read, said_before, version_in}
 use Rattle.image.specs.Pieces.{aggregate_of, block_in, part_of, piece_at, piece_count, piece_of, piece_size, volume_of, volume_piece_number, with_part, with_piece}
-use Rattle.image.proofs.Joining.{length-pieces}
+use Rattle.image.proofs.Joining.{piece_inside, whole_image}
 use Rattle.image.proofs.Numbers.{number_there}
 use Rattle.image.proofs.Walk.{good_is_read, good_is_seen}
 use Rattle.message.specs.Messages.{AreSizedBytes as Holds}
@@ -22,24 +22,6 @@ use Rattle.oplog.proofs.Slices.{image_sized, part_inside, slice_slice}
 use Rattle.plain.specs.State.{State, empty, is_block_of, sum_below}
 
 -- ---- where pieces lie
-
-sum_grows : (f : ℕ → ℕ) (n m : ℕ) → n ≤ m → sum_below n f ≤ sum_below m f
-sum_grows f n zero few = let same : n ≡ 0 = omega (arith, few) in omega (arith, ap (λ (k : ℕ). sum_below k f) same)
-sum_grows f n (suc m) few =
-    ⊎_elim
-    (λ (less : n < suc m). omega (arith, sum_grows f n m (omega (arith, less))))
-    (λ (beyond : suc m ≤ n).
-    let same : n ≡ suc m = omega (arith, few, beyond) in
-    omega (arith, ap (λ (k : ℕ). sum_below k f) same))
-    (cases_lt n (suc m))
-
-pub piece_inside : (g : Geometry) (n : ℕ) → n < piece_count g → piece_at g n + piece_size g n ≤ image_size g
-unfolding image_size
-piece_inside g n below = omega (arith, sum_grows (piece_size g) (suc n) (piece_count g) (omega (arith, below)), length-pieces g)
-
-pub whole_image : (g : Geometry) → piece_at g (piece_count g) ≡ image_size g
-unfolding image_size
-whole_image g = length-pieces g
 
 pub piece_there : (g : Geometry) (number n at : ℕ) (now out : List ℕ) → number < 2 → n < piece_count g → at ≡ part_at (layout_of g) (image number) + piece_at g n
     → out ≡ slice now at (piece_size g n) → out ≡ piece_in g (part_bytes (layout_of g) (image number) now) n

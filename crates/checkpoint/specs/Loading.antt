@@ -68,7 +68,8 @@ abbrev pub in_force_fault : Geometry → State → ℕ → List ℕ → Option O
 in_force_fault g x n c =
     let l = layout_of g in
     fault_or_later (BadRecord n) (first_bad_record g 0 (Some x) (front l n c))
-    (fault_or_later (BadRecord (other n)) (first_bad_record g 0 (run (means g) (Some x) (front l n c)) (if chain l n c == 1 then front l (other n) c else [])) None)
+    (fault_or_later (BadRecord (other n))
+    (first_bad_record g 0 (run (means g) (Some x) (front l n c)) (if chain l n c == 1 then front l (other n) c else [])) None)
 
 -- A device with these bytes has a header of this geometry and all its parts, this is its named area, and whether its half is
 -- chained. The image there is sound, at most one half is chained, and the records of the named half lead from the state of

@@ -16,14 +16,12 @@ use crate::header::{OPEN, header_of};
 use crate::{FormatError, FormatFault};
 use affinity::Geometry;
 use disk::{Disk, DiskFault};
+use image::layout::VERSION;
 use oplog::layout::{
     CHAIN_AREA, ROOT_ZONE_AT, ROOT_ZONE_SIZE, device_len, half_at, image_at, image_size,
 };
 use oplog::store::{store, write};
 use std::alloc::{AllocError, Global};
-
-/// The version of an image that is written, with which it begins.
-const VERSION: u8 = 2;
 
 /// How many zeros are written at a time, at most.
 const ZEROS_AT_A_TIME: usize = 65536;

@@ -12,38 +12,10 @@ ghost use Rattle.plain.specs.State.{empty};
 
 use crate::OpenFault;
 use crate::reading::read;
-use affinity::Geometry;
 use disk::Disk;
-use oplog::layout::{IMAGE_HEAD_SIZE, RECORD_SIZE, VOLUME_PIECE_SIZE, image_at};
+use image::layout::{piece_count, piece_size};
+use oplog::layout::{IMAGE_HEAD_SIZE, image_at};
 use parcel::{Tree, read_piece, read_piece_1};
-
-/// How many pieces an image has.
-fn piece_count(g: &Geometry) -> usize
-    ensures count { result ≡ piece_count g.now }
-    ensures most { result ≤ 288 }
-{
-    usize::from(g.aggregates) * usize::from(g.volumes) * (1 + usize::from(g.stripes))
-}
-
-/// The size of the largest piece of an image, which is one of a stripe.
-pub(crate) fn largest_piece(g: &Geometry) -> usize
-    ensures size { result ≡ g.now.quota * 520 }
-    ensures some { 0 < result }
-{
-    usize::from(g.quota) * RECORD_SIZE
-}
-
-/// The size of piece `n`.
-fn piece_size(g: &Geometry, n: usize) -> usize
-    ensures size { result ≡ piece_size g.now n }
-    ensures most { result ≤ g.now.quota * 520 }
-{
-    if n % (1 + usize::from(g.stripes)) == 0 {
-        VOLUME_PIECE_SIZE
-    } else {
-        largest_piece(g)
-    }
-}
 
 /// Takes in bytes as piece `n` of an image of this version. `BadPiece` exactly where they are none of a state that has
 /// what the tree has.

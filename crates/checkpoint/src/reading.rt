@@ -11,6 +11,7 @@ ghost use Rattle.oplog.specs.Layout.{device_size, image, layout_of, part_bytes, 
 use crate::OpenFault;
 use affinity::Geometry;
 use disk::Disk;
+use image::layout::{FIRST_VERSION, VERSION, head_of};
 use oplog::layout::{IMAGE_HEAD_SIZE, half_at, image_at};
 
 /// Fills `out` with bytes of the device, from `at` on.
@@ -48,19 +49,10 @@ pub(crate) fn is_chained<D: Disk>(
     Ok(byte[0] == 1)
 }
 
-/// What an image of this version begins with.
-fn head_of(version: u8) -> [u8; IMAGE_HEAD_SIZE]
-    ensures { result ≡ image_head version }
-{
-    let mut head = [0u8; IMAGE_HEAD_SIZE];
-    head[0] = version;
-    head
-}
-
 fn is_version(version: u8) -> bool
     ensures { result ≡ is_version version }
 {
-    version == 1 || version == 2
+    version == FIRST_VERSION || version == VERSION
 }
 
 /// Whether an image that begins so has a head: a version and zeros.

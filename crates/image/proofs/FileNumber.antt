@@ -9,7 +9,7 @@ use Rattle.std.proofs.Math.Nat.{pow-succ', mod-eq_of_lt}
 use Rattle.message.specs.Replies.{has_file}
 use Rattle.plain.specs.State.{sum_below}
 
-sum_bits : (n m : ℕ) → sum_below n (λ f. if has_file m f then 2 ^ f else 0) ≡ m % 2 ^ n
+pub sum_bits : (n m : ℕ) → sum_below n (λ f. if has_file m f then 2 ^ f else 0) ≡ m % 2 ^ n
 sum_bits zero m = omega arith
 sum_bits (suc n) m =
     let before = sum_bits n m in

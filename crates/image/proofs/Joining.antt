@@ -1,9 +1,11 @@
 -- An image is as long as all its pieces, and bytes that have its head and each of its pieces are the image.
-use Rattle.std.proofs.Common.{◌≡◌, ℕ, zero, suc, ◌+◌, ◌*◌, ◌%◌, ◌<◌, ◌≤◌, List, ◌++◌, length, take, sym, ◌∙◌, ap, arith, append_assoc, append-nil}
+use Rattle.std.proofs.Common.{◌≡◌, ℕ, zero, suc, ◌+◌, ◌*◌, ◌%◌, ◌<◌, ◌≤◌, List, ◌++◌, length, take, ⊎_elim, sym, ◌∙◌, ap, arith, append_assoc, append-nil}
+use Rattle.std.proofs.lemmas.Bool.{cases_lt}
 use Rattle.std.proofs.lemmas.List.{take_all}
 use Rattle.std.proofs.Math.Seq.{take-add}
 use Rattle.std.proofs.lemmas.Nat.{mod-mul-add}
 use Rattle.affinity.specs.declared.geometry.Geometry.{Geometry}
+use Rattle.oplog.specs.Layout.{image_size}
 use Rattle.plain.specs.State.{State, sum_below}
 use Rattle.image.specs.Pieces.{pieces_of_volume, piece_count, piece_part_size, piece_size, piece_at, piece_of, joined_below}
 use Rattle.image.specs.Image.{image_head, image_of, piece_in}
@@ -41,6 +43,24 @@ parts_sum g (suc s) = let before = parts_sum g s in omega (arith, before)
 pub length-pieces : (g : Geometry) → piece_at g (piece_count g) ≡ 64 + g.aggregates * g.volumes * (64 + g.stripes * (g.quota * 520))
 length-pieces g =
     ap (λ (n : ℕ). 64 + n) (rounds (pieces_of_volume g) (piece_part_size g) (g.aggregates * g.volumes) ∙ ap (λ (n : ℕ). g.aggregates * g.volumes * n) (parts_sum g g.stripes))
+
+pub whole_image : (g : Geometry) → piece_at g (piece_count g) ≡ image_size g
+unfolding image_size
+whole_image g = length-pieces g
+
+sum_grows : (f : ℕ → ℕ) (n m : ℕ) → n ≤ m → sum_below n f ≤ sum_below m f
+sum_grows f n zero few = let same : n ≡ 0 = omega (arith, few) in omega (arith, ap (λ (k : ℕ). sum_below k f) same)
+sum_grows f n (suc m) few =
+    ⊎_elim
+    (λ (less : n < suc m). omega (arith, sum_grows f n m (omega (arith, less))))
+    (λ (beyond : suc m ≤ n).
+    let same : n ≡ suc m = omega (arith, few, beyond) in
+    omega (arith, ap (λ (k : ℕ). sum_below k f) same))
+    (cases_lt n (suc m))
+
+-- a piece lies inside
+pub piece_inside : (g : Geometry) (n : ℕ) → n < piece_count g → piece_at g n + piece_size g n ≤ image_size g
+piece_inside g n below = omega (arith, sum_grows (piece_size g) (suc n) (piece_count g) (omega (arith, below)), whole_image g)
 
 -- ---- bytes, by their pieces
 

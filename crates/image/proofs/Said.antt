@@ -35,7 +35,7 @@ if_is : {X : Type 0} (P : X → Type 0) (h : Bool) (o : Option X) → (h ≡ tru
 if_is P true o is = is refl
 if_is P false o is = tt
 
-label_is : (version : ℕ) (bytes : List ℕ) → AreSizedBytes 64 bytes → IfSome (label_in version bytes) (AreSizedBytes 32)
+pub label_is : (version : ℕ) (bytes : List ℕ) → AreSizedBytes 64 bytes → IfSome (label_in version bytes) (AreSizedBytes 32)
 label_is version bytes are = by (is_made_in bytes) (version == 2)
   where
     by : (made told : Bool) → IfSome (if made then Some (if told then bytes_at 16 32 bytes else no_label) else None) (AreSizedBytes 32)

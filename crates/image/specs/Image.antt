@@ -1,7 +1,9 @@
--- An image: a head with the version, then the pieces of a state. A state is written in one way, and bytes are an image exactly where they are the image of what they say.
+-- An image: a head with the version, then the pieces of a state. A state is written in one way, and bytes are an image exactly where they
+-- are the image of what they say.
 use Rattle.std.specs.Prelude.{◌≡◌, ℕ, zero, suc, ◌<◌, Bool, true, ◌&&◌, ◌||◌, ◌==◌, if◌then◌else◌, List, ◌∷◌, ◌++◌, get_or, replicate, Option, Some, None}
 use Rattle.std.specs.Str.{bytes_eq}
 use Rattle.affinity.specs.declared.geometry.Geometry.{Geometry}
+use Rattle.oplog.specs.Layout.{image_head_size}
 use Rattle.plain.specs.State.{State, empty}
 use Rattle.image.specs.Pieces.{piece_count, piece_at, piece_size, piece_of, joined_below, bytes_at, said_by, with_piece}
 
@@ -44,7 +46,7 @@ is_good g bytes n = let version = version_in bytes in bytes_eq (piece_in g bytes
 
 -- The head is a version and zeros.
 abbrev pub has_head : List ℕ → Bool
-has_head bytes = let version = version_in bytes in is_version version && bytes_eq (bytes_at 0 64 bytes) (image_head version)
+has_head bytes = let version = version_in bytes in is_version version && bytes_eq (bytes_at 0 image_head_size bytes) (image_head version)
 
 -- ---- piece by piece
 

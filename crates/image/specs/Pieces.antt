@@ -5,6 +5,7 @@ use Rattle.affinity.specs.declared.geometry.Geometry.{Geometry}
 use Rattle.byteorder.specs.Endian.{little_bytes, little_number}
 use Rattle.message.specs.Replies.{has_file}
 use Rattle.message.specs.declared.Block.{Block}
+use Rattle.oplog.specs.Layout.{entry_size, image_head_size, volume_piece_size}
 use Rattle.stripe.specs.Stripe.{BlockEntry, content_at}
 use Rattle.plain.specs.Serial.{file_bits, no_label}
 use Rattle.plain.specs.State.{State, VolumeKey, is_volume, is_file_of, is_block_of, sum_below, one_if}
@@ -36,20 +37,17 @@ volume_of g n = n / pieces_of_volume g % g.volumes
 abbrev pub part_of : Geometry → ℕ → ℕ
 part_of g n = n % pieces_of_volume g
 
--- how many bytes a volume's piece has, and an image's head too
-abbrev pub volume_piece_size : ℕ
-volume_piece_size = 64
-
+-- how many bytes a piece has: of a stripe, an entry for each block that it can hold
 abbrev pub piece_part_size : Geometry → ℕ → ℕ
-piece_part_size g zero = 64
-piece_part_size g (suc s) = g.quota * 520
+piece_part_size g zero = volume_piece_size
+piece_part_size g (suc s) = g.quota * entry_size
 
 abbrev pub piece_size : Geometry → ℕ → ℕ
 piece_size g n = piece_part_size g (part_of g n)
 
 -- where a piece begins in an image: behind the head and the pieces before
 abbrev pub piece_at : Geometry → ℕ → ℕ
-piece_at g n = 64 + sum_below n (piece_size g)
+piece_at g n = image_head_size + sum_below n (piece_size g)
 
 -- ---- how a state is spelled
 
@@ -64,7 +62,8 @@ entry_if _ f b _ = []
 
 -- the blocks of a stripe, by file and then by block; only a file that is there has blocks
 abbrev pub stripe_entries : Geometry → State → ℕ → ℕ → ℕ → List BlockEntry
-stripe_entries g x a v s = joined_below g.files (λ f. joined_below g.blocks (λ b. entry_if (x.files (a, v, f) && (group g f b == s)) f b (x.blocks (a, v, f, b))))
+stripe_entries g x a v s = joined_below g.files
+    (λ f. joined_below g.blocks (λ b. entry_if (x.files (a, v, f) && (group g f b == s)) f b (x.blocks (a, v, f, b))))
 
 abbrev pub stripe_piece : Geometry → State → ℕ → ℕ → ℕ → List ℕ
 stripe_piece g x a v s = stripe_bytes g.quota (stripe_entries g x a v s)
@@ -77,8 +76,9 @@ label_bytes version label = if version == 2 then unwrap_or label no_label else n
 abbrev pub volume_piece : ℕ → Geometry → State → ℕ → ℕ → List ℕ
 volume_piece version g x a v =
     if x.made (a, v)
-    then 1 ∷ one_if (x.sealed (a, v)) ∷ [] ++ replicate 6 0 ++ little_bytes 8 (file_bits g x a v) ++ label_bytes version (x.labels (a, v)) ++ replicate 16 0
-    else replicate 64 0
+    then 1 ∷ one_if (x.sealed (a, v)) ∷ [] ++ replicate 6 0 ++ little_bytes 8 (file_bits g x a v) ++ label_bytes version (x.labels (a, v))
+    ++ replicate 16 0
+    else replicate volume_piece_size 0
 
 abbrev pub part_piece : ℕ → Geometry → State → ℕ → ℕ → ℕ → List ℕ
 part_piece version g x a v zero = volume_piece version g x a v

@@ -9,6 +9,7 @@ ghost use Rattle.image.specs.Pieces.{aggregate_of, part_of, piece_at, piece_coun
 ghost use Rattle.image.specs.Touched.{may_change};
 ghost use Rattle.message.specs.Messages.{AreSizedBytes};
 ghost use Rattle.message.specs.declared.Msg.{Msg};
+ghost use Rattle.oplog.specs.Layout.{image_size};
 ghost use Rattle.plain.specs.Serial.{next_state};
 ghost use Rattle.plain.specs.State.{State, IsState};
 ghost use Rattle.stripe.specs.Stripe.{BlockEntry, IsAscending, content_at};
@@ -46,12 +47,12 @@ pub fn an_image_is_read_piece_by_piece()
         → is_some (read g bytes) ≡ true → (has_head bytes ≡ true) × AreGood g bytes (piece_count g) }
 {}
 
-/// Each piece of an image has its size and stands at its place, and the last one ends the image.
+/// Each piece of an image has its size and stands at its place, and the last one ends where the part of a device ends that an image is.
 pub fn an_image_is_cut_into_its_pieces()
     ensures pieces { (version : ℕ) (g : Geometry) (x : State) → IsState g x → (n : ℕ) → n < piece_count g
         → piece_in g (image_of version g x) n ≡ piece_of version g x n }
     ensures sizes { (version : ℕ) (g : Geometry) (x : State) → IsState g x → (n : ℕ) → length (piece_of version g x n) ≡ piece_size g n }
-    ensures end { (g : Geometry) → piece_at g (piece_count g) ≡ 64 + g.aggregates * g.volumes * (64 + g.stripes * (g.quota * 520)) }
+    ensures end { (g : Geometry) → piece_at g (piece_count g) ≡ image_size g }
 {}
 
 /// Entries that ascend and hold the blocks of a stripe are those that spell it.

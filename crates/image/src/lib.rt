@@ -2,10 +2,11 @@
 //! is read again.
 //!
 //! The definitions stand in `specs/`, and the laws that they obey are the contracts of the functions of
-//! `laws`, which do nothing. `touched` tells which pieces a message may change.
+//! `laws`, which do nothing. `layout` is the map of an image, and `touched` tells which pieces a message may change.
 #![tactic(auto)]
 
 pub mod laws;
+pub mod layout;
 mod touching;
 
 pub use touching::touched;

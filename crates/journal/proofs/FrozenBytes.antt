@@ -5,32 +5,14 @@ use Rattle.std.proofs.Math.Seq.{take-add}
 use Rattle.affinity.specs.declared.geometry.Geometry.{Geometry}
 use Rattle.image.specs.Image.{image_head, image_of}
 use Rattle.image.specs.Pieces.{joined_below, piece_at, piece_count, piece_of, piece_size}
-use Rattle.image.proofs.Joining.{length-pieces}
-use Rattle.journal.proofs.Places.{image_size_is}
+use Rattle.image.proofs.Joining.{piece_inside, whole_image}
 use Rattle.journal.specs.Stretches.{AreSpelled, stretch_in, stretch_of}
 use Rattle.oplog.specs.Layout.{image_size, slice}
 use Rattle.plain.specs.State.{State, sum_below}
 
--- where a piece begins, and that it lies inside
+-- where the next piece begins
 pub piece_after : (g : Geometry) (n : ℕ) → piece_at g (n + 1) ≡ piece_at g n + piece_size g n
 piece_after g n = let next : n + 1 ≡ suc n = omega arith in ap (piece_at g) next ∙ omega arith
-
-piece_rises : (g : Geometry) (n m : ℕ) → piece_at g n ≤ piece_at g (n + m)
-piece_rises g n zero = let same : n + 0 ≡ n = omega arith in subst (λ (k : ℕ). piece_at g n ≤ piece_at g k) (sym same) (omega arith)
-piece_rises g n (suc m) =
-    let rises = piece_rises g n m in
-    let next : n + suc m ≡ suc (n + m) = omega arith in
-    subst (λ (k : ℕ). piece_at g n ≤ piece_at g k) (sym next) (omega (arith, rises))
-
-pub piece_end : (g : Geometry) → piece_at g (piece_count g) ≡ image_size g
-piece_end g = length-pieces g ∙ sym (image_size_is g)
-
-pub piece_inside : (g : Geometry) (n : ℕ) → n < piece_count g → piece_at g n + piece_size g n ≤ image_size g
-piece_inside g n few =
-    let rises = piece_rises g (n + 1) (piece_count g - (n + 1)) in
-    let all : n + 1 + (piece_count g - (n + 1)) ≡ piece_count g = omega (arith, few) in
-    let rises' = subst (λ (k : ℕ). piece_at g (n + 1) ≤ piece_at g k) all rises in
-    omega (arith, rises', piece_after g n, piece_end g)
 
 -- the first pieces of a state, behind the head
 abbrev pub first_pieces : Geometry → State → ℕ → List ℕ
@@ -51,7 +33,7 @@ none_behind g x bytes head = head ∙ sym (append-nil (image_head 2))
 
 pub all_put : (g : Geometry) (x : State) (n at : ℕ) (bytes : List ℕ) → n ≡ piece_count g → at ≡ piece_at g n → length bytes ≡ image_size g → take at bytes ≡ first_pieces g x n → bytes ≡ image_of 2 g x
 all_put g x n at bytes all place size so_far =
-    let end : at ≡ image_size g = place ∙ ap (piece_at g) all ∙ piece_end g in
+    let end : at ≡ image_size g = place ∙ ap (piece_at g) all ∙ whole_image g in
     sym (take_all at bytes (omega (arith, end, size))) ∙ so_far ∙ ap (first_pieces g x) all
 
 pub put_long : (at k : ℕ) (bytes part : List ℕ) → at + k ≤ length bytes → length part ≡ k → length (take at bytes ++ (part ++ drop k (drop at bytes))) ≡ length bytes

@@ -3,7 +3,7 @@ use Rattle.std.proofs.Common.{◌≡◌, ℕ, zero, suc, ◌+◌, ◌*◌, ◌<�
 use Rattle.std.proofs.lemmas.Bool.{cases_lt}
 use Rattle.affinity.specs.declared.geometry.Geometry.{Geometry}
 use Rattle.image.specs.Pieces.{pieces_of_volume, piece_at, piece_count}
-use Rattle.image.proofs.Joining.{length-pieces}
+use Rattle.image.proofs.Joining.{whole_image}
 use Rattle.journal.specs.Stretches.{stretch_at, stretch_size}
 use Rattle.oplog.specs.Layout.{image_size}
 
@@ -34,12 +34,8 @@ some_piece g = some g.aggregates g.volumes g.aggregates_range.0 g.volumes_range.
     some (suc a) zero first second = absurd (omega (arith, second))
     some (suc a) (suc v) first second = omega arith
 
-pub image_size_is : (g : Geometry) → image_size g ≡ 64 + g.aggregates * g.volumes * (64 + g.stripes * (g.quota * 520))
-unfolding image_size
-image_size_is g = refl
-
 pub stretch_end : (g : Geometry) → stretch_at g (piece_count g) ≡ image_size g
-stretch_end g = is_place (piece_count g) (some_piece g) ∙ length-pieces g ∙ sym (image_size_is g)
+stretch_end g = is_place (piece_count g) (some_piece g) ∙ whole_image g
   where
     is_place : (n : ℕ) → 0 < n → stretch_at g n ≡ piece_at g n
     is_place zero some = absurd (omega (arith, some))

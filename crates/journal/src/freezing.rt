@@ -6,12 +6,9 @@ ghost use Rattle.journal.specs.Stretches.{AreSpelled};
 ghost use Rattle.oplog.specs.Layout.{image_size};
 ghost use Rattle.parcel.specs.Tree.{IsWholeTree, state_in};
 
-use crate::stretches::piece_size;
+use image::layout::{VERSION, head_of, piece_size};
 use oplog::layout::IMAGE_HEAD_SIZE;
 use parcel::{Tree, write_piece};
-
-/// The version of an image that is written, with which it begins.
-const VERSION: u8 = 2;
 
 /// Writes the head of an image.
 fn write_head(bytes: &mut [u8])
@@ -20,9 +17,7 @@ fn write_head(bytes: &mut [u8])
     ensures rest { drop 64 bytes.new ≡ drop 64 bytes.old }
     ensures size { length bytes.new ≡ length bytes.old }
 {
-    let mut head = [0u8; IMAGE_HEAD_SIZE];
-    head[0] = VERSION;
-    bytes[..IMAGE_HEAD_SIZE].copy_from_slice(&head);
+    bytes[..IMAGE_HEAD_SIZE].copy_from_slice(&head_of(VERSION));
 }
 
 /// Makes bytes the image of what a whole tree holds, of which all stretches but the marked ones are there already: those

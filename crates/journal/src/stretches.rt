@@ -8,28 +8,9 @@ ghost use Rattle.oplog.specs.Layout.{slice, layout_of, device_size, image, image
 
 use affinity::Geometry;
 use disk::{Disk, DiskFault};
-use oplog::layout::{IMAGE_HEAD_SIZE, RECORD_SIZE, VOLUME_PIECE_SIZE, image_at};
+use image::layout::piece_size;
+use oplog::layout::{IMAGE_HEAD_SIZE, image_at};
 use oplog::store::write;
-
-/// How many pieces an image has.
-pub(crate) fn piece_count(g: &Geometry) -> usize
-    ensures count { result ≡ piece_count g.now }
-    ensures some { 0 < result }
-{
-    usize::from(g.aggregates) * usize::from(g.volumes) * (usize::from(g.stripes) + 1)
-}
-
-/// How many bytes piece `n` of an image has.
-pub(crate) fn piece_size(g: &Geometry, n: usize) -> usize
-    ensures size { result ≡ piece_size g.now n }
-    ensures most { result ≤ 33280 }
-{
-    if n % (usize::from(g.stripes) + 1) == 0 {
-        VOLUME_PIECE_SIZE
-    } else {
-        usize::from(g.quota) * RECORD_SIZE
-    }
-}
 
 /// How many bytes stretch `n` of an image has.
 fn stretch_size(g: &Geometry, n: usize) -> usize

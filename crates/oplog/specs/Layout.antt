@@ -26,6 +26,10 @@ image_head_size = 64
 abbrev pub volume_piece_size : ℕ
 volume_piece_size = 64
 
+-- the entry of a block in the piece of a stripe
+abbrev pub entry_size : ℕ
+entry_size = 520
+
 -- the greatest number of records that are written at a time
 abbrev pub largest_batch : ℕ
 largest_batch = 64
@@ -47,7 +51,7 @@ half_size slots = chain_area + (slots + slots * record_size)
 
 -- a head, and for each volume a piece of its own and one for each stripe, with room for a quota of blocks
 unfoldable pub image_size : Geometry → ℕ
-image_size g = image_head_size + g.aggregates * g.volumes * (volume_piece_size + g.stripes * (g.quota * record_size))
+image_size g = image_head_size + g.aggregates * g.volumes * (volume_piece_size + g.stripes * (g.quota * entry_size))
 
 abbrev pub layout_of : Geometry → Layout
 layout_of g = record { slots = g.half; image = image_size g }

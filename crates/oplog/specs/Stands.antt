@@ -39,7 +39,8 @@ module _ {S : Type 0} (means : Meaning S) where
 
   -- The header and the length are as they should, and at most one chain byte is 1.
   abbrev pub is_laid_out : Layout → List ℕ → Bool
-  is_laid_out g c = means.is_header (part_bytes g header c) && nat_le (device_size g) (length c) && not ((chain g 0 c == 1) && (chain g 1 c == 1))
+  is_laid_out g c = means.is_header (part_bytes g header c) && nat_le (device_size g) (length c)
+      && not ((chain g 0 c == 1) && (chain g 1 c == 1))
 
   -- what the device would stand for, were area n the named one
   abbrev pub stands_as : Layout → ℕ → List ℕ → Option S

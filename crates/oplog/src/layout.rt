@@ -26,6 +26,9 @@ pub const IMAGE_HEAD_SIZE: usize = 64;
 /// The size of a volume's own piece in an image.
 pub const VOLUME_PIECE_SIZE: usize = 64;
 
+/// The size of a block's entry in the piece of a stripe.
+pub const ENTRY_SIZE: usize = 520;
+
 /// How many records are written at a time, at most.
 pub(crate) const BATCH: usize = 64;
 
@@ -47,7 +50,7 @@ pub fn image_size(g: &Geometry) -> usize
     ensures most { result ≤ 8521792 }
 {
     let volumes = usize::from(g.aggregates) * usize::from(g.volumes);
-    let stripes = usize::from(g.stripes) * (usize::from(g.quota) * RECORD_SIZE);
+    let stripes = usize::from(g.stripes) * (usize::from(g.quota) * ENTRY_SIZE);
     IMAGE_HEAD_SIZE + volumes * (VOLUME_PIECE_SIZE + stripes)
 }
 

@@ -1,10 +1,11 @@
 -- A row of children: what is known of one child is known of the row, at paths one number longer.
-use Rattle.std.proofs.Common.{◌≡◌, ℕ, zero, suc, ◌+◌, ◌<◌, Bool, true, false, List, [], ◌∷◌, length, take, drop, Option, refl, sym, ap, subst, ◌∙◌, ⊎_elim, arith}
+use Rattle.std.proofs.Common.{◌≡◌, ℕ, zero, suc, ◌+◌, ◌<◌, Bool, true, false, List, [], ◌∷◌, length, take, drop, Option, refl, sym, ap, subst, ◌∙◌, arith}
 use Rattle.std.specs.Prelude.{◌-◌, ◌&&◌, ◌==◌, None, is_some, IfSome, slice_index_or, slice_set, if◌then◌else◌}
-use Rattle.std.proofs.lemmas.Bool.{and_parts, and_from, or_cases, or_left, or_right, eqb-true, eq-eqb, true≢false}
+use Rattle.std.proofs.lemmas.Bool.{eqb-true, eq-eqb, true≢false}
 use Rattle.std.proofs.lemmas.List.{get_or-set_same, get_or-set_other}
 use Rattle.std.proofs.Math.Seq.{take-length}
 use Rattle.affinity.specs.Path.{Path, begins, are_related}
+use Rattle.affinity.proofs.Paths.{related_below, related_first, related_rest}
 use Rattle.parcel.specs.Fits.{EachFits}
 use Rattle.parcel.specs.Levels.{IsRowPath, Refuses, TakesParcels, Puts, HandsBack}
 use Rattle.parcel.specs.Nodes.{Node, Nodes, in_child, in_row, in_parcels, put_at, TakesOut, PutsBack, SameNodes}
@@ -28,26 +29,6 @@ pub fits_in_place : {X : Type 0} (Fits : ℕ → X → Type 0) (row : List (Opti
 fits_in_place {X} Fits row h k place at =
     let same : 0 + k ≡ k = omega arith in
     subst (λ (o : Option X). IfSome o (Fits k)) at (subst (λ (n : ℕ). IfSome (slice_index_or row k None) (Fits n)) same (each_at Fits 0 k row h))
-
--- ---- related paths
-
-pub related_below : (i : ℕ) (p q : Path) → are_related p q ≡ true → are_related (i ∷ p) (i ∷ q) ≡ true
-related_below i p q h = ⊎_elim
-    (λ a. or_left _ _ (and_from _ _ (eq-eqb i i refl) a))
-    (λ b. or_right _ _ (and_from _ _ (eq-eqb i i refl) b))
-    (or_cases (begins p q) (begins q p) h)
-
-pub related_first : (i j : ℕ) (p q : Path) → are_related (i ∷ p) (j ∷ q) ≡ true → i ≡ j
-related_first i j p q h = ⊎_elim
-    (λ a. eqb-true i j (and_parts (i == j) (begins p q) a).0)
-    (λ b. sym (eqb-true j i (and_parts (j == i) (begins q p) b).0))
-    (or_cases ((i == j) && begins p q) ((j == i) && begins q p) h)
-
-pub related_rest : (i j : ℕ) (p q : Path) → are_related (i ∷ p) (j ∷ q) ≡ true → are_related p q ≡ true
-related_rest i j p q h = ⊎_elim
-    (λ a. or_left _ _ (and_parts (i == j) (begins p q) a).1)
-    (λ b. or_right _ _ (and_parts (j == i) (begins q p) b).1)
-    (or_cases ((i == j) && begins p q) ((j == i) && begins q p) h)
 
 -- ---- a row after a write
 

@@ -1,39 +1,13 @@
--- The files of a volume as a number, back from the number whose bits they are.
+-- The files of a volume as the bits of a number: one file more, one less.
 use Rattle.std.proofs.Common.{◌≡◌, ℕ, zero, suc, ◌+◌, ◌*◌, ◌%◌, ◌^◌, ◌<◌, ◌≤◌, ap, sym, ◌∙◌, arith, ⊎_elim, bit_and, bit_or, w64}
 use Rattle.std.specs.Prelude.{◌==◌, ◌&&◌, ◌||◌, not, if◌then◌else◌}
-use Rattle.std.specs.Int.{bit_at, bit_not}
+use Rattle.std.specs.Int.{bit_not}
 use Rattle.std.proofs.lemmas.Bool.{eq-eqb, ne_eqb, cases_eq, cases_lt}
-use Rattle.std.proofs.lemmas.Nat.{mod-pow-add, one_shl, or_lt, and_le_l}
-use Rattle.std.proofs.Math.Nat.{mod-eq_of_lt}
-use Rattle.std.proofs.lemmas.Nat.Bits.{bit_at-lt, bit_at_above, bit_at_set_same, bit_at_set_other, bit_at_clear_same, bit_at_clear_other}
+use Rattle.std.proofs.lemmas.Nat.{one_shl, or_lt, and_le_l}
+use Rattle.std.proofs.lemmas.Nat.Bits.{bit_at_above, bit_at_set_same, bit_at_set_other, bit_at_clear_same, bit_at_clear_other}
 use Rattle.std.proofs.Math.Pow.{pow-lt}
 use Rattle.std.proofs.Math.Nat.{pow-le-pow_right}
-use Rattle.plain.specs.State.{sum_below}
 use Rattle.parcel.specs.Shown.{has_file}
-
-pub sum_bits : (n m : ℕ) → sum_below n (λ f. if has_file m f then 2 ^ f else 0) ≡ m % 2 ^ n
-sum_bits zero m = omega arith
-sum_bits (suc n) m =
-    let before = sum_bits n m in
-    let high : m % 2 ^ (1 + n) ≡ bit_at m n * 2 ^ n + m % 2 ^ n = mod-pow-add m 1 n in
-    let same : 1 + n ≡ suc n = omega arith in
-    ⊎_elim
-    (λ e.
-    let one : (if has_file m n then 2 ^ n else 0) ≡ 2 ^ n = ap (λ b. if b then 2 ^ n else 0) (eq-eqb (bit_at m n) 1 e) in
-    let times : bit_at m n * 2 ^ n ≡ 1 * 2 ^ n = ap (λ b. b * 2 ^ n) e in
-    let goal : sum_below n (λ f. if has_file m f then 2 ^ f else 0) + (if has_file m n then 2 ^ n else 0) ≡ m % 2 ^ (1 + n) = omega (arith, before, high, one, times) in
-    goal ∙ ap (λ k. m % 2 ^ k) same)
-    (λ ne.
-    let none : (if has_file m n then 2 ^ n else 0) ≡ 0 = ap (λ b. if b then 2 ^ n else 0) (ne_eqb (bit_at m n) 1 ne) in
-    let zero' : bit_at m n ≡ 0 = omega (arith, ne, bit_at-lt m n) in
-    let times : bit_at m n * 2 ^ n ≡ 0 * 2 ^ n = ap (λ b. b * 2 ^ n) zero' in
-    let goal : sum_below n (λ f. if has_file m f then 2 ^ f else 0) + (if has_file m n then 2 ^ n else 0) ≡ m % 2 ^ (1 + n) = omega (arith, before, high, none, times) in
-    goal ∙ ap (λ k. m % 2 ^ k) same)
-    (cases_eq (bit_at m n) 1)
-
--- a number below 2 ^ n is the sum of its bits
-pub bits_back : (n m : ℕ) → m < 2 ^ n → sum_below n (λ f. if has_file m f then 2 ^ f else 0) ≡ m
-bits_back n m below = sum_bits n m ∙ mod-eq_of_lt below
 
 -- ---- one file more, one less
 

@@ -13,7 +13,8 @@ use Rattle.parcel.specs.declared.parts.Logical.{Logical}
 use Rattle.parcel.specs.declared.parts.Vol.{Vol}
 use Rattle.parcel.specs.declared.parts.Parcels.{Parcels}
 use Rattle.parcel.specs.declared.parts.Parcels.TheVariants as parcels
-use Rattle.parcel.proofs.ChildRows.{split, rest_of, related_below}
+use Rattle.affinity.proofs.Paths.{related_below}
+use Rattle.parcel.proofs.ChildRows.{split, rest_of}
 
 -- ---- answers under a test of the result
 

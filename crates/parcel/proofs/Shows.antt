@@ -22,7 +22,7 @@ use Rattle.parcel.specs.declared.parts.Aggr.{Aggr}
 use Rattle.parcel.specs.declared.parts.Parcels.{Parcels}
 use Rattle.parcel.specs.declared.parts.Parcels.TheVariants as parcels
 use Rattle.parcel.specs.declared.parts.Standing.{Standing}
-use Rattle.parcel.proofs.ChildRows.{related_first, related_rest}
+use Rattle.affinity.proofs.Paths.{related_first, related_rest}
 
 -- The facts of a volume are those of the nodes from it on, at the homes that the test picks.
 pub record HoldsAt (g : Geometry) (R : Path → Bool) (h : Facts) (n : Nodes) : Type 0 where

@@ -22,7 +22,8 @@ use Rattle.parcel.specs.Shown.{volume_facts, files_in, blocks_below}
 use Rattle.parcel.specs.declared.parts.Logical.{Logical}
 use Rattle.parcel.specs.declared.parts.Vol.{Vol}
 use Rattle.parcel.specs.declared.pieces.volumes.VolumePiece.{VolumePiece}
-use Rattle.parcel.proofs.FileBits.{sum_bits, bits_back}
+use Rattle.image.proofs.FileNumber.{sum_bits, bits_back}
+use Rattle.image.proofs.Said.{label_is}
 use Rattle.parcel.proofs.Shows.{has_none}
 
 -- ---- what is spelled
@@ -147,17 +148,6 @@ module _ (version : ℕ) (g : Geometry) (bytes : List ℕ) (good : bytes ≡ spe
 
   -- ---- the state that they lead to
 
-  label_said : AreSizedBytes 64 bytes → IfSome (said_label_in version bytes) (AreSizedBytes 32)
-  label_said are = by (is_made_in bytes) (version == 2)
-    where
-      by : (made told : Bool) → IfSome (if made then Some (if told then bytes_at 16 32 bytes else no_label) else None) (AreSizedBytes 32)
-      by true true = (
-        omega (arith, are.0, length-drop 16 bytes, length-take 32 (drop 16 bytes)),
-        all-take (λ b. b < 256) 32 (drop 16 bytes) (all-drop (λ b. b < 256) 16 bytes are.1),
-      )
-      by true false = (refl, all-zeros 32)
-      by false told = tt
-
   module _ (x : State) (is : IsState g x) (a v : ℕ) (aggregate : a < g.aggregates) (volume : v < g.volumes) (empty : (f b : ℕ) → x.blocks (a, v, f, b) ≡ None) (are : AreSizedBytes 64 bytes) where
     abbrev taken : State
     taken = with_volume_piece version x a v bytes
@@ -213,7 +203,7 @@ module _ (version : ℕ) (g : Geometry) (bytes : List ℕ) (good : bytes ≡ spe
     label_bounds : (k : VolumeKey) → IfSome (taken.labels k) (AreSizedBytes 32)
     label_bounds k =
         elim (is_volume a v k) as (λ (t : Bool). IfSome (if t then said_label_in version bytes else x.labels k) (AreSizedBytes 32)) [
-          | true ↦ label_said are
+          | true ↦ label_is version bytes are
           | false ↦ is.label_content k
         ]
 

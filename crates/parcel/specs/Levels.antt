@@ -94,7 +94,8 @@ pub record HandsBack (IsKind : Type 0) (p : Path) (parcels returned : Parcels) (
 -- ---- the start: nothing is made and nothing is out
 
 abbrev pub IsNewLogical : Geometry → Logical → Type 0
-IsNewLogical g l = (l.files ≡ 0) × (length l.stripes.items ≡ g.stripes) × AllByRecursion (IsWholeChild (λ (p : StripePart). p ≡ record { quota = g.quota; entries = [] })) l.stripes.items
+IsNewLogical g l = (l.files ≡ 0) × (length l.stripes.items ≡ g.stripes)
+    × AllByRecursion (IsWholeChild (λ (p : StripePart). p ≡ record { quota = g.quota; entries = [] })) l.stripes.items
 
 pub record IsNewVolume (g : Geometry) (w : Vol) : Type 0 where
   pub made : w.made ≡ false

@@ -31,11 +31,21 @@ said_label version bytes = if version == 2 then bytes_at 16 32 bytes else no_lab
 -- what bytes say as a volume's piece, of the files that the geometry has
 abbrev pub said_piece : ℕ → Geometry → List ℕ → VolumePiece
 said_piece version g bytes =
-    record { made = is_made_in bytes; sealed = is_sealed_in bytes; files = little_number 8 (bytes_at 8 8 bytes) % 2 ^ g.files; label = said_label version bytes }
+    record {
+      made = is_made_in bytes;
+      sealed = is_sealed_in bytes;
+      files = little_number 8 (bytes_at 8 8 bytes) % 2 ^ g.files;
+      label = said_label version bytes;
+    }
 
 -- the piece of a volume of the tree
 abbrev pub volume_piece_of : Vol → VolumePiece
-volume_piece_of w = record { made = w.made; sealed = w.sealed; files = files_bits (in_volume w (0 ∷ [])); label = unwrap_or (shown_label w.label) no_label }
+volume_piece_of w = record {
+  made = w.made;
+  sealed = w.sealed;
+  files = files_bits (in_volume w (0 ∷ []));
+  label = unwrap_or (shown_label w.label) no_label;
+}
 
 abbrev pub with_files : ℕ → Option Logical → Option Logical
 with_files files None = None
@@ -44,7 +54,12 @@ with_files files (Some l) = Some (record l { files = files })
 -- the volume with what a piece says
 abbrev pub volume_with : VolumePiece → Vol → Vol
 volume_with p w =
-    record { made = p.made; sealed = p.sealed; logical = with_files p.files w.logical; label = Some (record { bytes = if p.made then Some p.label else None }) }
+    record {
+      made = p.made;
+      sealed = p.sealed;
+      logical = with_files p.files w.logical;
+      label = Some (record { bytes = if p.made then Some p.label else None });
+    }
 
 -- A volume of a state has these facts.
 pub record HasFacts (x : State) (a v : ℕ) (h : Facts) : Type 0 where
@@ -57,18 +72,27 @@ pub record HasFacts (x : State) (a v : ℕ) (h : Facts) : Type 0 where
 -- what the volume has once these bytes were taken in as its piece, or as that of one of its stripes
 abbrev pub facts_with : ℕ → Geometry → Facts → ℕ → List ℕ → Facts
 facts_with version g h zero bytes =
-    record { made = is_made_in bytes; sealed = is_sealed_in bytes; files = has_file_in bytes; blocks = h.blocks; label = said_label_in version bytes }
+    record {
+      made = is_made_in bytes;
+      sealed = is_sealed_in bytes;
+      files = has_file_in bytes;
+      blocks = h.blocks;
+      label = said_label_in version bytes;
+    }
 facts_with version g h (suc s) bytes = record h { blocks = λ f b. if group g f b == s then block_in g bytes f b else h.blocks f b }
 
--- The bytes were read as this part of a volume: good where they spell what they say, in each state in which the volume has what it had, and then it has what they say.
+-- The bytes were read as this part of a volume: good where they spell what they say, in each state in which the volume has what it had, and
+-- then it has what they say.
 pub record IsPartRead (version : ℕ) (g : Geometry) (part : ℕ) (bytes : List ℕ) (good : Bool) (old new : Vol) : Type 0 where
   pub fits : FitsVolume g new
   pub whole : IsWholeVolume new
-  pub spelled : (x : State) (a v : ℕ) → IsState g x → HasFacts x a v (volume_facts g old) → IsTrue good ↔ (bytes ≡ part_piece version g (with_part version g x a v part bytes) a v part)
+  pub spelled : (x : State) (a v : ℕ) → IsState g x → HasFacts x a v (volume_facts g old)
+      → IsTrue good ↔ (bytes ≡ part_piece version g (with_part version g x a v part bytes) a v part)
   pub facts : IsTrue good → volume_facts g new ≡ facts_with version g (volume_facts g old) part bytes
 
 -- They were read at a path, at which this volume was: the nodes there are those of the volume now, and the rest stays.
-pub record IsRead (version : ℕ) (g : Geometry) (part : ℕ) (bytes : List ℕ) (good : Bool) (p : Path) (found : Option Vol) (old new : Nodes) : Type 0 where
+pub record IsRead (version : ℕ) (g : Geometry) (part : ℕ) (bytes : List ℕ) (good : Bool) (p : Path) (found : Option Vol)
+    (old new : Nodes) : Type 0 where
   pub was : Vol
   pub now : Vol
   pub there : found ≡ Some was

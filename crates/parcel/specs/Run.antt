@@ -31,10 +31,12 @@ pub record IsSerialStep (g : Geometry) (x : State) (m : Msg) (told : Reply) (y :
 abbrev pub Shows : Geometry → Path → Standing → Parcels → State → Type 0
 Shows g p t parcels x = AgreeOn g (are_related p) (shown_state g p t parcels) x
 
--- The job was run: in the state that its parcels and standing show, the reply is that of the serial step, and the parcels show the state after it.
+-- The job was run: in the state that its parcels and standing show, the reply is that of the serial step, and the parcels show the state
+-- after it.
 pub record IsJobRun (job : JobView) (done : Done) : Type 0 where
   pub ticket : done.ticket ≡ job.ticket
   pub message : done.message ≡ job.message
   pub suits : Suits job.geometry job.message done.parcels
   pub step : let p = place job.geometry job.message in
-      IsSerialStep job.geometry (shown_state job.geometry p job.standing job.parcels) job.message done.reply (shown_state job.geometry p job.standing done.parcels)
+      IsSerialStep job.geometry (shown_state job.geometry p job.standing job.parcels) job.message done.reply
+      (shown_state job.geometry p job.standing done.parcels)

@@ -50,7 +50,13 @@ shown_label None = None
 shown_label (Some l) = l.bytes
 
 abbrev pub volume_facts : Geometry → Vol → Facts
-volume_facts g w = record { made = w.made; sealed = w.sealed; files = files_in w.logical; blocks = blocks_below g w.logical; label = shown_label w.label }
+volume_facts g w = record {
+  made = w.made;
+  sealed = w.sealed;
+  files = files_in w.logical;
+  blocks = blocks_below g w.logical;
+  label = shown_label w.label;
+}
 
 abbrev pub by_child : {X : Type 0} → (X → Facts) → Option X → Facts
 by_child facts None = nothing

@@ -27,7 +27,11 @@ totals_of g h = record { volumes = one_if h.made; files = file_total g h.files; 
 
 -- the sums over the numbers below n
 abbrev pub sum_totals : ℕ → (ℕ → Totals) → Totals
-sum_totals n each = record { volumes = sum_below n (λ i. (each i).volumes); files = sum_below n (λ i. (each i).files); blocks = sum_below n (λ i. (each i).blocks) }
+sum_totals n each = record {
+  volumes = sum_below n (λ i. (each i).volumes);
+  files = sum_below n (λ i. (each i).files);
+  blocks = sum_below n (λ i. (each i).blocks);
+}
 
 -- the volume made, with a label of zeros
 abbrev pub with_made : Facts → Facts

@@ -53,9 +53,14 @@ abbrev pub IsOut : Path → Nodes → Type 0
 IsOut [] n = n [] ≡ None
 IsOut (x ∷ p) n = (n (x ∷ p) ≡ None) × (is_some (n (path_above (x ∷ p))) ≡ true)
 
--- what a message at a path sees of the nodes above: a stripe the marks and the files of its volume, Volume Logical and Volume Label the marks
+-- what a message at a path sees of the nodes above: a stripe the marks and the files of its volume, Volume Logical and Volume Label the
+-- marks
 abbrev pub standing_at : Path → Nodes → Standing
-standing_at (a ∷ v ∷ zero ∷ s ∷ _) n = record { made = marks_made (n (volume a v)); sealed = marks_sealed (n (volume a v)); files = files_bits (n (logical a v)) }
+standing_at (a ∷ v ∷ zero ∷ s ∷ _) n = record {
+  made = marks_made (n (volume a v));
+  sealed = marks_sealed (n (volume a v));
+  files = files_bits (n (logical a v));
+}
 standing_at (a ∷ v ∷ c ∷ []) n = record { made = marks_made (n (volume a v)); sealed = marks_sealed (n (volume a v)); files = 0 }
 standing_at _ n = record { made = false; sealed = false; files = 0 }
 

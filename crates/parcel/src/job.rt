@@ -23,7 +23,13 @@ impl Model for Job {
 
     ghost Value = { JobView };
 
-    ghost view = { λ j. record { geometry = j.geometry; ticket = j.ticket; message = j.message; standing = j.standing; parcels = j.parcels } };
+    ghost view = { λ j. record {
+      geometry = j.geometry;
+      ticket = j.ticket;
+      message = j.message;
+      standing = j.standing;
+      parcels = j.parcels;
+    } };
 
     ghost invariant = { λ j. Suits j.geometry j.message j.parcels };
 }

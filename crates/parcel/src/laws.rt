@@ -30,13 +30,16 @@ pub fn run_is_serial()
 
 /// What is taken out or put back at a path leaves the state everywhere outside that path.
 pub fn tree_agrees_elsewhere()
-    ensures taken_leaves { (g : Geometry) (p : Path) (old new : Nodes) → TakesOut p old new → AgreeOn g (outside p) (tree_state g new) (tree_state g old) }
-    ensures put_leaves { (g : Geometry) (p : Path) (part old new : Nodes) → PutsBack p part old new → AgreeOn g (outside p) (tree_state g new) (tree_state g old) }
+    ensures taken_leaves { (g : Geometry) (p : Path) (old new : Nodes) → TakesOut p old new
+        → AgreeOn g (outside p) (tree_state g new) (tree_state g old) }
+    ensures put_leaves { (g : Geometry) (p : Path) (part old new : Nodes) → PutsBack p part old new
+        → AgreeOn g (outside p) (tree_state g new) (tree_state g old) }
 {}
 
 /// Where parcels that fit are put back, nothing at their path or below it is out.
 pub fn restored_parcels_are_in()
-    ensures { (g : Geometry) (p : Path) (l : Parcels) (old new : Nodes) → PutsBack p (in_parcels l) old new → Fits g p l → (q : Path) → IsPath g (p ++ q) → is_some (new (p ++ q)) ≡ true }
+    ensures { (g : Geometry) (p : Path) (l : Parcels) (old new : Nodes) → PutsBack p (in_parcels l) old new → Fits g p l → (q : Path)
+        → IsPath g (p ++ q) → is_some (new (p ++ q)) ≡ true }
 {}
 
 /// A message that is lent what it needs from a tree, runs on it and gives it back makes a serial

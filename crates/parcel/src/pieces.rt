@@ -18,13 +18,11 @@ mod volumes;
 use crate::parts::volume_at;
 use crate::{Aggr, Root, Tree, Vol};
 use affinity::Geometry;
+use image::layout::{FIRST_VERSION, VERSION};
 use std::error::Error;
 use std::fmt;
 use stripes::{read_stripe, write_stripe};
-use volumes::{WITH_LABELS, read_volume, write_volume};
-
-/// The version of an image in which no volume has its label.
-const WITHOUT_LABELS: u8 = 1;
+use volumes::{read_volume, write_volume};
 
 /// Bytes that are not the piece of what they say.
 #[derive(Clone, Copy, Debug, PartialEq, Eq)]
@@ -118,7 +116,7 @@ pub fn read_piece(t: &mut Tree, n: usize, bytes: &[u8]) -> Result<(), BadPiece>
     ensures whole { OnOk result (IsWholeTree t.new) }
     ensures geometry { t.new.geometry ≡ t.old.geometry }
 {
-    read_version(t, WITH_LABELS, n, bytes)
+    read_version(t, VERSION, n, bytes)
 }
 
 /// The same for an image of version 1, in which zeros stand where the labels would: each volume that
@@ -136,7 +134,7 @@ pub fn read_piece_1(t: &mut Tree, n: usize, bytes: &[u8]) -> Result<(), BadPiece
     ensures whole { OnOk result (IsWholeTree t.new) }
     ensures geometry { t.new.geometry ≡ t.old.geometry }
 {
-    read_version(t, WITHOUT_LABELS, n, bytes)
+    read_version(t, FIRST_VERSION, n, bytes)
 }
 
 // Takes in bytes as piece `n` of an image of a version.

@@ -51,7 +51,8 @@ pub fn run(job: Job) -> Done
 #[inline(never)]
 fn run_on(parcels: &mut Parcels, g: &Geometry, standing: Standing, message: &Msg) -> Reply
     requires { Suits g.now message.now parcels.old }
-    ensures step { IsSerialStep g.now (shown_state g.now (place g.now message.now) standing parcels.old) message.now result (shown_state g.now (place g.now message.now) standing parcels.new) }
+    ensures step { IsSerialStep g.now (shown_state g.now (place g.now message.now) standing parcels.old) message.now result
+        (shown_state g.now (place g.now message.now) standing parcels.new) }
     ensures suits { Suits g.now message.now parcels.new }
 {
     match parcels {

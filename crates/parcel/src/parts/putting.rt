@@ -15,7 +15,8 @@ fn put_stripe(place: &mut Option<StripeParcel>, p: Parcels) -> Result<(), Parcel
     ensures ok { OnOk result (Puts [] p (in_child in_stripe place.old) (in_child in_stripe place.new)) }
     ensures kind { OnOk result ((a v s : ℕ) → IsKindOf (a ∷ v ∷ zero ∷ s ∷ []) p) }
     ensures fits { OnOk result ((g : Geometry) (a v s : ℕ) → Fits g (a ∷ v ∷ zero ∷ s ∷ []) p → IfSome place.new (FitsStripe g s)) }
-    ensures err { IfErr result (λ back. (a v s : ℕ) → HandsBack (IsKindOf (a ∷ v ∷ zero ∷ s ∷ []) p) [] p back (in_child in_stripe place.old) (in_child in_stripe place.new)) }
+    ensures err { IfErr result (λ back. (a v s : ℕ)
+        → HandsBack (IsKindOf (a ∷ v ∷ zero ∷ s ∷ []) p) [] p back (in_child in_stripe place.old) (in_child in_stripe place.new)) }
     ensures stays { IfErr result (λ back. place.new ≡ place.old) }
 {
     match p {
@@ -30,7 +31,8 @@ fn put_stripe(place: &mut Option<StripeParcel>, p: Parcels) -> Result<(), Parcel
 fn put_label(place: &mut Option<Label>, p: Parcels) -> Result<(), Parcels>
     ensures ok { OnOk result (Puts [] p (in_child in_label place.old) (in_child in_label place.new)) }
     ensures kind { OnOk result ((a v : ℕ) → IsKindOf (a ∷ v ∷ suc zero ∷ []) p) }
-    ensures err { IfErr result (λ back. (a v : ℕ) → HandsBack (IsKindOf (a ∷ v ∷ suc zero ∷ []) p) [] p back (in_child in_label place.old) (in_child in_label place.new)) }
+    ensures err { IfErr result (λ back. (a v : ℕ)
+        → HandsBack (IsKindOf (a ∷ v ∷ suc zero ∷ []) p) [] p back (in_child in_label place.old) (in_child in_label place.new)) }
 {
     match p {
         Parcels::Label(label) if place.is_none() => {
@@ -52,7 +54,9 @@ fn put_logical(
     requires parcels { (a v : ℕ) → IsKindOf (a ∷ v ∷ zero ∷ path.now) p → Fits g.now (a ∷ v ∷ zero ∷ path.now) p }
     ensures ok { OnOk result (Puts path.now p (in_child in_logical place.old) (in_child in_logical place.new)) }
     ensures kind { OnOk result ((a v : ℕ) → IsKindOf (a ∷ v ∷ zero ∷ path.now) p) }
-    ensures err { IfErr result (λ back. (a v : ℕ) → HandsBack (IsKindOf (a ∷ v ∷ zero ∷ path.now) p) path.now p back (in_child in_logical place.old) (in_child in_logical place.new)) }
+    ensures err { IfErr result (λ back. (a v : ℕ)
+        → HandsBack (IsKindOf (a ∷ v ∷ zero ∷ path.now) p) path.now p back (in_child in_logical place.old)
+        (in_child in_logical place.new)) }
     ensures fits { IfSome place.new (FitsLogical g.now) }
 {
     match path {
@@ -72,7 +76,8 @@ fn put_logical_itself(place: &mut Option<Logical>, g: &Geometry, p: Parcels) -> 
     requires parcels { (a v : ℕ) → IsKindOf (a ∷ v ∷ zero ∷ []) p → Fits g.now (a ∷ v ∷ zero ∷ []) p }
     ensures ok { OnOk result (Puts [] p (in_child in_logical place.old) (in_child in_logical place.new)) }
     ensures kind { OnOk result ((a v : ℕ) → IsKindOf (a ∷ v ∷ zero ∷ []) p) }
-    ensures err { IfErr result (λ back. (a v : ℕ) → HandsBack (IsKindOf (a ∷ v ∷ zero ∷ []) p) [] p back (in_child in_logical place.old) (in_child in_logical place.new)) }
+    ensures err { IfErr result (λ back. (a v : ℕ)
+        → HandsBack (IsKindOf (a ∷ v ∷ zero ∷ []) p) [] p back (in_child in_logical place.old) (in_child in_logical place.new)) }
     ensures fits { IfSome place.new (FitsLogical g.now) }
 {
     match p {
@@ -95,7 +100,8 @@ fn put_volume(
     requires parcels { (a v : ℕ) → IsKindOf (a ∷ v ∷ path.now) p → Fits g.now (a ∷ v ∷ path.now) p }
     ensures ok { OnOk result (Puts path.now p (in_child in_volume place.old) (in_child in_volume place.new)) }
     ensures kind { OnOk result ((a v : ℕ) → IsKindOf (a ∷ v ∷ path.now) p) }
-    ensures err { IfErr result (λ back. (a v : ℕ) → HandsBack (IsKindOf (a ∷ v ∷ path.now) p) path.now p back (in_child in_volume place.old) (in_child in_volume place.new)) }
+    ensures err { IfErr result (λ back. (a v : ℕ)
+        → HandsBack (IsKindOf (a ∷ v ∷ path.now) p) path.now p back (in_child in_volume place.old) (in_child in_volume place.new)) }
     ensures fits { IfSome place.new (FitsVolume g.now) }
 {
     match path {
@@ -121,7 +127,8 @@ fn put_volume_itself(place: &mut Option<Vol>, g: &Geometry, p: Parcels) -> Resul
     requires parcels { (a v : ℕ) → IsKindOf (a ∷ v ∷ []) p → Fits g.now (a ∷ v ∷ []) p }
     ensures ok { OnOk result (Puts [] p (in_child in_volume place.old) (in_child in_volume place.new)) }
     ensures kind { OnOk result ((a v : ℕ) → IsKindOf (a ∷ v ∷ []) p) }
-    ensures err { IfErr result (λ back. (a v : ℕ) → HandsBack (IsKindOf (a ∷ v ∷ []) p) [] p back (in_child in_volume place.old) (in_child in_volume place.new)) }
+    ensures err { IfErr result (λ back. (a v : ℕ)
+        → HandsBack (IsKindOf (a ∷ v ∷ []) p) [] p back (in_child in_volume place.old) (in_child in_volume place.new)) }
     ensures fits { IfSome place.new (FitsVolume g.now) }
 {
     match p {
@@ -144,7 +151,8 @@ fn put_aggregate(
     requires parcels { (a : ℕ) → IsKindOf (a ∷ path.now) p → Fits g.now (a ∷ path.now) p }
     ensures ok { OnOk result (Puts path.now p (in_child in_aggregate place.old) (in_child in_aggregate place.new)) }
     ensures kind { OnOk result ((a : ℕ) → IsKindOf (a ∷ path.now) p) }
-    ensures err { IfErr result (λ back. (a : ℕ) → HandsBack (IsKindOf (a ∷ path.now) p) path.now p back (in_child in_aggregate place.old) (in_child in_aggregate place.new)) }
+    ensures err { IfErr result (λ back. (a : ℕ)
+        → HandsBack (IsKindOf (a ∷ path.now) p) path.now p back (in_child in_aggregate place.old) (in_child in_aggregate place.new)) }
     ensures fits { IfSome place.new (FitsAggregate g.now) }
 {
     match path {
@@ -164,7 +172,8 @@ fn put_aggregate_itself(place: &mut Option<Aggr>, g: &Geometry, p: Parcels) -> R
     requires parcels { (a : ℕ) → IsKindOf (a ∷ []) p → Fits g.now (a ∷ []) p }
     ensures ok { OnOk result (Puts [] p (in_child in_aggregate place.old) (in_child in_aggregate place.new)) }
     ensures kind { OnOk result ((a : ℕ) → IsKindOf (a ∷ []) p) }
-    ensures err { IfErr result (λ back. (a : ℕ) → HandsBack (IsKindOf (a ∷ []) p) [] p back (in_child in_aggregate place.old) (in_child in_aggregate place.new)) }
+    ensures err { IfErr result (λ back. (a : ℕ)
+        → HandsBack (IsKindOf (a ∷ []) p) [] p back (in_child in_aggregate place.old) (in_child in_aggregate place.new)) }
     ensures fits { IfSome place.new (FitsAggregate g.now) }
 {
     match p {
@@ -187,7 +196,8 @@ fn put_root(
     requires parcels { IsKindOf path.now p → Fits g.now path.now p }
     ensures ok { OnOk result (Puts path.now p (in_child in_root place.old) (in_child in_root place.new)) }
     ensures kind { OnOk result (IsKindOf path.now p) }
-    ensures err { IfErr result (λ back. HandsBack (IsKindOf path.now p) path.now p back (in_child in_root place.old) (in_child in_root place.new)) }
+    ensures err { IfErr result (λ back. HandsBack (IsKindOf path.now p) path.now p back (in_child in_root place.old)
+        (in_child in_root place.new)) }
     ensures fits { IfSome place.new (FitsRoot g.now) }
 {
     match path {
@@ -231,7 +241,8 @@ pub(crate) fn put_at(
     requires parcels { IsKindOf (path place) p → Fits g.now (path place) p }
     ensures ok { OnOk result (Puts (path place) p (in_child in_root root.old) (in_child in_root root.new)) }
     ensures kind { OnOk result (IsKindOf (path place) p) }
-    ensures err { IfErr result (λ back. HandsBack (IsKindOf (path place) p) (path place) p back (in_child in_root root.old) (in_child in_root root.new)) }
+    ensures err { IfErr result (λ back. HandsBack (IsKindOf (path place) p) (path place) p back (in_child in_root root.old)
+        (in_child in_root root.new)) }
     ensures fits { IfSome root.new (FitsRoot g.now) }
 {
     let (numbers, depth) = path_of(place);

@@ -40,7 +40,8 @@ fn take_logical(place: &mut Option<Logical>, g: &Geometry, path: &[usize]) -> Op
     requires path { IsLogicalPath g.now path.now }
     requires fits { IfSome place.old (FitsLogical g.now) }
     ensures none { IfNone result (Refuses (IsLogicalPath g.now) path.now (in_child in_logical place.old) (in_child in_logical place.new)) }
-    ensures some { IfSome result (λ r. TakesParcels (IsLogicalPath g.now) path.now r (in_child in_logical place.old) (in_child in_logical place.new)) }
+    ensures some { IfSome result (λ r. TakesParcels (IsLogicalPath g.now) path.now r (in_child in_logical place.old)
+        (in_child in_logical place.new)) }
     ensures fits { IfSome place.new (FitsLogical g.now) }
     ensures lent { IfSome result (λ r. (a v : ℕ) → Fits g.now (a ∷ v ∷ zero ∷ path.now) r) }
 {
@@ -59,7 +60,8 @@ fn take_logical(place: &mut Option<Logical>, g: &Geometry, path: &[usize]) -> Op
 fn take_logical_itself(place: &mut Option<Logical>, g: &Geometry) -> Option<Parcels>
     requires fits { IfSome place.old (FitsLogical g.now) }
     ensures none { IfNone result (Refuses (IsLogicalPath g.now) [] (in_child in_logical place.old) (in_child in_logical place.new)) }
-    ensures some { IfSome result (λ r. TakesParcels (IsLogicalPath g.now) [] r (in_child in_logical place.old) (in_child in_logical place.new)) }
+    ensures some { IfSome result (λ r. TakesParcels (IsLogicalPath g.now) [] r (in_child in_logical place.old)
+        (in_child in_logical place.new)) }
     ensures fits { IfSome place.new (FitsLogical g.now) }
     ensures lent { IfSome result (λ r. (a v : ℕ) → Fits g.now (a ∷ v ∷ zero ∷ []) r) }
 {
@@ -76,7 +78,8 @@ fn take_volume(place: &mut Option<Vol>, g: &Geometry, path: &[usize]) -> Option<
     requires path { IsVolumePath g.now path.now }
     requires fits { IfSome place.old (FitsVolume g.now) }
     ensures none { IfNone result (Refuses (IsVolumePath g.now) path.now (in_child in_volume place.old) (in_child in_volume place.new)) }
-    ensures some { IfSome result (λ r. TakesParcels (IsVolumePath g.now) path.now r (in_child in_volume place.old) (in_child in_volume place.new)) }
+    ensures some { IfSome result (λ r. TakesParcels (IsVolumePath g.now) path.now r (in_child in_volume place.old)
+        (in_child in_volume place.new)) }
     ensures fits { IfSome place.new (FitsVolume g.now) }
     ensures lent { IfSome result (λ r. (a v : ℕ) → Fits g.now (a ∷ v ∷ path.now) r) }
 {
@@ -101,7 +104,8 @@ fn take_volume(place: &mut Option<Vol>, g: &Geometry, path: &[usize]) -> Option<
 fn take_volume_itself(place: &mut Option<Vol>, g: &Geometry) -> Option<Parcels>
     requires fits { IfSome place.old (FitsVolume g.now) }
     ensures none { IfNone result (Refuses (IsVolumePath g.now) [] (in_child in_volume place.old) (in_child in_volume place.new)) }
-    ensures some { IfSome result (λ r. TakesParcels (IsVolumePath g.now) [] r (in_child in_volume place.old) (in_child in_volume place.new)) }
+    ensures some { IfSome result (λ r. TakesParcels (IsVolumePath g.now) [] r (in_child in_volume place.old)
+        (in_child in_volume place.new)) }
     ensures fits { IfSome place.new (FitsVolume g.now) }
     ensures lent { IfSome result (λ r. (a v : ℕ) → Fits g.now (a ∷ v ∷ []) r) }
 {
@@ -117,8 +121,10 @@ fn take_volume_itself(place: &mut Option<Vol>, g: &Geometry) -> Option<Parcels>
 fn take_aggregate(place: &mut Option<Aggr>, g: &Geometry, path: &[usize]) -> Option<Parcels>
     requires path { IsAggregatePath g.now path.now }
     requires fits { IfSome place.old (FitsAggregate g.now) }
-    ensures none { IfNone result (Refuses (IsAggregatePath g.now) path.now (in_child in_aggregate place.old) (in_child in_aggregate place.new)) }
-    ensures some { IfSome result (λ r. TakesParcels (IsAggregatePath g.now) path.now r (in_child in_aggregate place.old) (in_child in_aggregate place.new)) }
+    ensures none { IfNone result (Refuses (IsAggregatePath g.now) path.now (in_child in_aggregate place.old)
+        (in_child in_aggregate place.new)) }
+    ensures some { IfSome result (λ r. TakesParcels (IsAggregatePath g.now) path.now r (in_child in_aggregate place.old)
+        (in_child in_aggregate place.new)) }
     ensures fits { IfSome place.new (FitsAggregate g.now) }
     ensures lent { IfSome result (λ r. (a : ℕ) → Fits g.now (a ∷ path.now) r) }
 {
@@ -137,7 +143,8 @@ fn take_aggregate(place: &mut Option<Aggr>, g: &Geometry, path: &[usize]) -> Opt
 fn take_aggregate_itself(place: &mut Option<Aggr>, g: &Geometry) -> Option<Parcels>
     requires fits { IfSome place.old (FitsAggregate g.now) }
     ensures none { IfNone result (Refuses (IsAggregatePath g.now) [] (in_child in_aggregate place.old) (in_child in_aggregate place.new)) }
-    ensures some { IfSome result (λ r. TakesParcels (IsAggregatePath g.now) [] r (in_child in_aggregate place.old) (in_child in_aggregate place.new)) }
+    ensures some { IfSome result (λ r. TakesParcels (IsAggregatePath g.now) [] r (in_child in_aggregate place.old)
+        (in_child in_aggregate place.new)) }
     ensures fits { IfSome place.new (FitsAggregate g.now) }
     ensures lent { IfSome result (λ r. (a : ℕ) → Fits g.now (a ∷ []) r) }
 {
@@ -154,7 +161,8 @@ fn take_root(place: &mut Option<Root>, g: &Geometry, path: &[usize]) -> Option<P
     requires path { IsRootPath g.now path.now }
     requires fits { IfSome place.old (FitsRoot g.now) }
     ensures none { IfNone result (Refuses (IsRootPath g.now) path.now (in_child in_root place.old) (in_child in_root place.new)) }
-    ensures some { IfSome result (λ r. TakesParcels (IsRootPath g.now) path.now r (in_child in_root place.old) (in_child in_root place.new)) }
+    ensures some { IfSome result (λ r. TakesParcels (IsRootPath g.now) path.now r (in_child in_root place.old)
+        (in_child in_root place.new)) }
     ensures fits { IfSome place.new (FitsRoot g.now) }
     ensures lent { IfSome result (λ r. Fits g.now path.now r) }
 {
@@ -191,7 +199,8 @@ pub(crate) fn take_at(root: &mut Option<Root>, g: &Geometry, place: Place) -> Op
     requires path { IsPath g.now (path place) }
     requires fits { IfSome root.old (FitsRoot g.now) }
     ensures none { IfNone result (Refuses (IsRootPath g.now) (path place) (in_child in_root root.old) (in_child in_root root.new)) }
-    ensures some { IfSome result (λ r. TakesParcels (IsRootPath g.now) (path place) r (in_child in_root root.old) (in_child in_root root.new)) }
+    ensures some { IfSome result (λ r. TakesParcels (IsRootPath g.now) (path place) r (in_child in_root root.old)
+        (in_child in_root root.new)) }
     ensures fits { IfSome root.new (FitsRoot g.now) }
     ensures lent { IfSome result (λ r. Fits g.now (path place) r) }
 {

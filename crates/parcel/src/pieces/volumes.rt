@@ -8,9 +8,8 @@ use crate::parts::files_of;
 use crate::{Label, Vol};
 use affinity::Geometry;
 use byteorder::{ByteOrder, LittleEndian};
-
-/// How many bytes a volume's piece has.
-const VOLUME_PIECE_SIZE: usize = 64;
+use image::layout::VERSION;
+use oplog::layout::VOLUME_PIECE_SIZE;
 
 /// Where the files and the label stand in a volume's piece, and the zeros after them.
 const FILES_AT: usize = 8;
@@ -18,9 +17,6 @@ const FILES_AT: usize = 8;
 const LABEL_AT: usize = 16;
 
 const ZEROS_AT: usize = 48;
-
-/// The version of an image whose volumes have their labels.
-pub(super) const WITH_LABELS: u8 = 2;
 
 /// What a volume's piece says.
 #[derive(Clone, Copy)]
@@ -55,7 +51,7 @@ fn label_said(version: u8, bytes: &[u8]) -> [u8; 32]
     ensures { result ≡ said_label version bytes.now }
 {
     let mut label = [0; 32];
-    if version == WITH_LABELS {
+    if version == VERSION {
         label.copy_from_slice(&bytes[LABEL_AT..ZEROS_AT]);
     }
     label

@@ -58,7 +58,8 @@ fn clear_in(place: &mut Option<StripeParcel>)
 // Removes all blocks from all stripes.
 fn clear_stripes(stripes: &mut Vec<Option<StripeParcel>>)
     ensures count { vec_len stripes.new ≡ vec_len stripes.old }
-    ensures each { (s : ℕ) → s < vec_len stripes.old → Empties (slice_index_or stripes.old.items s None) (slice_index_or stripes.new.items s None) }
+    ensures each { (s : ℕ) → s < vec_len stripes.old
+        → Empties (slice_index_or stripes.old.items s None) (slice_index_or stripes.new.items s None) }
 {
     for s in 0..stripes.len() {
         clear_in(&mut stripes[s]);
@@ -99,7 +100,8 @@ fn make_volume(aggregate: &mut Aggr, g: &Geometry, message: &Msg, v: u16) -> Rep
     requires volume { v < g.now.volumes }
     requires fits { FitsAggregate g.now aggregate.old }
     requires whole { IsWholeAggregate aggregate.old }
-    ensures step { (a : ℕ) → is_in_range g.now (Msg.MakeVol a v) ≡ true → IsSerialStep g.now (at_aggregate g.now a aggregate.old) (Msg.MakeVol a v) result (at_aggregate g.now a aggregate.new) }
+    ensures step { (a : ℕ) → is_in_range g.now (Msg.MakeVol a v) ≡ true
+        → IsSerialStep g.now (at_aggregate g.now a aggregate.old) (Msg.MakeVol a v) result (at_aggregate g.now a aggregate.new) }
     ensures fits { FitsAggregate g.now aggregate.new }
     ensures whole { IsWholeAggregate aggregate.new }
 {
@@ -118,7 +120,8 @@ fn drop_volume(aggregate: &mut Aggr, g: &Geometry, message: &Msg, v: u16) -> Rep
     requires volume { v < g.now.volumes }
     requires fits { FitsAggregate g.now aggregate.old }
     requires whole { IsWholeAggregate aggregate.old }
-    ensures step { (a : ℕ) → is_in_range g.now (Msg.DropVol a v) ≡ true → IsSerialStep g.now (at_aggregate g.now a aggregate.old) (Msg.DropVol a v) result (at_aggregate g.now a aggregate.new) }
+    ensures step { (a : ℕ) → is_in_range g.now (Msg.DropVol a v) ≡ true
+        → IsSerialStep g.now (at_aggregate g.now a aggregate.old) (Msg.DropVol a v) result (at_aggregate g.now a aggregate.new) }
     ensures fits { FitsAggregate g.now aggregate.new }
     ensures whole { IsWholeAggregate aggregate.new }
 {
@@ -134,7 +137,9 @@ fn drop_volume(aggregate: &mut Aggr, g: &Geometry, message: &Msg, v: u16) -> Rep
 /// Runs a message at an aggregate. It sees nothing of what lies above.
 pub(crate) fn run_at_aggregate(aggregate: &mut Aggr, g: &Geometry, message: &Msg) -> Reply
     requires { Suits g.now message.now (Parcels.Aggr aggregate.old) }
-    ensures step { (t : Standing) → IsSerialStep g.now (shown_state g.now (place g.now message.now) t (Parcels.Aggr aggregate.old)) message.now result (shown_state g.now (place g.now message.now) t (Parcels.Aggr aggregate.new)) }
+    ensures step { (t : Standing) → IsSerialStep g.now
+        (shown_state g.now (place g.now message.now) t (Parcels.Aggr aggregate.old)) message.now result
+        (shown_state g.now (place g.now message.now) t (Parcels.Aggr aggregate.new)) }
     ensures suits { Suits g.now message.now (Parcels.Aggr aggregate.new) }
 {
     match message {

@@ -52,7 +52,8 @@ pub(crate) fn run_at_label(
     message: &Msg,
 ) -> Reply
     requires { Suits g.now message.now (Parcels.Label label.old) }
-    ensures step { IsSerialStep g.now (shown_state g.now (place g.now message.now) standing (Parcels.Label label.old)) message.now result (shown_state g.now (place g.now message.now) standing (Parcels.Label label.new)) }
+    ensures step { IsSerialStep g.now (shown_state g.now (place g.now message.now) standing (Parcels.Label label.old)) message.now result
+        (shown_state g.now (place g.now message.now) standing (Parcels.Label label.new)) }
     ensures suits { Suits g.now message.now (Parcels.Label label.new) }
 {
     match message {

@@ -21,7 +21,8 @@ fn create(logical: &mut Logical, g: &Geometry, standing: Standing, message: &Msg
     requires tests { tests message.now ≡ tests (Msg.Create 0 0 f) }
     requires file { f < g.now.files }
     requires fits { FitsLogical g.now logical.old }
-    ensures step { IsStepWithin g.now (λ a v. Msg.Create a v f) (by_logical g.now standing logical.old) result (by_logical g.now standing logical.new) }
+    ensures step { IsStepWithin g.now (λ a v. Msg.Create a v f) (by_logical g.now standing logical.old) result
+        (by_logical g.now standing logical.new) }
     ensures fits { FitsLogical g.now logical.new }
     ensures stripes { logical.new.stripes ≡ logical.old.stripes }
 {
@@ -45,7 +46,8 @@ fn drop_in(place: &mut Option<StripeParcel>, f: u16)
 // Removes the blocks of a file from all stripes.
 fn drop_file(stripes: &mut Vec<Option<StripeParcel>>, f: u16)
     ensures count { vec_len stripes.new ≡ vec_len stripes.old }
-    ensures each { (s : ℕ) → s < vec_len stripes.old → DropsFile f (slice_index_or stripes.old.items s None) (slice_index_or stripes.new.items s None) }
+    ensures each { (s : ℕ) → s < vec_len stripes.old
+        → DropsFile f (slice_index_or stripes.old.items s None) (slice_index_or stripes.new.items s None) }
 {
     for s in 0..stripes.len() {
         drop_in(&mut stripes[s], f);
@@ -58,7 +60,8 @@ fn delete(logical: &mut Logical, g: &Geometry, standing: Standing, message: &Msg
     requires file { f < g.now.files }
     requires fits { FitsLogical g.now logical.old }
     requires whole { IsWholeLogical logical.old }
-    ensures step { IsStepWithin g.now (λ a v. Msg.Delete a v f) (by_logical g.now standing logical.old) result (by_logical g.now standing logical.new) }
+    ensures step { IsStepWithin g.now (λ a v. Msg.Delete a v f) (by_logical g.now standing logical.old) result
+        (by_logical g.now standing logical.new) }
     ensures fits { FitsLogical g.now logical.new }
     ensures whole { IsWholeLogical logical.new }
 {
@@ -91,7 +94,9 @@ pub(crate) fn run_at_logical(
     message: &Msg,
 ) -> Reply
     requires { Suits g.now message.now (Parcels.Logical logical.old) }
-    ensures step { IsSerialStep g.now (shown_state g.now (place g.now message.now) standing (Parcels.Logical logical.old)) message.now result (shown_state g.now (place g.now message.now) standing (Parcels.Logical logical.new)) }
+    ensures step { IsSerialStep g.now
+        (shown_state g.now (place g.now message.now) standing (Parcels.Logical logical.old)) message.now result
+        (shown_state g.now (place g.now message.now) standing (Parcels.Logical logical.new)) }
     ensures suits { Suits g.now message.now (Parcels.Logical logical.new) }
 {
     match message {

@@ -31,7 +31,9 @@ fn summary(root: &Root, g: &Geometry) -> Reply
 /// Runs a message at the whole server. There is nothing above it.
 pub(crate) fn run_at_root(root: &mut Root, g: &Geometry, message: &Msg) -> Reply
     requires { Suits g.now message.now (Parcels.Root root.old) }
-    ensures step { (t : Standing) → IsSerialStep g.now (shown_state g.now (place g.now message.now) t (Parcels.Root root.old)) message.now result (shown_state g.now (place g.now message.now) t (Parcels.Root root.new)) }
+    ensures step { (t : Standing) → IsSerialStep g.now
+        (shown_state g.now (place g.now message.now) t (Parcels.Root root.old)) message.now result
+        (shown_state g.now (place g.now message.now) t (Parcels.Root root.new)) }
     ensures suits { Suits g.now message.now (Parcels.Root root.new) }
 {
     match message {

@@ -40,7 +40,8 @@ fn write(
     requires file { f < g.now.files }
     requires block { b < g.now.blocks }
     requires fits { FitsStripe g.now (group g.now f b) stripe.old }
-    ensures step { IsStepWithin g.now (λ a v. Msg.Write a v f b content.now) (by_stripe standing stripe.old) result (by_stripe standing stripe.new) }
+    ensures step { IsStepWithin g.now (λ a v. Msg.Write a v f b content.now) (by_stripe standing stripe.old) result
+        (by_stripe standing stripe.new) }
     ensures fits { FitsStripe g.now (group g.now f b) stripe.new }
 {
     let room = has_room(stripe, g, f, b);
@@ -60,7 +61,8 @@ fn write(
 fn punch(stripe: &mut StripeParcel, standing: Standing, message: &Msg, f: u16, b: u16) -> Reply
     requires file { f < 64 }
     requires tests { tests message.now ≡ tests (Msg.Punch 0 0 f b) }
-    ensures step { (g : Geometry) → IsStepWithin g (λ a v. Msg.Punch a v f b) (by_stripe standing stripe.old) result (by_stripe standing stripe.new) }
+    ensures step { (g : Geometry) → IsStepWithin g (λ a v. Msg.Punch a v f b) (by_stripe standing stripe.old) result
+        (by_stripe standing stripe.new) }
     ensures fits { (g : Geometry) → FitsStripe g (group g f b) stripe.old → FitsStripe g (group g f b) stripe.new }
 {
     let Standing {
@@ -79,7 +81,8 @@ fn punch(stripe: &mut StripeParcel, standing: Standing, message: &Msg, f: u16, b
 fn read(stripe: &StripeParcel, standing: Standing, message: &Msg, f: u16, b: u16) -> Reply
     requires file { f < 64 }
     requires tests { tests message.now ≡ tests (Msg.Read 0 0 f b) }
-    ensures { (g : Geometry) → IsStepWithin g (λ a v. Msg.Read a v f b) (by_stripe standing stripe.now) result (by_stripe standing stripe.now) }
+    ensures { (g : Geometry) → IsStepWithin g (λ a v. Msg.Read a v f b) (by_stripe standing stripe.now) result
+        (by_stripe standing stripe.now) }
 {
     if let Some(why) = read_refusal(message, standing.made, standing.files, f) {
         return Reply::Refused(why);
@@ -98,7 +101,8 @@ pub(crate) fn run_at_stripe(
     message: &Msg,
 ) -> Reply
     requires { Suits g.now message.now (Parcels.Stripe stripe.old) }
-    ensures step { IsSerialStep g.now (shown_state g.now (place g.now message.now) standing (Parcels.Stripe stripe.old)) message.now result (shown_state g.now (place g.now message.now) standing (Parcels.Stripe stripe.new)) }
+    ensures step { IsSerialStep g.now (shown_state g.now (place g.now message.now) standing (Parcels.Stripe stripe.old)) message.now result
+        (shown_state g.now (place g.now message.now) standing (Parcels.Stripe stripe.new)) }
     ensures suits { Suits g.now message.now (Parcels.Stripe stripe.new) }
 {
     match message {

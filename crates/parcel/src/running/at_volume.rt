@@ -66,7 +66,9 @@ fn usage(volume: &Vol, g: &Geometry, message: &Msg) -> Reply
 /// Runs a message at a volume. It sees nothing of what lies above.
 pub(crate) fn run_at_volume(volume: &mut Vol, g: &Geometry, message: &Msg) -> Reply
     requires { Suits g.now message.now (Parcels.Vol volume.old) }
-    ensures step { (t : Standing) → IsSerialStep g.now (shown_state g.now (place g.now message.now) t (Parcels.Vol volume.old)) message.now result (shown_state g.now (place g.now message.now) t (Parcels.Vol volume.new)) }
+    ensures step { (t : Standing) → IsSerialStep g.now
+        (shown_state g.now (place g.now message.now) t (Parcels.Vol volume.old)) message.now result
+        (shown_state g.now (place g.now message.now) t (Parcels.Vol volume.new)) }
     ensures suits { Suits g.now message.now (Parcels.Vol volume.new) }
 {
     match message {

@@ -30,7 +30,11 @@ impl Totals {
         requires volumes { self.volumes + more.volumes < 2 ^ 32 }
         requires files { self.files + more.files < 2 ^ 32 }
         requires blocks { self.blocks + more.blocks < 2 ^ 32 }
-        ensures { result ≡ record { volumes = self.volumes + more.volumes; files = self.files + more.files; blocks = self.blocks + more.blocks } }
+        ensures { result ≡ record {
+          volumes = self.volumes + more.volumes;
+          files = self.files + more.files;
+          blocks = self.blocks + more.blocks;
+        } }
     {
         Totals {
             volumes: self.volumes + more.volumes,

@@ -11,7 +11,7 @@ use affinity::{Geometry, group_of};
 use message::Block;
 
 /// How many bytes an entry has.
-pub const ENTRY_SIZE: usize = 520;
+const ENTRY_SIZE: usize = 520;
 
 /// How many bytes stand before the content of a block in its entry.
 const ENTRY_HEAD: usize = 8;

@@ -1,6 +1,6 @@
 -- The lemmas on cutting and on lengths.
 use Rattle.image.proofs.Cuts.{piece_again}
-use Rattle.image.proofs.Joining.{length-pieces}
+use Rattle.image.proofs.Joining.{whole_image}
 use Rattle.image.proofs.Measures.{length-piece, state_is_measured}
 use Rattle.image.proofs.laws.an_image_is_cut_into_its_pieces.Goals as goal
 
@@ -11,4 +11,4 @@ pub returns-clause-sizes : goal.returns-clause-sizes
 returns-clause-sizes c version g x is = length-piece version g x (state_is_measured g x is)
 
 pub returns-clause-end : goal.returns-clause-end
-returns-clause-end c = length-pieces
+returns-clause-end c = whole_image

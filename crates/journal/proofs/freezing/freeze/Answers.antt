@@ -5,7 +5,8 @@ use Rattle.image.proofs.Measures.{length-piece, state_is_measured}
 use Rattle.plain.specs.State.{IsState}
 use Rattle.image.specs.Pieces.{piece_count, piece_of}
 use Rattle.journal.specs.Stretches.{AreSpelled}
-use Rattle.journal.proofs.FrozenBytes.{IsFrozenTo, all_put, headed, none_behind, pass_one, piece_end, piece_inside, put_one}
+use Rattle.image.proofs.Joining.{piece_inside, whole_image}
+use Rattle.journal.proofs.FrozenBytes.{IsFrozenTo, all_put, headed, none_behind, pass_one, put_one}
 use Rattle.affinity.specs.declared.geometry.Geometry.{Geometry}
 use Rattle.oplog.specs.Layout.{image_size}
 use Rattle.parcel.specs.Tree.{state_in}
@@ -13,7 +14,7 @@ use Rattle.journal.proofs.freezing.freeze.Goals as goal
 use Rattle.journal.proofs.freezing.freeze.Goals.{then-is_marked, else-is_marked}
 
 pub write_head-requires : goal.write_head-requires
-write_head-requires c = omega (arith, c.requires.size, piece_end c.args.tree.now.geometry)
+write_head-requires c = omega (arith, c.requires.size, whole_image c.args.tree.now.geometry)
 
 pub loop-n-init : goal.loop-n-init
 loop-n-init c = record {

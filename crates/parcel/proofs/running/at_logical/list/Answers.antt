@@ -5,7 +5,7 @@ use Rattle.message.specs.declared.Reply.TheVariants.{Files}
 use Rattle.plain.specs.State.{sum_below}
 use Rattle.parcel.specs.Shown.{by_logical}
 use Rattle.parcel.specs.Volume.{only}
-use Rattle.parcel.proofs.FileBits.{bits_back}
+use Rattle.image.proofs.FileNumber.{bits_back}
 use Rattle.parcel.proofs.OneVolume.{at_volume, passed, list_tests}
 use Rattle.parcel.proofs.running.at_logical.list.Goals as goal
 
