@@ -1,4 +1,5 @@
--- Affinities as numbers. The tree of a server is numbered in preorder: each affinity comes before all that lie below it, and these are the numbers from its own up to its end.
+-- Affinities as numbers. The tree of a server is numbered in preorder: each affinity comes before all that lie below it, and these are the
+-- numbers from its own up to its end.
 use Rattle.std.specs.Prelude.{◌≡◌, ℕ, zero, suc, ◌+◌, ◌*◌, ◌<◌, [], ◌∷◌, Bool, ◌&&◌, nat_le, nat_lt}
 use Rattle.affinity.specs.Path.{Path}
 use Rattle.affinity.specs.declared.geometry.Geometry.{Geometry}

@@ -26,7 +26,8 @@ use Rattle.command_line.specs.declared.words.WordRefusal.TheVariants.{Words, Fau
 
 -- the options of a geometry, in the order of its numbers
 abbrev pub names : List Text
-names = codes "aggregates" ∷ codes "volumes" ∷ codes "stripes" ∷ codes "width" ∷ codes "files" ∷ codes "blocks" ∷ codes "quota" ∷ codes "half" ∷ []
+names = codes "aggregates" ∷ codes "volumes" ∷ codes "stripes" ∷ codes "width" ∷ codes "files" ∷ codes "blocks" ∷ codes "quota"
+    ∷ codes "half" ∷ []
 
 -- an option with one value, a number from 0 to 65535
 abbrev pub number_rule : Text → Rule
@@ -80,7 +81,8 @@ waffd = with_subcommand (with_subcommand (with_subcommand (with_subcommand bare 
 abbrev pub number_of : Text → Option ℕ
 number_of text =
     let digits = without_leading_plus text in
-    if nat_lt 0 (length digits) && list_all (λ d. nat_lt (digit_value d) 10) digits && nat_lt (digits_value 10 digits) 65536 then Some (digits_value 10 digits) else None
+    if nat_lt 0 (length digits) && list_all (λ d. nat_lt (digit_value d) 10) digits
+    && nat_lt (digits_value 10 digits) 65536 then Some (digits_value 10 digits) else None
 
 -- the number of an option among those that were given, or the standard one
 abbrev pub number_in : List Row → Text → ℕ → ℕ
@@ -156,9 +158,11 @@ GivesGeometry numbers (Err refusal) = (refusal ≡ Fault GeometryOutOfRange) × 
 -- The request, or its refusal, by the command.
 abbrev pub IsRequested : Option (Text × List Row) → Result Request WordRefusal → Type 0
 IsRequested command (Ok (Plain g)) = IsPlain command × (numbers_of g ≡ numbers_at command)
-IsRequested command (Ok (Format path g)) = IsNamed (codes "format") command × (path.now ≡ device_at command) × (numbers_of g ≡ numbers_at command)
+IsRequested command (Ok (Format path g)) = IsNamed (codes "format") command × (path.now ≡ device_at command)
+    × (numbers_of g ≡ numbers_at command)
 IsRequested command (Ok (Show path)) = IsNamed (codes "show") command × (path.now ≡ device_at command)
-IsRequested command (Ok (Serve path s)) = IsNamed (codes "serve") command × (path.now ≡ device_at command) × (numbers_of_service s ≡ service_at command)
+IsRequested command (Ok (Serve path s)) = IsNamed (codes "serve") command × (path.now ≡ device_at command)
+    × (numbers_of_service s ≡ service_at command)
 IsRequested command (Err (Fault GeometryOutOfRange)) =
     (¬ (IsNamed (codes "show") command)) × (¬ (IsNamed (codes "serve") command)) × (¬ (AreInRange (numbers_at command)))
 IsRequested command _ = ⊥
@@ -169,7 +173,8 @@ AsksPlain words g = (findings words ≡ []) × IsPlain (command_of words) × (nu
 
 -- The words ask for a device of this geometry in the file of this path.
 abbrev pub AsksFormat : List Text → Text → Geometry → Type 0
-AsksFormat words path g = (findings words ≡ []) × IsNamed (codes "format") (command_of words) × (path ≡ device_at (command_of words)) × (numbers_of g ≡ numbers_at (command_of words))
+AsksFormat words path g = (findings words ≡ []) × IsNamed (codes "format") (command_of words) × (path ≡ device_at (command_of words))
+    × (numbers_of g ≡ numbers_at (command_of words))
 
 -- The words ask what the device in the file of this path holds.
 abbrev pub AsksShow : List Text → Text → Type 0
@@ -191,7 +196,8 @@ AsksOutOfRange words =
 abbrev pub AsksHelp : List Text → Type 0
 AsksHelp words = findings words ≡ DisplayHelp ∷ []
 
--- The words ask for no command: they ask for help, or there are mistakes in them. Behind the word `help` it may be either, and `clap` tells which.
+-- The words ask for no command: they ask for help, or there are mistakes in them. Behind the word `help` it may be either, and `clap` tells
+-- which.
 abbrev pub AsksNoService : List Text → Type 0
 AsksNoService words = findings words ≢ []
 

@@ -39,6 +39,7 @@ UnlessUntold (Err (Open fault)) before written P = written ≡ before
 UnlessUntold _ before written P = P
 
 -- What was told when a service ended is held by whatever a crash leaves then.
-abbrev pub KeepsWhatWasTold : Type 0 → Medium → Medium → Result (Unit {0}) Fault → Option (List ℕ) → Option (List ℕ) → Option (List ℕ) → Type 0
+abbrev pub KeepsWhatWasTold : Type 0 → Medium → Medium → Result (Unit {0}) Fault → Option (List ℕ) → Option (List ℕ)
+    → Option (List ℕ) → Type 0
 KeepsWhatWasTold keeps old new end input before written =
     UnlessUntold end before written (keeps → (c : List ℕ) → Leaves new c → HoldsWhatWasTold old input before written c)

@@ -62,7 +62,8 @@ HasNoRecords g m = in_force (layout_of g) (named_area (layout_of g) m.now) m.now
 
 -- Nothing was served: nothing was read or written, and the device stands for what it stood for.
 abbrev pub HasServedNothing : Type 0 → Medium → Medium → Option (List ℕ) → Option (List ℕ) → Option (List ℕ) → Option (List ℕ) → Type 0
-HasServedNothing keeps old new input left before written = (w : Went keeps old new) × (w.end ≡ w.start) × (left ≡ input) × (written ≡ before)
+HasServedNothing keeps old new input left before written = (w : Went keeps old new) × (w.end ≡ w.start) × (left ≡ input)
+    × (written ≡ before)
 
 -- What each end says.
 -- No fault: the input has ended, and the output is that of the serial server for all of it, from the state for which the device
@@ -72,18 +73,24 @@ HasServedNothing keeps old new input left before written = (w : Went keeps old n
 -- A failed device: the first lines of the serial server's output. A failed write: it is open what was written.
 -- No workers, or no memory: nothing was served. A device that can't be opened: nothing was read or written, and it is refused for
 -- what it is.
-abbrev pub EndsOnDevice : Type 0 → Service → Medium → Medium → Result (Unit {0}) Fault → Option (List ℕ) → Option (List ℕ) → Option (List ℕ) → Option (List ℕ) → Type 0
-EndsOnDevice keeps s old new (Ok _) input left before written = (s.workers ≢ 0) × ((w : Went keeps old new) × (keeps → HasNoRecords w.geometry new)
+abbrev pub EndsOnDevice : Type 0 → Service → Medium → Medium → Result (Unit {0}) Fault → Option (List ℕ) → Option (List ℕ) → Option (List ℕ)
+    → Option (List ℕ) → Type 0
+EndsOnDevice keeps s old new (Ok _) input left before written = (s.workers ≢ 0)
+    × ((w : Went keeps old new) × (keeps → HasNoRecords w.geometry new)
     × IsAtEnd left × WritesOutput input before written (λ bytes out. AreServed w.geometry w.start w.end (lines bytes) out))
 EndsOnDevice keeps s old new (Err Read) input left before written = (s.workers ≢ 0) × ((w : Went keeps old new)
     × WritesOutput input before written (ServesWholeLines w.geometry w.start w.end left))
 EndsOnDevice keeps s old new (Err NoTicketLeft) input left before written = (s.workers ≢ 0) × ((w : Went keeps old new)
     × WritesOutput input before written (ServesLinesBefore w.geometry w.start w.end))
-EndsOnDevice keeps s old new (Err Device) input left before written = (s.workers ≢ 0) × ((g : Geometry) × (start : State) × StoodFor keeps old g start
+EndsOnDevice keeps s old new (Err Device) input left before written = (s.workers ≢ 0)
+    × ((g : Geometry) × (start : State) × StoodFor keeps old g start
     × WritesOutput input before written (IsBeginning g start))
-EndsOnDevice keeps s old new (Err Write) input left before written = (s.workers ≢ 0) × ((g : Geometry) × (start : State) × StoodFor keeps old g start)
-EndsOnDevice keeps s old new (Err NoWorkers) input left before written = (s.workers ≡ 0) × HasServedNothing keeps old new input left before written
-EndsOnDevice keeps s old new (Err OutOfMemory) input left before written = (s.workers ≢ 0) × HasServedNothing keeps old new input left before written
+EndsOnDevice keeps s old new (Err Write) input left before written = (s.workers ≢ 0)
+    × ((g : Geometry) × (start : State) × StoodFor keeps old g start)
+EndsOnDevice keeps s old new (Err NoWorkers) input left before written = (s.workers ≡ 0)
+    × HasServedNothing keeps old new input left before written
+EndsOnDevice keeps s old new (Err OutOfMemory) input left before written = (s.workers ≢ 0)
+    × HasServedNothing keeps old new input left before written
 EndsOnDevice keeps s old new (Err (Open fault)) input left before written =
     (keeps → IsRefused old.now fault × IsRefusedUnwritten old fault new) × (left ≡ input) × (written ≡ before)
 EndsOnDevice keeps s old new (Err _) input left before written = ⊥
@@ -95,8 +102,10 @@ abbrev pub machine_at_start : Service → CoreView → MachineView
 machine_at_start s start = with_lent start (replicate s.workers None)
 
 -- the run behind what was served, whatever the end: the lines that were taken, and the events, each with the device as it left it
-abbrev pub run_behind : (keeps : Type 0) (start : MachineView) (now : CoreView) (input before written : Option (List ℕ)) (end : Result (Unit {0}) ServeFault)
-    → HasRunSo keeps start now input before written end → (taken : List (List ℕ)) × (stages : List Stage) × HasRunLines keeps start now input taken stages
+abbrev pub run_behind : (keeps : Type 0) (start : MachineView) (now : CoreView) (input before written : Option (List ℕ))
+    (end : Result (Unit {0}) ServeFault)
+    → HasRunSo keeps start now input before written end
+    → (taken : List (List ℕ)) × (stages : List Stage) × HasRunLines keeps start now input taken stages
 run_behind keeps start now input before written (Ok _) h = (h.served.taken, h.served.stages, h.served.run)
 run_behind keeps start now input before written (Err serve_faults.Device) h = (h.1.taken, h.1.stages, h.1.run)
 run_behind keeps start now input before written (Err serve_faults.Write) h = h
@@ -130,11 +139,13 @@ pub record HasServedBy (keeps : Type 0) (s : Service) (old new : Medium) (end : 
   pub ends : EndsSo start now input left before written end
   pub leaves : keeps → StandsNow now
   pub given_back : new ≡ now.medium
-  pub life : keeps → let behind = run_behind keeps (machine_at_start s start) now input before written end run in IsLife s start old new behind.1
+  pub life : keeps → let behind = run_behind keeps (machine_at_start s start) now input before written end run
+      in IsLife s start old new behind.1
 
 -- So it was; or the device could not be opened. A crash while it is opened leaves what stands for the same, or is refused for the
 -- same fault.
-abbrev pub HasLived : Type 0 → Service → Medium → Medium → Result (Unit {0}) Fault → Option (List ℕ) → Option (List ℕ) → Option (List ℕ) → Option (List ℕ) → Type 0
+abbrev pub HasLived : Type 0 → Service → Medium → Medium → Result (Unit {0}) Fault → Option (List ℕ) → Option (List ℕ) → Option (List ℕ)
+    → Option (List ℕ) → Type 0
 HasLived keeps s old new (Err (Open fault)) input left before written = keeps → OpeningLeaves old new
 HasLived keeps s old new end input left before written =
     (ended : Result (Unit {0}) ServeFault) × (end ≡ as_told ended) × HasServedBy keeps s old new ended input left before written

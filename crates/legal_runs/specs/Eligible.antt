@@ -9,7 +9,8 @@ use Rattle.legal_runs.specs.World.{Entry, World, held, are_related_entries}
 
 -- Its place is related to that of no held message, and of no waiting one with a smaller ticket.
 abbrev pub is_clear : Geometry → World → Entry → Bool
-is_clear g w e = not (list_any (are_related_entries g e) (held w)) && not (list_any (λ d. nat_lt d.0 e.0 && are_related_entries g e d) w.waiting)
+is_clear g w e = not (list_any (are_related_entries g e) (held w))
+    && not (list_any (λ d. nat_lt d.0 e.0 && are_related_entries g e d) w.waiting)
 
 abbrev pub changes : Msg → Bool
 changes m = is_changing (kind m)

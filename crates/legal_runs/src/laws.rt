@@ -41,7 +41,8 @@ pub fn replies_are_in_log_order()
     ensures replied { (g : Geometry) (old : Hands) (events : List Event) → IsLegal g old events → IsSoundWorld g old.core
         → ticket_replies (went old events) ≡ told g old.core.settled (entries (went old events)) }
     ensures answered { (g : Geometry) (old : Hands) (events : List Event) → IsLegal g old events
-        → ticket_replies old.core.logged ++ ticket_replies (went old events) ≡ answered events ++ ticket_replies (last old events).core.logged }
+        → ticket_replies old.core.logged ++ ticket_replies (went old events)
+        ≡ answered events ++ ticket_replies (last old events).core.logged }
 {}
 
 /// The settled state is where the messages that a run logs lead, and where those of them lead that it

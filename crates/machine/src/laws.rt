@@ -37,7 +37,8 @@ pub fn lives_leave_what_was_answered()
 /// A run has ended. Whatever a crash leaves of its device now stands for where the log of the run leads, with the first m of
 /// the messages in doubt. Where no message was in the core at its start, that log begins with every change that was answered.
 pub fn a_crash_behind_a_run_leaves_what_was_answered()
-    ensures run { (start : MachineView) (events : List Event) (new : CoreView) (c : List ℕ) → IsSoundWorld start.core.geometry (world_of start.core)
+    ensures run { (start : MachineView) (events : List Event) (new : CoreView) (c : List ℕ)
+        → IsSoundWorld start.core.geometry (world_of start.core)
         → IsEndOfRun start events new → Leaves new.medium c
         → StandsForRun start.core.geometry (machine_of start) events (length events) c }
     ensures answered { (start : MachineView) (events : List Event) (new : CoreView) (c : List ℕ) → IsIdle (world_of start.core)

@@ -144,7 +144,8 @@ AreDigitsOf _ _ = ⊥
 
 -- The digits say so many bytes: one at least, and zeros behind those that have digits.
 abbrev pub SaysBytes : ℕ → List ℕ → List ℕ → Type 0
-SaysBytes size digits whole = (bytes : List ℕ) × AreDigitsOf digits bytes × (1 ≤ length bytes) × (length bytes ≤ size) × (whole ≡ padded size bytes)
+SaysBytes size digits whole = (bytes : List ℕ) × AreDigitsOf digits bytes × (1 ≤ length bytes) × (length bytes ≤ size)
+    × (whole ≡ padded size bytes)
 
 -- what stands behind the numbers of a message
 abbrev pub IsData : Msg → List (List ℕ) → Type 0

@@ -25,7 +25,8 @@ kind_number kinds.Summary = 12
 kind_number kinds.SetLabel = 13
 kind_number kinds.Label = 14
 
--- what stands before the data: a byte for the kind and for the aggregate, the volume and the file, two for the block with the lower one first, and two zeros
+-- what stands before the data: a byte for the kind and for the aggregate, the volume and the file, two for the block with the lower one
+-- first, and two zeros
 abbrev pub head_with : ℕ → List ℕ → List ℕ
 head_with k (a ∷ v ∷ f ∷ b ∷ []) = k ∷ a ∷ v ∷ f ∷ [] ++ little_bytes 2 b ++ 0 ∷ 0 ∷ []
 head_with k _ = []
@@ -76,5 +77,6 @@ assembled kinds.Label a v f b bytes = Label a v
 -- the message that the fields of 520 bytes say, whatever stands in those that it doesn't have
 unfoldable pub message_in_fields : List ℕ → Option Msg
 message_in_fields bytes =
-    option_map (λ k. assembled k (slice_index bytes 1) (slice_index bytes 2) (slice_index bytes 3) (little_number 2 (take 2 (drop 4 bytes))) (drop 8 bytes))
+    option_map (λ k. assembled k (slice_index bytes 1) (slice_index bytes 2) (slice_index bytes 3) (little_number 2 (take 2 (drop 4 bytes)))
+    (drop 8 bytes))
     (kind_numbered (slice_index bytes 0))

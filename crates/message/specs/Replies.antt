@@ -57,7 +57,8 @@ reply_text Done = codes "done"
 reply_text Hole = codes "hole"
 reply_text (Found content) = codes "block " ++ shown content.0
 reply_text (Files files) = codes "files" ++ files_text files
-reply_text (Usage files blocks sealed) = codes "usage" ++ spaced files ++ spaced blocks ++ (if sealed then codes " sealed" else codes " open")
+reply_text (Usage files blocks sealed) = codes "usage" ++ spaced files ++ spaced blocks
+    ++ (if sealed then codes " sealed" else codes " open")
 reply_text (Summary volumes files blocks) = codes "summary" ++ spaced volumes ++ spaced files ++ spaced blocks
 reply_text (Label bytes) = codes "label " ++ shown bytes
 reply_text (Refused why) = codes "error " ++ reason why

@@ -1,4 +1,5 @@
--- The output of a serial server, from any state on: one line for each line of the input. A server that runs messages at once is to write the same.
+-- The output of a serial server, from any state on: one line for each line of the input. A server that runs messages at once is to write
+-- the same.
 use Rattle.std.specs.Prelude.{◌≡◌, ◌≢◌, ℕ, List, [], ◌∷◌, ◌++◌, take, Option, Some, None}
 use Rattle.std.specs.Io.KnownBytes.{Appends}
 use Rattle.std.specs.List.{flat_map, AllByRecursion}
@@ -46,7 +47,8 @@ with_newlines ls = flat_map (λ line. line ++ 10 ∷ []) ls
 abbrev pub HasNoNewline : List ℕ → Type 0
 HasNoNewline bytes = AllByRecursion (λ b. b ≢ 10) bytes
 
--- What was taken of the input is some whole lines and a beginning of a further one, and this is what is left of it: just the whole lines were answered, from a state on.
+-- What was taken of the input is some whole lines and a beginning of a further one, and this is what is left of it: just the whole lines
+-- were answered, from a state on.
 pub record AnswersWholeLines (g : Geometry) (start : State) (left : Option (List ℕ)) (input written : List ℕ) : Type 0 where
   pub whole : List (List ℕ)
   pub begun : List ℕ

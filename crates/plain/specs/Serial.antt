@@ -102,7 +102,8 @@ abbrev pub accepted_reply : Geometry → State → Msg → Reply
 accepted_reply g x (Read a v f b) = block_reply (x.blocks (a, v, f, b))
 accepted_reply g x (ListFiles a v) = Files (file_bits g x a v)
 accepted_reply g x (AskUsage a v) = Usage (file_count g x a v) (block_count g x a v) (x.sealed (a, v))
-accepted_reply g x AskSummary = Summary (over_volumes g (λ a v. one_if (x.made (a, v)))) (over_volumes g (file_count g x)) (over_volumes g (block_count g x))
+accepted_reply g x AskSummary = Summary (over_volumes g (λ a v. one_if (x.made (a, v)))) (over_volumes g (file_count g x))
+    (over_volumes g (block_count g x))
 accepted_reply g x (AskLabel a v) = Label (unwrap_or (x.labels (a, v)) no_label)
 accepted_reply g x _ = Done
 

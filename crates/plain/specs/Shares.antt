@@ -5,7 +5,8 @@ use Rattle.affinity.specs.Geometry.{group}
 use Rattle.affinity.specs.Path.{Path, begins, volume, logical, stripe, label}
 use Rattle.plain.specs.State.{State, VolumeKey, FileKey, BlockKey}
 
--- Where each fact lies: the marks of a volume at the volume, its files at its Volume Logical, its label at its Volume Label, a block at its stripe.
+-- Where each fact lies: the marks of a volume at the volume, its files at its Volume Logical, its label at its Volume Label, a block at its
+-- stripe.
 abbrev pub mark_home : VolumeKey → Path
 mark_home k = volume k.0 k.1
 

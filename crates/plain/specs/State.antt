@@ -100,7 +100,8 @@ over_volumes g f = sum_below g.aggregates (λ a. sum_below g.volumes (λ v. f a 
 
 -- ---- which states there are
 
--- All numbers are in range; only volumes that are made are sealed or have files, and each of them has a label; only files have blocks; a block is 512 bytes and a label 32; and no stripe has more blocks than its quota.
+-- All numbers are in range; only volumes that are made are sealed or have files, and each of them has a label; only files have blocks; a
+-- block is 512 bytes and a label 32; and no stripe has more blocks than its quota.
 pub record IsState (g : Geometry) (x : State) : Type 0 where
   pub made : (k : VolumeKey) → x.made k ≡ true → (k.0 < g.aggregates) × (k.1 < g.volumes)
   pub sealed : (k : VolumeKey) → x.sealed k ≡ true → x.made k ≡ true

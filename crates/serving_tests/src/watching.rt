@@ -209,7 +209,8 @@ pub fn serve_watched<T: Threads + Wait + Sync, R: Read, G: Gate + Sync>(
     requires works { core.failed ≡ false }
     requires few { plan.workers ≤ 64 }
     requires bytes { HasBytes torn }
-    ensures seen { All (IsHeld (record { core = core; places = plan.workers; input = R.remaining r.old; before = Some [] })) result.2.items }
+    ensures seen { All (IsHeld (record { core = core; places = plan.workers; input = R.remaining r.old; before = Some [] }))
+        result.2.items }
     ensures ends { MatchResult result.0
         (λ after. EndsSo core after (R.remaining r.old) (R.remaining r.new) (Some []) (Some result.1.items) (Ok tt))
         (λ e. EndsSo core e.core (R.remaining r.old) (R.remaining r.new) (Some []) (Some result.1.items) (Err e.fault)) }

@@ -30,7 +30,8 @@ StayMarked held waiting before after =
 
 -- The marks at all affinities related to this one are right.
 abbrev pub AreNearMarked : Geometry → Interval → List Turn → List Turn → List (Option Turn) → Type 0
-AreNearMarked g a held waiting marks = (b : Interval) → IsAffinity g b → are_related_intervals a b ≡ true → IsMarked held waiting marks b.number
+AreNearMarked g a held waiting marks = (b : Interval) → IsAffinity g b → are_related_intervals a b ≡ true
+    → IsMarked held waiting marks b.number
 
 -- the last rank of one that is there
 abbrev pub last_rank : ℕ

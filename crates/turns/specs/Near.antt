@@ -13,7 +13,8 @@ numbers_above g p = number g (take 0 p) ∷ number g (take 1 p) ∷ number g (ta
 
 -- A related affinity is one of those below it, itself, or one of those above it, whose numbers these are.
 abbrev pub AreAbove : Geometry → Interval → List ℕ → Type 0
-AreAbove g a above = (b : Interval) → IsAffinity g b → are_related_intervals a b ≡ (contains a b.number || list_any (λ n. n == b.number) above)
+AreAbove g a above = (b : Interval) → IsAffinity g b
+    → are_related_intervals a b ≡ (contains a b.number || list_any (λ n. n == b.number) above)
 
 -- whether it came before this ticket
 abbrev pub is_before : ℕ → Option Turn → Bool
