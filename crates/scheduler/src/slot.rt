@@ -19,7 +19,7 @@ pub(crate) const RAN: usize = 2;
 pub(crate) const LOGGED: usize = 3;
 
 /// A message that was taken in: its ticket, and where it belongs.
-#[derive(Clone, Copy, Debug, PartialEq, Eq)]
+#[derive(Clone, Copy)]
 pub(crate) struct Slot {
     pub(crate) ticket: u64,
     pub(crate) message: Msg,

@@ -23,7 +23,7 @@ use Rattle.serving.specs.Lines.{Line}
 use Rattle.serving.specs.Rows.{RowView, comes_next}
 use Rattle.serving.specs.Serve.{PromisesAll}
 use Rattle.serving.specs.Runs.{Holds, lent_hand, with_lent}
-use Rattle.serving.specs.Session.{EndsBy, HasGone, HasStopped, IsReady, IsServed, IsUnderWay, IsUnderWayFrom, SessionView, ReadsOrStops, machine, known_unless}
+use Rattle.serving.specs.Session.{EndsBy, HasGone, HasStopped, CanBegin, IsServed, IsUnderWay, IsUnderWayFrom, SessionView, ReadsOrStops, machine, known_unless}
 use Rattle.serving.specs.Telling.{Start, start_machine}
 use Rattle.serving.specs.declared.session.Stop.TheVariants as stops
 use Rattle.serving.specs.declared.server.ServeFault.{ServeFault}
@@ -210,7 +210,7 @@ module _ (keeps : Type 0) (s : Start) (desk : Desk) (row : RowView) (out : List 
 
 -- A call that may begin is under way.
 pub first_at : (keeps : Type 0) (o : Option Start) (core : CoreView) (desk : Desk) (row : RowView) (out : List ℕ) (left input told : Option (List ℕ))
-    (drained ended : Bool) (behind : Option (List ℕ)) (places : ℕ) → IsReady o core places input told row → (core.failed ≡ false → core.doubt ≡ [])
+    (drained ended : Bool) (behind : Option (List ℕ)) (places : ℕ) → CanBegin o core places input told row → (core.failed ≡ false → core.doubt ≡ [])
     → out ≡ [] → left ≡ input → drained ≡ false → ended ≡ false → desk.bench.slots ≡ places → desk.lent ≡ replicate places None
     → IsUnderWayFrom keeps o (record {
       core = core;

@@ -22,7 +22,7 @@ use Rattle.serving.specs.Reads.{IsTaken}
 use Rattle.serving.specs.Rows.{AreConsecutive, RowView, Says, comes_next, next_text, with_tickets}
 use Rattle.serving.specs.Runs.{Holds, IsQuiet, Passes, with_lent}
 use Rattle.atomic_table.specs.Seated.{TableId}
-use Rattle.serving.specs.Session.{HasGone, IsAt, HasStopped, IsStop, IsUnderWay, IsUnderWayFrom, SessionView, ReadsOrStops, machine, known_unless}
+use Rattle.serving.specs.Session.{HasGone, AreAtBench, HasStopped, IsStop, IsUnderWay, IsUnderWayFrom, SessionView, ReadsOrStops, machine, known_unless}
 use Rattle.serving.specs.Telling.{MayTell, Start, start_machine}
 use Rattle.serving.specs.declared.session.Stop.{Stop}
 use Rattle.serving.specs.declared.session.Stop.TheVariants as stops
@@ -401,7 +401,7 @@ module _ (keeps : Type 0) where
 
 -- ---- the bench
 
-pub at_still : (bench : Option TableId) (old new crew : TableId) → new ≡ old → IsAt bench old crew → IsAt bench new crew
+pub at_still : (bench : Option TableId) (old new crew : TableId) → new ≡ old → AreAtBench bench old crew → AreAtBench bench new crew
 at_still bench old new crew same at = record { same = same ∙ at.same; is = at.is ∙ ap (λ (b : TableId). Some b) (sym same) }
 
 -- ---- where it begins

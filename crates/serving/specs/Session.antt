@@ -103,7 +103,7 @@ IsUnderWayFrom keeps None p = ⊥
 IsUnderWayFrom keeps (Some s) p = IsUnderWay keeps s p
 
 -- A call may begin at this start: nothing is in the core, which works, and the row is empty and has no more places than it has slots.
-pub record IsReady (start : Option Start) (core : CoreView) (places : ℕ) (input told : Option (List ℕ)) (row : RowView) : Type 0 where
+pub record CanBegin (start : Option Start) (core : CoreView) (places : ℕ) (input told : Option (List ℕ)) (row : RowView) : Type 0 where
   pub is : start ≡ Some (record { core = core; places = places; input = input; before = told })
   pub idle : IsIdle (world_of core)
   pub works : core.failed ≡ false
@@ -111,7 +111,7 @@ pub record IsReady (start : Option Start) (core : CoreView) (places : ℕ) (inpu
   pub fits : row.slots ≤ core.slots
 
 -- The desk and those who work belong to this bench.
-pub record IsAt (bench : Option TableId) (desk crew : TableId) : Type 0 where
+pub record AreAtBench (bench : Option TableId) (desk crew : TableId) : Type 0 where
   pub same : desk ≡ crew
   pub is : bench ≡ Some desk
 

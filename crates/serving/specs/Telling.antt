@@ -24,9 +24,9 @@ pub record Start : Type 0 where
 abbrev pub start_machine : Start → MachineView
 start_machine s = with_lent s.core (replicate s.places None)
 
--- What was told since the start is on a device of these bytes. It is lines for the first lines of the input; each that took a ticket is in a
--- log with that reply; and the bytes stand for where the log leads from the state at the start, perhaps with more of the messages that
--- arrived. They are opened again.
+-- What was told since the start is on a device of these bytes. It is lines for the first lines of the input; each that took a ticket is
+-- in a log with that reply; and the bytes stand for where the log leads from the state at the start, perhaps with more of the messages
+-- that arrived. They are opened again.
 pub record HoldsTold (s : Start) (told : Option (List ℕ)) (bytes : List ℕ) : Type 0 where
   pub taken : List (List ℕ)
   pub first : AreFirst s.input taken

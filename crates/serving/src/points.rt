@@ -13,7 +13,7 @@ use message::Reply;
 use std::io::Read;
 
 /// When consistency points are due. A wrong count makes them at other times, which no contract forbids.
-#[derive(Clone, Copy, Debug, PartialEq, Eq)]
+#[derive(Clone, Copy)]
 pub(crate) struct Course {
     /// After how many records one is due; 0: only where the log has no room.
     every: u64,

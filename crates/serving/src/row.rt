@@ -12,7 +12,7 @@ use std::marker::Model;
 use std::ops::Range;
 
 /// What is known of a line that was read.
-#[derive(Clone, Copy, Debug, PartialEq, Eq)]
+#[derive(Clone, Copy)]
 pub enum Line {
     /// It is no message.
     NoMessage,

@@ -6,7 +6,7 @@ ghost use Rattle.scheduler.specs.Kept.{world_of};
 ghost use Rattle.serving.specs.Ends.{EndsSo};
 ghost use Rattle.serving.specs.Runs.{with_lent};
 ghost use Rattle.serving.specs.Serve.{HasBegun, HasEmptyLog, HasRunSo, RefusesNone};
-ghost use Rattle.serving.specs.Session.{IsReady};
+ghost use Rattle.serving.specs.Session.{CanBegin};
 
 use crate::crew::{Crew, Duty, with_workers};
 use crate::points::Course;
@@ -107,7 +107,7 @@ fn serve_lent<
 )
     requires reader { serving.reader.ghost_name ≡ N.name }
     requires at { B.bench ≡ Some desk.bench }
-    requires can_begin { IsReady L.start serving.core crew.bench.now.slots (R.remaining serving.reader.now) (L.told serving.teller)
+    requires can_begin { CanBegin L.start serving.core crew.bench.now.slots (R.remaining serving.reader.now) (L.told serving.teller)
         serving.buffers.row }
     requires input { 1101 ≤ vec_len serving.buffers.input }
     requires none_waits { serving.buffers.out ≡ [] }
@@ -164,9 +164,9 @@ impl<'a, D: Disk, R: Read, L: Teller<D>> Duty for Serving<'a, D, R, L> {
     ghost use Rattle.serving.specs.Ends.{EndsSo};
     ghost use Rattle.serving.specs.Runs.{with_lent};
     ghost use Rattle.serving.specs.Serve.{HasEmptyLog, HasRunSo, HasWorkers};
-    ghost use Rattle.serving.specs.Session.{IsReady};
+    ghost use Rattle.serving.specs.Session.{CanBegin};
 
-    ghost can_begin = { λ s places. IsReady L.start s.core places (R.remaining s.reader.now) (L.told s.teller) s.buffers.row
+    ghost can_begin = { λ s places. CanBegin L.start s.core places (R.remaining s.reader.now) (L.told s.teller) s.buffers.row
         × (1101 ≤ vec_len s.buffers.input) × (s.buffers.out ≡ []) };
 
     ghost gives = { λ s places end. (end.2.ghost_name ≡ s.reader.ghost_name)
@@ -374,7 +374,8 @@ fn serve_writer<
         (W.contents w.entry.now) (W.contents result.1.now) (Ok tt))
         (λ e. EndsSo core e.core (R.remaining r.old) (R.remaining r.new)
         (W.contents w.entry.now) (W.contents result.1.now) (Err e.fault)) }
-    ensures no_workers { MatchResult result.0 (λ _. RefusesNone setting.entry.workers (Ok tt)) (λ e. RefusesNone setting.entry.workers (Err e.fault)) }
+    ensures no_workers { MatchResult result.0 (λ _. RefusesNone setting.entry.workers (Ok tt))
+        (λ e. RefusesNone setting.entry.workers (Err e.fault)) }
     ensures emptied { IfOk result.0 (λ after. D.keeps → HasEmptyLog after) }
 {
     let Setting {

@@ -16,7 +16,7 @@ use std::sync::Wait;
 use workers::{DispatchSeat, Gate};
 
 /// Why a session reads no more.
-#[derive(Clone, Copy, Debug, PartialEq, Eq)]
+#[derive(Clone, Copy)]
 pub(crate) enum Stop {
     /// The input has ended.
     End,
@@ -29,7 +29,7 @@ pub(crate) enum Stop {
 }
 
 /// Why a session ends before it has answered what it has read.
-#[derive(Clone, Copy, Debug, PartialEq, Eq)]
+#[derive(Clone, Copy)]
 pub(crate) enum Halt {
     /// The device has failed.
     Device,
@@ -119,7 +119,7 @@ pub(crate) struct Session<'c, R: Read, E: Environment> {
 impl<'c, R: Read, E: Environment> Model for Session<'c, R, E> {
     ghost use Rattle.std.specs.Prelude.{Option};
     ghost use Rattle.message.specs.Reader.{has_ended, is_drained, source, unread};
-    ghost use Rattle.serving.specs.Session.{IsAt, IsUnderWayFrom, SessionView};
+    ghost use Rattle.serving.specs.Session.{AreAtBench, IsUnderWayFrom, SessionView};
 
     ghost Value = { SessionView };
 
@@ -149,5 +149,5 @@ impl<'c, R: Read, E: Environment> Model for Session<'c, R, E> {
       drained = is_drained s.lines;
       ended = has_ended s.lines;
       behind = R.remaining (source s.lines);
-    }) × IsAt E.bench s.desk.bench s.crew.bench.now };
+    }) × AreAtBench E.bench s.desk.bench s.crew.bench.now };
 }

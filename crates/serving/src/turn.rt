@@ -26,7 +26,7 @@ const LOOKS: usize = 32;
 
 /// What has come back in one turn, and what kept messages from going out. A wrong count makes a longer or a shorter batch, which
 /// no contract forbids.
-#[derive(Clone, Copy, Debug, PartialEq, Eq)]
+#[derive(Clone, Copy)]
 struct Batch {
     /// How many more messages may come back before what ran is logged.
     left: usize,
@@ -69,7 +69,7 @@ impl Batch {
 }
 
 /// What came of it where a message was to go out.
-#[derive(Clone, Copy, Debug, PartialEq, Eq)]
+#[derive(Clone, Copy)]
 enum Sent {
     /// The message went out, and its job is offered to the workers.
     Job,

@@ -19,6 +19,10 @@ pub record Desk : Type 0 where
 abbrev pub IsBench : TableId → Type 0
 IsBench z = (z.words ≡ z.slots + 3) × (z.slots ≤ 64)
 
+-- a seat at this table, which serves as a bench
+abbrev pub IsAtBench : TableId → TableId → Type 0
+IsAtBench table seat = (seat ≡ table) × IsBench table
+
 abbrev pub lent_of : View → List (Option JobView)
 lent_of (Dispatcher resting lent) = lent
 lent_of _ = []

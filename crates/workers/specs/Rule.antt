@@ -29,14 +29,17 @@ lent_at lent k = slice_index_or lent k None
 abbrev pub word_of : ℕ → ℕ
 word_of k = k + 3
 
--- How place k stands, by its word, by what is lent there and by its slot. The places below `resting` are yet to be readied: there the slot is still at home.
+-- How place k stands, by its word, by what is lent there and by its slot. The places below `resting` are yet to be readied: there the slot
+-- is still at home.
 pub data Stands (resting k word : ℕ) (lent : Option JobView) (home : Home) : Type 0 where
   is_empty : word ≡ 0 → lent ≡ None → (k < resting → home ≡ some None) → (resting ≤ k → home ≡ none) → Stands resting k word lent home
   is_offered : (job : JobView) → word ≡ 1 → lent ≡ Some job → home ≡ some (Some (Offered job)) → Stands resting k word lent home
   is_claimed : (job : JobView) → word ≡ 2 → lent ≡ Some job → home ≡ none → Stands resting k word lent home
-  is_answered : (job : JobView) (done : Done) → word ≡ 3 → lent ≡ Some job → home ≡ some (Some (Answered done)) → IsJobRun job done → Stands resting k word lent home
+  is_answered : (job : JobView) (done : Done) → word ≡ 3 → lent ≡ Some job → home ≡ some (Some (Answered done)) → IsJobRun job done
+      → Stands resting k word lent home
 
--- There is one dispatcher, which knows what is lent. A worker that has claimed a place has the job that is lent there, and no other has claimed it.
+-- There is one dispatcher, which knows what is lent. A worker that has claimed a place has the job that is lent there, and no other has
+-- claimed it.
 pub record BenchRule (s : Board) : Type 0 where
   pub desk : ℕ
   pub resting : ℕ
@@ -45,6 +48,9 @@ pub record BenchRule (s : Board) : Type 0 where
   pub row : length lent ≡ length s.homes
   pub dispatcher : get_elem? s.views desk ≡ some (Dispatcher resting lent)
   pub no_other : (seat r : ℕ) (l : LentRow) → get_elem? s.views seat ≡ some (Dispatcher r l) → seat ≡ desk
-  pub claims : (seat k : ℕ) (job : JobView) → get_elem? s.views seat ≡ some (Claimed k job) → (slice_index s.words (word_of k) ≡ 2) × (lent_at lent k ≡ Some job)
-  pub one_claim : (seat other k : ℕ) (job job' : JobView) → get_elem? s.views seat ≡ some (Claimed k job) → get_elem? s.views other ≡ some (Claimed k job') → seat ≡ other
-  pub places : (k : ℕ) (home : Home) → get_elem? s.homes k ≡ some home → Stands resting k (slice_index s.words (word_of k)) (lent_at lent k) home
+  pub claims : (seat k : ℕ) (job : JobView) → get_elem? s.views seat ≡ some (Claimed k job)
+      → (slice_index s.words (word_of k) ≡ 2) × (lent_at lent k ≡ Some job)
+  pub one_claim : (seat other k : ℕ) (job job' : JobView) → get_elem? s.views seat ≡ some (Claimed k job)
+      → get_elem? s.views other ≡ some (Claimed k job') → seat ≡ other
+  pub places : (k : ℕ) (home : Home) → get_elem? s.homes k ≡ some home
+      → Stands resting k (slice_index s.words (word_of k)) (lent_at lent k) home

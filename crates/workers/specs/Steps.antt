@@ -40,7 +40,8 @@ Delivers m w = w ≡ (Idle, rest m.1)
 -- a try: the slot with the result of the job that is lent is taken, or nothing changes
 abbrev pub Collects : ℕ → Sat → ℕ → Sat → Type 0
 Collects k m found w =
-    (found ≡ 3 → (job : JobView) × (done : Done) × (lent_at (lent_of m.0) k ≡ Some job) × IsJobRun job done × (w ≡ (Dispatcher 0 (slice_set (lent_of m.0) k None), (k, Some (Answered done)) ∷ m.1)))
+    (found ≡ 3 → (job : JobView) × (done : Done) × (lent_at (lent_of m.0) k ≡ Some job) × IsJobRun job done
+    × (w ≡ (Dispatcher 0 (slice_set (lent_of m.0) k None), (k, Some (Answered done)) ∷ m.1)))
     × (found ≢ 3 → w ≡ m)
 
 -- a step on the word of a place tells what its kind tells of that place

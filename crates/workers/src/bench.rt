@@ -3,7 +3,7 @@ ghost use Rattle.std.specs.Prelude.{◌≡◌, ℕ, ◌+◌, ◌<◌, ◌≤◌,
 ghost use Rattle.atomic_table.specs.Table.{rest};
 ghost use Rattle.parcel.specs.Run.{JobView, IsJobRun};
 ghost use Rattle.workers.specs.Rule.{LentRow, lent_at};
-ghost use Rattle.workers.specs.Desk.{IsBench, IsDesk, IsWon, lent_of, spare};
+ghost use Rattle.workers.specs.Desk.{IsAtBench, IsBench, IsDesk, IsWon, lent_of, spare};
 ghost use Rattle.workers.specs.declared.tray.Load.TheVariants.{Answered};
 ghost use Rattle.workers.specs.declared.seats.View.TheVariants.{Dispatcher};
 
@@ -63,7 +63,8 @@ impl Bench {
     pub fn offer(&self, seat: &mut DispatchSeat, k: usize, job: Job) -> Result<(), Job>
         requires { (seat.old.bench ≡ self.now) × (k < self.now.slots) }
         ensures bench { seat.new.bench ≡ seat.old.bench }
-        ensures answer { MatchOption (lent_at seat.old.lent k) ((result ≡ Ok tt) × (seat.new.lent ≡ slice_set seat.old.lent k (Some job))) (λ _. (result ≡ Err job) × (seat.new ≡ seat.old)) }
+        ensures answer { MatchOption (lent_at seat.old.lent k)
+            ((result ≡ Ok tt) × (seat.new.lent ≡ slice_set seat.old.lent k (Some job))) (λ _. (result ≡ Err job) × (seat.new ≡ seat.old)) }
     {
         if seat.lent[k] {
             return Err(job);
@@ -79,7 +80,8 @@ impl Bench {
     pub fn collect(&self, seat: &mut DispatchSeat, k: usize) -> Option<Done>
         requires { (seat.old.bench ≡ self.now) × (k < self.now.slots) }
         ensures bench { seat.new.bench ≡ seat.old.bench }
-        ensures some { IfSome result (λ done. (job : JobView) × (lent_at seat.old.lent k ≡ Some job) × IsJobRun job done × (seat.new.lent ≡ slice_set seat.old.lent k None)) }
+        ensures some { IfSome result (λ done. (job : JobView) × (lent_at seat.old.lent k ≡ Some job) × IsJobRun job done
+            × (seat.new.lent ≡ slice_set seat.old.lent k None)) }
         ensures none { IfNone result (seat.new ≡ seat.old) }
     {
         let words = &self.table.shared;
@@ -140,7 +142,7 @@ fn seat_workers(
     seat: &mut Seat,
     workers: usize,
 ) -> Result<Vec<WorkSeat>, AllocError>
-    requires { (seat.old.table_id ≡ words.now.table_id) × IsBench words.now.table_id }
+    requires { IsAtBench words.now.table_id seat.old.table_id }
     ensures desk { (seat.new.table_id ≡ seat.old.table_id) × (seat.new.me ≡ seat.old.me) }
     ensures workers { IfOk result (λ seats. (vec_len seats ≡ workers) × All (λ w. w ≡ words.now.table_id) seats.items) }
 {
@@ -154,7 +156,7 @@ fn seat_workers(
 
 // Takes the slots of all places, from the last one down, so that they lie in order.
 fn ready_all(words: &Words, seat: &mut Seat, places: usize)
-    requires bench { (seat.old.table_id ≡ words.now.table_id) × IsBench words.now.table_id }
+    requires bench { IsAtBench words.now.table_id seat.old.table_id }
     requires places { places ≡ words.now.table_id.slots }
     requires seat { seat.old.me ≡ (Dispatcher places (replicate places None), []) }
     ensures bench { seat.new.table_id ≡ seat.old.table_id }

@@ -5,7 +5,7 @@ ghost use Rattle.atomic_table.specs.Table.{rest};
 ghost use Rattle.parcel.specs.Run.{JobView, IsJobRun};
 ghost use Rattle.parcel.specs.declared.job.Done.{Done as TheDone};
 ghost use Rattle.workers.specs.Rule.{LentRow, BenchRule, lent_at};
-ghost use Rattle.workers.specs.Desk.{IsBench, lent_of, idle};
+ghost use Rattle.workers.specs.Desk.{IsAtBench, IsBench, lent_of, idle};
 ghost use Rattle.workers.specs.Steps.{job_on, Readies, Offers, Claims, Delivers, Collects, OfPlace};
 ghost use Rattle.workers.specs.declared.tray.Load.TheVariants.{Offered, Answered};
 ghost use Rattle.workers.specs.declared.seats.View.TheVariants.{Dispatcher, Idle, Claimed};
@@ -77,7 +77,7 @@ impl Play<Tray, View> for Aside {
 
 /// Splits a worker's seat off the dispatcher's.
 pub fn split(words: &Words, seat: &mut Seat) -> Seat
-    requires { (seat.old.table_id ≡ words.now.table_id) × IsBench words.now.table_id }
+    requires { IsAtBench words.now.table_id seat.old.table_id }
     ensures dispatcher { (seat.new.table_id ≡ seat.old.table_id) × (seat.new.me ≡ seat.old.me) }
     ensures worker { (result.table_id ≡ seat.old.table_id) × (result.me ≡ idle) }
 {
@@ -86,7 +86,7 @@ pub fn split(words: &Words, seat: &mut Seat) -> Seat
 
 /// Takes the slot of a place that was yet to be readied: the last of these.
 pub fn ready(words: &Words, seat: &mut Seat, k: usize)
-    requires bench { (seat.old.table_id ≡ words.now.table_id) × IsBench words.now.table_id }
+    requires bench { IsAtBench words.now.table_id seat.old.table_id }
     requires place { k < words.now.table_id.slots }
     requires resting { (lent : LentRow) × (held : _) × (seat.old.me ≡ (Dispatcher (k + 1) lent, held)) × (lent_at lent k ≡ None) }
     ensures bench { seat.new.table_id ≡ seat.old.table_id }
@@ -97,9 +97,10 @@ pub fn ready(words: &Words, seat: &mut Seat, k: usize)
 
 /// Offers the job in the slot that the dispatcher's seat took last, which goes home.
 pub fn offer(words: &Words, seat: &mut Seat, k: usize)
-    requires bench { (seat.old.table_id ≡ words.now.table_id) × IsBench words.now.table_id }
+    requires bench { IsAtBench words.now.table_id seat.old.table_id }
     requires place { k < words.now.table_id.slots }
-    requires job { (lent : LentRow) × (job : JobView) × (held : _) × (seat.old.me ≡ (Dispatcher 0 lent, (k, Some (Offered job)) ∷ held)) × (lent_at lent k ≡ None) }
+    requires job { (lent : LentRow) × (job : JobView) × (held : _) × (seat.old.me ≡ (Dispatcher 0 lent, (k, Some (Offered job)) ∷ held))
+        × (lent_at lent k ≡ None) }
     ensures bench { seat.new.table_id ≡ seat.old.table_id }
     ensures lent { Offers k seat.old.me seat.new.me }
 {
@@ -108,7 +109,7 @@ pub fn offer(words: &Words, seat: &mut Seat, k: usize)
 
 /// Takes the job of a place if it still has one that nobody claimed. One try.
 pub fn claim(words: &Words, seat: &mut Seat, k: usize) -> bool
-    requires bench { (seat.old.table_id ≡ words.now.table_id) × IsBench words.now.table_id }
+    requires bench { IsAtBench words.now.table_id seat.old.table_id }
     requires place { k < words.now.table_id.slots }
     requires idle { seat.old.me ≡ idle }
     ensures bench { seat.new.table_id ≡ seat.old.table_id }
@@ -120,9 +121,10 @@ pub fn claim(words: &Words, seat: &mut Seat, k: usize) -> bool
 
 /// Delivers the result in the slot of the place that the seat has claimed.
 pub fn deliver(words: &Words, seat: &mut Seat, k: usize)
-    requires bench { (seat.old.table_id ≡ words.now.table_id) × IsBench words.now.table_id }
+    requires bench { IsAtBench words.now.table_id seat.old.table_id }
     requires place { k < words.now.table_id.slots }
-    requires result { (job : JobView) × (done : TheDone) × (seat.old.me ≡ (Claimed k job, (k, Some (Answered done)) ∷ [])) × IsJobRun job done }
+    requires result { (job : JobView) × (done : TheDone) × (seat.old.me ≡ (Claimed k job, (k, Some (Answered done)) ∷ []))
+        × IsJobRun job done }
     ensures bench { seat.new.table_id ≡ seat.old.table_id }
     ensures idle { seat.new.me ≡ idle }
 {
@@ -131,11 +133,12 @@ pub fn deliver(words: &Words, seat: &mut Seat, k: usize)
 
 /// Takes the result of a place if it was delivered. One try.
 pub fn collect(words: &Words, seat: &mut Seat, k: usize) -> bool
-    requires bench { (seat.old.table_id ≡ words.now.table_id) × IsBench words.now.table_id }
+    requires bench { IsAtBench words.now.table_id seat.old.table_id }
     requires place { k < words.now.table_id.slots }
     requires desk { (lent : LentRow) × (held : _) × (seat.old.me ≡ (Dispatcher 0 lent, held)) }
     ensures bench { seat.new.table_id ≡ seat.old.table_id }
-    ensures won { IsTrue result → (job : JobView) × (done : TheDone) × (lent_at (lent_of seat.old.me.0) k ≡ Some job) × IsJobRun job done × (seat.new.me ≡ (Dispatcher 0 (slice_set (lent_of seat.old.me.0) k None), (k, Some (Answered done)) ∷ seat.old.me.1)) }
+    ensures won { IsTrue result → (job : JobView) × (done : TheDone) × (lent_at (lent_of seat.old.me.0) k ≡ Some job) × IsJobRun job done
+        × (seat.new.me ≡ (Dispatcher 0 (slice_set (lent_of seat.old.me.0) k None), (k, Some (Answered done)) ∷ seat.old.me.1)) }
     ensures lost { IsFalse result → seat.new.me ≡ seat.old.me }
 {
     words.compare_exchange::<Collecting>(seat, k + FIRST_PLACE, ANSWERED, EMPTY) == ANSWERED
@@ -144,7 +147,7 @@ pub fn collect(words: &Words, seat: &mut Seat, k: usize) -> bool
 /// Counts a ring of the bell of the offers, or a worker that sleeps there or got up. Gives what the
 /// bell was.
 pub fn count(words: &Words, seat: &mut Seat, added: u64) -> u64
-    requires { (seat.old.table_id ≡ words.now.table_id) × IsBench words.now.table_id }
+    requires { IsAtBench words.now.table_id seat.old.table_id }
     ensures { (seat.new.table_id ≡ seat.old.table_id) × (seat.new.me ≡ seat.old.me) }
 {
     words.fetch_add::<Aside>(seat, OFFERS, added)
@@ -152,7 +155,7 @@ pub fn count(words: &Words, seat: &mut Seat, added: u64) -> u64
 
 /// Sets the bell of the deliveries, and gives what it was.
 pub fn set_bell(words: &Words, seat: &mut Seat, new: u64) -> u64
-    requires { (seat.old.table_id ≡ words.now.table_id) × IsBench words.now.table_id }
+    requires { IsAtBench words.now.table_id seat.old.table_id }
     ensures { (seat.new.table_id ≡ seat.old.table_id) × (seat.new.me ≡ seat.old.me) }
 {
     words.swap::<Aside>(seat, DELIVERIES, new)
@@ -160,7 +163,7 @@ pub fn set_bell(words: &Words, seat: &mut Seat, new: u64) -> u64
 
 /// Says at the bell of the deliveries that it is slept on, if it is quiet, and gives what it was. One try.
 pub fn lie_down(words: &Words, seat: &mut Seat) -> u64
-    requires { (seat.old.table_id ≡ words.now.table_id) × IsBench words.now.table_id }
+    requires { IsAtBench words.now.table_id seat.old.table_id }
     ensures { (seat.new.table_id ≡ seat.old.table_id) × (seat.new.me ≡ seat.old.me) }
 {
     words.compare_exchange::<Aside>(seat, DELIVERIES, QUIET, SLEPT_ON)
@@ -168,7 +171,7 @@ pub fn lie_down(words: &Words, seat: &mut Seat) -> u64
 
 /// Says by the stop word that the bench is stopped.
 pub fn close(words: &Words, seat: &mut Seat)
-    requires bench { (seat.old.table_id ≡ words.now.table_id) × IsBench words.now.table_id }
+    requires bench { IsAtBench words.now.table_id seat.old.table_id }
     ensures { (seat.new.table_id ≡ seat.old.table_id) × (seat.new.me ≡ seat.old.me) }
 {
     words.store::<Aside>(seat, STOP, 1);
@@ -188,7 +191,8 @@ pub fn lay_job(words: &Words, seat: &mut Seat, k: usize, job: Job)
 /// Takes the job out of the slot that the seat took last.
 #[inline(always)]
 pub fn take_job(words: &Words, seat: &mut Seat, k: usize) -> Job
-    requires { (seat.old.table_id ≡ words.now.table_id) × ((job : JobView) × (seat.old.me.1 ≡ (k, Some (Offered job)) ∷ rest seat.old.me.1)) }
+    requires { (seat.old.table_id ≡ words.now.table_id)
+        × ((job : JobView) × (seat.old.me.1 ≡ (k, Some (Offered job)) ∷ rest seat.old.me.1)) }
     ensures bench { seat.new.table_id ≡ seat.old.table_id }
     ensures job { seat.old.me.1 ≡ (k, Some (Offered result)) ∷ rest seat.old.me.1 }
     ensures slot { seat.new.me ≡ (seat.old.me.0, (k, None) ∷ rest seat.old.me.1) }
@@ -211,7 +215,8 @@ pub fn lay_result(words: &Words, seat: &mut Seat, k: usize, done: Done)
 /// Takes the result out of the slot that the seat took last.
 #[inline(always)]
 pub fn take_result(words: &Words, seat: &mut Seat, k: usize) -> Done
-    requires { (seat.old.table_id ≡ words.now.table_id) × ((done : TheDone) × (seat.old.me.1 ≡ (k, Some (Answered done)) ∷ rest seat.old.me.1)) }
+    requires { (seat.old.table_id ≡ words.now.table_id)
+        × ((done : TheDone) × (seat.old.me.1 ≡ (k, Some (Answered done)) ∷ rest seat.old.me.1)) }
     ensures bench { seat.new.table_id ≡ seat.old.table_id }
     ensures result { seat.old.me.1 ≡ (k, Some (Answered result)) ∷ rest seat.old.me.1 }
     ensures slot { seat.new.me ≡ (seat.old.me.0, (k, None) ∷ rest seat.old.me.1) }

@@ -33,7 +33,8 @@ impl Model for Tray {
 
     ghost view = { λ t. load_of t.jobs.items t.results.items };
 
-    ghost invariant = { λ t. (1 ≤ vec_capacity t.jobs) × (1 ≤ vec_capacity t.results) × (length t.jobs.items + length t.results.items ≤ 1) };
+    ghost invariant = { λ t. (1 ≤ vec_capacity t.jobs) × (1 ≤ vec_capacity t.results)
+        × (length t.jobs.items + length t.results.items ≤ 1) };
 }
 
 impl Tray {

@@ -1,6 +1,6 @@
 //! How either side waits for the other. Waiting and waking decide nothing.
 ghost use Rattle.std.specs.Prelude.{◌≡◌};
-ghost use Rattle.workers.specs.Desk.{IsBench};
+ghost use Rattle.workers.specs.Desk.{IsAtBench, IsBench};
 
 use crate::seats::Seat;
 use crate::steps::{self, Words};
@@ -20,7 +20,7 @@ const ROUNDS: usize = 16;
 
 /// Sleeps until the bell of the deliveries is rung, and quiets it.
 pub fn hear<R: Wait>(words: &Words, seat: &mut Seat, rt: &R)
-    requires { (seat.old.table_id ≡ words.now.table_id) × IsBench words.now.table_id }
+    requires { IsAtBench words.now.table_id seat.old.table_id }
     ensures { (seat.new.table_id ≡ seat.old.table_id) × (seat.new.me ≡ seat.old.me) }
 {
     for _ in rt.forever() {
@@ -34,7 +34,7 @@ pub fn hear<R: Wait>(words: &Words, seat: &mut Seat, rt: &R)
 
 /// Rings the bell of the deliveries, and wakes the dispatcher if it sleeps there: whether it did.
 pub fn tell(words: &Words, seat: &mut Seat) -> bool
-    requires { (seat.old.table_id ≡ words.now.table_id) × IsBench words.now.table_id }
+    requires { IsAtBench words.now.table_id seat.old.table_id }
     ensures { (seat.new.table_id ≡ seat.old.table_id) × (seat.new.me ≡ seat.old.me) }
 {
     let slept = steps::set_bell(words, seat, RUNG) == SLEPT_ON;
@@ -81,7 +81,7 @@ fn is_rung_soon(words: &Words, heard: u32) -> bool
 
 /// Looks on for a while, and then sleeps, for as long as the bell of the offers was rung just so often.
 pub fn look_on<R: Wait>(words: &Words, seat: &mut Seat, rt: &R, heard: u32)
-    requires { (seat.old.table_id ≡ words.now.table_id) × IsBench words.now.table_id }
+    requires { IsAtBench words.now.table_id seat.old.table_id }
     ensures { (seat.new.table_id ≡ seat.old.table_id) × (seat.new.me ≡ seat.old.me) }
 {
     steps::count(words, seat, LOOKER);
@@ -94,7 +94,7 @@ pub fn look_on<R: Wait>(words: &Words, seat: &mut Seat, rt: &R, heard: u32)
 
 /// Sleeps on the bell of the offers for as long as it was rung just so often, and adds this to it before.
 pub fn sleep<R: Wait>(words: &Words, seat: &mut Seat, rt: &R, heard: u32, counted: u64)
-    requires { (seat.old.table_id ≡ words.now.table_id) × IsBench words.now.table_id }
+    requires { IsAtBench words.now.table_id seat.old.table_id }
     ensures { (seat.new.table_id ≡ seat.old.table_id) × (seat.new.me ≡ seat.old.me) }
 {
     if rings(steps::count(words, seat, counted)) == heard {

@@ -1,7 +1,7 @@
 //! What a worker does.
 ghost use Rattle.std.specs.Prelude.{◌≡◌, ℕ, ◌<◌, [], ◌∷◌, Some, All};
 ghost use Rattle.parcel.specs.Run.{JobView};
-ghost use Rattle.workers.specs.Desk.{IsBench, idle};
+ghost use Rattle.workers.specs.Desk.{IsAtBench, IsBench, idle};
 ghost use Rattle.workers.specs.declared.tray.Load.TheVariants.{Offered};
 ghost use Rattle.workers.specs.declared.seats.View.TheVariants.{Claimed};
 
@@ -17,7 +17,7 @@ use std::sync::Wait;
 use std::thread::{Scope, Threads};
 
 /// What came of one try of each place.
-#[derive(Clone, Copy, Debug, PartialEq, Eq)]
+#[derive(Clone, Copy, PartialEq, Eq)]
 enum Round {
     /// No job could be claimed.
     Idle,
@@ -106,7 +106,7 @@ fn call_another(words: &Words, k: usize, places: usize)
 
 // Tries each place once, and does the jobs that it could claim.
 fn serve_round<G: Gate>(words: &Words, seat: &mut Seat, places: usize, gate: &G) -> Round
-    requires bench { (seat.old.table_id ≡ words.now.table_id) × IsBench words.now.table_id }
+    requires bench { IsAtBench words.now.table_id seat.old.table_id }
     requires places { places ≡ words.now.table_id.slots }
     requires idle { seat.old.me ≡ idle }
     ensures { (seat.new.table_id ≡ seat.old.table_id) × (seat.new.me ≡ idle) }
@@ -129,7 +129,7 @@ fn serve_place<G: Gate>(
     places: usize,
     gate: &G,
 ) -> Option<bool>
-    requires bench { (seat.old.table_id ≡ words.now.table_id) × IsBench words.now.table_id }
+    requires bench { IsAtBench words.now.table_id seat.old.table_id }
     requires place { (k < places) × (places ≡ words.now.table_id.slots) }
     requires idle { seat.old.me ≡ idle }
     ensures { (seat.new.table_id ≡ seat.old.table_id) × (seat.new.me ≡ idle) }
@@ -147,7 +147,7 @@ fn serve_place<G: Gate>(
 // Runs the job of the place that the seat has claimed, and delivers its result. Says whether the
 // dispatcher slept.
 fn answer<G: Gate>(words: &Words, seat: &mut Seat, k: usize, gate: &G) -> bool
-    requires bench { (seat.old.table_id ≡ words.now.table_id) × IsBench words.now.table_id }
+    requires bench { IsAtBench words.now.table_id seat.old.table_id }
     requires place { k < words.now.table_id.slots }
     requires claimed { (job : JobView) × (seat.old.me ≡ (Claimed k job, (k, Some (Offered job)) ∷ [])) }
     ensures { (seat.new.table_id ≡ seat.old.table_id) × (seat.new.me ≡ idle) }

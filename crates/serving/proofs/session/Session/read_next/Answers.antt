@@ -6,7 +6,7 @@ use Rattle.message.specs.declared.reading.Found.{Found}
 use Rattle.serving.specs.Lines.{NoMessage}
 use Rattle.serving.specs.Reads.{stop_of}
 use Rattle.serving.specs.Runs.{lent_hand}
-use Rattle.serving.specs.Session.{IsAt, IsUnderWayFrom, SessionView}
+use Rattle.serving.specs.Session.{AreAtBench, IsUnderWayFrom, SessionView}
 use Rattle.serving.specs.declared.session.Stop.{Stop}
 use Rattle.serving.specs.declared.session.Stop.TheVariants as stops
 use Rattle.serving.proofs.Stopping.{stops_at_refusal}
@@ -79,7 +79,7 @@ invariant_of-self-in-Err-take_line g c =
       drained = is_drained n;
       ended = has_ended n;
       behind = rest (source n);
-    }) × IsAt g.E.Environment.bench f.desk.bench f.crew.bench.now) (sym c.stop_for-stop.ensures) (
+    }) × AreAtBench g.E.Environment.bench f.desk.bench f.crew.bench.now) (sym c.stop_for-stop.ensures) (
       on_stop g.E.Device.Disk.keeps _ c.take_line.new.core c.take_line.new.row (unread rest n) (is_drained n) (has_ended n) (rest (source n)) none c.in-Err-take_line.ensures.slots knows
           _ (stop_of why) u took.2.quiet took.3
           (stops_at_refusal g.E.Device.Disk.keeps _ _ left (unread rest n) (rest (source n)) (is_drained f.lines) c.line.result.now took.0 why took.1 found took.2
