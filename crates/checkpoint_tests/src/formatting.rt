@@ -1,10 +1,10 @@
 //! Devices that are made: their bytes, and what a crash leaves.
-ghost use Rattle.std.specs.Prelude.{◌<◌, IfOk};
-ghost use Rattle.disk.specs.Torn.{HasBytes};
+ghost use Rattle.std.specs.Prelude.{◌<◌};
 
 use affinity::Geometry;
 use checkpoint::{FormatFault, format};
-use disk::{MemDisk, Torn};
+use disk::MemDisk;
+use harness::{KINDS, torn};
 use std::alloc::{AllocError, Global};
 use std::process::Abort;
 use std::test::Fail;
@@ -27,20 +27,6 @@ const CALLS: [(usize, u64); 3] = [(0, 11), (1, 13), (2, 11)];
 
 pub(crate) fn holds(rt: &impl Abort, fact: bool) {
     assert!(rt; fact);
-}
-
-fn torn(alloc: Global, kind: usize) -> Result<Torn, AllocError>
-    ensures { IfOk result HasBytes }
-{
-    Ok(match kind {
-        0 => Torn::Old,
-        1 => Torn::New,
-        2 => Torn::Fill(0),
-        3 => Torn::Fill(1),
-        4 => Torn::Fill(77),
-        5 => Torn::Mixed(vec![in alloc; 1, 77, 1]?),
-        _ => Torn::Mixed(vec![in alloc; 0, 1]?),
-    })
 }
 
 /// Sets a byte, if there is one.
@@ -191,7 +177,7 @@ fn may_fail(
     } else {
         None
     };
-    for kind in 0..7 {
+    for kind in 0..KINDS {
         let (disk, fault) = left(alloc, which, stops, n, kind)?;
         holds(rt, fault == want);
         is_one_of(rt, disk.bytes(), &old, &new, fault.is_none());

@@ -2,6 +2,8 @@
 #![tactic(auto)]
 
 #[cfg(test)]
+mod again;
+#[cfg(test)]
 mod areas;
 #[cfg(test)]
 mod cores;
@@ -19,6 +21,8 @@ mod refusing;
 mod rows;
 #[cfg(test)]
 mod serial;
+#[cfg(test)]
+mod tickets;
 #[cfg(test)]
 mod trials;
 #[cfg(test)]

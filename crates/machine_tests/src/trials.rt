@@ -280,6 +280,25 @@ fn cuts_survive(rt: HostRuntime) -> Result<(), Fail> {
     Ok(())
 }
 
+/// A change is logged before a cut, and one between its beginning and its end.
+const BEHIND_A_CUT: [Act; 7] = [
+    Serve("makevol 0 0"),
+    Do(Step::Cut),
+    Serve("create 0 0 0"),
+    Do(Step::Piece),
+    Do(Step::Piece),
+    Do(Step::Piece),
+    Do(Step::Flip),
+];
+
+#[test]
+fn a_change_behind_a_cut_survives(rt: HostRuntime) -> Result<(), Fail> {
+    let list = List::new(rt.alloc(), SMALL, 1, 1, &BEHIND_A_CUT)?;
+    let calls = OPENING + 2 * LOG + CUT + 3 * PIECE + FLIP;
+    are(&rt, survives(rt.alloc(), list)?, (calls, 2));
+    Ok(())
+}
+
 /// How many steps a random list has.
 const RANDOM_STEPS: u32 = 100;
 

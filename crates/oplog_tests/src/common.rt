@@ -1,12 +1,12 @@
 //! What tests share: a small server with its log and its device, and assertions that are called with rows.
-ghost use Rattle.std.specs.Prelude.{◌≡◌, ◌<◌, ◌≤◌, false, length, IfOk, OnOk, IsTrue};
+ghost use Rattle.std.specs.Prelude.{◌≡◌, ◌<◌, ◌≤◌, false, length, OnOk, IsTrue};
 ghost use Rattle.disk.specs.Memory.{medium_of};
-ghost use Rattle.disk.specs.Torn.{HasBytes};
 ghost use Rattle.oplog.specs.Calls.{HasParts, IsReadyFor};
 ghost use Rattle.oplog.specs.Logged.{AreLogged, IsLogged};
 
 use affinity::{Geometry, changing, place_of};
-use disk::{Disk, MemDisk, Torn};
+use disk::{Disk, MemDisk};
+use harness::torn;
 use message::Msg;
 use oplog::layout::device_len;
 use oplog::{Halves, LogFault};
@@ -251,24 +251,6 @@ impl Server {
         }
         count
     }
-}
-
-/// How many kinds of crash `torn` knows.
-pub(crate) const KINDS: usize = 7;
-
-/// One of the kinds of crash.
-fn torn(alloc: Global, kind: usize) -> Result<Torn, AllocError>
-    ensures { IfOk result HasBytes }
-{
-    Ok(match kind {
-        0 => Torn::Old,
-        1 => Torn::New,
-        2 => Torn::Fill(0),
-        3 => Torn::Fill(1),
-        4 => Torn::Fill(77),
-        5 => Torn::Mixed(vec![in alloc; 1, 77, 1]?),
-        _ => Torn::Mixed(vec![in alloc; 0, 1]?),
-    })
 }
 
 pub(crate) fn holds(rt: &impl Abort, fact: bool) {

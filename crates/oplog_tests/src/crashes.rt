@@ -1,5 +1,6 @@
 //! Devices that fail or stop at each call, and crashes of every kind.
-use crate::common::{KINDS, Server, Way, counts, holds, same_messages};
+use crate::common::{Server, Way, counts, holds, same_messages};
+use harness::{KINDS, MIXED, NEW, OLD};
 use message::Msg;
 use std::alloc::Global;
 use std::process::Abort;
@@ -31,7 +32,7 @@ fn is_beginning(rt: &impl Abort, read: &[Msg], n: u64, kind: usize) {
     holds(rt, n > 6 || count == 0);
     holds(rt, n < 9 || count == 3);
     // The write of the gates failed, and they are 1, 77, 1.
-    holds(rt, n != 7 || kind != 5 || count == 1);
+    holds(rt, n != 7 || kind != MIXED || count == 1);
 }
 
 /// Taken in by a half of 128 records, these messages take `calls` calls of the device.
@@ -56,7 +57,7 @@ fn a_batch_is_four_calls(rt: HostRuntime) -> Result<(), Fail> {
 #[test]
 fn the_second_batch_may_be_lost(rt: HostRuntime) -> Result<(), Fail> {
     let many = vec![in rt.alloc(); Msg::Seal(0, 0); 70]?;
-    for (kind, wanted) in [(0, 64), (1, 70)] {
+    for (kind, wanted) in [(OLD, 64), (NEW, 70)] {
         let mut server = Server::new(rt.alloc(), 128)?;
         // The write of the second batch's gates fails.
         server.fails_at(11, true);

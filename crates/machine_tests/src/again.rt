@@ -1,0 +1,86 @@
+//! Calls that take memory, each made again where it was refused. A test passes with no request refused, or one of the call that it is
+//! about; where another one is refused it fails for want of memory, as what it works on can't be made.
+use crate::making::Row::{Arrives, Does, Serves};
+use crate::making::{Row, SMALL, goes_so, holds};
+use checkpoint::OpenFault;
+use disk::MemDisk;
+use harness::{Wrong, device_with};
+use legal_runs::{Outcome, PointRefusal, Step};
+use machine::Machine;
+use scheduler::Core;
+use std::alloc::Global;
+use std::process::Abort;
+use std::test::Fail;
+
+/// Where a device with a volume in its log isn't as it was formatted.
+const A_VOLUME: [(usize, u8); 2] = [(192, 1), (196, 1)];
+
+/// That volume is served by a machine to which nothing has happened before.
+const ITS_VOLUME: [Row; 4] = [
+    Does(Step::Piece, Outcome::PointRefused(PointRefusal::NotRunning)),
+    Serves("makevol 0 0", "error exists"),
+    Serves("create 0 0 0", "done"),
+    Arrives("list 0 0", Outcome::Ticket(2)),
+];
+
+/// Opens a device. Where memory is refused before the device had more than so many calls, it has its bytes, and the same call opens it.
+fn opened_again(
+    rt: &impl Abort,
+    alloc: Global,
+    device: MemDisk,
+    most_calls: u64,
+) -> Result<Core<MemDisk>, Wrong> {
+    let bytes = device.bytes().to_vec(alloc)?;
+    let refused = match Core::open(alloc, device, 2) {
+        Ok(core) => return Ok(core),
+        Err(e) => e,
+    };
+    let is_as_given = refused.disk.bytes() == bytes.as_slice();
+    holds(rt, refused.fault == OpenFault::OutOfMemory && is_as_given);
+    if refused.disk.calls() > most_calls {
+        return Err(Wrong::OutOfMemory);
+    }
+    Core::open(alloc, refused.disk, 2).map_err(|_| Wrong::OutOfMemory)
+}
+
+/// A machine with a core that was opened so answers as if no memory had been refused.
+fn serves_again(rt: &impl Abort, alloc: Global, most_calls: u64) -> Result<(), Wrong> {
+    let device = device_with(alloc, SMALL, &A_VOLUME)?;
+    let core = opened_again(rt, alloc, device, most_calls)?;
+    holds(rt, core.slots() == 2 && core.left().is_none());
+    let Ok(mut machine) = Machine::new(alloc, core, 1) else {
+        return Err(Wrong::OutOfMemory);
+    };
+    goes_so(rt, &mut machine, &ITS_VOLUME);
+    Ok(())
+}
+
+#[test]
+fn a_core_takes_its_own_memory_before_it_calls_the_device(rt: HostRuntime) -> Result<(), Fail> {
+    serves_again(&rt, rt.alloc(), 0)?;
+    Ok(())
+}
+
+#[test]
+fn a_core_is_opened_at_the_next_try(rt: HostRuntime) -> Result<(), Fail> {
+    // A sync, and a read of the header.
+    serves_again(&rt, rt.alloc(), 2)?;
+    Ok(())
+}
+
+#[test]
+fn a_machine_is_made_at_the_next_try(rt: HostRuntime) -> Result<(), Fail> {
+    let device = device_with(rt.alloc(), SMALL, &A_VOLUME)?;
+    let Ok(core) = Core::open(rt.alloc(), device, 2) else {
+        return Err(Wrong::OutOfMemory.into());
+    };
+    let mut machine = match Machine::new(rt.alloc(), core, 1) {
+        Ok(machine) => machine,
+        Err(e) => match Machine::new(rt.alloc(), e.core, 1) {
+            Ok(machine) => machine,
+            Err(_) => return Err(Wrong::OutOfMemory.into()),
+        },
+    };
+    goes_so(&rt, &mut machine, &ITS_VOLUME);
+    Ok(())
+}
