@@ -1,0 +1,5 @@
+use Rattle.std.proofs.Common.{length, sym, ◌∙◌, ap, length-take-le}
+use Rattle.journal.proofs.freezing.write_head.Goals as goal
+
+pub copy_from_slice-requires : goal.copy_from_slice-requires
+copy_from_slice-requires c = length-take-le 64 c.args.bytes.now c.requires ∙ sym (ap length c.head_of.ensures)
