@@ -43,14 +43,38 @@ fn opened_again(
     Core::open(alloc, refused.disk, 2).map_err(|_| Wrong::OutOfMemory)
 }
 
-/// A machine with a core that was opened so answers as if no memory had been refused.
-fn serves_again(rt: &impl Abort, alloc: Global, most_calls: u64) -> Result<(), Wrong> {
+/// A machine with one hand, or the core where memory is refused.
+fn machine_of(alloc: Global, core: Core<MemDisk>) -> Result<Machine<MemDisk>, Core<MemDisk>> {
+    match Machine::new(alloc, core, 1) {
+        Ok(machine) => Ok(machine),
+        Err(e) => Err(e.core),
+    }
+}
+
+/// The same, at the second try where the first one is refused.
+fn machine_made_again(alloc: Global, core: Core<MemDisk>) -> Result<Machine<MemDisk>, Wrong> {
+    match machine_of(alloc, core) {
+        Ok(machine) => Ok(machine),
+        Err(core) => machine_of(alloc, core).map_err(|_| Wrong::OutOfMemory),
+    }
+}
+
+/// A core that was opened so, where memory is refused before the device had more than so many calls.
+fn core_opened_again(
+    rt: &impl Abort,
+    alloc: Global,
+    most_calls: u64,
+) -> Result<Core<MemDisk>, Wrong> {
     let device = device_with(alloc, SMALL, &A_VOLUME)?;
     let core = opened_again(rt, alloc, device, most_calls)?;
     holds(rt, core.slots() == 2 && core.left().is_none());
-    let Ok(mut machine) = Machine::new(alloc, core, 1) else {
-        return Err(Wrong::OutOfMemory);
-    };
+    Ok(core)
+}
+
+/// A machine with that core answers as if no memory had been refused.
+fn serves_again(rt: &impl Abort, alloc: Global, most_calls: u64) -> Result<(), Wrong> {
+    let core = core_opened_again(rt, alloc, most_calls)?;
+    let mut machine = machine_of(alloc, core).map_err(|_| Wrong::OutOfMemory)?;
     goes_so(rt, &mut machine, &ITS_VOLUME);
     Ok(())
 }
@@ -71,16 +95,8 @@ fn a_core_is_opened_at_the_next_try(rt: HostRuntime) -> Result<(), Fail> {
 #[test]
 fn a_machine_is_made_at_the_next_try(rt: HostRuntime) -> Result<(), Fail> {
     let device = device_with(rt.alloc(), SMALL, &A_VOLUME)?;
-    let Ok(core) = Core::open(rt.alloc(), device, 2) else {
-        return Err(Wrong::OutOfMemory.into());
-    };
-    let mut machine = match Machine::new(rt.alloc(), core, 1) {
-        Ok(machine) => machine,
-        Err(e) => match Machine::new(rt.alloc(), e.core, 1) {
-            Ok(machine) => machine,
-            Err(_) => return Err(Wrong::OutOfMemory.into()),
-        },
-    };
+    let core = Core::open(rt.alloc(), device, 2).map_err(|_| Wrong::OutOfMemory)?;
+    let mut machine = machine_made_again(rt.alloc(), core)?;
     goes_so(&rt, &mut machine, &ITS_VOLUME);
     Ok(())
 }

@@ -90,6 +90,63 @@ fn turn(machine: &mut Machine<MemDisk>, book: &mut Book, hand: usize) -> Result<
     Ok(())
 }
 
+/// Makes random steps, and turns in which one message that waits or is held is answered at least.
+fn make_all(
+    machine: &mut Machine<MemDisk>,
+    book: &mut Book,
+    g: &Geometry,
+    numbers: (usize, usize),
+    seed: u64,
+) -> Result<(), AllocError> {
+    let (slots, hands) = numbers;
+    make_steps(machine, book, g, hands, seed)?;
+    for number in 0..slots.saturating_mul(hands) {
+        turn(machine, book, number % hands.max(1))?;
+    }
+    Ok(())
+}
+
+/// The device that a machine leaves to which this happens, on a new one.
+fn left_by(
+    alloc: Global,
+    book: &mut Book,
+    g: &Geometry,
+    machine: ([u16; 8], usize, usize),
+    seed: u64,
+) -> Result<MemDisk, Wrong> {
+    let (numbers, slots, hands) = machine;
+    let mut machine = machine_on(alloc, device_with(alloc, numbers, &[])?, slots, hands)?;
+    let made = make_all(&mut machine, book, g, (slots, hands), seed);
+    let device = machine.into_core().into_disk();
+    made?;
+    Ok(device)
+}
+
+/// Each message was answered as by a serial server that takes them by ticket: what that one then tells.
+fn told_by_ticket(
+    rt: &impl Abort,
+    alloc: Global,
+    book: &Book,
+    g: Geometry,
+    questions: &Questions,
+) -> Result<Vec<u8>, AllocError> {
+    let mut serial = Serial::new(alloc, g);
+    for (ticket, message) in book.messages.iter().enumerate() {
+        let reply = serial.answer(message)?;
+        holds(rt, book.has(ticket, reply));
+    }
+    serial.told(questions)
+}
+
+/// What a server tells that is opened on the device.
+fn told_on(alloc: Global, device: MemDisk, questions: &Questions) -> Result<Vec<u8>, Wrong> {
+    let (found, _) = find(alloc, device, questions)?;
+    match found {
+        FoundAgain::Tells(told) => Ok(told),
+        FoundAgain::Refuses(_) => Err(Wrong::Unfit),
+    }
+}
+
 /// Random messages are answered as by the serial server, and the device then stands for its state.
 fn are_answered_by_ticket(
     rt: &impl Abort,
@@ -97,29 +154,18 @@ fn are_answered_by_ticket(
     machine: ([u16; 8], usize, usize),
     seed: u64,
 ) -> Result<(), Wrong> {
-    let (numbers, slots, hands) = machine;
-    let Ok(g) = Geometry::new(numbers) else {
+    let Ok(g) = Geometry::new(machine.0) else {
         return Err(Wrong::Unfit);
     };
-    let mut machine = machine_on(alloc, device_with(alloc, numbers, &[])?, slots, hands)?;
+    let questions = Questions::new(alloc, &g)?;
     let mut book = Book {
         messages: Vec::new(alloc),
         answers: Vec::new(alloc),
     };
-    make_steps(&mut machine, &mut book, &g, hands, seed)?;
-    // In each row of turns one message that waits or is held is answered at least.
-    for number in 0..slots.saturating_mul(hands) {
-        turn(&mut machine, &mut book, number % hands.max(1))?;
-    }
+    let device = left_by(alloc, &mut book, &g, machine, seed)?;
+    let told = told_on(alloc, device, &questions)?;
     holds(rt, book.is_mixed());
-    let mut serial = Serial::new(alloc, g);
-    for (ticket, message) in book.messages.iter().enumerate() {
-        let reply = serial.answer(message)?;
-        holds(rt, book.has(ticket, reply));
-    }
-    let questions = Questions::new(alloc, &g)?;
-    let (found, _) = find(alloc, machine.into_core().into_disk(), &questions)?;
-    holds(rt, found == FoundAgain::Tells(serial.told(&questions)?));
+    holds(rt, told == told_by_ticket(rt, alloc, &book, g, &questions)?);
     Ok(())
 }
 

@@ -1,4 +1,8 @@
 //! What a client sees that crashes the device each time it is told lines.
+ghost use Rattle.std.specs.Prelude.{◌≡◌, false, IfOk};
+ghost use Rattle.legal_runs.specs.Laws.{IsIdle};
+ghost use Rattle.scheduler.specs.Kept.{world_of};
+
 use crate::noting::{Notes, Pieces};
 use crate::running::{SMALL, Way, holds, serve_lines, writes};
 use crate::watching::{Plan, Sight, serve_watched};
@@ -33,7 +37,10 @@ const FOUND: [&[u8]; 6] = [
 ];
 
 /// A new device, opened for two messages at once.
-fn opened(alloc: Global) -> Result<Core<MemDisk>, Wrong> {
+fn opened(alloc: Global) -> Result<Core<MemDisk>, Wrong>
+    ensures idle { IfOk result (λ core. IsIdle (world_of core)) }
+    ensures works { IfOk result (λ core. core.failed ≡ false) }
+{
     let device = device_with(alloc, SMALL, &[])?;
     match Core::open(alloc, device, 2) {
         Ok(core) => Ok(core),
@@ -63,13 +70,13 @@ fn finds<T: Threads + Wait + Sync + Abort>(
     Ok(())
 }
 
-/// A client sees so, where the device is torn in this way.
-fn sees<T: Threads + Wait + Sync + Abort>(
+/// Serves the lines with so many workers to a client that tears the device in this way: what it sees.
+fn seen<T: Threads + Wait + Sync + Abort>(
     rt: &T,
     alloc: Global,
     workers: usize,
     kind: usize,
-) -> Result<(), Wrong> {
+) -> Result<Vec<Sight>, Wrong> {
     let notes = Notes::new();
     let mut reader = Pieces {
         left: LINES,
@@ -77,6 +84,7 @@ fn sees<T: Threads + Wait + Sync + Abort>(
         fails: false,
         notes: &notes,
     };
+    let core = opened(alloc)?;
     let Ok(torn) = torn(alloc, kind) else {
         return Err(Wrong::OutOfMemory);
     };
@@ -84,25 +92,36 @@ fn sees<T: Threads + Wait + Sync + Abort>(
         workers: workers.min(64),
         every: 2,
     };
-    let core = opened(alloc)?;
-    let (ended, told, mut sights) = serve_watched(
-        rt,
-        alloc,
-        torn,
-        plan,
-        core,
-        &mut reader,
-        &OpenGate,
-    );
+    let (ended, told, sights) = serve_watched(rt, alloc, torn, plan, core, &mut reader, &OpenGate);
     holds(rt, ended.is_ok());
     writes(rt, told.as_slice(), ANSWERS);
-    holds(rt, sights.len() == 6);
+    Ok(sights)
+}
+
+/// Each of these sights has what it has to.
+fn find_all<T: Threads + Wait + Sync + Abort>(
+    rt: &T,
+    alloc: Global,
+    sights: &mut Vec<Sight>,
+) -> Result<(), Wrong> {
     for _ in 0..6 {
         if let Some(sight) = sights.pop() {
             finds(rt, alloc, sight)?;
         }
     }
     Ok(())
+}
+
+/// There is a sight for each line, and each has what it has to.
+fn sees<T: Threads + Wait + Sync + Abort>(
+    rt: &T,
+    alloc: Global,
+    workers: usize,
+    kind: usize,
+) -> Result<(), Wrong> {
+    let mut sights = seen(rt, alloc, workers, kind)?;
+    holds(rt, sights.len() == 6);
+    find_all(rt, alloc, &mut sights)
 }
 
 #[test]
