@@ -6,6 +6,8 @@
 //!     server make LOG BYTES          makes a log for so many bytes
 //!     server batch LOG LINES         serves with so many open lines
 //!     server stripe LOG LINES        the same, but a change keeps its stripe until it is logged
+//!     server twice LOG LINES         the same, and the head of a batch is written and synced behind its lines, as `waffd` does
+//!                                    with its records and gates
 //!     server floor DEVICE            what opening a device has to do at least: microseconds of reading half of it, writing
 //!                                    that back, and five syncs
 
@@ -28,6 +30,8 @@ struct Log {
     at: u64,
     size: u64,
     batch: Vec<u8>,
+    /// Whether the head of a batch is written behind its lines, each with a sync of its own.
+    is_twice: bool,
 }
 
 /// A checksum, by which a batch that is not whole is known.
@@ -46,7 +50,7 @@ impl Log {
     fn open(path: &str, server: &mut Server) -> io::Result<Log> {
         let file = OpenOptions::new().read(true).write(true).open(path)?;
         let size = file.metadata()?.len();
-        let mut log = Log { file, at: 0, size, batch: Vec::new() };
+        let mut log = Log { file, at: 0, size, batch: Vec::new(), is_twice: false };
         while log.read_batch()? {
             for line in log.batch[HEAD..].split(|byte| *byte == b'\n') {
                 server.answer(line, &mut io::sink())?;
@@ -95,7 +99,13 @@ impl Log {
         let len = (self.batch.len() - HEAD) as u64;
         self.batch[..8].copy_from_slice(&len.to_le_bytes());
         self.batch[8..HEAD].copy_from_slice(&sum);
-        self.file.write_all_at(&self.batch, self.at)?;
+        if self.is_twice {
+            self.file.write_all_at(&self.batch[HEAD..], self.at + HEAD as u64)?;
+            self.file.sync_data()?;
+            self.file.write_all_at(&self.batch[..HEAD], self.at)?;
+        } else {
+            self.file.write_all_at(&self.batch, self.at)?;
+        }
         self.file.sync_data()?;
         self.at += self.batch.len() as u64;
         self.begin();
@@ -307,14 +317,15 @@ fn main() -> io::Result<()> {
         ["floor", path] => return floor(path),
         ["make", path, size] => return make(path, size.parse().unwrap()),
         [how, path, open] => (*how, *path, open.parse().unwrap()),
-        _ => return Err(io::Error::other("server make|batch|stripe|floor FILE [NUMBER]")),
+        _ => return Err(io::Error::other("server make|batch|stripe|twice|floor FILE [NUMBER]")),
     };
     let mut server = Server::default();
     let mut log = Log::open(path, &mut server)?;
+    log.is_twice = how == "twice";
     let input = BufReader::with_capacity(1 << 20, io::stdin());
     let mut ends = Ends { input, out: BufWriter::with_capacity(1 << 16, io::stdout().lock()) };
     match how {
-        "stripe" => serve_stripes(&mut server, &mut log, &mut ends, open),
+        "stripe" | "twice" => serve_stripes(&mut server, &mut log, &mut ends, open),
         _ => serve_batches(&mut server, &mut log, &mut ends, open),
     }
 }
