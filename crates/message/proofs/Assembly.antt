@@ -1,5 +1,5 @@
 -- A line put together in the front of a buffer.
-use Rattle.std.proofs.Common.{◌≡◌, ℕ, true, false, codes, add-one, ◌+◌, ◌-◌, ◌*◌, ◌/◌, ◌^◌, ◌≤◌, List, [], ◌++◌, length, length-append, length-take, length-take-le, take, drop, refl, ap, sym, subst, ◌∙◌, arith}
+use Rattle.std.proofs.Common.{◌≡◌, ℕ, zero, suc, Bool, true, false, cond, eqb, codes, add-one, ◌+◌, ◌-◌, ◌*◌, ◌/◌, ◌^◌, ◌<◌, ◌≤◌, List, [], ◌++◌, length, length-append, length-take, length-take-le, take, drop, refl, ap, sym, subst, ◌∙◌, arith}
 use Rattle.std.proofs.lemmas.List.{append_assoc, take_at, drop_at, drop-drop, append-nil}
 use Rattle.std.specs.Prelude.{if◌then◌else◌}
 use Rattle.hex.specs.Hex.{encode_lower, lower_digits}
@@ -7,8 +7,10 @@ use Rattle.hex.proofs.HexLemmas.{length-encode_with}
 use Rattle.message.specs.Replies.{Appends, at_least_one, without_zeros, shown, has_file, spaced, files_below, files_text}
 use Rattle.std.specs.Int.{bit_at}
 use Rattle.std.specs.Prelude.{bit_and}
+use Rattle.std.proofs.Math.Nat.{div-lt_iff_lt-mul, one-mul}
 use Rattle.std.proofs.lemmas.Bool.{eq-eqb, ne_eqb}
-use Rattle.std.proofs.lemmas.Nat.Bits.{shr_and_one}
+use Rattle.std.proofs.lemmas.Nat.{pow_pos}
+use Rattle.std.proofs.lemmas.Nat.Bits.{bit_at_above, shr_and_one}
 use borrow.Rule.Slice.PartMut.{put_mid}
 
 -- a text behind a text
@@ -73,6 +75,22 @@ file_not_there files f h = ap (λ (text : List ℕ). codes "files" ++ text) (sym
 pub all_files : (files f : ℕ) → f ≡ 64 → codes "files" ++ files_below files f ≡ codes "files" ++ files_text files
 unfolding files_text
 all_files files f e = ap (λ n. codes "files" ++ files_below files n) e
+
+-- no file above a number below which all bits are
+none_above : (files f m n : ℕ) → n ≡ m + f → files < 2 ^ f → files_below files n ≡ files_below files f
+none_above files f zero n is low = let same : n ≡ f = omega (arith, is) in ap (files_below files) same
+none_above files f (suc m) n is low =
+    let next : n ≡ (m + f) + 1 = omega (arith, is) in
+    let none : has_file files (m + f) ≡ false = ap (λ (b : ℕ). eqb b 1) (bit_at_above files f (m + f) low (omega arith)) in
+    ap (files_below files) next ∙ files_more files (m + f) ∙ rw none (append-nil (files_below files (m + f))) ∙ none_above files f m (m + f) refl low
+
+pub files_end : (files f : ℕ) → f ≤ 64 → files / 2 ^ f ≡ 0 → codes "files" ++ files_below files f ≡ codes "files" ++ files_text files
+unfolding files_text
+files_end files f few none =
+    let all : 64 ≡ (64 - f) + f = omega (arith, few) in
+    let less = (div-lt_iff_lt-mul {k = 2 ^ f} {x = files} {y = 1} (pow_pos f)).0 (subst (λ (q : ℕ). q < 1) (sym none) (omega arith)) in
+    let low : files < 2 ^ f = subst (λ (n : ℕ). files < n) (one-mul (2 ^ f)) less in
+    ap (λ (text : List ℕ). codes "files" ++ text) (sym (none_above files f (64 - f) 64 all low))
 
 pub bit_there : (files f : ℕ) → bit_and (files / 2 ^ f) 1 ≡ 1 → has_file files f ≡ true
 bit_there files f h = eq-eqb (bit_at files f) 1 (sym (shr_and_one files f) ∙ h)

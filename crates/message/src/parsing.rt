@@ -3,7 +3,7 @@
 ghost use Rattle.std.specs.Prelude.{◌≡◌, ℕ, ◌<◌, ◌∷◌, [], ◌↔◌, length, slice_index, IsTrue, MatchOption, option_map};
 ghost use Rattle.message.specs.declared.Msg.{Msg};
 ghost use Rattle.message.specs.declared.Msg.TheVariants.{Write as write, SetLabel as set_label};
-ghost use Rattle.message.specs.Lines.{words, number_in_word, block_in_word, bytes_in_word};
+ghost use Rattle.message.specs.Lines.{words, number_in_word, bytes_in_word};
 ghost use Rattle.message.specs.Grammar.{message_of, Spells, first_number, of_kind, of_volume, of_file, of_block, of_data, of_label, kind_named};
 
 use crate::decoding::decode_to_slice;

@@ -1,8 +1,7 @@
 //! What a reply says.
 
-ghost use Rattle.std.specs.Prelude.{◌≡◌, ◌≤◌, ◌+◌, ◌*◌, length, take, drop, codes};
-ghost use Rattle.hex.specs.Hex.{encode_lower};
-ghost use Rattle.message.specs.Replies.{Appends, at_least_one, no_message, output_line, reply_line, reply_text, shown, spaced, without_zeros, reason};
+ghost use Rattle.std.specs.Prelude.{◌≡◌, ◌<◌, ◌≤◌, ◌+◌, ◌*◌, length, take, drop};
+ghost use Rattle.message.specs.Replies.{Appends, at_least_one, no_message, reply_line, reply_text, shown, spaced, without_zeros, reason};
 ghost use Rattle.message.specs.declared.Reply.TheVariants.{Block as block_reply, Files as files_reply, Usage as usage_reply, Summary as summary_reply};
 
 use crate::encoding::encode_to_slice;
@@ -101,6 +100,9 @@ fn write_files(files: u64, out: &mut [u8; 1031]) -> usize
 {
     let mut end = append(b"files", out, 0);
     for file in 0..64u32 {
+        if files >> file == 0 {
+            return end;
+        }
         if (files >> file) & 1 == 1 {
             end = append_number(file, out, end);
         }
@@ -144,6 +146,28 @@ fn append(text: &[u8], out: &mut [u8; 1031], at: usize) -> usize
 
 /// Writes a space and a number after the first `at` bytes, and gives where they end.
 fn append_number(n: u32, out: &mut [u8; 1031], at: usize) -> usize
+    requires { at + 11 ≤ 1031 }
+    ensures text { Appends out.old out.new at result (spaced n) }
+    ensures bound { result ≤ at + 11 }
+{
+    if n < 10 {
+        return append_digit(n as u8, out, at);
+    }
+    append_digits(n, out, at)
+}
+
+/// The same for a number of one digit, as most numbers of files are.
+fn append_digit(n: u8, out: &mut [u8; 1031], at: usize) -> usize
+    requires digit { n < 10 }
+    requires room { at + 11 ≤ 1031 }
+    ensures text { Appends out.old out.new at result (spaced n) }
+    ensures bound { result ≤ at + 11 }
+{
+    append(&[b' ', b'0' + n], out, at)
+}
+
+/// The same for any number.
+fn append_digits(n: u32, out: &mut [u8; 1031], at: usize) -> usize
     requires { at + 11 ≤ 1031 }
     ensures text { Appends out.old out.new at result (spaced n) }
     ensures bound { result ≤ at + 11 }

@@ -4,12 +4,12 @@ use Rattle.std.specs.Prelude.{IfSome}
 use Rattle.std.specs.Io.KnownBytes.{Appends, append_known}
 use Rattle.std.proofs.KnownBytes.{Appends-nil, Appends-trans}
 use Rattle.std.proofs.lemmas.List.Elements.{recursion_from_All}
-use Rattle.std.proofs.lemmas.Option.{none-some, same_Some, IfSome_then}
+use Rattle.std.proofs.lemmas.Option.{none-some, same_Some}
 use Rattle.std.proofs.lemmas.Bool.{true≢false}
 use Rattle.affinity.specs.declared.geometry.Geometry.{Geometry}
 use Rattle.message.specs.Lines.{lines}
 use Rattle.message.specs.Grammar.{message_of}
-use Rattle.message.specs.Reader.{GivesLine, PassesLine, IsClosed, IsAtEndOf, LosesFront}
+use Rattle.message.specs.Reader.{GivesLine, PassesLine, IsClosed, LosesFront}
 use Rattle.plain.specs.State.{State}
 use Rattle.plain.specs.Output.{answer_line, state_after_line, state_after_lines, output_lines, joined, serial_out, with_newlines, AnswersWholeLines, IsBeginning, WritesOutput}
 use Rattle.plain.specs.Progress.{HasAnswered}
@@ -119,10 +119,6 @@ module _ {g : Geometry} {start : State} {input left : Option (List ℕ)} {ended 
   -- nothing was left
   pub ends : HasAnswered g start input left ended x old new → IfSome left (λ bs. bs ≡ []) → WritesOutput input old new (λ bytes written. written ≡ serial_out g start bytes)
   ends h all = writes_all g start input left ended x old new h all
-
-  -- the end was found
-  pub ends_now : (now_left : Option (List ℕ)) → HasAnswered g start input left ended x old new → IfSome left (λ bs. IsAtEndOf bs now_left) → WritesOutput input old new (λ bytes written. written ≡ serial_out g start bytes)
-  ends_now now_left h at_end = ends h (IfSome_then left at_end (λ bs e. e.none))
 
   -- a read failed
   pub fails : (now_left : Option (List ℕ)) → HasAnswered g start input left ended x old new → ended ≡ false → IfSome left (λ bs. LosesFront bs now_left) → WritesOutput input old new (AnswersWholeLines g start now_left)

@@ -12,7 +12,7 @@ ghost use Rattle.plain.specs.ByKind.{reply_when};
 ghost use Rattle.plain.specs.State.{State, empty};
 ghost use Rattle.plain.specs.Server.{server_state, IsConsistent};
 ghost use Rattle.message.specs.Replies.{reply_line};
-ghost use Rattle.plain.specs.Serial.{reply_to, next_state};
+ghost use Rattle.plain.specs.Serial.{accepted_reply, reply_to, next_state};
 ghost use Rattle.plain.specs.Progress.{HasAnswered};
 ghost use Rattle.plain.specs.Output.{serial_out, answer_line, state_after_line, AnswersWholeLines, IsBeginning, WritesOutput};
 
@@ -121,8 +121,27 @@ fn answer_question(
     match kind {
         Kind::List => out.add_reply(&server.list_files(g, a, v)),
         Kind::Usage => out.add_reply(&server.usage_of(g, a, v)),
-        _ => out.add_reply(&server.reply_by(g, kind, numbers)),
+        _ => add_whole_reply(g, kind, numbers, server, out),
     }
+}
+
+/// Adds the reply to a message that changes nothing and passes its tests. It stands apart, so that
+/// no reply without a block takes the room of one that may have one.
+#[inline(never)]
+fn add_whole_reply(
+    g: &Geometry,
+    kind: Kind,
+    numbers: [u16; 4],
+    server: &Server,
+    out: &mut ReplyBuffer,
+)
+    requires asks { is_changing kind ≡ false }
+    requires sound { IsConsistent g.now server.now }
+    requires room { FitsReply out.old }
+    ensures { out.new ≡ out.old
+        ++ reply_line (accepted_reply g.now (server_state server.now) (asking kind numbers)) }
+{
+    out.add_reply(&server.reply_by(g, kind, numbers));
 }
 
 /// Answers a `write` with these numbers, of which these may be the digits.

@@ -1,6 +1,6 @@
 //! The serial server over a reader and a writer.
 
-ghost use Rattle.std.specs.Prelude.{◌≡◌, ◌≤◌, ℕ, List, Option, IfOk, OnOk, IsErrOf, vec_len};
+ghost use Rattle.std.specs.Prelude.{◌≡◌, ℕ, List, Option, IfOk, OnOk, IsErrOf, vec_len};
 ghost use Rattle.std.specs.Io.KnownBytes.{IsAtEnd};
 ghost use Rattle.plain.specs.State.{empty};
 ghost use Rattle.plain.specs.Output.{serial_out, AnswersWholeLines, IsBeginning, WritesOutput};

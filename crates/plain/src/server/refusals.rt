@@ -1,30 +1,25 @@
-//! Whether a message passes a test, and the first of its tests that it fails.
+//! The first of its tests that a message fails. `table` has the tests of each kind; they are made here without a loop over them.
 
-ghost use Rattle.std.specs.Prelude.{◌≡◌, ◌||◌, is_some, nat_lt};
+ghost use Rattle.std.specs.Prelude.{◌≡◌, ◌||◌, if◌then◌else◌, None, Some, is_some, nat_lt};
 ghost use Rattle.affinity.specs.Geometry.{group};
+ghost use Rattle.message.specs.declared.Refusal.TheVariants.{File, Sealed, Volume};
 ghost use Rattle.plain.specs.State.{group_count};
 ghost use Rattle.plain.specs.Serial.{refusal};
-ghost use Rattle.plain.specs.ByKind.{exists_by, passes_by, refusal_by};
+ghost use Rattle.plain.specs.ByKind.{refusal_by};
 ghost use Rattle.plain.specs.Server.{server_state, IsCounted};
 
 use super::Server;
-use crate::table::tests_by;
 use affinity::{Geometry, Kind, group_of, place_of};
 use message::{Msg, Refusal};
 
-impl Server {
-    /// Whether what the message makes is there already.
-    fn exists(&self, kind: Kind, numbers: [u16; 4]) -> bool
-        ensures { result ≡ exists_by (server_state self.now) kind numbers }
-    {
-        let [a, v, f, _] = numbers;
-        match kind {
-            Kind::MakeVol => self.has_volume(a, v),
-            Kind::Create => self.has_file(a, v, f),
-            _ => false,
-        }
-    }
+/// A refusal where a test fails.
+fn refused_if(fails: bool, why: Refusal) -> Option<Refusal>
+    ensures { result ≡ (if fails then Some why else None) }
+{
+    if fails { Some(why) } else { None }
+}
 
+impl Server {
     /// Whether a block is there already, or its stripe has less blocks than its quota.
     fn has_room(&self, g: &Geometry, a: u16, v: u16, f: u16, b: u16) -> bool
         requires counted { IsCounted g.now self.now }
@@ -34,19 +29,33 @@ impl Server {
         self.has_block(a, v, f, b) || self.blocks_in(a, v, group_of(g, f, b)) < g.quota
     }
 
-    /// Whether a message of a kind, with these numbers, passes a test.
-    fn passes(&self, g: &Geometry, kind: Kind, numbers: [u16; 4], test: Refusal) -> bool
-        requires counted { IsCounted g.now self.now }
-        ensures { result ≡ passes_by g.now (server_state self.now) kind numbers test }
+    /// Why a question about a volume is refused, if it is.
+    fn refusal_to_ask(&self, a: u16, v: u16) -> Option<Refusal>
+        ensures { result ≡ (if (server_state self.now).made (a, v) then None else Some Volume) }
     {
-        let [a, v, f, b] = numbers;
-        match test {
-            Refusal::Range => place_of(g, kind, numbers).is_some(),
-            Refusal::Volume => self.has_volume(a, v),
-            Refusal::Exists => !self.exists(kind, numbers),
-            Refusal::Sealed => !self.is_sealed(a, v),
-            Refusal::File => self.has_file(a, v, f),
-            Refusal::Space => self.has_room(g, a, v, f, b),
+        refused_if(!self.has_volume(a, v), Refusal::Volume)
+    }
+
+    /// Why a change of a volume is refused, if it is.
+    fn refusal_to_change(&self, a: u16, v: u16) -> Option<Refusal>
+        ensures { result ≡ (if (server_state self.now).made (a, v)
+            then (if (server_state self.now).sealed (a, v) then Some Sealed else None) else Some Volume) }
+    {
+        match self.refusal_to_ask(a, v) {
+            Some(why) => Some(why),
+            None => refused_if(self.is_sealed(a, v), Refusal::Sealed),
+        }
+    }
+
+    /// Why a change of a file is refused, if it is.
+    fn refusal_to_change_file(&self, a: u16, v: u16, f: u16) -> Option<Refusal>
+        ensures { result ≡ (if (server_state self.now).made (a, v)
+            then (if (server_state self.now).sealed (a, v) then Some Sealed
+            else (if (server_state self.now).files (a, v, f) then None else Some File)) else Some Volume) }
+    {
+        match self.refusal_to_change(a, v) {
+            Some(why) => Some(why),
+            None => refused_if(!self.has_file(a, v, f), Refusal::File),
         }
     }
 
@@ -55,8 +64,32 @@ impl Server {
         requires counted { IsCounted g.now self.now }
         ensures { result ≡ refusal_by g.now (server_state self.now) kind numbers }
     {
-        let mut tests = tests_by(kind).iter().copied();
-        tests.find(|test| !self.passes(g, kind, numbers, *test))
+        let [a, v, f, b] = numbers;
+        if place_of(g, kind, numbers).is_none() {
+            return Some(Refusal::Range);
+        }
+        match kind {
+            Kind::Summary => None,
+            Kind::MakeVol => refused_if(self.has_volume(a, v), Refusal::Exists),
+            Kind::DropVol | Kind::SetLabel => self.refusal_to_change(a, v),
+            Kind::Create => match self.refusal_to_change(a, v) {
+                Some(why) => Some(why),
+                None => refused_if(self.has_file(a, v, f), Refusal::Exists),
+            },
+            Kind::Delete => self.refusal_to_change_file(a, v, f),
+            Kind::Punch => self.refusal_to_change_file(a, v, f),
+            Kind::Write => match self.refusal_to_change_file(a, v, f) {
+                Some(why) => Some(why),
+                None => refused_if(!self.has_room(g, a, v, f, b), Refusal::Space),
+            },
+            Kind::Read => match self.refusal_to_ask(a, v) {
+                Some(why) => Some(why),
+                None => refused_if(!self.has_file(a, v, f), Refusal::File),
+            },
+            Kind::Seal | Kind::Unseal => self.refusal_to_ask(a, v),
+            Kind::List | Kind::Usage => self.refusal_to_ask(a, v),
+            Kind::Label => self.refusal_to_ask(a, v),
+        }
     }
 
     /// The first test that a message fails.

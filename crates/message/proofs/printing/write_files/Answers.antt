@@ -1,5 +1,5 @@
 use Rattle.std.proofs.Common.{◌≡◌, arith}
-use Rattle.message.proofs.Assembly.{appends_more, appends_same, appends_moved, file_there, file_not_there, all_files, bit_there, bit_not_there}
+use Rattle.message.proofs.Assembly.{appends_more, appends_same, appends_moved, file_there, file_not_there, all_files, files_end, bit_there, bit_not_there}
 use Rattle.message.proofs.printing.write_files.Goals as goal
 use Rattle.message.proofs.printing.write_files.Goals.{then-files-file-eq1, else-files-file-eq1}
 
@@ -26,6 +26,10 @@ loop-file-preserved c =
             bound = omega arith;
           }
     ]
+
+pub returns-then-files-file-eq0-clause-text : goal.returns-then-files-file-eq0-clause-text
+returns-then-files-file-eq0-clause-text c =
+    appends_same (files_end c.args.files c.loop-file.file (omega arith) c.if-files-file-eq0.true) c.loop-file.invariant.text
 
 pub returns-clause-text : goal.returns-clause-text
 returns-clause-text c =

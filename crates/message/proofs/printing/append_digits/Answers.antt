@@ -1,6 +1,6 @@
 use Rattle.std.proofs.Common.{◌∙◌}
 use Rattle.message.proofs.Assembly.{appends_more, appends_same}
-use Rattle.message.proofs.printing.append_number.Goals as goal
+use Rattle.message.proofs.printing.append_digits.Goals as goal
 
 pub returns-clause-text : goal.returns-clause-text
 returns-clause-text c = appends_more c.append-end.ensures (appends_same (c.as_bytes.ensures.value ∙ c.format.ensures.text) c.append.ensures)

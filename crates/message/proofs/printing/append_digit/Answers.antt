@@ -1,0 +1,8 @@
+use Rattle.std.proofs.Common.{List, ℕ, ◌∷◌, sym, ap, subst, ◌+◌}
+use Rattle.std.proofs.lemmas.Fmt.{decimal_digit}
+use Rattle.message.specs.Replies.{Appends}
+use Rattle.message.proofs.printing.append_digit.Goals as goal
+
+pub returns-clause-text : goal.returns-clause-text
+returns-clause-text c =
+    subst (λ (l : List ℕ). Appends c.args.out.now c.append.new.out c.args.at c.append.result l) (ap (λ (l : List ℕ). 32 ∷ l) (sym (decimal_digit c.args.n c.requires.digit))) c.append.ensures
