@@ -72,9 +72,6 @@ module _ (g : Geometry) (c : List ℕ) (laid : IsLaid g c) where
   no_chain_0 : chain l 0 c ≡ 0
   no_chain_0 = get_or-take (half_size g.half) (drop 128 c) 0 0 (omega arith) ∙ get_or-drop 128 c 0 0 ∙ zero_there c 64 (64 + (64 + g.half)) 64 laid.root (omega arith)
 
-  no_chain_1 : chain l 1 c ≡ 0
-  no_chain_1 = get_or-take (half_size g.half) (drop (part_at l 3) c) 0 0 (omega arith) ∙ get_or-drop (part_at l 3) c 0 0 ∙ zero_there c (part_at l 3) (64 + g.half) 0 laid.one (omega arith)
-
   shut_0 : gates l 0 c ≡ replicate g.half 0
   shut_0 = slice_slice c 128 (half_size g.half) 64 g.half (omega arith) ∙ zeros_there c 64 (64 + (64 + g.half)) 128 g.half laid.root (omega arith)
 

@@ -6,6 +6,7 @@ use Rattle.checkpoint.specs.declared.fault.OpenFault.TheVariants.{Device, TooSho
 use Rattle.checkpoint.specs.Header.{HasHeader}
 use Rattle.checkpoint.specs.Recovery.{apply, means}
 use Rattle.checkpoint.specs.Refusals.{fault_if, fault_or_later, first_bad_piece, first_bad_record}
+use Rattle.disk.specs.Device.{Medium}
 use Rattle.image.specs.Image.{has_head, read}
 use Rattle.oplog.specs.declared.fault.LogFault.{LogFault}
 use Rattle.oplog.specs.declared.fault.LogFault.TheVariants as log
@@ -19,6 +20,11 @@ abbrev pub CountsOpenFault : {T : Type 0} → Result T OpenFault → ℕ → ℕ
 CountsOpenFault (Ok _) old new = new ≡ old
 CountsOpenFault (Err Device) old new = new ≡ old + 1
 CountsOpenFault (Err _) old new = new ≡ old
+
+-- What every step of opening does to its device: it counts a failure exactly where it answers `Device`, and the device
+-- stays as long as it was.
+abbrev pub IsOpeningCall : {T : Type 0} → Result T OpenFault → Medium → Medium → Type 0
+IsOpeningCall result old new = CountsOpenFault result old.faults new.faults × (length new.now ≡ length old.now)
 
 -- This fault is the one that the bytes of a device with a header give. Of a device that fails and of want of memory
 -- they tell nothing.

@@ -6,7 +6,7 @@ ghost use Rattle.std.specs.Prelude.{◌≡◌, ◌⊎◌, ◌↔◌, ◌+◌, �
 ghost use Rattle.affinity.specs.declared.geometry.Geometry.{Geometry};
 ghost use Rattle.checkpoint.specs.Formatting.{FormatLeaves, IsLaid, IsShut, IsShutNow};
 ghost use Rattle.checkpoint.specs.Recovery.{holds};
-ghost use Rattle.disk.specs.Device.{CountsFault, IsSynced, Leaves, SameOutside, overlaid};
+ghost use Rattle.disk.specs.Device.{IsDeviceCall, IsSynced, Leaves, SameOutside, overlaid};
 ghost use Rattle.disk.specs.Moments.{LeavesOnly};
 ghost use Rattle.oplog.specs.Changes.{ChangesOnly};
 ghost use Rattle.oplog.specs.Layout.{device_size, layout_of};
@@ -45,8 +45,7 @@ fn write_zeros<D: Disk>(disk: &mut D, zeros: &[u8], at: u64, count: usize) -> Re
     ensures written { OnOk result (D.keeps →
         (D.medium disk.new).now ≡ overlaid (D.medium disk.old).now at (replicate count 0)) }
     ensures inside { IsErrOf result DiskFault.OutOfRange → ⊥ }
-    ensures counts { CountsFault result (D.medium disk.old).faults (D.medium disk.new).faults }
-    ensures len { length (D.medium disk.new).now ≡ length (D.medium disk.old).now }
+    ensures call { IsDeviceCall result (D.medium disk.old) (D.medium disk.new) }
 {
     let mut done = 0;
     'zeros: while done < count {
@@ -66,8 +65,7 @@ fn shut_gate<D: Disk>(disk: &mut D) -> Result<(), DiskFault>
     ensures shut { OnOk result (D.keeps →
         IsShutNow (length (D.medium disk.old).now) (D.medium disk.new)) }
     ensures inside { IsErrOf result DiskFault.OutOfRange → ⊥ }
-    ensures counts { CountsFault result (D.medium disk.old).faults (D.medium disk.new).faults }
-    ensures len { length (D.medium disk.new).now ≡ length (D.medium disk.old).now }
+    ensures call { IsDeviceCall result (D.medium disk.old) (D.medium disk.new) }
 {
     disk.sync()?;
     let mut gate = [0u8];
@@ -88,8 +86,7 @@ fn lay_out<D: Disk>(disk: &mut D, zeros: &[u8], g: &Geometry) -> Result<(), Disk
     ensures laid { OnOk result (D.keeps → IsLaid g.now (D.medium disk.new).now) }
     ensures synced { OnOk result (D.keeps → IsSynced (D.medium disk.new)) }
     ensures inside { IsErrOf result DiskFault.OutOfRange → ⊥ }
-    ensures counts { CountsFault result (D.medium disk.old).faults (D.medium disk.new).faults }
-    ensures len { length (D.medium disk.new).now ≡ length (D.medium disk.old).now }
+    ensures call { IsDeviceCall result (D.medium disk.old) (D.medium disk.new) }
 {
     let front = CHAIN_AREA + usize::from(g.half);
     write_zeros(disk, zeros, ROOT_ZONE_AT, ROOT_ZONE_SIZE + front)?;
@@ -109,8 +106,7 @@ fn open_gate<D: Disk>(disk: &mut D, g: &Geometry) -> Result<(), DiskFault>
     ensures stands { OnOk result (D.keeps → holds g.now (D.medium disk.new).now ≡ Some empty) }
     ensures synced { OnOk result (D.keeps → IsSynced (D.medium disk.new)) }
     ensures inside { IsErrOf result DiskFault.OutOfRange → ⊥ }
-    ensures counts { CountsFault result (D.medium disk.old).faults (D.medium disk.new).faults }
-    ensures len { length (D.medium disk.new).now ≡ length (D.medium disk.old).now }
+    ensures call { IsDeviceCall result (D.medium disk.old) (D.medium disk.new) }
 {
     let header = header_of(g);
     store(disk, 1, &header[1..])?;
@@ -128,8 +124,7 @@ fn format_on<D: Disk>(disk: &mut D, zeros: &[u8], g: &Geometry) -> Result<(), Di
     ensures stands { OnOk result (D.keeps → holds g.now (D.medium disk.new).now ≡ Some empty) }
     ensures synced { OnOk result (D.keeps → IsSynced (D.medium disk.new)) }
     ensures inside { IsErrOf result DiskFault.OutOfRange → ⊥ }
-    ensures counts { CountsFault result (D.medium disk.old).faults (D.medium disk.new).faults }
-    ensures len { length (D.medium disk.new).now ≡ length (D.medium disk.old).now }
+    ensures call { IsDeviceCall result (D.medium disk.old) (D.medium disk.new) }
 {
     shut_gate(disk)?;
     lay_out(disk, zeros, g)?;

@@ -2,7 +2,7 @@
 ghost use Rattle.std.specs.Prelude.{◌≡◌, ◌<◌, ◌≤◌, length, IfErr, IfOk};
 ghost use Rattle.checkpoint.specs.declared.fault.OpenFault.TheVariants.{Device};
 ghost use Rattle.checkpoint.specs.Header.{HasHeader};
-ghost use Rattle.checkpoint.specs.Loading.{CountsOpenFault, IsOfHeader};
+ghost use Rattle.checkpoint.specs.Loading.{IsOpeningCall, IsOfHeader};
 ghost use Rattle.checkpoint.specs.Refusals.{IsRefused};
 ghost use Rattle.disk.specs.Device.{moments};
 ghost use Rattle.oplog.specs.Layout.{device_size, layout_of};
@@ -25,8 +25,7 @@ pub fn read_header<D: Disk>(disk: &mut D) -> Result<Geometry, OpenFault>
     ensures refused { IfErr result (λ e. D.keeps → IsRefused (D.medium disk.old).now e) }
     ensures by_header { IfErr result (λ e. IsOfHeader e) }
     ensures untouched { D.keeps → moments (D.medium disk.new) ≡ moments (D.medium disk.old) }
-    ensures counts { CountsOpenFault result (D.medium disk.old).faults (D.medium disk.new).faults }
-    ensures len { length (D.medium disk.new).now ≡ length (D.medium disk.old).now }
+    ensures call { IsOpeningCall result (D.medium disk.old) (D.medium disk.new) }
 {
     if disk.len() < HEADING_SIZE as u64 {
         return Err(OpenFault::TooShort);
@@ -53,8 +52,7 @@ pub(crate) fn named_area<D: Disk>(disk: &mut D, g: &Geometry) -> Result<usize, O
     ensures range { IfOk result (λ n. n < 2) }
     ensures device { IfErr result (λ e. e ≡ Device) }
     ensures untouched { D.keeps → moments (D.medium disk.new) ≡ moments (D.medium disk.old) }
-    ensures counts { CountsOpenFault result (D.medium disk.old).faults (D.medium disk.new).faults }
-    ensures len { length (D.medium disk.new).now ≡ length (D.medium disk.old).now }
+    ensures call { IsOpeningCall result (D.medium disk.old) (D.medium disk.new) }
 {
     let mut byte = [0u8];
     read(disk, ROOT_ZONE_AT, &mut byte)?;

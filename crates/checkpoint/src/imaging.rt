@@ -1,7 +1,7 @@
 //! An image, read into a tree piece by piece.
 ghost use Rattle.std.specs.Prelude.{◌≡◌, ◌↔◌, ◌+◌, ◌*◌, ◌<◌, ◌≤◌, ℕ, true, None, Some, length, IfErr, IsOk, OnOk};
 ghost use Rattle.checkpoint.specs.declared.fault.OpenFault.TheVariants.{BadPiece};
-ghost use Rattle.checkpoint.specs.Loading.{CountsOpenFault, IsFaultOfBytes};
+ghost use Rattle.checkpoint.specs.Loading.{IsOpeningCall, IsFaultOfBytes};
 ghost use Rattle.checkpoint.specs.Refusals.{fault_or_later, first_bad_piece};
 ghost use Rattle.disk.specs.Device.{moments};
 ghost use Rattle.image.specs.Image.{has_head, is_version, read, version_in};
@@ -73,8 +73,7 @@ pub(crate) fn read_pieces<D: Disk>(
     ensures whole { OnOk result (IsWholeTree tree.new) }
     ensures geometry { tree.new.geometry ≡ tree.old.geometry }
     ensures untouched { D.keeps → moments (D.medium disk.new) ≡ moments (D.medium disk.old) }
-    ensures counts { CountsOpenFault result (D.medium disk.old).faults (D.medium disk.new).faults }
-    ensures len { length (D.medium disk.new).now ≡ length (D.medium disk.old).now }
+    ensures call { IsOpeningCall result (D.medium disk.old) (D.medium disk.new) }
 {
     let g = tree.geometry();
     let mut at = image_at(&g, number) + IMAGE_HEAD_SIZE as u64;

@@ -1,5 +1,5 @@
 //! What holds of devices by the definitions: a law. No function here does anything; its contract is the law.
-ghost use Rattle.std.specs.Prelude.{◌≡◌, ◌⊎◌, ℕ, List, Some, None};
+ghost use Rattle.std.specs.Prelude.{◌≡◌, ℕ, List, Some, None};
 ghost use Rattle.affinity.specs.declared.geometry.Geometry.{Geometry};
 ghost use Rattle.checkpoint.specs.Header.{HasHeader};
 ghost use Rattle.checkpoint.specs.Recovery.{holds};

@@ -2,7 +2,7 @@
 ghost use Rattle.std.specs.Prelude.{◌≡◌, ◌+◌, ◌*◌, ◌<◌, ◌≤◌, ◌==◌, false, None, Some, length, IfErr, IfOk, OnOk};
 ghost use Rattle.checkpoint.specs.declared.fault.OpenFault.TheVariants.{BadChain, OutOfMemory};
 ghost use Rattle.checkpoint.specs.Header.{HasHeader};
-ghost use Rattle.checkpoint.specs.Loading.{CountsOpenFault, IsFaultOfBytes, IsOfHalf, NamedHolds, are_chained, image_fault, in_force_fault};
+ghost use Rattle.checkpoint.specs.Loading.{IsOpeningCall, IsFaultOfBytes, IsOfHalf, NamedHolds, are_chained, image_fault, in_force_fault};
 ghost use Rattle.checkpoint.specs.Recovery.{means};
 ghost use Rattle.checkpoint.specs.Refusals.{IsDevice, IsRefused, fault_if};
 ghost use Rattle.checkpoint.specs.Shown.{IsLoaded};
@@ -83,8 +83,7 @@ fn read_image<D: Disk>(
     ensures whole { OnOk result (IsWholeTree tree.new) }
     ensures geometry { OnOk result (tree.new.geometry ≡ tree.old.geometry) }
     ensures untouched { D.keeps → moments (D.medium disk.new) ≡ moments (D.medium disk.old) }
-    ensures counts { CountsOpenFault result (D.medium disk.old).faults (D.medium disk.new).faults }
-    ensures len { length (D.medium disk.new).now ≡ length (D.medium disk.old).now }
+    ensures call { IsOpeningCall result (D.medium disk.old) (D.medium disk.new) }
 {
     let version = version_of(disk, &tree.geometry(), area)?;
     read_pieces(disk, tree, area, version, buffer)?;
@@ -101,8 +100,7 @@ fn chain_of<D: Disk>(disk: &mut D, g: &Geometry, area: usize) -> Result<bool, Op
     ensures refused { IfErr result (λ e. D.keeps →
         IsFaultOfBytes (fault_if (are_chained (layout_of g.now) (D.medium disk.old).now) BadChain None) e) }
     ensures untouched { D.keeps → moments (D.medium disk.new) ≡ moments (D.medium disk.old) }
-    ensures counts { CountsOpenFault result (D.medium disk.old).faults (D.medium disk.new).faults }
-    ensures len { length (D.medium disk.new).now ≡ length (D.medium disk.old).now }
+    ensures call { IsOpeningCall result (D.medium disk.old) (D.medium disk.new) }
 {
     let named = is_chained(disk, g, area)?;
     if !named {
@@ -160,8 +158,7 @@ pub fn load_named<D: Disk>(
     ensures whole { OnOk result (IsWholeTree tree.new) }
     ensures geometry { OnOk result (tree.new.geometry ≡ tree.old.geometry) }
     ensures untouched { D.keeps → moments (D.medium disk.new) ≡ moments (D.medium disk.old) }
-    ensures counts { CountsOpenFault result (D.medium disk.old).faults (D.medium disk.new).faults }
-    ensures len { length (D.medium disk.new).now ≡ length (D.medium disk.old).now }
+    ensures call { IsOpeningCall result (D.medium disk.old) (D.medium disk.new) }
 {
     let g = tree.geometry();
     let area = named_area(disk, &g)?;
@@ -203,8 +200,7 @@ fn replay_in_force<D: Disk>(
     ensures geometry { OnOk result (tree.new.geometry ≡ tree.old.geometry) }
     ensures log { OnOk result (log.new ≡ log.old) }
     ensures untouched { D.keeps → moments (D.medium disk.new) ≡ moments (D.medium disk.old) }
-    ensures counts { CountsOpenFault result (D.medium disk.old).faults (D.medium disk.new).faults }
-    ensures len { length (D.medium disk.new).now ≡ length (D.medium disk.old).now }
+    ensures call { IsOpeningCall result (D.medium disk.old) (D.medium disk.new) }
 {
     let count = replay(log, disk, area, tree)?;
     if !chained {
@@ -226,8 +222,7 @@ pub(crate) fn load<D: Disk>(alloc: Global, disk: &mut D) -> Result<Loaded, OpenF
     ensures refused { IfErr result (λ e. D.keeps → IsRefused (D.medium disk.old).now e) }
     ensures memory { IfErr result (λ e. e ≡ OutOfMemory → D.keeps → IsDevice (D.medium disk.old).now) }
     ensures untouched { D.keeps → moments (D.medium disk.new) ≡ moments (D.medium disk.old) }
-    ensures counts { CountsOpenFault result (D.medium disk.old).faults (D.medium disk.new).faults }
-    ensures len { length (D.medium disk.new).now ≡ length (D.medium disk.old).now }
+    ensures call { IsOpeningCall result (D.medium disk.old) (D.medium disk.new) }
 {
     let g = read_header(disk)?;
     let (mut tree, mut log, mut buffer) = take_room(alloc, &g)?;

@@ -1,10 +1,10 @@
 //! Reads of a device: any range, a chain byte, and the head of an image.
 ghost use Rattle.std.specs.Prelude.{◌≡◌, ◌+◌, ◌<◌, ◌≤◌, ◌==◌, not, true, None, length, IfErr, IfOk, OnOk};
 ghost use Rattle.checkpoint.specs.declared.fault.OpenFault.TheVariants.{Device, BadVersion};
-ghost use Rattle.checkpoint.specs.Loading.{CountsOpenFault, IsFaultOfBytes};
+ghost use Rattle.checkpoint.specs.Loading.{IsOpeningCall, IsFaultOfBytes};
 ghost use Rattle.checkpoint.specs.Refusals.{fault_if};
 ghost use Rattle.disk.specs.Device.{moments};
-ghost use Rattle.image.specs.Image.{has_head, image_head, is_version, version_in};
+ghost use Rattle.image.specs.Image.{has_head, is_version, version_in};
 ghost use Rattle.oplog.specs.Front.{chain};
 ghost use Rattle.oplog.specs.Layout.{device_size, image, layout_of, part_bytes, slice};
 
@@ -20,8 +20,7 @@ pub(crate) fn read<D: Disk>(disk: &mut D, at: u64, out: &mut [u8]) -> Result<(),
     ensures bytes { OnOk result (D.keeps → out.new ≡ slice (D.medium disk.old).now at (length out.old)) }
     ensures device { IfErr result (λ e. e ≡ Device) }
     ensures untouched { D.keeps → moments (D.medium disk.new) ≡ moments (D.medium disk.old) }
-    ensures counts { CountsOpenFault result (D.medium disk.old).faults (D.medium disk.new).faults }
-    ensures len { length (D.medium disk.new).now ≡ length (D.medium disk.old).now }
+    ensures call { IsOpeningCall result (D.medium disk.old) (D.medium disk.new) }
 {
     if disk.read_at(at, out).is_err() {
         return Err(OpenFault::Device);
@@ -41,8 +40,7 @@ pub(crate) fn is_chained<D: Disk>(
         b ≡ (chain (layout_of g.now) half (D.medium disk.old).now == 1)) }
     ensures device { IfErr result (λ e. e ≡ Device) }
     ensures untouched { D.keeps → moments (D.medium disk.new) ≡ moments (D.medium disk.old) }
-    ensures counts { CountsOpenFault result (D.medium disk.old).faults (D.medium disk.new).faults }
-    ensures len { length (D.medium disk.new).now ≡ length (D.medium disk.old).now }
+    ensures call { IsOpeningCall result (D.medium disk.old) (D.medium disk.new) }
 {
     let mut byte = [0u8];
     read(disk, half_at(g, half), &mut byte)?;
@@ -82,8 +80,7 @@ pub(crate) fn version_of<D: Disk>(
     ensures refused { IfErr result (λ e. D.keeps → IsFaultOfBytes (fault_if (not (has_head
         (part_bytes (layout_of g.now) (image number) (D.medium disk.old).now))) BadVersion None) e) }
     ensures untouched { D.keeps → moments (D.medium disk.new) ≡ moments (D.medium disk.old) }
-    ensures counts { CountsOpenFault result (D.medium disk.old).faults (D.medium disk.new).faults }
-    ensures len { length (D.medium disk.new).now ≡ length (D.medium disk.old).now }
+    ensures call { IsOpeningCall result (D.medium disk.old) (D.medium disk.new) }
 {
     let mut head = [0u8; IMAGE_HEAD_SIZE];
     read(disk, image_at(g, number), &mut head)?;

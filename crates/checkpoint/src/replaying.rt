@@ -1,7 +1,7 @@
 //! The records of a half, run on a tree.
-ghost use Rattle.std.specs.Prelude.{◌≡◌, ◌≢◌, ◌<◌, ◌≤◌, Some, false, length, IfOk, IfErr, OnOk};
+ghost use Rattle.std.specs.Prelude.{◌≡◌, ◌≢◌, ◌<◌, ◌≤◌, Some, false, IfOk, IfErr, OnOk};
 ghost use Rattle.checkpoint.specs.declared.fault.OpenFault.TheVariants.{OutOfMemory};
-ghost use Rattle.checkpoint.specs.Loading.{CountsOpenFault, IsFaultOfBytes, record_fault, records_fault};
+ghost use Rattle.checkpoint.specs.Loading.{IsOpeningCall, IsFaultOfBytes, record_fault, records_fault};
 ghost use Rattle.checkpoint.specs.Recovery.{apply, means};
 ghost use Rattle.disk.specs.Device.{moments};
 ghost use Rattle.oplog.specs.Calls.{HasFront, HasParts};
@@ -42,8 +42,7 @@ fn replay_record<D: Disk>(
     ensures geometry { OnOk result (tree.new.geometry ≡ tree.old.geometry) }
     ensures log { OnOk result (log.new ≡ log.old) }
     ensures untouched { D.keeps → moments (D.medium disk.new) ≡ moments (D.medium disk.old) }
-    ensures counts { CountsOpenFault result (D.medium disk.old).faults (D.medium disk.new).faults }
-    ensures len { length (D.medium disk.new).now ≡ length (D.medium disk.old).now }
+    ensures call { IsOpeningCall result (D.medium disk.old) (D.medium disk.new) }
 {
     let m = log.record(disk, half, i)?;
     match step(tree, m) {
@@ -77,8 +76,7 @@ fn replay_front<D: Disk>(
     ensures geometry { OnOk result (tree.new.geometry ≡ tree.old.geometry) }
     ensures log { OnOk result (log.new ≡ log.old) }
     ensures untouched { D.keeps → moments (D.medium disk.new) ≡ moments (D.medium disk.old) }
-    ensures counts { CountsOpenFault result (D.medium disk.old).faults (D.medium disk.new).faults }
-    ensures len { length (D.medium disk.new).now ≡ length (D.medium disk.old).now }
+    ensures call { IsOpeningCall result (D.medium disk.old) (D.medium disk.new) }
 {
     for i in 0..count {
         replay_record(log, disk, half, i, tree)?;
@@ -111,8 +109,7 @@ pub fn replay<D: Disk>(
     ensures geometry { OnOk result (tree.new.geometry ≡ tree.old.geometry) }
     ensures log { OnOk result (log.new ≡ log.old) }
     ensures untouched { D.keeps → moments (D.medium disk.new) ≡ moments (D.medium disk.old) }
-    ensures counts { CountsOpenFault result (D.medium disk.old).faults (D.medium disk.new).faults }
-    ensures len { length (D.medium disk.new).now ≡ length (D.medium disk.old).now }
+    ensures call { IsOpeningCall result (D.medium disk.old) (D.medium disk.new) }
 {
     let count = log.front(disk, half)?;
     replay_front(log, disk, half, count, tree)?;

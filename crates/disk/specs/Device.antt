@@ -111,3 +111,8 @@ abbrev pub CountsFault : {T : Type 0} → Result T DiskFault → ℕ → ℕ →
 CountsFault (Ok _) old new = new ≡ old
 CountsFault (Err OutOfRange) old new = new ≡ old
 CountsFault (Err Device) old new = new ≡ old + 1
+
+-- What every call of a device does, whatever it is for: it counts a failure exactly where it answers `Device`, and the
+-- device stays as long as it was.
+abbrev pub IsDeviceCall : {T : Type 0} → Result T DiskFault → Medium → Medium → Type 0
+IsDeviceCall result old new = CountsFault result old.faults new.faults × (length new.now ≡ length old.now)

@@ -1,7 +1,7 @@
 //! The contract of a device of bytes, on which durable code rests.
 ghost use Rattle.std.specs.Prelude.{◌≡◌, ◌+◌, ◌<◌, ◌^◌, ◌↔◌, length, IsErrOf};
 ghost use Rattle.disk.specs.declared.fault.DiskFault.TheVariants.{OutOfRange};
-ghost use Rattle.disk.specs.Device.{Medium, AreBytes, Reads, Writes, Syncs, CountsFault};
+ghost use Rattle.disk.specs.Device.{Medium, AreBytes, Reads, Writes, Syncs, IsDeviceCall};
 
 use crate::DiskFault;
 
@@ -24,8 +24,7 @@ pub trait Disk {
         ensures outside { IsErrOf result OutOfRange ↔ length (medium self.old).now < at + length out.old }
         ensures untouched { IsErrOf result OutOfRange → self.new ≡ self.old }
         ensures unread { IsErrOf result OutOfRange → out.new ≡ out.old }
-        ensures counts { CountsFault result (medium self.old).faults (medium self.new).faults }
-        ensures len { length (medium self.new).now ≡ length (medium self.old).now }
+        ensures call { IsDeviceCall result (medium self.old) (medium self.new) }
         ensures reads { keeps → Reads at out.new result (medium self.old) (medium self.new) };
 
     /// Writes over the bytes from `at` on. Until a sync succeeds, a crash may leave any bytes there, also after
@@ -33,16 +32,14 @@ pub trait Disk {
     fn write_at(&mut self, at: u64, bytes: &[u8]) -> Result<(), DiskFault>
         ensures outside { IsErrOf result OutOfRange ↔ length (medium self.old).now < at + length bytes.now }
         ensures untouched { IsErrOf result OutOfRange → self.new ≡ self.old }
-        ensures counts { CountsFault result (medium self.old).faults (medium self.new).faults }
-        ensures len { length (medium self.new).now ≡ length (medium self.old).now }
+        ensures call { IsDeviceCall result (medium self.old) (medium self.new) }
         ensures writes { keeps → Writes at bytes.now result (medium self.old) (medium self.new) };
 
     /// Makes what was written last. At `Ok` a crash leaves what a read gives. After `Device` what was not synced
     /// still is not.
     fn sync(&mut self) -> Result<(), DiskFault>
         ensures inside { IsErrOf result OutOfRange → ⊥ }
-        ensures counts { CountsFault result (medium self.old).faults (medium self.new).faults }
-        ensures len { length (medium self.new).now ≡ length (medium self.old).now }
+        ensures call { IsDeviceCall result (medium self.old) (medium self.new) }
         ensures syncs { keeps → Syncs result (medium self.old) (medium self.new) };
 
     /// The length is a `u64`.

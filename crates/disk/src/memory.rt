@@ -2,7 +2,7 @@
 ghost use Rattle.std.specs.Prelude.{◌≡◌, ◌+◌, ◌<◌, ◌^◌, ◌↔◌, length, IfOk, IsErrOf, replicate};
 ghost use Rattle.disk.specs.declared.fault.DiskFault.TheVariants.{OutOfRange};
 ghost use Rattle.disk.specs.declared.fuse.Fuse.TheVariants.{FailAt, StopAt};
-ghost use Rattle.disk.specs.Device.{AreBytes, Leaves, Reads, Writes, Syncs, CountsFault};
+ghost use Rattle.disk.specs.Device.{AreBytes, Leaves, Reads, Writes, Syncs, IsDeviceCall};
 ghost use Rattle.disk.specs.Span.{HoldsLoose};
 ghost use Rattle.disk.specs.Torn.{HasBytes};
 
@@ -158,8 +158,7 @@ impl Disk for MemDisk {
         ensures outside { IsErrOf result OutOfRange ↔ length (medium_of self.old).now < at + length out.old }
         ensures untouched { IsErrOf result OutOfRange → self.new ≡ self.old }
         ensures unread { IsErrOf result OutOfRange → out.new ≡ out.old }
-        ensures counts { CountsFault result (medium_of self.old).faults (medium_of self.new).faults }
-        ensures len { length (medium_of self.new).now ≡ length (medium_of self.old).now }
+        ensures call { IsDeviceCall result (medium_of self.old) (medium_of self.new) }
         ensures reads { Unit {0} → Reads at out.new result (medium_of self.old) (medium_of self.new) }
         ensures answer { result ≡ call_result at (length out.old) (memory_of self.old) }
         ensures after { memory_of self.new ≡ after_read result (memory_of self.old) }
@@ -176,8 +175,7 @@ impl Disk for MemDisk {
     fn write_at(&mut self, at: u64, bytes: &[u8]) -> Result<(), DiskFault>
         ensures outside { IsErrOf result OutOfRange ↔ length (medium_of self.old).now < at + length bytes.now }
         ensures untouched { IsErrOf result OutOfRange → self.new ≡ self.old }
-        ensures counts { CountsFault result (medium_of self.old).faults (medium_of self.new).faults }
-        ensures len { length (medium_of self.new).now ≡ length (medium_of self.old).now }
+        ensures call { IsDeviceCall result (medium_of self.old) (medium_of self.new) }
         ensures writes { Unit {0} → Writes at bytes.now result (medium_of self.old) (medium_of self.new) }
         ensures answer { result ≡ call_result at (length bytes.now) (memory_of self.old) }
         ensures after { memory_of self.new ≡ after_write result at bytes.now (memory_of self.old) }
@@ -198,8 +196,7 @@ impl Disk for MemDisk {
 
     fn sync(&mut self) -> Result<(), DiskFault>
         ensures inside { IsErrOf result OutOfRange → ⊥ }
-        ensures counts { CountsFault result (medium_of self.old).faults (medium_of self.new).faults }
-        ensures len { length (medium_of self.new).now ≡ length (medium_of self.old).now }
+        ensures call { IsDeviceCall result (medium_of self.old) (medium_of self.new) }
         ensures syncs { Unit {0} → Syncs result (medium_of self.old) (medium_of self.new) }
         ensures answer { result ≡ call_result 0 0 (memory_of self.old) }
         ensures after { memory_of self.new ≡ after_sync result (memory_of self.old) }

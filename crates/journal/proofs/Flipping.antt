@@ -23,8 +23,10 @@ module _ (log : Log) (frozen : List ℕ) (named others due : List Bool) (left : 
       let placed = subst (λ (l : Option ℕ). IsCutState log due l) none_left placed' in
       let sound' = subst (λ (l : Option ℕ). IsSoundJournal log frozen named others due l w0) none_left sound in
       record {
-        some = sound'.some;
-        stands = subst (λ (h : ℕ). IsStanding log.geometry log.named h (holds log.geometry w0.now) w0) placed.0 sound'.stands;
+        by = record {
+          some = sound'.some;
+          stands = subst (λ (h : ℕ). IsStanding log.geometry log.named h (holds log.geometry w0.now) w0) placed.0 sound'.stands;
+        };
         ready = subst (λ (h : ℕ). IsReady (layout_of log.geometry) h log.used w0) placed.0 sound'.ready;
         is = all_agree log.geometry (image_in log.geometry (other log.named) w0) frozen (λ n few. sound'.by_cut.written n few (none_marked due n placed.1 (omega (arith, few, size'))))
             (image_long log.geometry (other log.named) w0 (omega arith) whole) size;
@@ -36,16 +38,16 @@ module _ (log : Log) (frozen : List ℕ) (named others due : List Bool) (left : 
       let placed = subst (λ (l : Option ℕ). IsCutState log due l) none_left placed' in
       let sound' = subst (λ (l : Option ℕ). IsSoundJournal log frozen named others due l w0) none_left sound in
       let is_area = named_below log.geometry log.named log.current (holds log.geometry w0.now) w0 are sound.stands in
-      let same = holds_now log.geometry (other log.named) (other log.named) (holds log.geometry w0.now) w1 are' flipped.stands in
+      let same = holds_now log.geometry (other log.named) (other log.named) (holds log.geometry w0.now) w1 are' flipped.at.stands in
       let back : other (other log.named) ≡ log.named = omega (arith, is_area) in
       record {
         some = ap is_some same ∙ sound.some;
         stands =
             subst (λ (h : ℕ). IsStanding log.geometry (other log.named) h (holds log.geometry w1.now) w1) (sym placed.0)
-            (subst (λ (o : Option State). IsStanding log.geometry (other log.named) (other log.named) o w1) (sym same) flipped.stands);
-        ready = subst (λ (h : ℕ). IsReady (layout_of log.geometry) h log.used w1) (sym placed.0) flipped.ready;
-        forced = forced_calm log.geometry w1 flipped.calm;
-        count = λ none. ap length flipped.alone ∙ front_count (layout_of log.geometry) (other log.named) log.used w1 flipped.ready;
+            (subst (λ (o : Option State). IsStanding log.geometry (other log.named) (other log.named) o w1) (sym same) flipped.at.stands);
+        ready = subst (λ (h : ℕ). IsReady (layout_of log.geometry) h log.used w1) (sym placed.0) flipped.at.ready;
+        forced = forced_calm log.geometry w1 flipped.at.calm;
+        count = λ none. ap length flipped.alone ∙ front_count (layout_of log.geometry) (other log.named) log.used w1 flipped.at.ready;
         state = λ x is. sound.state x (sym same ∙ is);
         named_fresh =
             subst (λ (o : Option State). IsFresh log.geometry o others (image_in log.geometry (other log.named) w1)) (sym same)

@@ -1,5 +1,5 @@
 -- What a device stands for of which the named area was loaded.
-use Rattle.std.proofs.Common.{◌≡◌, ◌==◌, ◌&&◌, ℕ, Bool, true, false, not, List, [], Option, Some, None, is_some, length, refl, sym, ◌∙◌, ap, subst, true≢false}
+use Rattle.std.proofs.Common.{◌≡◌, ◌==◌, ◌&&◌, ◌≤◌, ℕ, Bool, true, false, not, List, [], Option, Some, None, is_some, length, refl, sym, ◌∙◌, ap, subst, true≢false}
 use Rattle.std.specs.Prelude.{nat_le}
 use Rattle.std.proofs.lemmas.Bool.{le-leb}
 use Rattle.std.proofs.lemmas.Slice.Eq.{bytes_eq-Decides}
@@ -14,19 +14,21 @@ use Rattle.checkpoint.proofs.Refusing.{alone_ran, alone_sound, both_ran, both_so
 use Rattle.disk.specs.Device.{AreBytes, IsSynced, Medium, moments}
 use Rattle.disk.proofs.Leaves.{calm_left}
 use Rattle.image.specs.Image.{image_of, read}
+use Rattle.image.specs.Pieces.{piece_count}
 use Rattle.image.proofs.Reading.{read_again}
 use Rattle.journal.specs.declared.opening.Parts.{Parts}
 use Rattle.journal.specs.Journal.{JournalView}
+use Rattle.journal.specs.Marks.{opened_marks}
 use Rattle.journal.specs.Keeping.{IsSoundJournal, held_of}
 use Rattle.journal.specs.Opening.{IsOpened}
-use Rattle.journal.specs.Parts.{IsMade, IsMadeOf}
+use Rattle.journal.specs.Parts.{AreLoaded, AreUnloaded, IsMade, IsMadeOf, KeepsRoom, marks_of}
 use Rattle.journal.specs.Steps.{IsAlone, IsPointed, IsUnfinished, pointed, run_on}
 use Rattle.journal.specs.Stretches.{AreAllMarked}
 use Rattle.journal.proofs.Logging.{settled_of}
 use Rattle.journal.proofs.Saving.{opened_sound}
 use Rattle.journal.proofs.Standing.{holds_now, shut_current}
 use Rattle.oplog.specs.Front.{chain, front}
-use Rattle.oplog.specs.Layout.{layout_of, device_size, header, other, part_bytes}
+use Rattle.oplog.specs.Layout.{layout_of, device_size, header, image_size, other, part_bytes}
 use Rattle.oplog.specs.Log.{Log, new_log, renamed}
 use Rattle.oplog.specs.Stands.{in_force, is_laid_out, named_area, run, stands_as}
 use Rattle.parcel.specs.Tree.{IsWholeTree, state_in}
@@ -110,6 +112,54 @@ held_after g log n t u x w0 w1 is chained only held =
     subst (λ (l : Log). NamedHolds l.geometry w1.now l.named u x) (sym is)
     (subst (λ (b : Bool). NamedHolds g w1.now n b x) chained (subst (λ (c : List ℕ). NamedHolds g c n t x) (sym (same_bytes w0 w1 only)) held))
 
+-- ---- the parts
+
+pub kept_then : (p q r : Parts) → KeepsRoom p q → KeepsRoom q r → KeepsRoom p r
+kept_then p q r first second = record {
+  frozen = second.frozen ∙ first.frozen;
+  named_marks = second.named_marks ∙ first.named_marks;
+  other_marks = second.other_marks ∙ first.other_marks;
+  due = second.due ∙ first.due;
+}
+
+-- loaded with this log, of parts whose room has the sizes of a geometry
+pub are_loaded : (p q : Parts) (g : Geometry) (log : Log) (m : Medium) → q.halves ≡ log → log.geometry ≡ g → log.failed ≡ false → log.current ≡ log.named → IsWholeTree q.tree → q.tree.geometry ≡ g → KeepsRoom p q
+    → length p.frozen.items ≡ image_size g → length p.other_marks.items ≡ piece_count g → AreAllMarked g p.other_marks.items → device_size (layout_of g) ≤ length m.now → AreLoaded q m
+are_loaded p q g log m is_log of fine together tree geometry room frozen marks all whole =
+    let same : q.halves.geometry ≡ g = ap (λ (l : Log). l.geometry) is_log ∙ of in
+    record {
+      tree = tree;
+      geometry = geometry ∙ sym same;
+      fine = ap (λ (l : Log). l.failed) is_log ∙ fine;
+      together = ap (λ (l : Log). l.current) is_log ∙ together ∙ sym (ap (λ (l : Log). l.named) is_log);
+      whole = subst (λ (h : Geometry). device_size (layout_of h) ≤ length m.now) (sym same) whole;
+      frozen = room.frozen ∙ frozen ∙ sym (ap image_size same);
+      other_marks = (λ i. length (room.other_marks i).items) ∙ marks ∙ sym (ap piece_count same);
+      all =
+          subst (λ (h : Geometry). AreAllMarked h q.other_marks.items) (sym same)
+          (subst (λ (row : List Bool). AreAllMarked g row) (sym (λ i. (room.other_marks i).items)) all);
+    }
+
+-- once the last point is made
+pub made : (p q r : Parts) (w2 w3 : Medium) → AreUnloaded p → q.halves.geometry ≡ p.tree.geometry → KeepsRoom p q → AreLoaded q w2 → KeepsRoom q r → r.tree ≡ q.tree → r.halves ≡ pointed q.halves → length w3.now ≡ length w2.now → IsMade r w3
+made p q r w2 w3 taken same room loaded room' tree log long =
+    let is : r.halves.geometry ≡ q.halves.geometry = ap (λ (l : Log). l.geometry) log in
+    let kept = kept_then p q r room room' in
+    record {
+      geometry = is ∙ sym loaded.geometry ∙ sym (λ i. (tree i).geometry);
+      fine = ap (λ (l : Log). l.failed) log ∙ loaded.fine;
+      together = ap (λ (l : Log). l.current) log ∙ sym (ap (λ (l : Log). l.named) log);
+      used = ap (λ (l : Log). l.used) log;
+      whole =
+          subst (λ (h : Geometry). device_size (layout_of h) ≤ length w3.now) (sym is)
+          (subst (λ (n : ℕ). device_size (layout_of q.halves.geometry) ≤ n) (sym long) loaded.whole);
+      frozen = kept.frozen ∙ taken.frozen ∙ sym (ap image_size (is ∙ same));
+      named_marks = (λ i. length (kept.named_marks i).items) ∙ taken.named_marks ∙ sym (ap piece_count (is ∙ same));
+      other_marks = (λ i. length (kept.other_marks i).items) ∙ taken.other_marks ∙ sym (ap piece_count (is ∙ same));
+      marks = (λ i. record { named = (kept.named_marks i).items; others = (kept.other_marks i).items }) ∙ taken.marks ∙ sym (ap opened_marks (is ∙ same));
+      due = (λ i. length (kept.due i).items) ∙ taken.due ∙ sym (ap piece_count (is ∙ same));
+    }
+
 -- ---- in the words of contracts
 
 pub opened : (p : Parts) (old m : Medium) (j : JournalView) → IsMade p m → IsMadeOf old.now p m → IsWholeTree p.tree → j ≡ held_of p.halves p.named_marks.items p.other_marks.items None false m → IsOpened old j (state_in p.tree)
@@ -136,7 +186,7 @@ made_of p log old w2 w3 frozen are head fine was is_log geometry items spelled w
       header = head;
       fine = fine;
       was = was;
-      is = ap (λ (g : Geometry). holds g w3.now) same ∙ holds_now log.geometry (other log.named) (other log.named) (holds log.geometry w2.now) w3 are made.stands ∙ held;
+      is = ap (λ (g : Geometry). holds g w3.now) same ∙ holds_now log.geometry (other log.named) (other log.named) (holds log.geometry w2.now) w3 are made.at.stands ∙ held;
       emptied = subst (λ (g : Geometry). in_force (layout_of g) (named_area (layout_of g) w3.now) w3.now ≡ []) (sym same) made.emptied;
       sound =
           subst (λ (l : List ℕ). IsSoundJournal p.halves l p.named_marks.items p.other_marks.items p.due.items None w3) (sym items)

@@ -79,7 +79,7 @@ module _ (log : Log) (frozen frozen' : List ℕ) (named others due : List Bool) 
 
   module _ (w1 : Medium) (are' : AreBytes w1.now) where
     pub point_settled : IsPointed log frozen' w0 w1 → holds log.geometry w1.now ≡ holds log.geometry w0.now
-    point_settled made = holds_now log.geometry (other log.named) (other log.named) (holds log.geometry w0.now) w1 are' made.stands
+    point_settled made = holds_now log.geometry (other log.named) (other log.named) (holds log.geometry w0.now) w1 are' made.at.stands
 
     pub point_sound : (named' others' : List Bool) → others' ≡ named → IsPointed log frozen' w0 w1 → IsSoundJournal (pointed log) frozen' named' others' due None w1
     point_sound named' others' same_marks made =
@@ -87,9 +87,9 @@ module _ (log : Log) (frozen frozen' : List ℕ) (named others due : List Bool) 
         let back : other (other log.named) ≡ log.named = omega (arith, is_area) in
         record {
           some = ap is_some same ∙ sound.some;
-          stands = subst (λ (o : Option State). IsStanding log.geometry (other log.named) (other log.named) o w1) (sym same) made.stands;
-          ready = made.ready;
-          forced = forced_calm log.geometry w1 made.calm;
+          stands = subst (λ (o : Option State). IsStanding log.geometry (other log.named) (other log.named) o w1) (sym same) made.at.stands;
+          ready = made.at.ready;
+          forced = forced_calm log.geometry w1 made.at.calm;
           count = λ none. ap length made.emptied;
           state = λ x is'. sound.state x (sym same ∙ is');
           named_fresh =
@@ -106,16 +106,16 @@ module _ (log : Log) (frozen frozen' : List ℕ) (named others due : List Bool) 
         }
 
     pub cut_settled : IsBegun log w0 w1 → holds log.geometry w1.now ≡ holds log.geometry w0.now
-    cut_settled begun = holds_now log.geometry log.named (other log.named) (holds log.geometry w0.now) w1 are' begun.stands
+    cut_settled begun = holds_now log.geometry log.named (other log.named) (holds log.geometry w0.now) w1 are' begun.at.stands
 
     pub cut_sound : (others' due' : List Bool) (count : ℕ) → due' ≡ others → IsBegun log w0 w1 → IsSoundJournal (cut_now log) frozen' named others' due' (Some count) w1
     cut_sound others' due' count same_marks begun =
         let same = cut_settled begun in
         record {
           some = ap is_some same ∙ sound.some;
-          stands = subst (λ (o : Option State). IsStanding log.geometry log.named (other log.named) o w1) (sym same) begun.stands;
-          ready = begun.ready;
-          forced = forced_calm log.geometry w1 begun.calm;
+          stands = subst (λ (o : Option State). IsStanding log.geometry log.named (other log.named) o w1) (sym same) begun.at.stands;
+          ready = begun.at.ready;
+          forced = forced_calm log.geometry w1 begun.at.calm;
           count = λ none. absurd (true≢false (ap is_some none));
           state = λ x is'. sound.state x (sym same ∙ is');
           named_fresh =
@@ -137,12 +137,12 @@ module _ (log : Log) (frozen frozen' : List ℕ) (named others due : List Bool) 
 pub opened_sound : (log : Log) (frozen : List ℕ) (named others due : List Bool) (w0 w1 : Medium) (y : State) → IsAlone log w0 → holds log.geometry w0.now ≡ Some y → IsState log.geometry y → frozen ≡ image_of 2 log.geometry y
     → ((n : ℕ) → n < piece_count log.geometry → get_or others n true ≡ true) → AreBytes w1.now → IsPointed log frozen w0 w1 → IsSoundJournal (pointed log) frozen named others due None w1
 opened_sound log frozen named others due w0 w1 y alone is is_state spelled all are made =
-    let same = holds_now log.geometry (other log.named) (other log.named) (holds log.geometry w0.now) w1 are made.stands in
+    let same = holds_now log.geometry (other log.named) (other log.named) (holds log.geometry w0.now) w1 are made.at.stands in
     record {
       some = ap is_some same ∙ alone.some;
-      stands = subst (λ (o : Option State). IsStanding log.geometry (other log.named) (other log.named) o w1) (sym same) made.stands;
-      ready = made.ready;
-      forced = forced_calm log.geometry w1 made.calm;
+      stands = subst (λ (o : Option State). IsStanding log.geometry (other log.named) (other log.named) o w1) (sym same) made.at.stands;
+      ready = made.at.ready;
+      forced = forced_calm log.geometry w1 made.at.calm;
       count = λ none. ap length made.emptied;
       state = λ x is'. subst (λ (s : State). IsState log.geometry s) (ap (λ (o : Option State). unwrap_or o y) (sym is ∙ sym same ∙ is')) is_state;
       named_fresh =

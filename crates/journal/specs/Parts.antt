@@ -12,10 +12,13 @@ use Rattle.journal.specs.declared.opening.Parts.{Parts}
 use Rattle.journal.specs.Keeping.{IsSoundJournal}
 use Rattle.journal.specs.Marks.{Marks, opened_marks}
 use Rattle.journal.specs.Opening.{IsRefusedBehind}
+use Rattle.journal.specs.Stretches.{AreAllMarked}
 use Rattle.oplog.specs.Calls.{HasParts}
 use Rattle.oplog.specs.Layout.{image_size, layout_of}
+use Rattle.oplog.specs.Log.{new_log}
 use Rattle.oplog.specs.Stands.{in_force, named_area}
-use Rattle.parcel.specs.Tree.{state_in}
+use Rattle.parcel.specs.Tree.{IsWholeTree, state_in}
+use Rattle.plain.specs.State.{empty}
 
 -- The device failed; or a record of this half is bad, which was behind the named one, and the cut was finished.
 abbrev pub IsBad : Geometry → ℕ → Medium → OpenFault → Type 0
@@ -31,6 +34,38 @@ pub record IsRefusedAlike (g : Geometry) (before c : List ℕ) : Type 0 where
 -- the marks that a journal is made of
 abbrev pub marks_of : Parts → Marks
 marks_of p = record { named = p.named_marks.items; others = p.other_marks.items }
+
+-- The parts as they are taken: an empty tree, a log of which nothing is known, room for an image, and for each piece its
+-- marks. Each has the size that the tree's geometry asks for.
+pub record AreUnloaded (p : Parts) : Type 0 where
+  pub tree : IsWholeTree p.tree
+  pub empty : state_in p.tree ≡ empty
+  pub log : p.halves ≡ new_log p.tree.geometry
+  pub frozen : length p.frozen.items ≡ image_size p.tree.geometry
+  pub named_marks : length p.named_marks.items ≡ piece_count p.tree.geometry
+  pub other_marks : length p.other_marks.items ≡ piece_count p.tree.geometry
+  pub due : length p.due.items ≡ piece_count p.tree.geometry
+  pub marks : marks_of p ≡ opened_marks p.tree.geometry
+  pub all : AreAllMarked p.tree.geometry p.other_marks.items
+
+-- The parts once a device is loaded: the log works, with the half of the named area current; the tree is whole; and the other
+-- image is marked in all its pieces, so that it is written whole.
+pub record AreLoaded (p : Parts) (m : Medium) : Type 0 where
+  pub tree : IsWholeTree p.tree
+  pub geometry : p.tree.geometry ≡ p.halves.geometry
+  pub fine : p.halves.failed ≡ false
+  pub together : p.halves.current ≡ p.halves.named
+  pub whole : HasParts p.halves m
+  pub frozen : length p.frozen.items ≡ image_size p.halves.geometry
+  pub other_marks : length p.other_marks.items ≡ piece_count p.halves.geometry
+  pub all : AreAllMarked p.halves.geometry p.other_marks.items
+
+-- No mark has changed, nor the size of what is frozen.
+pub record KeepsRoom (old new : Parts) : Type 0 where
+  pub frozen : length new.frozen.items ≡ length old.frozen.items
+  pub named_marks : new.named_marks ≡ old.named_marks
+  pub other_marks : new.other_marks ≡ old.other_marks
+  pub due : new.due ≡ old.due
 
 -- What a journal is made of: a log with no record and all its room, and for each piece its marks.
 pub record IsMade (p : Parts) (m : Medium) : Type 0 where

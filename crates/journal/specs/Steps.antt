@@ -28,35 +28,41 @@ IsStanding g n h x m = StandsByNow (means g) (layout_of g) n h x m
 abbrev pub run_on : Geometry → Option State → List (List ℕ) → Option State
 run_on g x records = run (means g) x records
 
--- It stands for a state by the area that is named alone, whatever room there is.
-pub record IsAlone (log : Log) (m : Medium) : Type 0 where
+-- It stands for some state by the named area, with this half as the current one, whatever room that has.
+pub record StandsWith (log : Log) (half : ℕ) (m : Medium) : Type 0 where
   pub some : is_some (holds log.geometry m.now) ≡ true
-  pub stands : IsStanding log.geometry log.named log.named (holds log.geometry m.now) m
+  pub stands : IsStanding log.geometry log.named half (holds log.geometry m.now) m
+
+-- It stands for a state by the named area and its half alone.
+abbrev pub IsAlone : Log → Medium → Type 0
+IsAlone log m = StandsWith log log.named m
+
+-- A step is over and lasts: nothing is loose, and it stands for x by this area, with this half as the current one, which has
+-- this many records and is ready for more.
+pub record LastsAt (g : Geometry) (area half used : ℕ) (x : Option State) (m : Medium) : Type 0 where
+  pub stands : IsStanding g area half x m
+  pub ready : IsReady (layout_of g) half used m
+  pub calm : IsSynced m
 
 -- The other area is named, with this image, no record and all its room. The image that was named is as it was.
 pub record IsPointed (log : Log) (bytes : List ℕ) (old new : Medium) : Type 0 where
-  pub stands : IsStanding log.geometry (other log.named) (other log.named) (holds log.geometry old.now) new
-  pub ready : IsReady (layout_of log.geometry) (other log.named) 0 new
+  pub at : LastsAt log.geometry (other log.named) (other log.named) 0 (holds log.geometry old.now) new
   pub emptied : records_in log.geometry new.now ≡ []
-  pub calm : IsSynced new
   pub is : image_in log.geometry (other log.named) new ≡ bytes
   pub kept : image_in log.geometry log.named new ≡ image_in log.geometry log.named old
 
 -- The other half is in force behind the named one, with no record and all its room. The records in force and both images
 -- are as they were.
 pub record IsBegun (log : Log) (old new : Medium) : Type 0 where
-  pub stands : IsStanding log.geometry log.named (other log.named) (holds log.geometry old.now) new
-  pub ready : IsReady (layout_of log.geometry) (other log.named) 0 new
+  pub at : LastsAt log.geometry log.named (other log.named) 0 (holds log.geometry old.now) new
   pub none : front (layout_of log.geometry) (other log.named) new.now ≡ []
   pub forced : records_in log.geometry new.now ≡ records_in log.geometry old.now
-  pub calm : IsSynced new
   pub images : (i : ℕ) → i < 2 → image_in log.geometry i new ≡ image_in log.geometry i old
 
 -- It stands for a state by both halves, and would by the other area alone: these bytes are its image, and the records of
 -- the other half lead from there to what the device stands for.
 pub record IsWritten (log : Log) (bytes : List ℕ) (m : Medium) : Type 0 where
-  pub some : is_some (holds log.geometry m.now) ≡ true
-  pub stands : IsStanding log.geometry log.named (other log.named) (holds log.geometry m.now) m
+  pub by : StandsWith log (other log.named) m
   pub ready : IsReady (layout_of log.geometry) (other log.named) log.used m
   pub is : image_in log.geometry (other log.named) m ≡ bytes
   pub behind : run_on log.geometry (read log.geometry bytes) (front (layout_of log.geometry) (other log.named) m.now)
@@ -64,11 +70,9 @@ pub record IsWritten (log : Log) (bytes : List ℕ) (m : Medium) : Type 0 where
 
 -- The other area is named, with the records that it had: they alone are in force. Both images are as they were.
 pub record IsFlipped (log : Log) (old new : Medium) : Type 0 where
-  pub stands : IsStanding log.geometry (other log.named) (other log.named) (holds log.geometry old.now) new
-  pub ready : IsReady (layout_of log.geometry) (other log.named) log.used new
+  pub at : LastsAt log.geometry (other log.named) (other log.named) log.used (holds log.geometry old.now) new
   pub before : records_in log.geometry old.now ≡ front (layout_of log.geometry) log.named old.now ++ records_in log.geometry new.now
   pub alone : records_in log.geometry new.now ≡ front (layout_of log.geometry) (other log.named) new.now
-  pub calm : IsSynced new
   pub images : (i : ℕ) → i < 2 → image_in log.geometry i new ≡ image_in log.geometry i old
 
 -- Both halves are in force, nothing is loose, and these bytes are the image of what the named area holds by itself.

@@ -53,7 +53,7 @@ pub struct Journal<D: Disk> {
 }
 
 impl<D: Disk> Model for Journal<D> {
-    ghost use Rattle.std.specs.Prelude.{◌≡◌, ◌≤◌, ◌*◌, false, length};
+    ghost use Rattle.std.specs.Prelude.{◌≡◌, ◌≤◌, false, length};
     ghost use Rattle.image.specs.Pieces.{piece_count};
     ghost use Rattle.journal.specs.Journal.{JournalView};
     ghost use Rattle.journal.specs.Keeping.{AreClearBefore, IsCutState, IsSoundJournal, held_of};

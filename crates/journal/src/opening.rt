@@ -2,23 +2,18 @@
 ghost use Rattle.std.specs.Prelude.{◌≡◌, ◌↔◌, ◌+◌, ◌*◌, ◌<◌, ◌≤◌, true, false, None, Some, length, IfErr, IfOk, MatchResult, OnOk};
 ghost use Rattle.checkpoint.specs.declared.fault.OpenFault.TheVariants.{Device, OutOfMemory};
 ghost use Rattle.checkpoint.specs.Header.{HasHeader};
-ghost use Rattle.checkpoint.specs.Loading.{CountsOpenFault, NamedHolds};
+ghost use Rattle.checkpoint.specs.Loading.{IsOpeningCall, NamedHolds};
 ghost use Rattle.checkpoint.specs.Recovery.{holds};
 ghost use Rattle.checkpoint.specs.Refusals.{IsDevice, IsRefused, refused};
 ghost use Rattle.disk.specs.Device.{IsSynced, Leaves};
 ghost use Rattle.disk.specs.Moments.{LeavesOnly};
 ghost use Rattle.image.specs.Image.{image_of};
-ghost use Rattle.image.specs.Pieces.{piece_count};
-ghost use Rattle.journal.specs.Marks.{opened_marks};
 ghost use Rattle.journal.specs.Opening.{IsOpened, IsRefusedUnwritten, OpeningLeaves, StandsAs};
-ghost use Rattle.journal.specs.Parts.{IsBad, IsMade, IsMadeOf, IsRefusedAlike, marks_of};
-ghost use Rattle.journal.specs.Stretches.{AreAllMarked};
+ghost use Rattle.journal.specs.Parts.{AreLoaded, AreUnloaded, IsBad, IsMade, IsMadeOf, IsRefusedAlike, KeepsRoom};
 ghost use Rattle.journal.specs.Steps.{IsAlone, IsFinished, IsPointed, StandsStill, finished_now, pointed};
-ghost use Rattle.oplog.specs.Calls.{HasParts};
-ghost use Rattle.oplog.specs.Layout.{device_size, image_size, layout_of, other};
-ghost use Rattle.oplog.specs.Log.{CountsLogFault, IsNotBad, new_log};
+ghost use Rattle.oplog.specs.Layout.{device_size, layout_of, other};
+ghost use Rattle.oplog.specs.Log.{IsLogCall, IsNotBad};
 ghost use Rattle.parcel.specs.Tree.{IsWholeTree, state_in};
-ghost use Rattle.plain.specs.State.{empty};
 
 use crate::Journal;
 use crate::freezing::freeze;
@@ -54,17 +49,9 @@ struct Parts {
 
 /// All memory that opening a device takes, with a buffer for the largest piece of an image.
 fn take_memory(alloc: Global, g: &Geometry) -> Result<(Parts, Vec<u8>), OpenFault>
-    ensures whole { IfOk result (λ r. IsWholeTree r.0.tree) }
-    ensures empty { IfOk result (λ r. state_in r.0.tree ≡ empty) }
+    ensures taken { IfOk result (λ r. AreUnloaded r.0) }
     ensures geometry { IfOk result (λ r. r.0.tree.geometry ≡ g.now) }
-    ensures log { IfOk result (λ r. r.0.halves ≡ new_log g.now) }
     ensures buffer { IfOk result (λ r. length r.1.items ≡ g.now.quota * 520) }
-    ensures frozen { IfOk result (λ r. length r.0.frozen.items ≡ image_size g.now) }
-    ensures named_marks { IfOk result (λ r. length r.0.named_marks.items ≡ piece_count g.now) }
-    ensures other_marks { IfOk result (λ r. length r.0.other_marks.items ≡ piece_count g.now) }
-    ensures all { IfOk result (λ r. AreAllMarked g.now r.0.other_marks.items) }
-    ensures marks { IfOk result (λ r. marks_of r.0 ≡ opened_marks g.now) }
-    ensures due { IfOk result (λ r. length r.0.due.items ≡ piece_count g.now) }
     ensures fault { IfErr result (λ e. e ≡ OutOfMemory) }
 {
     let (tree, halves, buffer) = take_room(alloc, g)?;
@@ -91,8 +78,7 @@ fn settle<D: Disk>(disk: &mut D) -> Result<(), OpenFault>
     ensures now { D.keeps → (D.medium disk.new).now ≡ (D.medium disk.old).now }
     ensures calm { OnOk result (D.keeps → IsSynced (D.medium disk.new)) }
     ensures device { IfErr result (λ e. e ≡ Device) }
-    ensures counts { CountsOpenFault result (D.medium disk.old).faults (D.medium disk.new).faults }
-    ensures len { length (D.medium disk.new).now ≡ length (D.medium disk.old).now }
+    ensures call { IsOpeningCall result (D.medium disk.old) (D.medium disk.new) }
 {
     if disk.sync().is_err() {
         return Err(OpenFault::Device);
@@ -102,166 +88,113 @@ fn settle<D: Disk>(disk: &mut D) -> Result<(), OpenFault>
 
 /// Finishes a cut that was in progress: its state, which the tree holds, is written into the other area, which is named then.
 /// That is what the named area holds by itself, with none of the records after it.
-fn finish_cut<D: Disk>(
-    halves: &mut Halves,
-    disk: &mut D,
-    tree: &Tree,
-    frozen: &mut [u8],
-    marks: &[bool],
-) -> Result<(), LogFault>
-    requires fine { halves.old.failed ≡ false }
-    requires together { halves.old.current ≡ halves.old.named }
-    requires whole { IsWholeTree tree.now }
-    requires geometry { tree.now.geometry ≡ halves.old.geometry }
-    requires parts { HasParts halves.old (D.medium disk.old) }
-    requires size { length frozen.old ≡ image_size halves.old.geometry }
-    requires marks { length marks.now ≡ piece_count halves.old.geometry }
-    requires all { AreAllMarked halves.old.geometry marks.now }
+fn finish_cut<D: Disk>(parts: &mut Parts, disk: &mut D) -> Result<(), LogFault>
+    requires loaded { AreLoaded parts.old (D.medium disk.old) }
     requires calm { D.keeps → IsSynced (D.medium disk.old) }
     requires holds { D.keeps →
-        NamedHolds halves.old.geometry (D.medium disk.old).now halves.old.named true (state_in tree.now) }
+        NamedHolds parts.old.halves.geometry (D.medium disk.old).now parts.old.halves.named true (state_in parts.old.tree) }
     ensures any_moment { D.keeps →
-        StandsStill halves.old.geometry (D.medium disk.old) (D.medium disk.new) }
+        StandsStill parts.old.halves.geometry (D.medium disk.old) (D.medium disk.new) }
     ensures alike { D.keeps →
-        LeavesOnly (D.medium disk.old) (D.medium disk.new) (IsRefusedAlike halves.old.geometry (D.medium disk.old).now) }
+        LeavesOnly (D.medium disk.old) (D.medium disk.new) (IsRefusedAlike parts.old.halves.geometry (D.medium disk.old).now) }
     ensures finished { OnOk result (D.keeps →
-        IsFinished halves.old (D.medium disk.old) (D.medium disk.new)) }
-    ensures log { OnOk result (halves.new ≡ finished_now halves.old) }
-    ensures size { length frozen.new ≡ length frozen.old }
+        IsFinished parts.old.halves (D.medium disk.old) (D.medium disk.new)) }
+    ensures log { OnOk result (parts.new.halves ≡ finished_now parts.old.halves) }
+    ensures tree { parts.new.tree ≡ parts.old.tree }
+    ensures room { KeepsRoom parts.old parts.new }
     ensures not_bad { IsNotBad result }
-    ensures counts { CountsLogFault result (D.medium disk.old).faults (D.medium disk.new).faults }
-    ensures len { length (D.medium disk.new).now ≡ length (D.medium disk.old).now }
+    ensures call { IsLogCall result (D.medium disk.old) (D.medium disk.new) }
 {
-    freeze(tree, marks, frozen);
-    finish_on(halves, disk, frozen, marks)
+    freeze(&parts.tree, &parts.other_marks, &mut parts.frozen);
+    finish_on(&mut parts.halves, disk, &parts.frozen, &parts.other_marks)
 }
 
 /// Finishes a cut that was in progress, and then runs the records after it on the tree, which holds the state of the
 /// cut. The other area is named then, and holds the state of the device by itself.
-fn replay_behind<D: Disk>(
-    halves: &mut Halves,
-    disk: &mut D,
-    tree: &mut Tree,
-    frozen: &mut [u8],
-    marks: &[bool],
-) -> Result<(), OpenFault>
-    requires fine { halves.old.failed ≡ false }
-    requires together { halves.old.current ≡ halves.old.named }
-    requires whole { IsWholeTree tree.old }
-    requires geometry { tree.old.geometry ≡ halves.old.geometry }
-    requires parts { HasParts halves.old (D.medium disk.old) }
-    requires size { length frozen.old ≡ image_size halves.old.geometry }
-    requires marks { length marks.now ≡ piece_count halves.old.geometry }
-    requires all { AreAllMarked halves.old.geometry marks.now }
+fn replay_behind<D: Disk>(parts: &mut Parts, disk: &mut D) -> Result<(), OpenFault>
+    requires loaded { AreLoaded parts.old (D.medium disk.old) }
     requires calm { D.keeps → IsSynced (D.medium disk.old) }
     requires holds { D.keeps →
-        NamedHolds halves.old.geometry (D.medium disk.old).now halves.old.named true (state_in tree.old) }
+        NamedHolds parts.old.halves.geometry (D.medium disk.old).now parts.old.halves.named true (state_in parts.old.tree) }
     ensures any_moment { D.keeps →
-        StandsStill halves.old.geometry (D.medium disk.old) (D.medium disk.new) }
+        StandsStill parts.old.halves.geometry (D.medium disk.old) (D.medium disk.new) }
     ensures alike { D.keeps →
-        LeavesOnly (D.medium disk.old) (D.medium disk.new) (IsRefusedAlike halves.old.geometry (D.medium disk.old).now) }
-    ensures alone { OnOk result (D.keeps → IsAlone (finished_now halves.old) (D.medium disk.new)) }
+        LeavesOnly (D.medium disk.old) (D.medium disk.new) (IsRefusedAlike parts.old.halves.geometry (D.medium disk.old).now) }
+    ensures alone { OnOk result (D.keeps → IsAlone parts.new.halves (D.medium disk.new)) }
     ensures was { OnOk result (D.keeps →
-        holds halves.old.geometry (D.medium disk.old).now ≡ Some (state_in tree.new)) }
+        holds parts.old.halves.geometry (D.medium disk.old).now ≡ Some (state_in parts.new.tree)) }
     ensures sound { OnOk result (D.keeps →
-        refused halves.old.geometry (D.medium disk.old).now ≡ None) }
+        refused parts.old.halves.geometry (D.medium disk.old).now ≡ None) }
     ensures refused { IfErr result (λ e. D.keeps → IsRefused (D.medium disk.old).now e) }
     ensures behind { IfErr result (λ e. D.keeps →
-        IsBad halves.old.geometry (other halves.old.named) (D.medium disk.new) e) }
-    ensures whole { OnOk result (IsWholeTree tree.new) }
-    ensures geometry { OnOk result (tree.new.geometry ≡ tree.old.geometry) }
-    ensures log { OnOk result (halves.new ≡ finished_now halves.old) }
-    ensures size { length frozen.new ≡ length frozen.old }
-    ensures counts { CountsOpenFault result (D.medium disk.old).faults (D.medium disk.new).faults }
-    ensures len { length (D.medium disk.new).now ≡ length (D.medium disk.old).now }
+        IsBad parts.old.halves.geometry (other parts.old.halves.named) (D.medium disk.new) e) }
+    ensures loaded { OnOk result (AreLoaded parts.new (D.medium disk.new)) }
+    ensures geometry { OnOk result (parts.new.halves.geometry ≡ parts.old.halves.geometry) }
+    ensures room { OnOk result (KeepsRoom parts.old parts.new) }
+    ensures call { IsOpeningCall result (D.medium disk.old) (D.medium disk.new) }
 {
-    let behind = 1 - halves.named();
-    finish_cut(halves, disk, tree, frozen, marks)?;
-    replay(halves, disk, behind, tree)?;
+    let behind = 1 - parts.halves.named();
+    finish_cut(parts, disk)?;
+    replay(&mut parts.halves, disk, behind, &mut parts.tree)?;
     Ok(())
 }
 
 /// Loads what the device stands for into an empty tree. Where a cut was in progress, it is finished between the records
 /// of the two halves.
 fn load_in_turn<D: Disk>(
-    halves: &mut Halves,
+    parts: &mut Parts,
     disk: &mut D,
-    tree: &mut Tree,
     buffer: &mut [u8],
-    frozen: &mut [u8],
-    marks: &[bool],
 ) -> Result<(), OpenFault>
-    requires whole { IsWholeTree tree.old }
-    requires empty { state_in tree.old ≡ empty }
-    requires log { halves.old ≡ new_log tree.old.geometry }
-    requires header { D.keeps → HasHeader tree.old.geometry (D.medium disk.old).now }
-    requires parts { device_size (layout_of tree.old.geometry) ≤ length (D.medium disk.old).now }
-    requires room { tree.old.geometry.quota * 520 ≤ length buffer.old }
-    requires size { length frozen.old ≡ image_size tree.old.geometry }
-    requires marks { length marks.now ≡ piece_count tree.old.geometry }
-    requires all { AreAllMarked tree.old.geometry marks.now }
+    requires taken { AreUnloaded parts.old }
+    requires header { D.keeps → HasHeader parts.old.tree.geometry (D.medium disk.old).now }
+    requires whole { device_size (layout_of parts.old.tree.geometry) ≤ length (D.medium disk.old).now }
+    requires buffer { parts.old.tree.geometry.quota * 520 ≤ length buffer.old }
     requires calm { D.keeps → IsSynced (D.medium disk.old) }
     ensures any_moment { D.keeps →
-        StandsStill tree.old.geometry (D.medium disk.old) (D.medium disk.new) }
+        StandsStill parts.old.tree.geometry (D.medium disk.old) (D.medium disk.new) }
     ensures alike { D.keeps →
-        LeavesOnly (D.medium disk.old) (D.medium disk.new) (IsRefusedAlike tree.old.geometry (D.medium disk.old).now) }
-    ensures alone { OnOk result (D.keeps → IsAlone halves.new (D.medium disk.new)) }
+        LeavesOnly (D.medium disk.old) (D.medium disk.new) (IsRefusedAlike parts.old.tree.geometry (D.medium disk.old).now) }
+    ensures alone { OnOk result (D.keeps → IsAlone parts.new.halves (D.medium disk.new)) }
     ensures was { OnOk result (D.keeps →
-        holds tree.old.geometry (D.medium disk.old).now ≡ Some (state_in tree.new)) }
+        holds parts.old.tree.geometry (D.medium disk.old).now ≡ Some (state_in parts.new.tree)) }
     ensures sound { OnOk result (D.keeps →
-        refused tree.old.geometry (D.medium disk.old).now ≡ None) }
+        refused parts.old.tree.geometry (D.medium disk.old).now ≡ None) }
     ensures refused { IfErr result (λ e. D.keeps → IsRefused (D.medium disk.old).now e) }
     ensures unwritten { IfErr result (λ e. D.keeps →
         IsRefusedUnwritten (D.medium disk.old) e (D.medium disk.new)) }
-    ensures whole { OnOk result (IsWholeTree tree.new) }
-    ensures geometry { OnOk result (tree.new.geometry ≡ tree.old.geometry) }
-    ensures log { OnOk result (halves.new.geometry ≡ tree.old.geometry) }
-    ensures fine { OnOk result (halves.new.failed ≡ false) }
-    ensures together { OnOk result (halves.new.current ≡ halves.new.named) }
-    ensures size { length frozen.new ≡ length frozen.old }
-    ensures counts { CountsOpenFault result (D.medium disk.old).faults (D.medium disk.new).faults }
-    ensures len { length (D.medium disk.new).now ≡ length (D.medium disk.old).now }
+    ensures loaded { OnOk result (AreLoaded parts.new (D.medium disk.new)) }
+    ensures geometry { OnOk result (parts.new.halves.geometry ≡ parts.old.tree.geometry) }
+    ensures room { OnOk result (KeepsRoom parts.old parts.new) }
+    ensures call { IsOpeningCall result (D.medium disk.old) (D.medium disk.new) }
 {
-    let named = load_named(disk, tree, halves, buffer)?;
+    let named = load_named(disk, &mut parts.tree, &mut parts.halves, buffer)?;
     if !named.chained {
         return Ok(());
     }
-    replay_behind(halves, disk, tree, frozen, marks)?;
+    replay_behind(parts, disk)?;
     Ok(())
 }
 
 /// Makes a point of the whole state, which the tree holds.
-fn last_point<D: Disk>(
-    halves: &mut Halves,
-    disk: &mut D,
-    tree: &Tree,
-    frozen: &mut [u8],
-    marks: &[bool],
-) -> Result<(), OpenFault>
-    requires fine { halves.old.failed ≡ false }
-    requires together { halves.old.current ≡ halves.old.named }
-    requires whole { IsWholeTree tree.now }
-    requires geometry { tree.now.geometry ≡ halves.old.geometry }
-    requires parts { HasParts halves.old (D.medium disk.old) }
-    requires size { length frozen.old ≡ image_size halves.old.geometry }
-    requires marks { length marks.now ≡ piece_count halves.old.geometry }
-    requires all { AreAllMarked halves.old.geometry marks.now }
-    requires alone { D.keeps → IsAlone halves.old (D.medium disk.old) }
+fn last_point<D: Disk>(parts: &mut Parts, disk: &mut D) -> Result<(), OpenFault>
+    requires loaded { AreLoaded parts.old (D.medium disk.old) }
+    requires alone { D.keeps → IsAlone parts.old.halves (D.medium disk.old) }
     requires holds { D.keeps →
-        holds halves.old.geometry (D.medium disk.old).now ≡ Some (state_in tree.now) }
+        holds parts.old.halves.geometry (D.medium disk.old).now ≡ Some (state_in parts.old.tree) }
     ensures any_moment { D.keeps →
-        StandsStill halves.old.geometry (D.medium disk.old) (D.medium disk.new) }
+        StandsStill parts.old.halves.geometry (D.medium disk.old) (D.medium disk.new) }
     ensures pointed { OnOk result (D.keeps →
-        IsPointed halves.old frozen.new (D.medium disk.old) (D.medium disk.new)) }
-    ensures frozen { frozen.new ≡ image_of 2 tree.now.geometry (state_in tree.now) }
-    ensures log { OnOk result (halves.new ≡ pointed halves.old) }
-    ensures size { length frozen.new ≡ length frozen.old }
+        IsPointed parts.old.halves parts.new.frozen.items (D.medium disk.old) (D.medium disk.new)) }
+    ensures frozen { parts.new.frozen.items ≡ image_of 2 parts.old.tree.geometry (state_in parts.old.tree) }
+    ensures log { OnOk result (parts.new.halves ≡ pointed parts.old.halves) }
+    ensures tree { parts.new.tree ≡ parts.old.tree }
+    ensures room { KeepsRoom parts.old parts.new }
     ensures device { IfErr result (λ e. e ≡ Device) }
-    ensures counts { CountsOpenFault result (D.medium disk.old).faults (D.medium disk.new).faults }
-    ensures len { length (D.medium disk.new).now ≡ length (D.medium disk.old).now }
+    ensures call { IsOpeningCall result (D.medium disk.old) (D.medium disk.new) }
 {
-    freeze(tree, marks, frozen);
-    point_on(halves, disk, frozen, marks)?;
+    freeze(&parts.tree, &parts.other_marks, &mut parts.frozen);
+    point_on(&mut parts.halves, disk, &parts.frozen, &parts.other_marks)?;
     Ok(())
 }
 
@@ -278,36 +211,13 @@ fn open_settled<D: Disk>(alloc: Global, disk: &mut D) -> Result<Parts, OpenFault
     ensures unwritten { IfErr result (λ e. D.keeps →
         IsRefusedUnwritten (D.medium disk.old) e (D.medium disk.new)) }
     ensures memory { IfErr result (λ e. e ≡ OutOfMemory → D.keeps → IsDevice (D.medium disk.old).now) }
-    ensures counts { CountsOpenFault result (D.medium disk.old).faults (D.medium disk.new).faults }
-    ensures len { length (D.medium disk.new).now ≡ length (D.medium disk.old).now }
+    ensures call { IsOpeningCall result (D.medium disk.old) (D.medium disk.new) }
 {
     let g = read_header(disk)?;
-    let (parts, mut buffer) = take_memory(alloc, &g)?;
-    let Parts {
-        mut tree,
-        mut halves,
-        mut frozen,
-        named_marks,
-        other_marks,
-        due,
-    } = parts;
-    load_in_turn(
-        &mut halves,
-        disk,
-        &mut tree,
-        &mut buffer,
-        &mut frozen,
-        &other_marks,
-    )?;
-    last_point(&mut halves, disk, &tree, &mut frozen, &other_marks)?;
-    Ok(Parts {
-        tree,
-        halves,
-        frozen,
-        named_marks,
-        other_marks,
-        due,
-    })
+    let (mut parts, mut buffer) = take_memory(alloc, &g)?;
+    load_in_turn(&mut parts, disk, &mut buffer)?;
+    last_point(&mut parts, disk)?;
+    Ok(parts)
 }
 
 /// Opens any device: the first sync makes last what is loose.
@@ -321,8 +231,7 @@ fn open_on<D: Disk>(alloc: Global, disk: &mut D) -> Result<Parts, OpenFault>
     ensures unwritten { IfErr result (λ e. D.keeps →
         IsRefusedUnwritten (D.medium disk.old) e (D.medium disk.new)) }
     ensures memory { IfErr result (λ e. e ≡ OutOfMemory → D.keeps → IsDevice (D.medium disk.old).now) }
-    ensures counts { CountsOpenFault result (D.medium disk.old).faults (D.medium disk.new).faults }
-    ensures len { length (D.medium disk.new).now ≡ length (D.medium disk.old).now }
+    ensures call { IsOpeningCall result (D.medium disk.old) (D.medium disk.new) }
 {
     settle(disk)?;
     open_settled(alloc, disk)

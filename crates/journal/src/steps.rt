@@ -10,7 +10,7 @@ ghost use Rattle.journal.specs.Steps.{IsAlone, IsBegun, IsFinished, IsFlipped, I
 ghost use Rattle.journal.specs.Stretches.{AgreeUnmarked, AreAllMarked, image_in};
 ghost use Rattle.oplog.specs.Calls.{HasParts};
 ghost use Rattle.oplog.specs.Layout.{image_size, other};
-ghost use Rattle.oplog.specs.Log.{CountsLogFault, IsNotBad};
+ghost use Rattle.oplog.specs.Log.{IsLogCall, IsNotBad};
 ghost use Rattle.plain.specs.State.{State};
 
 use crate::stretches::{make_last, write_image};
@@ -43,8 +43,7 @@ pub(crate) fn point_on<D: Disk>(
     ensures geometry { halves.new.geometry ≡ halves.old.geometry }
     ensures used { OnErr result (halves.new.used ≡ halves.old.used) }
     ensures not_bad { IsNotBad result }
-    ensures counts { CountsLogFault result (D.medium disk.old).faults (D.medium disk.new).faults }
-    ensures len { length (D.medium disk.new).now ≡ length (D.medium disk.old).now }
+    ensures call { IsLogCall result (D.medium disk.old) (D.medium disk.new) }
 {
     let g = halves.geometry();
     let area = 1 - halves.named();
@@ -70,8 +69,7 @@ pub(crate) fn cut_on<D: Disk>(halves: &mut Halves, disk: &mut D) -> Result<(), L
     ensures geometry { halves.new.geometry ≡ halves.old.geometry }
     ensures used { OnErr result (halves.new.used ≡ halves.old.used) }
     ensures not_bad { IsNotBad result }
-    ensures counts { CountsLogFault result (D.medium disk.old).faults (D.medium disk.new).faults }
-    ensures len { length (D.medium disk.new).now ≡ length (D.medium disk.old).now }
+    ensures call { IsLogCall result (D.medium disk.old) (D.medium disk.new) }
 {
     halves.clear_other(disk)?; // before it is in force
     halves.open_chain(disk)?;
@@ -96,8 +94,7 @@ pub(crate) fn flip_on<D: Disk>(
     ensures geometry { halves.new.geometry ≡ halves.old.geometry }
     ensures used { OnErr result (halves.new.used ≡ halves.old.used) }
     ensures not_bad { IsNotBad result }
-    ensures counts { CountsLogFault result (D.medium disk.old).faults (D.medium disk.new).faults }
-    ensures len { length (D.medium disk.new).now ≡ length (D.medium disk.old).now }
+    ensures call { IsLogCall result (D.medium disk.old) (D.medium disk.new) }
 {
     if make_last(disk).is_err() {
         return Err(LogFault::Device);
@@ -131,8 +128,7 @@ pub(crate) fn finish_on<D: Disk>(
         IsFinished halves.old (D.medium disk.old) (D.medium disk.new)) }
     ensures log { OnOk result (halves.new ≡ finished_now halves.old) }
     ensures not_bad { IsNotBad result }
-    ensures counts { CountsLogFault result (D.medium disk.old).faults (D.medium disk.new).faults }
-    ensures len { length (D.medium disk.new).now ≡ length (D.medium disk.old).now }
+    ensures call { IsLogCall result (D.medium disk.old) (D.medium disk.new) }
 {
     let g = halves.geometry();
     let second = 1 - halves.named();

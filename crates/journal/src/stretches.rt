@@ -1,6 +1,6 @@
 //! An image as the stretches in which it is written: its head with the first piece, then each other piece.
 ghost use Rattle.std.specs.Prelude.{◌≡◌, ◌+◌, ◌-◌, ◌<◌, ◌≤◌, ℕ, length, OnOk, IsErrOf};
-ghost use Rattle.disk.specs.Device.{CountsFault, Syncs, overlaid};
+ghost use Rattle.disk.specs.Device.{IsDeviceCall, Syncs, overlaid};
 ghost use Rattle.image.specs.Pieces.{piece_count, piece_size};
 ghost use Rattle.journal.specs.Stretches.{AgreeUnmarked, Imaged, IsPatchedAt, image_in, stretch_size};
 ghost use Rattle.oplog.specs.Changes.{ChangesOnly, IsReady, IsSameBut};
@@ -47,8 +47,7 @@ fn write_run<D: Disk>(
     ensures ready { D.keeps → (h k : ℕ) → h < 2 → IsReady (layout_of g.now) h k (D.medium disk.old)
         → IsReady (layout_of g.now) h k (D.medium disk.new) }
     ensures inside { IsErrOf result DiskFault.OutOfRange → ⊥ }
-    ensures counts { CountsFault result (D.medium disk.old).faults (D.medium disk.new).faults }
-    ensures len { length (D.medium disk.new).now ≡ length (D.medium disk.old).now }
+    ensures call { IsDeviceCall result (D.medium disk.old) (D.medium disk.new) }
 {
     if from < end {
         write(disk, image_at(g, area) + from as u64, &bytes[from..end])?;
@@ -60,8 +59,7 @@ fn write_run<D: Disk>(
 pub(crate) fn make_last<D: Disk>(disk: &mut D) -> Result<(), DiskFault>
     ensures syncs { D.keeps → Syncs result (D.medium disk.old) (D.medium disk.new) }
     ensures inside { IsErrOf result DiskFault.OutOfRange → ⊥ }
-    ensures counts { CountsFault result (D.medium disk.old).faults (D.medium disk.new).faults }
-    ensures len { length (D.medium disk.new).now ≡ length (D.medium disk.old).now }
+    ensures call { IsDeviceCall result (D.medium disk.old) (D.medium disk.new) }
 {
     disk.sync()
 }
@@ -86,8 +84,7 @@ pub(crate) fn write_image<D: Disk>(
     ensures written { OnOk result (D.keeps →
         Imaged g.now area bytes.now (D.medium disk.old) (D.medium disk.new)) }
     ensures inside { IsErrOf result DiskFault.OutOfRange → ⊥ }
-    ensures counts { CountsFault result (D.medium disk.old).faults (D.medium disk.new).faults }
-    ensures len { length (D.medium disk.new).now ≡ length (D.medium disk.old).now }
+    ensures call { IsDeviceCall result (D.medium disk.old) (D.medium disk.new) }
 {
     let mut from = 0;
     let mut at = 0;
@@ -125,8 +122,7 @@ pub(crate) fn write_stretch<D: Disk>(
     ensures ready { D.keeps → (h k : ℕ) → h < 2 → IsReady (layout_of g.now) h k (D.medium disk.old)
         → IsReady (layout_of g.now) h k (D.medium disk.new) }
     ensures inside { IsErrOf result DiskFault.OutOfRange → ⊥ }
-    ensures counts { CountsFault result (D.medium disk.old).faults (D.medium disk.new).faults }
-    ensures len { length (D.medium disk.new).now ≡ length (D.medium disk.old).now }
+    ensures call { IsDeviceCall result (D.medium disk.old) (D.medium disk.new) }
 {
     let mut at = 0;
     for i in 0..n {

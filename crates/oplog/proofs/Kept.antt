@@ -4,7 +4,7 @@ use Rattle.std.proofs.lemmas.Bool.{cases_eq}
 use Rattle.std.proofs.lemmas.List.{append_assoc, append-nil, drop-drop, get_or-take}
 use Rattle.oplog.specs.Layout.{Layout, part_bytes, device_size, header, root, half, image, other}
 use Rattle.oplog.specs.Front.{chain, front, front_in, open_gates, rows}
-use Rattle.oplog.specs.Stands.{Meaning, named_area, current_of, current, in_force, run, is_laid_out, stands_as, stands}
+use Rattle.oplog.specs.Stands.{Meaning, named_area, current_of, in_force, run, is_laid_out, stands_as, stands}
 use Rattle.oplog.specs.Changes.{IsSameBut, IsSameButChain, HasMore}
 
 named_below : (t : Bool) → cond t 1 0 < 2
@@ -130,12 +130,3 @@ module _ {S : Type 0} (means : Meaning S) where
 
     pub same_named : named_area g c ≡ named_area g a
     same_named = ap (λ (l : List ℕ). cond (eqb (get_or l 0 0) 1) 1 0) (has.same.others root (λ is. omega (arith, is)))
-
-    -- They are run on what the device stood for, if half h was the current one, which it stays.
-    pub more_stands : current g a ≡ h → (stands means g c ≡ run means (stands means g a) more) × (current g c ≡ h)
-    more_stands is =
-        let n = named_area g a in
-        let below : named_area g a < 2 = named_area-below g a in (
-          ap (λ (m : ℕ). stands_as means g m c) same_named ∙ grown_as (named_area g a) below is,
-          ap (λ (m : ℕ). current_of g m c) same_named ∙ ap (λ (x : ℕ). cond (eqb x 1) (other (named_area g a)) (named_area g a)) (same_chain (named_area g a) below) ∙ is,
-        )

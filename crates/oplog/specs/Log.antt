@@ -1,6 +1,7 @@
 -- A log as contracts see it, and what its calls make of it and answer.
-use Rattle.std.specs.Prelude.{◌≡◌, ℕ, ◌+◌, Bool, true, false, ◌&&◌, ◌==◌, if◌then◌else◌, List, Result, Ok, Err}
+use Rattle.std.specs.Prelude.{◌≡◌, ℕ, ◌+◌, Bool, true, false, ◌&&◌, ◌==◌, if◌then◌else◌, List, length, Result, Ok, Err}
 use Rattle.affinity.specs.declared.geometry.Geometry.{Geometry}
+use Rattle.disk.specs.Device.{Medium}
 use Rattle.message.specs.declared.Msg.{Msg}
 use Rattle.message.specs.Records.{record_of}
 use Rattle.oplog.specs.declared.fault.LogFault.{LogFault}
@@ -63,6 +64,11 @@ abbrev pub CountsLogFault : {T : Type 0} → Result T LogFault → ℕ → ℕ �
 CountsLogFault (Ok _) old new = new ≡ old
 CountsLogFault (Err Device) old new = new ≡ old + 1
 CountsLogFault (Err (BadRecord h i)) old new = new ≡ old
+
+-- What every call of a log does to its device: it counts a failure exactly where it answers `Device`, and the device stays
+-- as long as it was.
+abbrev pub IsLogCall : {T : Type 0} → Result T LogFault → Medium → Medium → Type 0
+IsLogCall result old new = CountsLogFault result old.faults new.faults × (length new.now ≡ length old.now)
 
 -- The answer isn't that a record is bad.
 abbrev pub IsNotBad : {T : Type 0} → Result T LogFault → Type 0

@@ -1,6 +1,6 @@
 //! One half of a log: where its parts lie, and how records are added to it.
 ghost use Rattle.std.specs.Prelude.{◌≡◌, ◌+◌, ◌*◌, ◌<◌, ◌≤◌, length, IfOk, OnOk, IsErrOf, min, replicate, vec_len};
-ghost use Rattle.disk.specs.Device.{CountsFault, moments};
+ghost use Rattle.disk.specs.Device.{IsDeviceCall, moments};
 ghost use Rattle.oplog.specs.Front.{front, open_gates};
 ghost use Rattle.oplog.specs.Layout.{layout_of, part_at, half};
 ghost use Rattle.oplog.specs.Logged.{AreLogged};
@@ -97,8 +97,7 @@ impl Half {
             HalfHasAdded self used messages.now (D.medium disk.old) (D.medium disk.new)) }
         ensures buffer { vec_len buffer.new ≡ vec_len buffer.old }
         ensures inside { IsErrOf result DiskFault.OutOfRange → ⊥ }
-        ensures counts { CountsFault result (D.medium disk.old).faults (D.medium disk.new).faults }
-        ensures len { length (D.medium disk.new).now ≡ length (D.medium disk.old).now }
+        ensures call { IsDeviceCall result (D.medium disk.old) (D.medium disk.new) }
     {
         let size = messages.len() * RECORD_SIZE;
         stage(messages, buffer);
@@ -127,8 +126,7 @@ impl Half {
         ensures none { length messages.now ≡ 0 → disk.new ≡ disk.old }
         ensures buffer { vec_len buffer.new ≡ vec_len buffer.old }
         ensures inside { IsErrOf result DiskFault.OutOfRange → ⊥ }
-        ensures counts { CountsFault result (D.medium disk.old).faults (D.medium disk.new).faults }
-        ensures len { length (D.medium disk.new).now ≡ length (D.medium disk.old).now }
+        ensures call { IsDeviceCall result (D.medium disk.old) (D.medium disk.new) }
     {
         let mut done = 0;
         while done < messages.len() {
@@ -148,8 +146,7 @@ impl Half {
         ensures within { IfOk result (λ n. n ≤ self.geometry.half) }
         ensures untouched { D.keeps → moments (D.medium disk.new) ≡ moments (D.medium disk.old) }
         ensures inside { IsErrOf result DiskFault.OutOfRange → ⊥ }
-        ensures counts { CountsFault result (D.medium disk.old).faults (D.medium disk.new).faults }
-        ensures len { length (D.medium disk.new).now ≡ length (D.medium disk.old).now }
+        ensures call { IsDeviceCall result (D.medium disk.old) (D.medium disk.new) }
     {
         disk.read_at(self.gate_at(0), gates)?;
         Ok(count_open(gates))

@@ -52,7 +52,7 @@ impl Model for Halves {
 }
 
 impl Halves {
-    ghost use Rattle.oplog.specs.Log.{new_log, renamed, flipped, chained, log_after, CountsLogFault, IsNotBad, IsAbout};
+    ghost use Rattle.oplog.specs.Log.{new_log, renamed, flipped, chained, log_after, IsLogCall, IsNotBad, IsAbout};
     ghost use Rattle.oplog.specs.Calls.{HasParts, IsReadyFor, Grows, HasAdded, Clears, HasCleared, Chains, HasChained, Flips, HasFlipped, HasFront, IsOfRecordAt};
 
     /// A log of which nothing is known: half 0 is named and current, and there is no room.
@@ -141,8 +141,7 @@ impl Halves {
         ensures log { self.new ≡ log_after result self.old
             (record self.old { used = self.old.used + length messages.now }) }
         ensures not_bad { IsNotBad result }
-        ensures counts { CountsLogFault result (D.medium disk.old).faults (D.medium disk.new).faults }
-        ensures len { length (D.medium disk.new).now ≡ length (D.medium disk.old).now }
+        ensures call { IsLogCall result (D.medium disk.old) (D.medium disk.new) }
     {
         let half = Half {
             geometry: self.geometry,
@@ -170,8 +169,7 @@ impl Halves {
             HasCleared self.old (D.medium disk.old) (D.medium disk.new)) }
         ensures log { self.new ≡ log_after result self.old (record self.old { cleared = true }) }
         ensures not_bad { IsNotBad result }
-        ensures counts { CountsLogFault result (D.medium disk.old).faults (D.medium disk.new).faults }
-        ensures len { length (D.medium disk.new).now ≡ length (D.medium disk.old).now }
+        ensures call { IsLogCall result (D.medium disk.old) (D.medium disk.new) }
     {
         let half = Half {
             geometry: self.geometry,
@@ -197,8 +195,7 @@ impl Halves {
             HasChained self.old (D.medium disk.old) (D.medium disk.new)) }
         ensures log { self.new ≡ log_after result self.old (chained self.old) }
         ensures not_bad { IsNotBad result }
-        ensures counts { CountsLogFault result (D.medium disk.old).faults (D.medium disk.new).faults }
-        ensures len { length (D.medium disk.new).now ≡ length (D.medium disk.old).now }
+        ensures call { IsLogCall result (D.medium disk.old) (D.medium disk.new) }
     {
         let half = Half {
             geometry: self.geometry,
@@ -225,8 +222,7 @@ impl Halves {
             HasFlipped self.old (D.medium disk.old) (D.medium disk.new)) }
         ensures log { self.new ≡ log_after result self.old (flipped self.old) }
         ensures not_bad { IsNotBad result }
-        ensures counts { CountsLogFault result (D.medium disk.old).faults (D.medium disk.new).faults }
-        ensures len { length (D.medium disk.new).now ≡ length (D.medium disk.old).now }
+        ensures call { IsLogCall result (D.medium disk.old) (D.medium disk.new) }
     {
         let other = 1 - self.named;
         if store(disk, ROOT_ZONE_AT, &[other as u8]).is_err() {
@@ -256,8 +252,7 @@ impl Halves {
         ensures untouched { D.keeps → moments (D.medium disk.new) ≡ moments (D.medium disk.old) }
         ensures log { self.new ≡ log_after result self.old self.old }
         ensures not_bad { IsNotBad result }
-        ensures counts { CountsLogFault result (D.medium disk.old).faults (D.medium disk.new).faults }
-        ensures len { length (D.medium disk.new).now ≡ length (D.medium disk.old).now }
+        ensures call { IsLogCall result (D.medium disk.old) (D.medium disk.new) }
     {
         let half = Half {
             geometry: self.geometry,
@@ -285,8 +280,7 @@ impl Halves {
         ensures about { IsAbout half i result }
         ensures untouched { D.keeps → moments (D.medium disk.new) ≡ moments (D.medium disk.old) }
         ensures log { self.new ≡ log_after result self.old self.old }
-        ensures counts { CountsLogFault result (D.medium disk.old).faults (D.medium disk.new).faults }
-        ensures len { length (D.medium disk.new).now ≡ length (D.medium disk.old).now }
+        ensures call { IsLogCall result (D.medium disk.old) (D.medium disk.new) }
     {
         let place = Half {
             geometry: self.geometry,

@@ -1,6 +1,6 @@
 //! Writes over a range of a device, with a sync or without.
 ghost use Rattle.std.specs.Prelude.{◌≡◌, ◌+◌, ◌≤◌, length, OnOk, IsErrOf};
-ghost use Rattle.disk.specs.Device.{SameOutside, CountsFault, overlaid};
+ghost use Rattle.disk.specs.Device.{SameOutside, IsDeviceCall, overlaid};
 ghost use Rattle.oplog.specs.Changes.{ChangesOnly};
 ghost use Rattle.oplog.specs.Store.{Stored, Touched};
 
@@ -17,8 +17,7 @@ pub fn write<D: Disk>(disk: &mut D, at: u64, bytes: &[u8]) -> Result<(), DiskFau
     ensures written { OnOk result (D.keeps →
         (D.medium disk.new).now ≡ overlaid (D.medium disk.old).now at bytes.now) }
     ensures inside { IsErrOf result DiskFault.OutOfRange → ⊥ }
-    ensures counts { CountsFault result (D.medium disk.old).faults (D.medium disk.new).faults }
-    ensures len { length (D.medium disk.new).now ≡ length (D.medium disk.old).now }
+    ensures call { IsDeviceCall result (D.medium disk.old) (D.medium disk.new) }
 {
     disk.write_at(at, bytes)?;
     Ok(())
@@ -33,8 +32,7 @@ pub fn store<D: Disk>(disk: &mut D, at: u64, bytes: &[u8]) -> Result<(), DiskFau
     ensures stored { OnOk result (D.keeps →
         Stored at bytes.now (D.medium disk.old) (D.medium disk.new)) }
     ensures inside { IsErrOf result DiskFault.OutOfRange → ⊥ }
-    ensures counts { CountsFault result (D.medium disk.old).faults (D.medium disk.new).faults }
-    ensures len { length (D.medium disk.new).now ≡ length (D.medium disk.old).now }
+    ensures call { IsDeviceCall result (D.medium disk.old) (D.medium disk.new) }
 {
     write(disk, at, bytes)?;
     disk.sync()?;

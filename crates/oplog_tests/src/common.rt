@@ -1,5 +1,5 @@
 //! What tests share: a small server with its log and its device, and assertions that are called with rows.
-ghost use Rattle.std.specs.Prelude.{◌≡◌, ◌<◌, ◌≤◌, false, length, OnOk, IsTrue};
+ghost use Rattle.std.specs.Prelude.{◌≡◌, ◌<◌, false, length, OnOk, IsTrue};
 ghost use Rattle.disk.specs.Memory.{medium_of};
 ghost use Rattle.oplog.specs.Calls.{HasParts, IsReadyFor};
 ghost use Rattle.oplog.specs.Logged.{AreLogged, IsLogged};

@@ -34,11 +34,11 @@ returns-in_ok-store-clause-any_moment g c = λ k.
 
 pub returns-in_ok-store-clause-shut : goal.returns-in_ok-store-clause-shut
 returns-in_ok-store-clause-shut g c = λ k.
-    stored_shut _ _ _ (omega (arith, c.requires, c.sync.ensures.len, c.read_at.ensures.len)) (c.read_at.ensures.len ∙ c.sync.ensures.len) (c.in_ok-store.ensures.stored k)
+    stored_shut _ _ _ (omega (arith, c.requires, c.sync.ensures.call.1, c.read_at.ensures.call.1)) (c.read_at.ensures.call.1 ∙ c.sync.ensures.call.1) (c.in_ok-store.ensures.stored k)
 
 pub returns-else-gate-eq-OPEN-clause-shut : goal.returns-else-gate-eq-OPEN-clause-shut
 returns-else-gate-eq-OPEN-clause-shut g c = λ k.
     calm_shut _ (g.D.Disk.medium c.read_at.new.self)
     (now_calm (g.D.Disk.medium c.args.disk.now) (g.D.Disk.medium c.sync.new.self) (g.D.Disk.medium c.read_at.new.self) _ (c.in_ok-sync.ensures.syncs k).ok (c.in_ok-read_at.ensures.reads k).ok (c.read_at.auto.out))
-    (c.read_at.ensures.len ∙ c.sync.ensures.len)
+    (c.read_at.ensures.call.1 ∙ c.sync.ensures.call.1)
     (λ is_open. c.if-gate-eq-OPEN.false (sym (now_read (g.D.Disk.medium c.args.disk.now) (g.D.Disk.medium c.sync.new.self) (g.D.Disk.medium c.read_at.new.self) _ (c.in_ok-sync.ensures.syncs k).ok (c.in_ok-read_at.ensures.reads k).ok (c.read_at.auto.out)) ∙ is_open))

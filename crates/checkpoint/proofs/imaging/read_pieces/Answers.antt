@@ -67,8 +67,8 @@ loop-n-preserved g c =
           c.loop-n.invariant.at c.piece_size.ensures.size (length c.read.new.out) few c.read.auto.out;
       free = free_turn c.args.version c.args.tree.now.geometry c.loop-n.tree.geometry c.loop-n.invariant.geometry c.loop-n.n (state_in c.loop-n.tree) (state_in c.take_piece.new.tree)
           c.read.new.out c.in_ok-take_piece.ensures.taken c.loop-n.invariant.free;
-      len = c.read.ensures.len ∙ c.loop-n.invariant.len;
-      faults = c.in_ok-read.ensures.counts ∙ c.loop-n.invariant.faults;
+      len = c.read.ensures.call.1 ∙ c.loop-n.invariant.len;
+      faults = c.in_ok-read.ensures.call.0 ∙ c.loop-n.invariant.faults;
       untouched = λ k. c.read.ensures.untouched k ∙ c.loop-n.invariant.untouched k;
       said = λ k.
           said_turn c.args.tree.now.geometry c.loop-n.tree.geometry c.loop-n.invariant.geometry (part_bytes (layout_of c.args.tree.now.geometry) (image c.args.number) now) c.args.version c.loop-n.n

@@ -1,23 +1,47 @@
-use Rattle.std.proofs.Common.{◌∙◌, ap, subst}
+use Rattle.std.proofs.Common.{◌≡◌, Bool, List, ℕ, length, refl, sym, ◌∙◌, ap, subst}
 use Rattle.affinity.specs.declared.geometry.Geometry.{Geometry}
 use Rattle.image.specs.Image.{image_of, read}
 use Rattle.image.proofs.Reading.{read_again}
+use Rattle.journal.specs.Stretches.{AreAllMarked}
 use Rattle.journal.proofs.Loaded.{unfinished_cut}
+use Rattle.journal.proofs.Rows.{whole_put}
 use Rattle.journal.proofs.Saving.{all_right}
 use Rattle.parcel.specs.Tree.{state_in}
 use Rattle.plain.specs.State.{IsState}
 use Rattle.journal.proofs.opening.finish_cut.Goals as goal
 
+pub finish_on-requires-clause-all : goal.finish_on-requires-clause-all
+finish_on-requires-clause-all g c = subst (λ (l : List Bool). AreAllMarked c.args.parts.now.halves.geometry l) (sym c.deref-3.ensures.value) c.requires.loaded.all
+
 pub finish_on-requires-clause-unfinished : goal.finish_on-requires-clause-unfinished
 finish_on-requires-clause-unfinished g c = λ k.
-    let x = state_in c.args.tree.now in
-    unfinished_cut c.args.halves.now (g.D.Disk.medium c.args.disk.now) x c.freeze.new.bytes (c.requires.holds k) (c.requires.calm k)
-    (subst (λ (h : Geometry). IsState h x) c.requires.geometry c.requires.whole.state)
-    (c.freeze.ensures.image (all_right c.args.tree.now.geometry c.args.halves.now.geometry (state_in c.args.tree.now) c.args.marks.now c.args.frozen.now c.requires.geometry c.requires.all) ∙ ap (λ (h : Geometry). image_of 2 h x) c.requires.geometry)
+    let p = c.args.parts.now in
+    let x = state_in p.tree in
+    let all = subst (λ (l : List Bool). AreAllMarked p.halves.geometry l) (sym c.deref.ensures.value) c.requires.loaded.all in
+    let right = all_right p.tree.geometry p.halves.geometry x c.deref.result.now c.deref_mut.result.now c.requires.loaded.geometry all in
+    let frozen = whole_put p.frozen.len c.freeze.new.bytes p.frozen.items (c.freeze.ensures.size ∙ ap length c.deref_mut.ensures.value) (c.freeze.ensures.size ∙ c.deref_mut.ensures.len) in
+    unfinished_cut p.halves (g.D.Disk.medium c.args.disk.now) x c.deref-2.result.now (c.requires.holds k) (c.requires.calm k)
+    (subst (λ (h : Geometry). IsState h x) c.requires.loaded.geometry c.requires.loaded.tree.state)
+    (c.deref-2.ensures.value ∙ frozen ∙ c.freeze.ensures.image right ∙ ap (λ (h : Geometry). image_of 2 h x) c.requires.loaded.geometry)
 
 pub returns-clause-alike : goal.returns-clause-alike
 returns-clause-alike g c = λ k.
-    let x = state_in c.args.tree.now in
-    let is_state = subst (λ (h : Geometry). IsState h x) c.requires.geometry c.requires.whole.state in
-    let spelled = c.freeze.ensures.image (all_right c.args.tree.now.geometry c.args.halves.now.geometry (state_in c.args.tree.now) c.args.marks.now c.args.frozen.now c.requires.geometry c.requires.all) ∙ ap (λ (h : Geometry). image_of 2 h x) c.requires.geometry in
-    c.finish_on.ensures.alike k x (ap (read c.args.halves.now.geometry) spelled ∙ read_again c.args.halves.now.geometry x is_state) (c.requires.holds k)
+    let p = c.args.parts.now in
+    let x = state_in p.tree in
+    let is_state = subst (λ (h : Geometry). IsState h x) c.requires.loaded.geometry c.requires.loaded.tree.state in
+    let all = subst (λ (l : List Bool). AreAllMarked p.halves.geometry l) (sym c.deref.ensures.value) c.requires.loaded.all in
+    let right = all_right p.tree.geometry p.halves.geometry x c.deref.result.now c.deref_mut.result.now c.requires.loaded.geometry all in
+    let frozen = whole_put p.frozen.len c.freeze.new.bytes p.frozen.items (c.freeze.ensures.size ∙ ap length c.deref_mut.ensures.value) (c.freeze.ensures.size ∙ c.deref_mut.ensures.len) in
+    let spelled = c.deref-2.ensures.value ∙ frozen ∙ c.freeze.ensures.image right ∙ ap (λ (h : Geometry). image_of 2 h x) c.requires.loaded.geometry in
+    c.finish_on.ensures.alike k x (ap (read p.halves.geometry) spelled ∙ read_again p.halves.geometry x is_state) (c.requires.holds k)
+
+pub returns-clause-room : goal.returns-clause-room
+returns-clause-room g c =
+    let p = c.args.parts.now in
+    let frozen = whole_put p.frozen.len c.freeze.new.bytes p.frozen.items (c.freeze.ensures.size ∙ ap length c.deref_mut.ensures.value) (c.freeze.ensures.size ∙ c.deref_mut.ensures.len) in
+    record {
+      frozen = ap length frozen ∙ c.freeze.ensures.size ∙ ap length c.deref_mut.ensures.value;
+      named_marks = refl;
+      other_marks = refl;
+      due = refl;
+    }

@@ -1,4 +1,4 @@
-use Rattle.std.proofs.Common.{Bool, true, false, sym, ◌∙◌, ap, subst}
+use Rattle.std.proofs.Common.{Bool, true, false, refl, sym, ◌∙◌, ap, subst, arith}
 use Rattle.std.proofs.lemmas.Result.{err_from_is_err_and}
 use Rattle.affinity.specs.declared.geometry.Geometry.{Geometry}
 use Rattle.checkpoint.specs.Loading.{NamedHolds}
@@ -6,20 +6,20 @@ use Rattle.checkpoint.specs.Recovery.{holds}
 use Rattle.checkpoint.specs.Refusals.{refused}
 use Rattle.checkpoint.proofs.Replays.{same_bytes}
 use Rattle.disk.specs.Moments.{LeavesOnly}
-use Rattle.journal.specs.Parts.{IsBad, IsRefusedAlike}
+use Rattle.journal.specs.Parts.{IsBad, IsRefusedAlike, KeepsRoom}
 use Rattle.journal.specs.Steps.{StandsStill}
-use Rattle.journal.proofs.Loaded.{alone_fine, alone_holds, alone_stands, held_after, not_off, not_on}
+use Rattle.journal.proofs.Loaded.{are_loaded, alone_fine, alone_holds, alone_stands, held_after, not_off, not_on}
 use Rattle.journal.proofs.Settling.{alike_after, alike_read, all_unwritten, bad_behind, still_after, still_read, still_synced, unread}
 use Rattle.oplog.specs.Layout.{other}
-use Rattle.oplog.specs.Log.{Log}
+use Rattle.oplog.specs.Log.{Log, new_log, renamed}
 use Rattle.parcel.specs.Tree.{state_in}
 use Rattle.journal.proofs.opening.load_in_turn.Goals as goal
 
 pub returns-in_err-named-clause-any_moment : goal.returns-in_err-named-clause-any_moment
-returns-in_err-named-clause-any_moment g c = λ k. still_read c.args.tree.now.geometry _ _ (c.requires.calm k) (c.load_named.ensures.untouched k)
+returns-in_err-named-clause-any_moment g c = λ k. still_read c.args.parts.now.tree.geometry _ _ (c.requires.calm k) (c.load_named.ensures.untouched k)
 
 pub returns-in_err-named-clause-alike : goal.returns-in_err-named-clause-alike
-returns-in_err-named-clause-alike g c = λ k. alike_read c.args.tree.now.geometry _ _ (c.requires.header k) (c.requires.calm k) (c.load_named.ensures.untouched k)
+returns-in_err-named-clause-alike g c = λ k. alike_read c.args.parts.now.tree.geometry _ _ (c.requires.header k) (c.requires.calm k) (c.load_named.ensures.untouched k)
 
 pub returns-in_err-named-clause-unwritten : goal.returns-in_err-named-clause-unwritten
 returns-in_err-named-clause-unwritten g c =
@@ -27,10 +27,10 @@ returns-in_err-named-clause-unwritten g c =
     rw (p.1, p.2) (λ k. all_unwritten _ _ _ (unread _ _ (c.load_named.ensures.untouched k)) (λ h. c.in_err-named.ensures.half k))
 
 pub returns-then-not-named-clause-any_moment : goal.returns-then-not-named-clause-any_moment
-returns-then-not-named-clause-any_moment g c = λ k. still_read c.args.tree.now.geometry _ _ (c.requires.calm k) (c.load_named.ensures.untouched k)
+returns-then-not-named-clause-any_moment g c = λ k. still_read c.args.parts.now.tree.geometry _ _ (c.requires.calm k) (c.load_named.ensures.untouched k)
 
 pub returns-then-not-named-clause-alike : goal.returns-then-not-named-clause-alike
-returns-then-not-named-clause-alike g c = λ k. alike_read c.args.tree.now.geometry _ _ (c.requires.header k) (c.requires.calm k) (c.load_named.ensures.untouched k)
+returns-then-not-named-clause-alike g c = λ k. alike_read c.args.parts.now.tree.geometry _ _ (c.requires.header k) (c.requires.calm k) (c.load_named.ensures.untouched k)
 
 pub returns-then-not-named-clause-alone : goal.returns-then-not-named-clause-alone
 returns-then-not-named-clause-alone g c = λ k.
@@ -38,33 +38,33 @@ returns-then-not-named-clause-alone g c = λ k.
     let w1 = g.D.Disk.medium c.load_named.new.disk in
     let only = c.load_named.ensures.untouched k in
     alone_stands c.load_named.new.log w1 (state_in c.load_named.new.tree)
-    (held_after c.args.tree.now.geometry c.load_named.new.log c.in_ok-named.named.area c.in_ok-named.named.chained false (state_in c.load_named.new.tree) w0 w1 c.in_ok-named.ensures.log (not_on c.in_ok-named.named.chained c.if-not-named.true) only (c.in_ok-named.ensures.loaded k))
+    (held_after c.args.parts.now.tree.geometry c.load_named.new.log c.in_ok-named.named.area c.in_ok-named.named.chained false (state_in c.load_named.new.tree) w0 w1 c.in_ok-named.ensures.log (not_on c.in_ok-named.named.chained c.if-not-named.true) only (c.in_ok-named.ensures.loaded k))
     (still_synced w0 w1 only (c.requires.calm k))
 
 pub returns-then-not-named-clause-was : goal.returns-then-not-named-clause-was
 returns-then-not-named-clause-was g c = λ k.
-    let geometry = c.args.tree.now.geometry in
+    let geometry = c.args.parts.now.tree.geometry in
     let now = (g.D.Disk.medium c.args.disk.now).now in
     let x = state_in c.load_named.new.tree in
     alone_holds geometry now c.in_ok-named.named.area x (subst (λ (t : Bool). NamedHolds geometry now c.in_ok-named.named.area t x) (not_on c.in_ok-named.named.chained c.if-not-named.true) (c.in_ok-named.ensures.loaded k))
 
 pub returns-then-not-named-clause-sound : goal.returns-then-not-named-clause-sound
 returns-then-not-named-clause-sound g c = λ k.
-    let geometry = c.args.tree.now.geometry in
+    let geometry = c.args.parts.now.tree.geometry in
     let now = (g.D.Disk.medium c.args.disk.now).now in
     let x = state_in c.load_named.new.tree in
     alone_fine geometry now c.in_ok-named.named.area x (subst (λ (t : Bool). NamedHolds geometry now c.in_ok-named.named.area t x) (not_on c.in_ok-named.named.chained c.if-not-named.true) (c.in_ok-named.ensures.loaded k))
 
 pub replay_behind-requires-clause-holds : goal.replay_behind-requires-clause-holds
 replay_behind-requires-clause-holds g c = λ k.
-    held_after c.args.tree.now.geometry c.load_named.new.log c.in_ok-named.named.area c.in_ok-named.named.chained true (state_in c.load_named.new.tree) (g.D.Disk.medium c.args.disk.now) (g.D.Disk.medium c.load_named.new.disk) c.in_ok-named.ensures.log (not_off c.in_ok-named.named.chained c.if-not-named.false) (c.load_named.ensures.untouched k) (c.in_ok-named.ensures.loaded k)
+    held_after c.args.parts.now.tree.geometry c.load_named.new.log c.in_ok-named.named.area c.in_ok-named.named.chained true (state_in c.load_named.new.tree) (g.D.Disk.medium c.args.disk.now) (g.D.Disk.medium c.load_named.new.disk) c.in_ok-named.ensures.log (not_off c.in_ok-named.named.chained c.if-not-named.false) (c.load_named.ensures.untouched k) (c.in_ok-named.ensures.loaded k)
 
 pub returns-in_err-replay_behind-clause-any_moment : goal.returns-in_err-replay_behind-clause-any_moment
 returns-in_err-replay_behind-clause-any_moment g c = λ k.
     let w1 = g.D.Disk.medium c.load_named.new.disk in
     let w2 = g.D.Disk.medium c.replay_behind.new.disk in
     let log = ap (λ (l : Log). l.geometry) c.in_ok-named.ensures.log in
-    still_after c.args.tree.now.geometry (g.D.Disk.medium c.args.disk.now) w1 w2 (c.requires.calm k) (c.load_named.ensures.untouched k)
+    still_after c.args.parts.now.tree.geometry (g.D.Disk.medium c.args.disk.now) w1 w2 (c.requires.calm k) (c.load_named.ensures.untouched k)
     (subst (λ (h : Geometry). StandsStill h w1 w2) log (c.replay_behind.ensures.any_moment k))
 
 pub returns-in_err-replay_behind-clause-alike : goal.returns-in_err-replay_behind-clause-alike
@@ -72,7 +72,7 @@ returns-in_err-replay_behind-clause-alike g c = λ k.
     let w1 = g.D.Disk.medium c.load_named.new.disk in
     let w2 = g.D.Disk.medium c.replay_behind.new.disk in
     let log = ap (λ (l : Log). l.geometry) c.in_ok-named.ensures.log in
-    alike_after c.args.tree.now.geometry (g.D.Disk.medium c.args.disk.now) w1 w2 (c.requires.header k) (c.requires.calm k) (c.load_named.ensures.untouched k)
+    alike_after c.args.parts.now.tree.geometry (g.D.Disk.medium c.args.disk.now) w1 w2 (c.requires.header k) (c.requires.calm k) (c.load_named.ensures.untouched k)
     (subst (λ (h : Geometry). LeavesOnly w1 w2 (IsRefusedAlike h w1.now)) log (c.replay_behind.ensures.alike k))
 
 pub returns-in_err-replay_behind-clause-unwritten : goal.returns-in_err-replay_behind-clause-unwritten
@@ -82,14 +82,14 @@ returns-in_err-replay_behind-clause-unwritten g c =
     (λ k.
     let w2 = g.D.Disk.medium c.replay_behind.new.disk in
     let bad = subst (λ (l : Log). IsBad l.geometry (other l.named) w2 c.in_err-replay_behind.field-0.0) c.in_ok-named.ensures.log (c.in_err-replay_behind.ensures.behind k) in
-    bad_behind _ c.in_ok-named.named.area (g.D.Disk.medium c.args.disk.now) w2 c.args.tree.now.geometry c.in_ok-named.ensures.area (c.in_ok-named.ensures.loaded k).named (c.requires.header k) bad)
+    bad_behind _ c.in_ok-named.named.area (g.D.Disk.medium c.args.disk.now) w2 c.args.parts.now.tree.geometry c.in_ok-named.ensures.area (c.in_ok-named.ensures.loaded k).named (c.requires.header k) bad)
 
 pub returns-clause-any_moment : goal.returns-clause-any_moment
 returns-clause-any_moment g c = λ k.
     let w1 = g.D.Disk.medium c.load_named.new.disk in
     let w2 = g.D.Disk.medium c.replay_behind.new.disk in
     let log = ap (λ (l : Log). l.geometry) c.in_ok-named.ensures.log in
-    still_after c.args.tree.now.geometry (g.D.Disk.medium c.args.disk.now) w1 w2 (c.requires.calm k) (c.load_named.ensures.untouched k)
+    still_after c.args.parts.now.tree.geometry (g.D.Disk.medium c.args.disk.now) w1 w2 (c.requires.calm k) (c.load_named.ensures.untouched k)
     (subst (λ (h : Geometry). StandsStill h w1 w2) log (c.replay_behind.ensures.any_moment k))
 
 pub returns-clause-alike : goal.returns-clause-alike
@@ -97,7 +97,7 @@ returns-clause-alike g c = λ k.
     let w1 = g.D.Disk.medium c.load_named.new.disk in
     let w2 = g.D.Disk.medium c.replay_behind.new.disk in
     let log = ap (λ (l : Log). l.geometry) c.in_ok-named.ensures.log in
-    alike_after c.args.tree.now.geometry (g.D.Disk.medium c.args.disk.now) w1 w2 (c.requires.header k) (c.requires.calm k) (c.load_named.ensures.untouched k)
+    alike_after c.args.parts.now.tree.geometry (g.D.Disk.medium c.args.disk.now) w1 w2 (c.requires.header k) (c.requires.calm k) (c.load_named.ensures.untouched k)
     (subst (λ (h : Geometry). LeavesOnly w1 w2 (IsRefusedAlike h w1.now)) log (c.replay_behind.ensures.alike k))
 
 pub returns-clause-was : goal.returns-clause-was
@@ -111,3 +111,25 @@ returns-clause-sound g c = λ k.
     let same = same_bytes (g.D.Disk.medium c.args.disk.now) (g.D.Disk.medium c.load_named.new.disk) (c.load_named.ensures.untouched k) in
     let log = ap (λ (l : Log). l.geometry) c.in_ok-named.ensures.log in
     sym (λ i. refused (log i) (same i)) ∙ c.in_ok-replay_behind.ensures.sound k
+
+pub replay_behind-requires-clause-loaded : goal.replay_behind-requires-clause-loaded
+replay_behind-requires-clause-loaded g c =
+    let p = c.args.parts.now in
+    let taken = c.requires.taken in
+    are_loaded p _ p.tree.geometry (renamed c.in_ok-named.named.area (new_log p.tree.geometry)) (g.D.Disk.medium c.load_named.new.disk) c.in_ok-named.ensures.log refl refl refl c.in_ok-named.ensures.whole c.in_ok-named.ensures.geometry
+    (record { frozen = refl; named_marks = refl; other_marks = refl; due = refl }) taken.frozen taken.other_marks taken.all (omega (arith, c.requires.whole, c.load_named.ensures.call.1))
+
+pub returns-then-not-named-clause-loaded : goal.returns-then-not-named-clause-loaded
+returns-then-not-named-clause-loaded g c =
+    let p = c.args.parts.now in
+    let taken = c.requires.taken in
+    are_loaded p _ p.tree.geometry (renamed c.in_ok-named.named.area (new_log p.tree.geometry)) (g.D.Disk.medium c.load_named.new.disk) c.in_ok-named.ensures.log refl refl refl c.in_ok-named.ensures.whole c.in_ok-named.ensures.geometry
+    (record { frozen = refl; named_marks = refl; other_marks = refl; due = refl }) taken.frozen taken.other_marks taken.all (omega (arith, c.requires.whole, c.load_named.ensures.call.1))
+
+pub returns-then-not-named-clause-room : goal.returns-then-not-named-clause-room
+returns-then-not-named-clause-room g c = record { frozen = refl; named_marks = refl; other_marks = refl; due = refl }
+
+pub returns-clause-room : goal.returns-clause-room
+returns-clause-room g c =
+    let room = c.in_ok-replay_behind.ensures.room in
+    record { frozen = room.frozen; named_marks = room.named_marks; other_marks = room.other_marks; due = room.due }

@@ -1,4 +1,4 @@
-use Rattle.std.proofs.Common.{◌≡◌, ◌≤◌, List, ℕ, length, sym, ◌∙◌, ap, subst}
+use Rattle.std.proofs.Common.{◌≡◌, ◌≤◌, Bool, List, ℕ, length, refl, sym, ◌∙◌, ap, subst}
 use Rattle.std.proofs.lemmas.Result.{err_from_is_err_and}
 use Rattle.affinity.specs.declared.geometry.Geometry.{Geometry}
 use Rattle.checkpoint.specs.declared.fault.OpenFault.{OpenFault}
@@ -8,13 +8,14 @@ use Rattle.checkpoint.specs.Recovery.{holds}
 use Rattle.checkpoint.specs.Refusals.{refused}
 use Rattle.checkpoint.proofs.Refusing.{behind_header, header_half, took_none}
 use Rattle.checkpoint.proofs.Replays.{same_bytes}
+use Rattle.journal.specs.Parts.{IsMadeOf}
 use Rattle.journal.specs.Steps.{StandsStill}
 use Rattle.journal.specs.Stretches.{AreAllMarked}
-use Rattle.journal.proofs.Loaded.{made_of}
-use Rattle.journal.proofs.Rows.{whole_items, whole_put}
+use Rattle.journal.proofs.Loaded.{made, made_of}
 use Rattle.journal.proofs.Settling.{all_unwritten, alike_after, as_alike, as_before, as_still, still_after, still_now, still_synced, still_then, unread, unwritten_from, unwritten_then}
 use Rattle.oplog.specs.Layout.{device_size, layout_of}
 use Rattle.oplog.specs.Stands.{named_area}
+use Rattle.parcel.specs.Tree.{TreeView}
 use Rattle.journal.proofs.opening.open_settled.Goals as goal
 
 pub returns-in_err-g-clause-any_moment : goal.returns-in_err-g-clause-any_moment
@@ -67,7 +68,7 @@ last_point-requires-clause-holds g c = λ k.
     let w2 = g.D.Disk.medium c.load_in_turn.new.disk in
     let t = c.in_ok-parts.parts.tree.geometry in
     let only = c.read_header.ensures.untouched k in
-    ap (λ (h : Geometry). holds h w2.now) c.in_ok-load_in_turn.ensures.log
+    ap (λ (h : Geometry). holds h w2.now) c.in_ok-load_in_turn.ensures.geometry
     ∙ still_now t w1 w2 (g.met.D.Disk.bytes c.load_in_turn.new.disk) (c.load_in_turn.ensures.any_moment k) ∙ c.in_ok-load_in_turn.ensures.was k
 
 pub returns-in_err-last_point-clause-any_moment : goal.returns-in_err-last_point-clause-any_moment
@@ -81,7 +82,7 @@ returns-in_err-last_point-clause-any_moment g c = λ k.
     let fits = subst (λ (h : Geometry). device_size (layout_of h) ≤ length w0.now) (sym c.in_ok-parts.ensures.geometry) c.in_ok-g.ensures.whole in
     let w3 = g.D.Disk.medium c.last_point.new.disk in
     let fine = sym (ap (λ (l : List ℕ). refused t l) (same_bytes w0 w1 only)) ∙ c.in_ok-load_in_turn.ensures.sound k in
-    let later = subst (λ (h : Geometry). StandsStill h w2 w3) c.in_ok-load_in_turn.ensures.log (c.last_point.ensures.any_moment k) in
+    let later = subst (λ (h : Geometry). StandsStill h w2 w3) c.in_ok-load_in_turn.ensures.geometry (c.last_point.ensures.any_moment k) in
     as_still t w0 w3 head fits fine (still_after t w0 w1 w3 (c.requires.calm k) only (still_then t w1 w2 w3 (g.met.D.Disk.bytes c.load_in_turn.new.disk) (c.load_in_turn.ensures.any_moment k) later))
 
 pub returns-clause-any_moment : goal.returns-clause-any_moment
@@ -95,8 +96,13 @@ returns-clause-any_moment g c = λ k.
     let fits = subst (λ (h : Geometry). device_size (layout_of h) ≤ length w0.now) (sym c.in_ok-parts.ensures.geometry) c.in_ok-g.ensures.whole in
     let w3 = g.D.Disk.medium c.last_point.new.disk in
     let fine = sym (ap (λ (l : List ℕ). refused t l) (same_bytes w0 w1 only)) ∙ c.in_ok-load_in_turn.ensures.sound k in
-    let later = subst (λ (h : Geometry). StandsStill h w2 w3) c.in_ok-load_in_turn.ensures.log (c.last_point.ensures.any_moment k) in
+    let later = subst (λ (h : Geometry). StandsStill h w2 w3) c.in_ok-load_in_turn.ensures.geometry (c.last_point.ensures.any_moment k) in
     as_still t w0 w3 head fits fine (still_after t w0 w1 w3 (c.requires.calm k) only (still_then t w1 w2 w3 (g.met.D.Disk.bytes c.load_in_turn.new.disk) (c.load_in_turn.ensures.any_moment k) later))
+
+pub returns-clause-made : goal.returns-clause-made
+returns-clause-made g c =
+    made c.in_ok-parts.parts c.load_in_turn.new.parts c.last_point.new.parts (g.D.Disk.medium c.load_in_turn.new.disk) (g.D.Disk.medium c.last_point.new.disk) c.in_ok-parts.ensures.taken
+    c.in_ok-load_in_turn.ensures.geometry c.in_ok-load_in_turn.ensures.room c.in_ok-load_in_turn.ensures.loaded c.last_point.ensures.room c.last_point.ensures.tree c.in_ok-last_point.ensures.log c.last_point.ensures.call.1
 
 pub returns-clause-made_of : goal.returns-clause-made_of
 returns-clause-made_of g c = λ k.
@@ -106,18 +112,19 @@ returns-clause-made_of g c = λ k.
     let w3 = g.D.Disk.medium c.last_point.new.disk in
     let t = c.in_ok-parts.parts.tree.geometry in
     let only = c.read_header.ensures.untouched k in
-    let geometry : c.load_in_turn.new.tree.geometry ≡ t = c.in_ok-load_in_turn.ensures.geometry in
-    let log : c.load_in_turn.new.halves.geometry ≡ t = c.in_ok-load_in_turn.ensures.log in
+    let loaded = c.load_in_turn.new.parts in
+    let last = c.last_point.new.parts in
+    let log : loaded.halves.geometry ≡ t = c.in_ok-load_in_turn.ensures.geometry in
+    let geometry : loaded.tree.geometry ≡ t = c.in_ok-load_in_turn.ensures.loaded.geometry ∙ log in
     let head = subst (λ (h : Geometry). HasHeader h w0.now) (sym (geometry ∙ c.in_ok-parts.ensures.geometry)) (c.in_ok-g.ensures.header k) in
     let fine = ap (λ (h : Geometry). refused h w0.now) geometry ∙ sym (ap (λ (l : List ℕ). refused t l) (same_bytes w0 w1 only)) ∙ c.in_ok-load_in_turn.ensures.sound k in
     let was = ap (λ (h : Geometry). holds h w0.now) geometry ∙ sym (ap (λ (l : List ℕ). holds t l) (same_bytes w0 w1 only)) ∙ c.in_ok-load_in_turn.ensures.was k in
     let held = ap (λ (h : Geometry). holds h w2.now) log
     ∙ still_now t w1 w2 (g.met.D.Disk.bytes c.load_in_turn.new.disk) (c.load_in_turn.ensures.any_moment k) ∙ c.in_ok-load_in_turn.ensures.was k in
-    let items = whole_put c.in_ok-parts.parts.frozen.len c.last_point.new.frozen (whole_items c.in_ok-parts.parts.frozen.len c.load_in_turn.new.frozen c.in_ok-parts.parts.frozen.items)
-    (c.last_point.ensures.size ∙ ap length c.deref_mut-3.ensures.value) (c.last_point.ensures.size ∙ c.deref_mut-3.ensures.len) in
-    let all = subst (λ (h : Geometry). AreAllMarked h c.in_ok-parts.parts.other_marks.items) (sym (log ∙ c.in_ok-parts.ensures.geometry)) c.in_ok-parts.ensures.all in
-    made_of _ c.load_in_turn.new.halves w0 w2 w3 c.last_point.new.frozen (g.met.D.Disk.bytes c.last_point.new.disk) head fine was c.in_ok-last_point.ensures.log (geometry ∙ sym log) items c.last_point.ensures.frozen
-    c.in_ok-load_in_turn.ensures.whole all (c.in_ok-load_in_turn.ensures.alone k) held (c.in_ok-last_point.ensures.pointed k)
+    let all = subst (λ (row : List Bool). AreAllMarked loaded.halves.geometry row) (sym (λ i. (c.last_point.ensures.room.other_marks i).items)) c.in_ok-load_in_turn.ensures.loaded.all in
+    subst (λ (tree : TreeView). IsMadeOf w0.now (record last { tree = tree }) w3) (sym c.last_point.ensures.tree)
+    (made_of (record last { tree = loaded.tree }) loaded.halves w0 w2 w3 last.frozen.items (g.met.D.Disk.bytes c.last_point.new.disk) head fine was c.in_ok-last_point.ensures.log c.in_ok-load_in_turn.ensures.loaded.geometry refl c.last_point.ensures.frozen
+    c.in_ok-load_in_turn.ensures.loaded.tree all (c.in_ok-load_in_turn.ensures.alone k) held (c.in_ok-last_point.ensures.pointed k))
 
 pub returns-in_err-g-clause-memory : goal.returns-in_err-g-clause-memory
 returns-in_err-g-clause-memory g c =

@@ -1,4 +1,4 @@
-use Rattle.std.proofs.Common.{◌≡◌, ℕ, List, Option, Some, sym, ◌∙◌, ap, subst}
+use Rattle.std.proofs.Common.{◌≡◌, ℕ, List, Option, Some, refl, sym, ◌∙◌, ap, subst, arith}
 use Rattle.std.proofs.lemmas.Result.{err_from_is_err_and}
 use Rattle.checkpoint.specs.declared.fault.OpenFault.{OpenFault}
 use Rattle.checkpoint.specs.Loading.{IsFaultOfBytes, records_fault}
@@ -7,10 +7,12 @@ use Rattle.checkpoint.specs.Refusals.{first_bad_record}
 use Rattle.checkpoint.proofs.Replays.{same_bytes}
 use Rattle.disk.proofs.Leaves.{itself}
 use Rattle.disk.proofs.Moments.{leaves_now, same}
-use Rattle.journal.proofs.Loaded.{behind_fine, behind_holds, behind_refused}
+use Rattle.journal.specs.Parts.{KeepsRoom}
+use Rattle.journal.specs.Steps.{IsAlone, finished_now}
+use Rattle.journal.proofs.Loaded.{are_loaded, behind_fine, behind_holds, behind_refused}
 use Rattle.journal.proofs.Settling.{alone_finished, bad_half, still_synced}
 use Rattle.oplog.specs.Front.{front}
-use Rattle.oplog.specs.Layout.{layout_of, other}
+use Rattle.oplog.specs.Layout.{device_size, layout_of, other}
 use Rattle.oplog.specs.Log.{Log}
 use Rattle.oplog.specs.Stands.{named_area, run}
 use Rattle.parcel.specs.Tree.{state_in}
@@ -27,37 +29,41 @@ returns-in_err-replay-clause-refused g c =
     let p = err_from_is_err_and c.from_residual-in_err-replay.result c.from_residual-in_err-replay.ensures.1 in
     rw (p.1, p.2)
     (λ k.
-    let x = state_in c.args.tree.now in
+    let x = state_in c.args.parts.now.tree in
     let w1 = (g.D.Disk.medium c.finish_cut.new.disk).now in
-    let log : c.finish_cut.new.halves.geometry ≡ c.args.halves.now.geometry = ap (λ (l : Log). l.geometry) c.in_ok-finish_cut.ensures.log in
+    let log : c.finish_cut.new.parts.halves.geometry ≡ c.args.parts.now.halves.geometry = ap (λ (l : Log). l.geometry) c.in_ok-finish_cut.ensures.log in
     let half = ap other c.named-behind.ensures.named in
-    behind_refused c.args.halves.now.geometry (g.D.Disk.medium c.args.disk.now).now c.args.halves.now.named x (c.requires.holds k) _
-    (subst (λ (rs : List (List ℕ)). IsFaultOfBytes (records_fault c.args.halves.now.geometry x (other c.args.halves.now.named) rs) c.in_err-replay.field-0.0) (c.in_ok-finish_cut.ensures.finished k).front
-    (subst (λ (o : Option OpenFault). IsFaultOfBytes o c.in_err-replay.field-0.0) (λ i. records_fault (c.requires.geometry i) x (half i) (front (layout_of (log i)) (half i) w1)) (c.in_err-replay.ensures.refused k))))
+    let held' : state_in c.finish_cut.new.parts.tree ≡ x = ap state_in c.finish_cut.ensures.tree in
+    let geometry : c.finish_cut.new.parts.tree.geometry ≡ c.args.parts.now.halves.geometry = (λ i. (c.finish_cut.ensures.tree i).geometry) ∙ c.requires.loaded.geometry in
+    behind_refused c.args.parts.now.halves.geometry (g.D.Disk.medium c.args.disk.now).now c.args.parts.now.halves.named x (c.requires.holds k) _
+    (subst (λ (rs : List (List ℕ)). IsFaultOfBytes (records_fault c.args.parts.now.halves.geometry x (other c.args.parts.now.halves.named) rs) c.in_err-replay.field-0.0) (c.in_ok-finish_cut.ensures.finished k).front
+    (subst (λ (o : Option OpenFault). IsFaultOfBytes o c.in_err-replay.field-0.0) (λ i. records_fault (geometry i) (held' i) (half i) (front (layout_of (log i)) (half i) w1)) (c.in_err-replay.ensures.refused k))))
 
 pub returns-in_err-replay-clause-behind : goal.returns-in_err-replay-clause-behind
 returns-in_err-replay-clause-behind g c =
     let p = err_from_is_err_and c.from_residual-in_err-replay.result c.from_residual-in_err-replay.ensures.1 in
     rw (p.1, p.2)
     (λ k.
-    let x = state_in c.args.tree.now in
+    let x = state_in c.args.parts.now.tree in
     let w1 = (g.D.Disk.medium c.finish_cut.new.disk).now in
     let w0 = g.D.Disk.medium c.args.disk.now in
     let w2 = g.D.Disk.medium c.replay.new.disk in
-    let log : c.finish_cut.new.halves.geometry ≡ c.args.halves.now.geometry = ap (λ (l : Log). l.geometry) c.in_ok-finish_cut.ensures.log in
+    let log : c.finish_cut.new.parts.halves.geometry ≡ c.args.parts.now.halves.geometry = ap (λ (l : Log). l.geometry) c.in_ok-finish_cut.ensures.log in
     let half = ap other c.named-behind.ensures.named in
-    let rs = front (layout_of c.finish_cut.new.halves.geometry) (other c.named-behind.result) w1 in
+    let held' : state_in c.finish_cut.new.parts.tree ≡ x = ap state_in c.finish_cut.ensures.tree in
+    let geometry : c.finish_cut.new.parts.tree.geometry ≡ c.args.parts.now.halves.geometry = (λ i. (c.finish_cut.ensures.tree i).geometry) ∙ c.requires.loaded.geometry in
+    let rs = front (layout_of c.finish_cut.new.parts.halves.geometry) (other c.named-behind.result) w1 in
     let finished = c.in_ok-finish_cut.ensures.finished k in
     let only = c.replay.ensures.untouched k in
     let fault = c.in_err-replay.ensures.refused k in
-    let why = behind_refused c.args.halves.now.geometry w0.now c.args.halves.now.named x (c.requires.holds k) c.in_err-replay.field-0.0
-    (subst (λ (rs : List (List ℕ)). IsFaultOfBytes (records_fault c.args.halves.now.geometry x (other c.args.halves.now.named) rs) c.in_err-replay.field-0.0) finished.front
-    (subst (λ (o : Option OpenFault). IsFaultOfBytes o c.in_err-replay.field-0.0) (λ i. records_fault (c.requires.geometry i) x (half i) (front (layout_of (log i)) (half i) w1)) fault)) in
+    let why = behind_refused c.args.parts.now.halves.geometry w0.now c.args.parts.now.halves.named x (c.requires.holds k) c.in_err-replay.field-0.0
+    (subst (λ (rs : List (List ℕ)). IsFaultOfBytes (records_fault c.args.parts.now.halves.geometry x (other c.args.parts.now.halves.named) rs) c.in_err-replay.field-0.0) finished.front
+    (subst (λ (o : Option OpenFault). IsFaultOfBytes o c.in_err-replay.field-0.0) (λ i. records_fault (geometry i) (held' i) (half i) (front (layout_of (log i)) (half i) w1)) fault)) in
     let alike = leaves_now w0 w2 _ (same _ _ _ _ (c.finish_cut.ensures.alike k) only) w2.now (itself w2.now w2.loose (g.met.D.Disk.bytes c.replay.new.disk)) in
-    bad_half c.args.halves.now.geometry (other c.args.halves.now.named) (first_bad_record c.args.tree.now.geometry 0 (Some x) rs) w0 w2 _ c.in_err-replay.ensures.took_none
-    (subst (λ (h : ℕ). IsFaultOfBytes (records_fault c.args.tree.now.geometry x h rs) c.in_err-replay.field-0.0) half fault)
+    bad_half c.args.parts.now.halves.geometry (other c.args.parts.now.halves.named) (first_bad_record c.args.parts.now.tree.geometry 0 (Some x) rs) w0 w2 _ c.in_err-replay.ensures.took_none
+    (subst (λ (o : Option OpenFault). IsFaultOfBytes o c.in_err-replay.field-0.0) (λ i. records_fault (c.finish_cut.ensures.tree i).geometry (held' i) (half i) rs) fault)
     (c.requires.holds k).header why alike
-    (ap (λ (l : List ℕ). named_area (layout_of c.args.halves.now.geometry) l) (same_bytes (g.D.Disk.medium c.finish_cut.new.disk) w2 only) ∙ finished.named)
+    (ap (λ (l : List ℕ). named_area (layout_of c.args.parts.now.halves.geometry) l) (same_bytes (g.D.Disk.medium c.finish_cut.new.disk) w2 only) ∙ finished.named)
     (still_synced (g.D.Disk.medium c.finish_cut.new.disk) w2 only finished.calm))
 
 pub returns-clause-any_moment : goal.returns-clause-any_moment
@@ -68,32 +74,58 @@ returns-clause-alike g c = λ k. same _ _ _ _ (c.finish_cut.ensures.alike k) (c.
 
 pub returns-clause-alone : goal.returns-clause-alone
 returns-clause-alone g c = λ k.
-    let x = state_in c.args.tree.now in
+    let x = state_in c.args.parts.now.tree in
     let w1 = (g.D.Disk.medium c.finish_cut.new.disk).now in
-    let log : c.finish_cut.new.halves.geometry ≡ c.args.halves.now.geometry = ap (λ (l : Log). l.geometry) c.in_ok-finish_cut.ensures.log in
+    let log : c.finish_cut.new.parts.halves.geometry ≡ c.args.parts.now.halves.geometry = ap (λ (l : Log). l.geometry) c.in_ok-finish_cut.ensures.log in
     let half = ap other c.named-behind.ensures.named in
-    let more = ap (λ (rs : List (List ℕ)). run (means c.args.halves.now.geometry) (Some x) rs) (sym (c.in_ok-finish_cut.ensures.finished k).front)
-    ∙ sym (λ i. run (means (c.requires.geometry i)) (Some x) (front (layout_of (log i)) (half i) w1)) ∙ c.in_ok-replay.ensures.done k in
-    let held = behind_holds c.args.halves.now.geometry (g.D.Disk.medium c.args.disk.now).now c.args.halves.now.named x (c.requires.holds k) (state_in c.replay.new.tree) more in
-    alone_finished c.args.halves.now (g.D.Disk.medium c.args.disk.now) (g.D.Disk.medium c.finish_cut.new.disk) (g.D.Disk.medium c.replay.new.disk) (state_in c.replay.new.tree) (g.met.D.Disk.bytes c.replay.new.disk)
-    (same _ _ _ _ (c.finish_cut.ensures.any_moment k) (c.replay.ensures.untouched k)) held (c.in_ok-finish_cut.ensures.finished k) (c.replay.ensures.untouched k)
+    let held' : state_in c.finish_cut.new.parts.tree ≡ x = ap state_in c.finish_cut.ensures.tree in
+    let geometry : c.finish_cut.new.parts.tree.geometry ≡ c.args.parts.now.halves.geometry = (λ i. (c.finish_cut.ensures.tree i).geometry) ∙ c.requires.loaded.geometry in
+    let more = ap (λ (rs : List (List ℕ)). run (means c.args.parts.now.halves.geometry) (Some x) rs) (sym (c.in_ok-finish_cut.ensures.finished k).front)
+    ∙ sym (λ i. run (means (geometry i)) (Some (held' i)) (front (layout_of (log i)) (half i) w1)) ∙ c.in_ok-replay.ensures.done k in
+    let held = behind_holds c.args.parts.now.halves.geometry (g.D.Disk.medium c.args.disk.now).now c.args.parts.now.halves.named x (c.requires.holds k) (state_in c.replay.new.tree) more in
+    subst (λ (l : Log). IsAlone l (g.D.Disk.medium c.replay.new.disk)) (sym (c.in_ok-replay.ensures.log ∙ c.in_ok-finish_cut.ensures.log))
+    (alone_finished c.args.parts.now.halves (g.D.Disk.medium c.args.disk.now) (g.D.Disk.medium c.finish_cut.new.disk) (g.D.Disk.medium c.replay.new.disk) (state_in c.replay.new.tree) (g.met.D.Disk.bytes c.replay.new.disk)
+    (same _ _ _ _ (c.finish_cut.ensures.any_moment k) (c.replay.ensures.untouched k)) held (c.in_ok-finish_cut.ensures.finished k) (c.replay.ensures.untouched k))
 
 pub returns-clause-was : goal.returns-clause-was
 returns-clause-was g c = λ k.
-    let x = state_in c.args.tree.now in
+    let x = state_in c.args.parts.now.tree in
     let w1 = (g.D.Disk.medium c.finish_cut.new.disk).now in
-    let log : c.finish_cut.new.halves.geometry ≡ c.args.halves.now.geometry = ap (λ (l : Log). l.geometry) c.in_ok-finish_cut.ensures.log in
+    let log : c.finish_cut.new.parts.halves.geometry ≡ c.args.parts.now.halves.geometry = ap (λ (l : Log). l.geometry) c.in_ok-finish_cut.ensures.log in
     let half = ap other c.named-behind.ensures.named in
-    let more = ap (λ (rs : List (List ℕ)). run (means c.args.halves.now.geometry) (Some x) rs) (sym (c.in_ok-finish_cut.ensures.finished k).front)
-    ∙ sym (λ i. run (means (c.requires.geometry i)) (Some x) (front (layout_of (log i)) (half i) w1)) ∙ c.in_ok-replay.ensures.done k in
-    behind_holds c.args.halves.now.geometry (g.D.Disk.medium c.args.disk.now).now c.args.halves.now.named x (c.requires.holds k) (state_in c.replay.new.tree) more
+    let held' : state_in c.finish_cut.new.parts.tree ≡ x = ap state_in c.finish_cut.ensures.tree in
+    let geometry : c.finish_cut.new.parts.tree.geometry ≡ c.args.parts.now.halves.geometry = (λ i. (c.finish_cut.ensures.tree i).geometry) ∙ c.requires.loaded.geometry in
+    let more = ap (λ (rs : List (List ℕ)). run (means c.args.parts.now.halves.geometry) (Some x) rs) (sym (c.in_ok-finish_cut.ensures.finished k).front)
+    ∙ sym (λ i. run (means (geometry i)) (Some (held' i)) (front (layout_of (log i)) (half i) w1)) ∙ c.in_ok-replay.ensures.done k in
+    behind_holds c.args.parts.now.halves.geometry (g.D.Disk.medium c.args.disk.now).now c.args.parts.now.halves.named x (c.requires.holds k) (state_in c.replay.new.tree) more
 
 pub returns-clause-sound : goal.returns-clause-sound
 returns-clause-sound g c = λ k.
-    let x = state_in c.args.tree.now in
+    let x = state_in c.args.parts.now.tree in
     let w1 = (g.D.Disk.medium c.finish_cut.new.disk).now in
-    let log : c.finish_cut.new.halves.geometry ≡ c.args.halves.now.geometry = ap (λ (l : Log). l.geometry) c.in_ok-finish_cut.ensures.log in
+    let log : c.finish_cut.new.parts.halves.geometry ≡ c.args.parts.now.halves.geometry = ap (λ (l : Log). l.geometry) c.in_ok-finish_cut.ensures.log in
     let half = ap other c.named-behind.ensures.named in
-    let more = ap (λ (rs : List (List ℕ)). run (means c.args.halves.now.geometry) (Some x) rs) (sym (c.in_ok-finish_cut.ensures.finished k).front)
-    ∙ sym (λ i. run (means (c.requires.geometry i)) (Some x) (front (layout_of (log i)) (half i) w1)) ∙ c.in_ok-replay.ensures.done k in
-    behind_fine c.args.halves.now.geometry (g.D.Disk.medium c.args.disk.now).now c.args.halves.now.named x (c.requires.holds k) (state_in c.replay.new.tree) more
+    let held' : state_in c.finish_cut.new.parts.tree ≡ x = ap state_in c.finish_cut.ensures.tree in
+    let geometry : c.finish_cut.new.parts.tree.geometry ≡ c.args.parts.now.halves.geometry = (λ i. (c.finish_cut.ensures.tree i).geometry) ∙ c.requires.loaded.geometry in
+    let more = ap (λ (rs : List (List ℕ)). run (means c.args.parts.now.halves.geometry) (Some x) rs) (sym (c.in_ok-finish_cut.ensures.finished k).front)
+    ∙ sym (λ i. run (means (geometry i)) (Some (held' i)) (front (layout_of (log i)) (half i) w1)) ∙ c.in_ok-replay.ensures.done k in
+    behind_fine c.args.parts.now.halves.geometry (g.D.Disk.medium c.args.disk.now).now c.args.parts.now.halves.named x (c.requires.holds k) (state_in c.replay.new.tree) more
+
+pub returns-clause-loaded : goal.returns-clause-loaded
+returns-clause-loaded g c =
+    let p = c.args.parts.now in
+    let before = c.requires.loaded in
+    let log = c.in_ok-replay.ensures.log ∙ c.in_ok-finish_cut.ensures.log in
+    let geometry = c.in_ok-replay.ensures.geometry ∙ (λ i. (c.finish_cut.ensures.tree i).geometry) ∙ before.geometry in
+    let room = c.finish_cut.ensures.room in
+    are_loaded p _ p.halves.geometry (finished_now p.halves) (g.D.Disk.medium c.replay.new.disk) log refl before.fine refl c.in_ok-replay.ensures.whole geometry
+    (record { frozen = room.frozen; named_marks = room.named_marks; other_marks = room.other_marks; due = room.due })
+    before.frozen before.other_marks before.all (omega (arith, before.whole, c.finish_cut.ensures.call.1, c.replay.ensures.call.1))
+
+pub returns-clause-room : goal.returns-clause-room
+returns-clause-room g c =
+    let room = c.finish_cut.ensures.room in
+    record { frozen = room.frozen; named_marks = room.named_marks; other_marks = room.other_marks; due = room.due }
+
+pub returns-clause-geometry : goal.returns-clause-geometry
+returns-clause-geometry g c = ap (λ (l : Log). l.geometry) (c.in_ok-replay.ensures.log ∙ c.in_ok-finish_cut.ensures.log)

@@ -40,10 +40,12 @@ returns-clause-begun g c = λ k.
     let chained = subst (λ (log : Log). HasChained log w1 w2) c.in_ok-clear_other.ensures.log (c.in_ok-open_chain.ensures.chained k) in
     let are = g.met.D.Disk.bytes c.clear_other.new.disk in
     record {
-      stands = begun_stands geometry named _ is_area w0 w1 w2 stands clears cleared chains are c.requires.whole chained;
-      ready = begun_ready geometry named _ is_area w0 w1 w2 stands clears cleared chains are c.requires.whole chained;
+      at = record {
+        stands = begun_stands geometry named _ is_area w0 w1 w2 stands clears cleared chains are c.requires.whole chained;
+        ready = begun_ready geometry named _ is_area w0 w1 w2 stands clears cleared chains are c.requires.whole chained;
+        calm = chained.calm;
+      };
       none = begun_none geometry named _ is_area w0 w1 w2 stands clears cleared chains are c.requires.whole chained;
       forced = begun_forced geometry named _ is_area w0 w1 w2 stands clears cleared chains are c.requires.whole chained (g.met.D.Disk.bytes c.args.disk.now) (g.met.D.Disk.bytes c.open_chain.new.disk);
-      calm = chained.calm;
       images = begun_images geometry named _ is_area w0 w1 w2 stands clears cleared chains are c.requires.whole chained;
     }

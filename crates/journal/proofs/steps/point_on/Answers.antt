@@ -63,10 +63,12 @@ returns-clause-pointed g c = λ k.
     let some = (c.requires.alone k).some in
     let are = g.met.D.Disk.bytes c.write_image.new.disk in
     record {
-      stands = now_stands geometry named _ is_area w0 w1 stands clears w2 writes some c.args.bytes.now (c.requires.image k) cleared imaged w3 are c.requires.whole flipped;
-      ready = now_ready geometry named _ is_area w0 w1 stands clears w2 writes some c.args.bytes.now (c.requires.image k) cleared imaged w3 are c.requires.whole flipped;
+      at = record {
+        stands = now_stands geometry named _ is_area w0 w1 stands clears w2 writes some c.args.bytes.now (c.requires.image k) cleared imaged w3 are c.requires.whole flipped;
+        ready = now_ready geometry named _ is_area w0 w1 stands clears w2 writes some c.args.bytes.now (c.requires.image k) cleared imaged w3 are c.requires.whole flipped;
+        calm = flipped.calm;
+      };
       emptied = now_emptied geometry named _ is_area w0 w1 stands clears w2 writes some c.args.bytes.now (c.requires.image k) cleared imaged w3 are c.requires.whole flipped;
-      calm = flipped.calm;
       is = now_is geometry named _ is_area w0 w1 stands clears w2 writes some c.args.bytes.now (c.requires.image k) cleared imaged w3 are c.requires.whole flipped;
       kept = now_kept geometry named _ is_area w0 w1 stands clears w2 writes some c.args.bytes.now (c.requires.image k) cleared imaged w3 are c.requires.whole flipped;
     }

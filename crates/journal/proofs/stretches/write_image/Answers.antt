@@ -46,8 +46,8 @@ loop-n-preserved g c =
           record {
             place = w.at-is ∙ place;
             order = omega (arith, w.at-is, w.from-is);
-            len = ap (λ d. length (g.D.Disk.medium d).now) w.disk-is ∙ w.write_run.ensures.len ∙ c.loop-n.invariant.len;
-            faults = ap (λ d. (g.D.Disk.medium d).faults) w.disk-is ∙ w.in_ok-write_run.ensures.counts ∙ c.loop-n.invariant.faults;
+            len = ap (λ d. length (g.D.Disk.medium d).now) w.disk-is ∙ w.write_run.ensures.call.1 ∙ c.loop-n.invariant.len;
+            faults = ap (λ d. (g.D.Disk.medium d).faults) w.disk-is ∙ w.in_ok-write_run.ensures.call.0 ∙ c.loop-n.invariant.faults;
             so_far = λ k.
                 along_patch c.args.g.now c.args.area (c.loop-n.at + c.stretch_size.result) c.if-not-is_marked.from c.args.bytes.now (g.D.Disk.medium c.args.disk.now) (g.D.Disk.medium w.write_run.new.disk) (g.D.Disk.medium c.if-not-is_marked.disk) w.from-is (ap (λ d. g.D.Disk.medium d) w.disk-is)
                 (patch_passed c.args.g.now c.args.area c.loop-n.n c.loop-n.at (c.loop-n.at + c.stretch_size.result) c.args.bytes.now c.args.marks.now (g.D.Disk.medium c.args.disk.now) (g.D.Disk.medium w.write_run.new.disk) (c.requires.unmarked k) few unmarked c.loop-n.invariant.place (omega (arith, c.stretch_size.ensures.size))

@@ -96,7 +96,7 @@ invariant_of-self-2 g c =
     let log = c.in_default.ensures.log in
     let same = c.cut_on.ensures.geometry in
     let cleared = whole_put c.swap.new.y.len c.clear_marks.new.marks c.swap.new.y.items (ap length c.clear_marks.ensures ∙ length-replicate _ false ∙ ap length c.deref_mut-2.ensures.value) (ap length c.clear_marks.ensures ∙ length-replicate _ false ∙ c.deref_mut-2.ensures.len) in (
-      omega (arith, c.self.invariant.0, c.cut_on.ensures.len, ap (λ (l : Log). device_size (layout l)) log),
+      omega (arith, c.self.invariant.0, c.cut_on.ensures.call.1, ap (λ (l : Log). device_size (layout l)) log),
       omega (arith, ap (λ (l : Log). l.used) log),
       ap length frozen ∙ c.freeze.ensures.size ∙ ap length c.deref_mut.ensures.value ∙ c.self.invariant.2 ∙ sym (ap image_size same),
       c.self.invariant.3 ∙ sym (ap piece_count same),

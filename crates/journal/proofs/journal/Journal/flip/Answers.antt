@@ -34,7 +34,7 @@ pub returns-clause-settled : goal.returns-clause-settled
 returns-clause-settled g c = λ k.
     subst (λ (h : JournalView). holds c.flip_on.new.halves.geometry (g.D.Disk.medium c.flip_on.new.disk).now ≡ settled h) c.self.view_is
     (ap (λ (x : _). holds x (g.D.Disk.medium c.flip_on.new.disk).now) c.flip_on.ensures.geometry
-    ∙ holds_now c.self.inside.halves.geometry _ _ (holds c.self.inside.halves.geometry (g.D.Disk.medium c.self.inside.disk).now) (g.D.Disk.medium c.flip_on.new.disk) (g.met.D.Disk.bytes c.flip_on.new.disk) (c.in_default.ensures.flipped k).stands)
+    ∙ holds_now c.self.inside.halves.geometry _ _ (holds c.self.inside.halves.geometry (g.D.Disk.medium c.self.inside.disk).now) (g.D.Disk.medium c.flip_on.new.disk) (g.met.D.Disk.bytes c.flip_on.new.disk) (c.in_default.ensures.flipped k).at.stands)
 
 pub returns-clause-sound : goal.returns-clause-sound
 returns-clause-sound g c = λ k.
@@ -62,7 +62,7 @@ pub invariant_of-self-2 : goal.invariant_of-self-2
 invariant_of-self-2 g c =
     let none : c.self.inside.left ≡ Some 0 = ap (λ (h : JournalView). h.left) c.self.view_is ∙ c.requires.written in
     let log = c.in_default.ensures.log in (
-      omega (arith, c.self.invariant.0, c.flip_on.ensures.len, ap (λ (l : Log). device_size (layout l)) log),
+      omega (arith, c.self.invariant.0, c.flip_on.ensures.call.1, ap (λ (l : Log). device_size (layout l)) log),
       omega (arith, c.self.invariant.1, ap (λ (l : Log). l.used) log, ap (λ (l : Log). l.geometry.half) log),
       c.self.invariant.2 ∙ sym (ap image_size c.flip_on.ensures.geometry),
       ap (λ v. length v.items) c.swap.ensures.x_after ∙ c.self.invariant.4 ∙ sym (ap piece_count c.flip_on.ensures.geometry),

@@ -97,7 +97,7 @@ invariant_of-self-2 g c =
     let same : c.geometry-g.result ≡ c.self.inside.halves.geometry = c.geometry-g.ensures ∙ geometry in
     let first = whole_put c.self.inside.named_marks.len c.mark_touched.new.marks c.self.inside.named_marks.items (c.mark_touched.ensures.size ∙ ap length c.deref_mut.ensures.value) (c.mark_touched.ensures.size ∙ c.deref_mut.ensures.len) in
     let second = whole_put c.self.inside.other_marks.len c.mark_touched-2.new.marks c.self.inside.other_marks.items (c.mark_touched-2.ensures.size ∙ ap length c.deref_mut-2.ensures.value) (c.mark_touched-2.ensures.size ∙ c.deref_mut-2.ensures.len) in (
-      omega (arith, c.self.invariant.0, c.append.ensures.len, ap (λ (l : Log). device_size (layout l)) log),
+      omega (arith, c.self.invariant.0, c.append.ensures.call.1, ap (λ (l : Log). device_size (layout l)) log),
       omega (arith, c.self.invariant.1, ap (λ (l : Log). l.used) log, ap (λ (g : Geometry). g.half) geometry, ap (λ (h : JournalView). h.room) c.self.view_is, c.requires.room),
       c.self.invariant.2 ∙ sym (ap image_size geometry),
       ap length first ∙ c.mark_touched.ensures.size ∙ ap length c.deref_mut.ensures.value ∙ c.self.invariant.3 ∙ sym (ap piece_count geometry),

@@ -118,7 +118,7 @@ pub invariant_of-self-2 : goal.invariant_of-self-2
 invariant_of-self-2 g c =
     let few = subst (λ (l : List Bool). c.in-Some.n < length l) c.deref.ensures.value c.in-Some.ensures.inside in
     let marked = subst (λ (l : List Bool). get_or l c.in-Some.n false ≡ true) c.deref.ensures.value c.in-Some.ensures.marked in (
-      omega (arith, c.self.invariant.0, c.write_stretch.ensures.len),
+      omega (arith, c.self.invariant.0, c.write_stretch.ensures.call.1),
       c.self.invariant.1,
       c.self.invariant.2,
       c.self.invariant.3,

@@ -125,7 +125,7 @@ invariant_of-self-2 g c =
     let frozen = whole_put c.self.inside.frozen.len c.freeze.new.bytes c.self.inside.frozen.items (c.freeze.ensures.size ∙ ap length c.deref_mut.ensures.value) (c.freeze.ensures.size ∙ c.deref_mut.ensures.len) in
     let log = c.in_default.ensures.log in
     let same = c.point_on.ensures.geometry in (
-      omega (arith, c.self.invariant.0, c.point_on.ensures.len, ap (λ (l : Log). device_size (layout l)) log),
+      omega (arith, c.self.invariant.0, c.point_on.ensures.call.1, ap (λ (l : Log). device_size (layout l)) log),
       omega (arith, ap (λ (l : Log). l.used) log),
       ap length frozen ∙ c.freeze.ensures.size ∙ ap length c.deref_mut.ensures.value ∙ c.self.invariant.2 ∙ sym (ap image_size same),
       ap length c.exchange_marks.ensures.written ∙ length-replicate _ false ∙ c.self.invariant.4 ∙ sym (ap piece_count same),

@@ -26,7 +26,7 @@ returns-in_err-store-2-clause-any_moment g c = λ k.
 
 pub store-requires-2 : goal.store-requires-2
 store-requires-2 g c =
-    omega (arith, c.gate_at.ensures, half_inside (layout_of c.args.self.geometry) c.args.self.number c.args.self.number_range, c.store.ensures.len, ap length c.ones.ensures ∙ length-replicate {A = ℕ} _ 1)
+    omega (arith, c.gate_at.ensures, half_inside (layout_of c.args.self.geometry) c.args.self.number c.args.self.number_range, c.store.ensures.call.1, ap length c.ones.ensures ∙ length-replicate {A = ℕ} _ 1)
 
 pub returns-clause-any_moment : goal.returns-clause-any_moment
 returns-clause-any_moment g c = λ k.
