@@ -39,13 +39,6 @@ start-within slots chains i some = elim (leb_tells slots i) [
 ]
 
 module _ {T : Type 0} where
-  -- `next`
-  pub behind-held : (values : List (Option T)) (slots : ℕ) (lists : List (List ℕ)) (count i : ℕ) → ArenaRule values (linked_as slots lists) count
-      → is_some (slice_index_or values i None) ≡ true → behind_in i lists ≡ behind_in i (chains_in lists)
-  behind-held values slots [] count i kept held = refl
-  behind-held values slots (free ∷ chains) count i kept held =
-      rw (le-ltb 0 (times i free) (omega (arith, held-not_free (row_of values (linked_as slots (free ∷ chains))) kept.parted i held))) refl
-
   pub behind-empty : (values : List (Option T)) (slots : ℕ) (lists : List (List ℕ)) (count i : ℕ) → ArenaRule values (linked_as slots lists) count
       → is_some (slice_index_or values i None) ≡ false → behind_in i (chains_in lists) ≡ None
   behind-empty values slots lists count i kept empty = elim (leb_tells 1 (times i (concat (chains_in lists)))) [
@@ -61,20 +54,6 @@ module _ {T : Type 0} where
   put-within values slots ((x ∷ rest) ∷ chains) count slot kept found =
       let same : x ≡ slot = cc in
       kept.parted.within slot (omega (arith, times-cons_is slot x (rest ++ concat chains) same))
-
-  pub put-empty : (values : List (Option T)) (slots : ℕ) (lists : List (List ℕ)) (count slot : ℕ) → ArenaRule values (linked_as slots lists) count
-      → first_of (slice_index_or lists 0 []) ≡ Some slot → slice_index_or values slot None ≡ None
-  put-empty values slots [] count slot kept found = absurd (cc)
-  put-empty values slots ([] ∷ chains) count slot kept found = absurd (cc)
-  put-empty values slots ((x ∷ rest) ∷ chains) count slot kept found =
-      let same : x ≡ slot = cc in
-      kept.parted.free_empty slot (omega (arith, times-cons_is slot x rest same))
-
-  pub put-counted : (values : List (Option T)) (slots : ℕ) (lists : List (List ℕ)) (count slot : ℕ) → ArenaRule values (linked_as slots lists) count
-      → first_of (slice_index_or lists 0 []) ≡ Some slot → 0 < count
-  put-counted values slots [] count slot kept found = absurd (cc)
-  put-counted values slots ([] ∷ chains) count slot kept found = absurd (cc)
-  put-counted values slots ((x ∷ rest) ∷ chains) count slot kept found = omega (arith, kept.counted)
 
   pub put-kept : (values : List (Option T)) (slots : ℕ) (lists : List (List ℕ)) (count slot : ℕ) (value : T) → ArenaRule values (linked_as slots lists) count
       → first_of (slice_index_or lists 0 []) ≡ Some slot

@@ -1,13 +1,13 @@
 -- What a caller needs of the parts of a row, and of the chains after a call. No proof of this crate rests on it: it is
 -- for the crates above that keep what they hold on chains.
-use Rattle.std.proofs.Common.{◌≡◌, ◌≢◌, ℕ, zero, suc, ◌+◌, ◌<◌, ◌≤◌, true, List, [], ◌∷◌, ◌++◌, map, length, refl, sym, ap, ◌∙◌, inl, inr, arith, eqb, Some, slice_index_or, IsOk, eq-eqb}
+use Rattle.std.proofs.Common.{◌≡◌, ◌≢◌, ℕ, zero, suc, ◌+◌, ◌<◌, ◌≤◌, true, List, [], ◌∷◌, ◌++◌, map, length, refl, sym, ap, ◌∙◌, inl, inr, arith, eqb, Some, slice_index_or, eq-eqb}
 use Rattle.std.proofs.lemmas.Bool.{lt-ltb}
 use Rattle.std.proofs.lemmas.Bool.Decides.{leb_tells, eqb_tells}
 use Rattle.std.proofs.lemmas.List.{length-set, get_or-set_same, get_or-set_other, length-map, length-append}
 use Rattle.std.proofs.lemmas.Map.Steps.{le-length_from_below}
 use Rattle.std.specs.List.{concat, list_any}
 use Rattle.arena.specs.Lists.{times, without, first_of}
-use Rattle.arena.specs.Row.{Row, capacity_of, holds_value, chain_at, listed, aside, IsParted, moved, front_of, slot_from, put_answer}
+use Rattle.arena.specs.Row.{Row, capacity_of, holds_value, chain_at, listed, aside, IsParted, moved, front_of}
 use Rattle.arena.proofs.Times.{times-append, times-cons_is, times-cons_other, times-at, without-absent, length-once}
 use Rattle.arena.proofs.Keeping.{each-from_times}
 
@@ -69,10 +69,6 @@ module _ {T : Type 0} where
   pub chained-holds : (m : Row T) (i c : ℕ) → IsParted m → 0 < times i (chain_at m c) → holds_value m i ≡ true
   chained-holds m i c parted some = parted.chains_hold i (chained-listed m i c some)
 
-  pub chained-not_free : (m : Row T) (i c : ℕ) → IsParted m → 0 < times i (chain_at m c) → times i m.free ≡ 0
-  chained-not_free m i c parted some =
-      omega (arith, chained-listed m i c some, times-append i m.free (concat m.chains), parted.once i)
-
   pub chained-once : (m : Row T) (i c : ℕ) → IsParted m → times i (chain_at m c) ≤ 1
   chained-once m i c parted = omega (arith, times-at i m.chains c, times-append i m.free (concat m.chains), parted.once i)
 
@@ -86,14 +82,6 @@ module _ {T : Type 0} where
 
   pub chain-front : (m : Row T) (i c : ℕ) → IsParted m → front_of m c ≡ Some i → chain_at m c ≡ i ∷ without i (chain_at m c)
   chain-front m i c parted first = first-without i (chain_at m c) first (chained-once m i c parted)
-
-  -- `put` succeeds exactly where a slot is free
-  pub put-succeeds : (m : Row T) (value : T) → 0 < length m.free → IsOk (put_answer m value)
-  put-succeeds m value some = go m.free some
-    where
-      go : (free : List ℕ) → 0 < length free → IsOk (slot_from free value)
-      go [] some = absurd (omega arith)
-      go (i ∷ rest) some = refl
 
   -- the numbers of the slots in the parts add up to the capacity
   pub length-parts : (m : Row T) → IsParted m → length m.free + length (concat m.chains) + length (aside m) ≡ capacity_of m

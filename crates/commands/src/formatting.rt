@@ -6,7 +6,7 @@ ghost use Rattle.commands.specs.Lines.{formatted_line};
 use crate::faults::Fault;
 use crate::lines::{add_line, write_lines};
 use affinity::Geometry;
-use checkpoint::{FormatFault, device_len, format};
+use checkpoint::{device_len, format};
 use disk::FileDisk;
 use std::alloc::{AllocError, Global};
 use std::fs::File;

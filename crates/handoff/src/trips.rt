@@ -1,5 +1,5 @@
 //! One job at each place, which is offered again as soon as its result is there.
-ghost use Rattle.std.specs.Prelude.{◌≡◌, ◌<◌, ◌≤◌, All, IfSome, vec_len};
+ghost use Rattle.std.specs.Prelude.{◌≡◌, ◌<◌, All, IfSome};
 ghost use Rattle.handoff.specs.Lent.{AreOfGeometry};
 
 use affinity::{Geometry, place_of};

@@ -15,4 +15,4 @@ pub use counting::{Counting, Counts};
 pub use crashes::{KINDS, MIXED, NEW, OLD, torn};
 pub use server::{Act, Halt, Server, device_with};
 pub use telling::{Questions, answers_and_told, expected, messages_of, told};
-pub use trials::{Crash, Ended, FoundAgain, Progress, Seen, Trial, Wrong, find, reopen, sweep};
+pub use trials::{Crash, Ended, OpenedDevice, Progress, Seen, Trial, Wrong, find, reopen, sweep};

@@ -35,7 +35,7 @@ pub struct Ended {
 
 /// What is found on a device that is opened.
 #[derive(Debug, Drop, PartialEq, Eq)]
-pub enum FoundAgain {
+pub enum OpenedDevice {
     /// It is opened, and the server tells this.
     Tells(Vec<u8>),
     /// It is refused.
@@ -54,7 +54,7 @@ pub trait Trial {
     fn run(&self, alloc: Global, device: MemDisk) -> Result<Ended, Wrong>;
 
     /// Whether a crash after this much progress may leave this.
-    fn allows(&self, progress: &Progress, found: &FoundAgain) -> bool;
+    fn allows(&self, progress: &Progress, found: &OpenedDevice) -> bool;
 }
 
 /// A fault of a device and the crash after it.
@@ -109,14 +109,14 @@ pub fn find(
     alloc: Global,
     device: MemDisk,
     questions: &Questions,
-) -> Result<(FoundAgain, MemDisk), Wrong> {
+) -> Result<(OpenedDevice, MemDisk), Wrong> {
     match open(alloc, device) {
         Ok((journal, mut tree)) => {
             let told = told(alloc, &mut tree, questions)?;
-            Ok((FoundAgain::Tells(told), journal.into_disk()))
+            Ok((OpenedDevice::Tells(told), journal.into_disk()))
         }
         Err(e) if e.fault == OpenFault::OutOfMemory => Err(Wrong::OutOfMemory),
-        Err(e) => Ok((FoundAgain::Refuses(e.fault), e.disk)),
+        Err(e) => Ok((OpenedDevice::Refuses(e.fault), e.disk)),
     }
 }
 
@@ -133,17 +133,22 @@ fn agrees(shown: &Shown, told: &[u8]) -> bool {
 }
 
 /// Whether `inspect` agrees with `open` on a device of these bytes, before and after opening.
-fn is_shown(alloc: Global, bytes: &[u8], opened: &[u8], found: &FoundAgain) -> Result<bool, Wrong> {
+fn is_shown(
+    alloc: Global,
+    bytes: &[u8],
+    opened: &[u8],
+    found: &OpenedDevice,
+) -> Result<bool, Wrong> {
     let before = inspect(alloc, device_of(alloc, bytes)?);
     match (before, found) {
-        (Ok((before, _)), FoundAgain::Tells(told)) => {
+        (Ok((before, _)), OpenedDevice::Tells(told)) => {
             let Ok((after, _)) = inspect(alloc, device_of(alloc, opened)?) else {
                 return Ok(false);
             };
             let is_new = after.records == 0 && after.version == 2;
             Ok(is_new && agrees(&before, told.as_slice()) && agrees(&after, told.as_slice()))
         }
-        (Err(e), FoundAgain::Refuses(fault)) => Ok(e.fault == *fault),
+        (Err(e), OpenedDevice::Refuses(fault)) => Ok(e.fault == *fault),
         _ => Ok(false),
     }
 }
@@ -177,7 +182,7 @@ fn reopen_at(
         if device.calls() < n {
             return same_again(stopped == seen.found, true, first, second);
         }
-        let is_told = stopped == FoundAgain::Refuses(OpenFault::Device);
+        let is_told = stopped == OpenedDevice::Refuses(OpenFault::Device);
         same_again(is_told, false, first, second)?;
         let device = device.crash(torn(alloc, kind)?);
         if device.bytes() == last.as_slice() {
@@ -216,7 +221,7 @@ pub fn reopen(
 #[derive(Drop)]
 pub struct Seen {
     pub bytes: Vec<u8>,
-    pub found: FoundAgain,
+    pub found: OpenedDevice,
 }
 
 /// A trial and what was found in it so far.
@@ -248,7 +253,7 @@ impl<T: Trial> Stops<'_, T> {
         Ok(())
     }
 
-    fn judge(&self, progress: &Progress, first: Crash, found: &FoundAgain) -> Result<(), Wrong> {
+    fn judge(&self, progress: &Progress, first: Crash, found: &OpenedDevice) -> Result<(), Wrong> {
         if self.trial.allows(progress, found) {
             Ok(())
         } else {

@@ -1,7 +1,7 @@
 //! An image says what it spells, and a state is spelled in one way: laws of the definitions alone.
 //! No function here does anything; its contract is the law.
 
-ghost use Rattle.std.specs.Prelude.{◌≡◌, ◌+◌, ◌*◌, ◌<◌, ◌≤◌, ◌↔◌, ℕ, suc, true, false, List, Some, None, is_some, length, if◌then◌else◌, ◌==◌};
+ghost use Rattle.std.specs.Prelude.{◌≡◌, ◌<◌, ◌≤◌, ◌↔◌, ℕ, suc, true, false, List, Some, None, is_some, length, if◌then◌else◌, ◌==◌};
 ghost use Rattle.affinity.specs.Geometry.{group};
 ghost use Rattle.affinity.specs.declared.geometry.Geometry.{Geometry};
 ghost use Rattle.image.specs.Image.{AreGood, has_head, image_of, is_good, read, said_before, version_in, piece_in};

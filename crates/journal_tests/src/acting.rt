@@ -3,8 +3,8 @@ use affinity::Geometry;
 use checkpoint::OpenFault;
 use disk::MemDisk;
 use harness::{
-    Act, Ended, FoundAgain, Halt, Progress, Questions, Server, Trial, Wrong, device_with, expected,
-    messages_of,
+    Act, Ended, Halt, OpenedDevice, Progress, Questions, Server, Trial, Wrong, device_with,
+    expected, messages_of,
 };
 use std::alloc::Global;
 use std::process::Abort;
@@ -114,8 +114,8 @@ impl Trial for Play<'_> {
         }
     }
 
-    fn allows(&self, progress: &Progress, found: &FoundAgain) -> bool {
-        let FoundAgain::Tells(found) = found else {
+    fn allows(&self, progress: &Progress, found: &OpenedDevice) -> bool {
+        let OpenedDevice::Tells(found) = found else {
             return false;
         };
         for (count, telling) in self.tellings.iter().enumerate() {

@@ -4,7 +4,7 @@ use affinity::Geometry;
 use checkpoint::{OpenFault, inspect};
 use disk::MemDisk;
 use harness::{
-    Ended, FoundAgain, Progress, Questions, Server, Trial, Wrong, device_with, expected, find,
+    Ended, OpenedDevice, Progress, Questions, Server, Trial, Wrong, device_with, expected, find,
     sweep,
 };
 use message::Reply;
@@ -204,13 +204,13 @@ impl Trial for Refusal {
         let progress = Progress {
             answered: 0,
             begun: 0,
-            is_whole: found != FoundAgain::Refuses(OpenFault::Device),
+            is_whole: found != OpenedDevice::Refuses(OpenFault::Device),
         };
         Ok(Ended { device, progress })
     }
 
-    fn allows(&self, _progress: &Progress, found: &FoundAgain) -> bool {
-        *found == FoundAgain::Refuses(OpenFault::BadRecord(1, 0))
+    fn allows(&self, _progress: &Progress, found: &OpenedDevice) -> bool {
+        *found == OpenedDevice::Refuses(OpenFault::BadRecord(1, 0))
     }
 }
 

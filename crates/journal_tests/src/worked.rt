@@ -4,7 +4,7 @@ use affinity::Geometry;
 use checkpoint::{Shown, inspect};
 use disk::MemDisk;
 use harness::{
-    Act, FoundAgain, MIXED, OLD, Questions, Server, Wrong, device_with, expected, find,
+    Act, MIXED, OLD, OpenedDevice, Questions, Server, Wrong, device_with, expected, find,
     messages_of, torn,
 };
 use message::Reply;
@@ -66,7 +66,7 @@ fn is_found(
     let (found, device) = find(alloc, device, &questions)?;
     holds(
         rt,
-        found == FoundAgain::Tells(expected(alloc, &g, lines, &questions)?),
+        found == OpenedDevice::Tells(expected(alloc, &g, lines, &questions)?),
     );
     Ok(device)
 }

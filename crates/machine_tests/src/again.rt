@@ -23,7 +23,7 @@ const ITS_VOLUME: [Row; 4] = [
     Arrives("list 0 0", Outcome::Ticket(2)),
 ];
 
-/// Opens a device. Where memory is refused before the device had more than so many calls, it has its bytes, and the same call opens it.
+/// Opens a device. Where memory is refused within `most_calls` calls of the device, it has its bytes, and the same call opens it.
 fn opened_again(
     rt: &impl Abort,
     alloc: Global,
@@ -59,7 +59,7 @@ fn machine_made_again(alloc: Global, core: Core<MemDisk>) -> Result<Machine<MemD
     }
 }
 
-/// A core that was opened so, where memory is refused before the device had more than so many calls.
+/// A core over a device with a volume, opened at the second try where memory is refused within `most_calls` calls of the device.
 fn core_opened_again(
     rt: &impl Abort,
     alloc: Global,

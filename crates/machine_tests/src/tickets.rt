@@ -4,7 +4,7 @@ use crate::making::{holds, machine_on, one};
 use crate::serial::Serial;
 use affinity::Geometry;
 use disk::MemDisk;
-use harness::{FoundAgain, Questions, Wrong, device_with, find};
+use harness::{OpenedDevice, Questions, Wrong, device_with, find};
 use legal_runs::{Outcome, Step};
 use machine::Machine;
 use message::{Msg, Reply};
@@ -142,8 +142,8 @@ fn told_by_ticket(
 fn told_on(alloc: Global, device: MemDisk, questions: &Questions) -> Result<Vec<u8>, Wrong> {
     let (found, _) = find(alloc, device, questions)?;
     match found {
-        FoundAgain::Tells(told) => Ok(told),
-        FoundAgain::Refuses(_) => Err(Wrong::Unfit),
+        OpenedDevice::Tells(told) => Ok(told),
+        OpenedDevice::Refuses(_) => Err(Wrong::Unfit),
     }
 }
 

@@ -7,7 +7,7 @@ use crate::world::World;
 use affinity::Geometry;
 use checkpoint::OpenFault;
 use disk::MemDisk;
-use harness::{Ended, FoundAgain, Progress, Questions, Trial, Wrong, device_with, sweep};
+use harness::{Ended, OpenedDevice, Progress, Questions, Trial, Wrong, device_with, sweep};
 use legal_runs::Step;
 use machine::Machine;
 use message::{Msg, parse_line};
@@ -163,8 +163,8 @@ impl Trial for Play {
         }
     }
 
-    fn allows(&self, progress: &Progress, found: &FoundAgain) -> bool {
-        let FoundAgain::Tells(found) = found else {
+    fn allows(&self, progress: &Progress, found: &OpenedDevice) -> bool {
+        let OpenedDevice::Tells(found) = found else {
             return false;
         };
         let tellings = self.tellings.iter().enumerate();

@@ -7,8 +7,8 @@ use Rattle.std.proofs.Math.Seq.{take-length}
 use Rattle.affinity.specs.Path.{Path, begins, are_related}
 use Rattle.affinity.proofs.Paths.{related_below, related_first, related_rest}
 use Rattle.parcel.specs.Fits.{EachFits}
-use Rattle.parcel.specs.Levels.{IsRowPath, Refuses, TakesParcels, Puts, HandsBack}
-use Rattle.parcel.specs.Nodes.{Node, Nodes, in_child, in_row, in_parcels, put_at, TakesOut, PutsBack, SameNodes}
+use Rattle.parcel.specs.Levels.{IsRowPath, Refuses, HandsBack}
+use Rattle.parcel.specs.Nodes.{Node, Nodes, in_child, in_row, put_at, TakesOut, PutsBack, SameNodes}
 use Rattle.parcel.specs.Tree.{IsOut}
 use Rattle.parcel.specs.declared.parts.Parcels.{Parcels}
 
@@ -90,24 +90,9 @@ module _ {X : Type 0} (nodes : X → Nodes) (own : Node) (xs : List (Option X)) 
     same = row_same h.same;
   }
 
-  pub row_is_taken : (IsBelow : Path → Type 0) (count : ℕ) (p : Path) (lent : Parcels) → TakesParcels IsBelow p lent (in_child nodes (slice_index_or xs i None)) (in_child nodes y)
-      → TakesParcels (IsRowPath count IsBelow) (i ∷ p) lent (in_row nodes own xs) (in_row nodes own (slice_set xs i y))
-  row_is_taken IsBelow count p lent h = record {
-    all_in = row_all_in {IsBelow = IsBelow} count p h.all_in;
-    parcels = h.parcels;
-    rest = row_taken p h.rest;
-  }
-
-  row_out : (p : Path) → IsOut p (in_child nodes (slice_index_or xs i None)) → IsOut (i ∷ p) (in_row nodes own xs)
-  row_out [] h = (h, refl)
-  row_out (j ∷ p) h = h
-
   out_row : (p : Path) → IsOut (i ∷ p) (in_row nodes own xs) → IsOut p (in_child nodes (slice_index_or xs i None))
   out_row [] h = h.0
   out_row (j ∷ p) h = h
-
-  pub row_is_put : (p : Path) (parcels : Parcels) → Puts p parcels (in_child nodes (slice_index_or xs i None)) (in_child nodes y) → Puts (i ∷ p) parcels (in_row nodes own xs) (in_row nodes own (slice_set xs i y))
-  row_is_put p parcels h = record { out = row_out p h.out; nodes = row_put p (in_parcels parcels) h.nodes }
 
   pub row_handed_back : (IsKind : Type 0) (p : Path) (parcels back : Parcels) → HandsBack IsKind p parcels back (in_child nodes (slice_index_or xs i None)) (in_child nodes y)
       → HandsBack IsKind (i ∷ p) parcels back (in_row nodes own xs) (in_row nodes own (slice_set xs i y))

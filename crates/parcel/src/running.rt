@@ -1,6 +1,5 @@
 //! Runs a message on its parcels: for each kind a small function at the level where it runs.
 
-ghost use Rattle.std.specs.Prelude.{◌≡◌};
 ghost use Rattle.message.specs.Messages.{place};
 ghost use Rattle.parcel.specs.Fits.{Suits};
 ghost use Rattle.parcel.specs.Run.{IsJobRun, IsSerialStep};

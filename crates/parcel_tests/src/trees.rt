@@ -1,5 +1,5 @@
 //! Parts of a small tree are lent and restored.
-ghost use Rattle.std.specs.Prelude.{◌≡◌, [], ◌∷◌};
+ghost use Rattle.std.specs.Prelude.{[], ◌∷◌};
 ghost use Rattle.affinity.specs.Interval.{IsAffinityOf};
 ghost use Rattle.affinity.specs.Place.{place};
 

@@ -10,7 +10,7 @@ use Rattle.std.proofs.lemmas.List.Sums.{sum_by-append, sum_by-cons}
 use Rattle.std.proofs.lemmas.Option.{none-some, same_Some}
 use Rattle.arena.specs.Lists.{behind, behind_in, first_of, times}
 use Rattle.arena.specs.Row.{Row, IsParted, capacity_of, chain_at, next_of, value_at}
-use Rattle.arena.proofs.RowLemmas.{chained-holds, chained-listed, length-parts}
+use Rattle.arena.proofs.RowLemmas.{chained-holds, length-parts}
 use Rattle.arena.proofs.Times.{times-append, times-at, times-cons_is, times-cons_other}
 use Rattle.legal_runs.specs.Eligible.{changes}
 use Rattle.legal_runs.specs.Events.{loggable}
@@ -114,12 +114,6 @@ module _ (row : Row Slot) (replies : List Reply) (is : HasChains row) (n i : ℕ
 
   chained : 0 < times i xs
   chained = subst (λ (l : List ℕ). 0 < times i l) (sym (cut_at n i xs first)) (times-split i (take n xs) (drop (suc n) xs))
-
-  pub ran_low : i < capacity_of row
-  ran_low =
-      let some = chained-listed row i 2 chained in
-      let all = times-append i row.free (concat row.chains) in
-      is.parted.within i (omega (arith, some, all))
 
   pub ran_is_there : value_at row i ≡ None → ⊥
   ran_is_there none = some_value (value_at row i) (chained-holds row i 2 is.parted chained) none

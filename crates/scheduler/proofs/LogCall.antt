@@ -87,9 +87,6 @@ module _ (keeps : Type 0) (row : Row Slot) (replies : List Reply) (tree : TreeVi
   pub log_count : count ≡ length (take n (world_in p).ran)
   log_count = min_is ∙ ap (λ (m : ℕ). min n m) (sym (length-map ran_line replied_of)) ∙ sym (length-take n (map replied_of ran_line))
 
-  pub log_empty : batch ≡ []
-  log_empty = k.no_doubt works
-
   module _ (flew : ℕ) (flew_is : flew ≡ changing_in row (take count slots)) where
     flew_same : flew ≡ changing (take n ran_line)
     flew_same = flew_is ∙ counted row replies (take count slots)

@@ -33,10 +33,6 @@ past : (b : Bool) (why : PointRefusal) (o : Option PointRefusal) → (if b then 
 past true why o e = absurd (true≢false (ap is_some e))
 past false why o e = (refl, e)
 
-no_left : (o : Option ℕ) → is_some o ≡ false → o ≡ None
-no_left None e = refl
-no_left (Some n) e = absurd (true≢false e)
-
 no_items : {X : Type 0} (xs : List X) → length xs ≡ 0 → xs ≡ []
 no_items [] e = refl
 no_items (x ∷ xs) e = absurd (omega (arith, e))
@@ -47,9 +43,6 @@ module _ (keeps : Type 0) (p : Parts) (k : IsCore keeps p) (why : point_refusal 
 
   running : (if is_some p.journal.left then Some points.Running else (if nat_lt 0 (length (held (world_in p))) then Some points.Held else None)) ≡ None
   running = (past p.journal.failed points.Failed _ why).1
-
-  pub point_alone : p.journal.left ≡ None
-  point_alone = no_left p.journal.left (past (is_some p.journal.left) points.Running _ running).0
 
   none_held : length p.lines.logged + (length p.lines.ran + length p.lines.out) ≡ 0
   none_held =

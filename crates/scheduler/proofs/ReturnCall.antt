@@ -19,7 +19,7 @@ use Rattle.legal_runs.proofs.Lists.{all_back, all_front, before_first}
 use Rattle.legal_runs.specs.Events.{give_back, out_with}
 use Rattle.legal_runs.specs.Laws.{AreApart}
 use Rattle.legal_runs.specs.World.{Entry, World, held, are_related_entries}
-use Rattle.message.specs.Messages.{is_in_range, place}
+use Rattle.message.specs.Messages.{place}
 use Rattle.message.specs.declared.Msg.{Msg}
 use Rattle.message.specs.declared.Reply.{Reply}
 use Rattle.message.specs.declared.Reply.TheVariants.{Done}
@@ -200,9 +200,6 @@ module _ (keeps : Type 0) (row : Row Slot) (replies : List Reply) (tree : TreeVi
 
   placed : IsPlaced journal.geometry x
   placed = returned_is_placed keeps p k stands.before x stands.behind stands.whole
-
-  pub back_in_range : is_in_range journal.geometry done.message ≡ true
-  back_in_range = result.suits.range
 
   module _ (a : Interval) (at : IsAffinityOf journal.geometry (place journal.geometry done.message) a) where
     number_same : a.number ≡ x.1.affinity.number

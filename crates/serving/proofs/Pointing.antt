@@ -1,7 +1,7 @@
 -- Steps of a consistency point: what is left of it, and that they fail only where the device does.
-use Rattle.std.proofs.Common.{◌≡◌, ◌≢◌, ℕ, ◌-◌, true, false, List, [], length, Option, Some, None, Result, Ok, Err, refl, ap, sym, ◌∙◌}
+use Rattle.std.proofs.Common.{◌≡◌, ℕ, ◌-◌, true, false, List, [], length, Option, Some, None, Result, Ok, Err, refl, ap, sym, ◌∙◌}
 use Rattle.std.specs.Prelude.{Bool, if◌then◌else◌, is_some, nat_lt, OnOk}
-use Rattle.std.proofs.lemmas.Option.{none-some, same_Some}
+use Rattle.std.proofs.lemmas.Option.{none-some}
 use Rattle.legal_runs.specs.Events.{fewer, point_refusal}
 use Rattle.legal_runs.specs.World.{Entry, World, held}
 use Rattle.legal_runs.specs.declared.outcomes.PointRefusal.{PointRefusal}
@@ -41,16 +41,6 @@ module _ (old : World) (left : old.left ≡ None) where
   no_other : if_held (nat_lt 0 (length (held old))) ≡ rest
   no_other = ap (λ (o : Option ℕ). if is_some o then Some points.Running else if_held (nat_lt 0 (length (held old)))) (sym left)
 
-  held_only : (b : Bool) (refusal : PointRefusal) → if_held b ≡ Some refusal → refusal ≡ points.Held
-  held_only true refusal e = sym (same_Some points.Held refusal e)
-  held_only false refusal e = absurd (none-some refusal e)
-
-  -- It is refused for a message that is held, or by a device that has failed.
-  pub begin_fails : (new : World) (made : Type 0) (refusal : PointRefusal) → refusal ≢ points.Held
-      → IsPointStep old new (point_refusal old) made (Err refusal) → new.failed ≡ true
-  begin_fails new made refusal not_held h = refused_so old new (point_refusal old) made refusal h
-      (λ e. failed_so old.failed rest refusal e (λ d. absurd (not_held (held_only (nat_lt 0 (length (held old))) refusal (no_other ∙ d)))))
-
   module _ (none_held : held old ≡ []) where
     none_rests : None ≡ rest
     none_rests = ap (λ (l : List Entry). if_held (nat_lt 0 (length l))) (sym none_held) ∙ no_other
@@ -60,13 +50,6 @@ module _ (old : World) (left : old.left ≡ None) where
         → new.failed ≡ true
     point_fails new made refusal h = refused_so old new (point_refusal old) made refusal h
         (λ e. failed_so old.failed rest refusal e (λ d. absurd (none-some refusal (none_rests ∙ d))))
-
-    not_so : (failed : Bool) → (if failed then Some points.Failed else rest) ≡ Some points.Held → ⊥
-    not_so true e = let same : points.Failed ≡ points.Held = same_Some points.Failed points.Held e in cc
-    not_so false e = none-some points.Held (none_rests ∙ e)
-
-    pub isnt_held : (new : World) (made : Type 0) → IsPointStep old new (point_refusal old) made (Err points.Held) → ⊥
-    isnt_held new made h = not_so old.failed h.0
 
 -- ---- a point at once
 

@@ -22,7 +22,7 @@ use Rattle.serving.specs.Reads.{IsTaken}
 use Rattle.serving.specs.Rows.{AreConsecutive, RowView, Says, comes_next, next_text, with_tickets}
 use Rattle.serving.specs.Runs.{Holds, IsQuiet, Passes, with_lent}
 use Rattle.atomic_table.specs.Seated.{TableId}
-use Rattle.serving.specs.Session.{HasGone, AreAtBench, HasStopped, IsStop, IsUnderWay, IsUnderWayFrom, SessionView, ReadsOrStops, machine, known_unless}
+use Rattle.serving.specs.Session.{HasGone, AreAtBench, IsStop, IsUnderWay, IsUnderWayFrom, SessionView, ReadsOrStops, machine, known_unless}
 use Rattle.serving.specs.Telling.{MayTell, Start, start_machine}
 use Rattle.serving.specs.declared.session.Stop.{Stop}
 use Rattle.serving.specs.declared.session.Stop.TheVariants as stops
@@ -134,12 +134,6 @@ module _ (keeps : Type 0) where
       idle_again keeps (start_machine s) (machine p) u.idle s.input k.0 k.1 (known_unless p.broken s.before) (known_unless p.broken (so_far p.told p.out))
       (subst (λ (l : List Line). Goes keeps (start_machine s) (machine p) l s.input k.0 k.1 (known_unless p.broken s.before)
       (known_unless p.broken (so_far p.told p.out))) none (to_row s p k.0 k.1 k.2))
-
-  pub failed_of : (o : Option Start) (p : SessionView) → IsUnderWayFrom keeps o p → p.stop ≡ Some stops.Failed → p.core.failed ≡ true
-  failed_of None p u is = absurd u
-  failed_of (Some s) p u is =
-      let h : HasStopped keeps s p stops.Failed = subst (λ (o : Option Stop). ReadsOrStops keeps s p o) is u.reads in
-      h.why
 
   -- ---- steps
 

@@ -1,6 +1,6 @@
 //! Consistency points of a session: when one is due, the one in progress, which is carried to its end, and the last one.
 
-ghost use Rattle.std.specs.Prelude.{◌≡◌, ◌≢◌, ◌-◌, ℕ, false, [], None, Some, IfOk, MatchBool, OnOk};
+ghost use Rattle.std.specs.Prelude.{◌≡◌, ◌≢◌, ◌-◌, ℕ, false, [], None, Some, MatchBool, OnOk};
 ghost use Rattle.legal_runs.specs.World.{held};
 ghost use Rattle.legal_runs.specs.declared.outcomes.PointRefusal.TheVariants as refusals;
 ghost use Rattle.scheduler.specs.Kept.{world_of};

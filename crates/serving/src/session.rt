@@ -1,7 +1,7 @@
 //! A session: the core, the dispatcher's seat, the lines that were read, and the answers that wait, with the input of the call and
 //! whom it tells. It is under way: from the start of the call a legal run has led to where it is.
 
-ghost use Rattle.std.specs.Prelude.{◌≡◌, ℕ, Option, None};
+ghost use Rattle.std.specs.Prelude.{Option, None};
 
 use crate::crew::Crew;
 use crate::points::Course;

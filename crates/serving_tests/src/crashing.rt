@@ -71,7 +71,7 @@ fn finds<T: Threads + Wait + Sync + Abort>(
 }
 
 /// Serves the lines with so many workers to a client that tears the device in this way: what it sees.
-fn seen<T: Threads + Wait + Sync + Abort>(
+fn sights_of<T: Threads + Wait + Sync + Abort>(
     rt: &T,
     alloc: Global,
     workers: usize,
@@ -113,13 +113,13 @@ fn find_all<T: Threads + Wait + Sync + Abort>(
 }
 
 /// There is a sight for each line, and each has what it has to.
-fn sees<T: Threads + Wait + Sync + Abort>(
+fn finds_each<T: Threads + Wait + Sync + Abort>(
     rt: &T,
     alloc: Global,
     workers: usize,
     kind: usize,
 ) -> Result<(), Wrong> {
-    let mut sights = seen(rt, alloc, workers, kind)?;
+    let mut sights = sights_of(rt, alloc, workers, kind)?;
     holds(rt, sights.len() == 6);
     find_all(rt, alloc, &mut sights)
 }
@@ -128,7 +128,7 @@ fn sees<T: Threads + Wait + Sync + Abort>(
 fn what_was_told_is_found_after_each_crash(rt: HostRuntime) -> Result<(), Fail> {
     for workers in [1, 2] {
         for kind in 0..7 {
-            sees(&rt, rt.alloc(), workers, kind)?;
+            finds_each(&rt, rt.alloc(), workers, kind)?;
         }
     }
     Ok(())

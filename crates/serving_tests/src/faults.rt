@@ -5,7 +5,7 @@ use affinity::Geometry;
 use checkpoint::OpenFault;
 use disk::MemDisk;
 use harness::{
-    Crash, FoundAgain, KINDS, Questions, Seen, Wrong, device_with, expected, find, reopen, torn,
+    Crash, KINDS, OpenedDevice, Questions, Seen, Wrong, device_with, expected, find, reopen, torn,
 };
 use serving::ServeFault;
 use std::alloc::Global;
@@ -44,10 +44,10 @@ pub(crate) struct Known {
 
 impl Known {
     /// Whether that is found.
-    pub(crate) fn is_told(&self, found: &FoundAgain) -> bool {
+    pub(crate) fn is_told(&self, found: &OpenedDevice) -> bool {
         match found {
-            FoundAgain::Tells(told) => self.told == *told,
-            FoundAgain::Refuses(_) => false,
+            OpenedDevice::Tells(told) => self.told == *told,
+            OpenedDevice::Refuses(_) => false,
         }
     }
 }
@@ -120,8 +120,8 @@ impl Play {
     }
 
     /// Whether this may be found where so many lines were written.
-    pub(crate) fn allows(&self, answered: usize, found: &FoundAgain) -> bool {
-        let FoundAgain::Tells(told) = found else {
+    pub(crate) fn allows(&self, answered: usize, found: &OpenedDevice) -> bool {
+        let OpenedDevice::Tells(told) = found else {
             return false;
         };
         let answered = first(self.there.saturating_add(answered));

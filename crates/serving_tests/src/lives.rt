@@ -3,7 +3,7 @@ use crate::faults::{CHANGES, MOST_CALLS, Play, is_told, set_fuse, way};
 use crate::running::{Ended, SMALL, serve_on};
 use affinity::Geometry;
 use disk::MemDisk;
-use harness::{Crash, FoundAgain, KINDS, Questions, Wrong, answers_and_told, find, torn};
+use harness::{Crash, KINDS, OpenedDevice, Questions, Wrong, answers_and_told, find, torn};
 use std::alloc::Global;
 use std::sync::Wait;
 use std::test::Fail;
@@ -57,8 +57,8 @@ impl Second {
     }
 
     /// Whether this may have been written, and that be found then.
-    fn allows(&self, output: &[u8], is_whole: bool, found: &FoundAgain) -> bool {
-        let FoundAgain::Tells(told) = found else {
+    fn allows(&self, output: &[u8], is_whole: bool, found: &OpenedDevice) -> bool {
+        let OpenedDevice::Tells(told) = found else {
             return false;
         };
         let answered = output.iter().filter(|byte| **byte == b'\n').count();

@@ -1,5 +1,4 @@
 //! Whole calls of a server on a device, and how they end.
-ghost use Rattle.std.specs.Prelude.{◌≤◌};
 
 use affinity::Geometry;
 use checkpoint::OpenFault;

@@ -87,17 +87,6 @@ pub record HasRead (g : Geometry) (files s : ℕ) (bytes : List ℕ) (es : List 
   pub rest : es ++ entries_in (g.quota - n) (drop (n * 520) bytes) ≡ entries_in g.quota bytes
 
 module _ (g : Geometry) (files s : ℕ) (bytes : List ℕ) (long : length bytes ≡ g.quota * 520) where
-  pub nothing_read : HasRead g files s bytes [] 0
-  nothing_read =
-      let none : 0 * 520 ≡ 0 = omega arith in
-      let all : g.quota - 0 ≡ g.quota = omega arith in
-      record {
-        front = ap (λ (k : ℕ). take k bytes) none;
-        ascending = tt;
-        fit = tt;
-        rest = λ i. entries_in (all i) (drop (none i) bytes);
-      }
-
   length-front : (es : List BlockEntry) (n : ℕ) → n ≤ g.quota → HasRead g files s bytes es n → length (flat_map entry_bytes es) ≡ n * 520
   length-front es n few has =
       let fits : n * 520 ≤ length bytes = omega (arith, few, long) in

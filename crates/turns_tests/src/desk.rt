@@ -1,5 +1,4 @@
 //! A value of `Turns` that takes any call: each message that arrives gets the next slot and ticket.
-ghost use Rattle.std.specs.Prelude.{◌≡◌};
 
 use affinity::{Affinity, Geometry, Kind, changing, place_of};
 use std::alloc::{AllocError, Global};

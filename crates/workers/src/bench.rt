@@ -1,5 +1,5 @@
 //! The bench: its table, and what the dispatcher does there.
-ghost use Rattle.std.specs.Prelude.{◌≡◌, ℕ, ◌+◌, ◌<◌, ◌≤◌, [], ◌∷◌, map, replicate, is_some, slice_set, Option, None, Some, IfOk, IfSome, IfNone, All, MatchOption, IsTrue, IsFalse, length, vec_len, Ok, Err};
+ghost use Rattle.std.specs.Prelude.{◌≡◌, ◌+◌, ◌<◌, ◌≤◌, [], ◌∷◌, map, replicate, is_some, slice_set, Option, None, Some, IfOk, IfSome, IfNone, All, MatchOption, IsTrue, IsFalse, length, vec_len, Ok, Err};
 ghost use Rattle.atomic_table.specs.Table.{rest};
 ghost use Rattle.parcel.specs.Run.{JobView, IsJobRun};
 ghost use Rattle.workers.specs.Rule.{LentRow, lent_at};

@@ -1,5 +1,5 @@
 //! The seats of the bench: who may do what.
-ghost use Rattle.std.specs.Prelude.{◌≡◌, ℕ, ◌+◌, ◌<◌, ◌≤◌, [], length, map, position, replicate, Option, None, is_some, is_none, not, IsFalse, ◌↔◌};
+ghost use Rattle.std.specs.Prelude.{◌≡◌, ◌+◌, ◌<◌, ◌≤◌, length, map, position, replicate, Option, None, is_some, is_none, not, IsFalse, ◌↔◌};
 ghost use Rattle.std.specs.List.{list_any};
 ghost use Rattle.workers.specs.Rule.{lent_at};
 ghost use Rattle.workers.specs.Desk.{lent_of, spare_from};

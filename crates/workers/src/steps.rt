@@ -1,12 +1,12 @@
 //! The kinds of atomic step on the table, each one try. Nothing else changes a word.
 //! A slot is filled between them.
-ghost use Rattle.std.specs.Prelude.{◌≡◌, ℕ, ◌+◌, ◌<◌, ◌≤◌, List, [], ◌∷◌, replicate, slice_set, Option, None, Some, IsTrue, IsFalse};
+ghost use Rattle.std.specs.Prelude.{◌≡◌, ◌+◌, ◌<◌, [], ◌∷◌, replicate, slice_set, None, Some, IsTrue, IsFalse};
 ghost use Rattle.atomic_table.specs.Table.{rest};
 ghost use Rattle.parcel.specs.Run.{JobView, IsJobRun};
 ghost use Rattle.parcel.specs.declared.job.Done.{Done as TheDone};
 ghost use Rattle.workers.specs.Rule.{LentRow, BenchRule, lent_at};
-ghost use Rattle.workers.specs.Desk.{IsAtBench, IsBench, lent_of, idle};
-ghost use Rattle.workers.specs.Steps.{job_on, Readies, Offers, Claims, Delivers, Collects, OfPlace};
+ghost use Rattle.workers.specs.Desk.{IsAtBench, lent_of, idle};
+ghost use Rattle.workers.specs.Steps.{Readies, Offers, Claims, Delivers, Collects, OfPlace};
 ghost use Rattle.workers.specs.declared.tray.Load.TheVariants.{Offered, Answered};
 ghost use Rattle.workers.specs.declared.seats.View.TheVariants.{Dispatcher, Idle, Claimed};
 

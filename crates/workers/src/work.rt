@@ -1,5 +1,5 @@
 //! What a worker does.
-ghost use Rattle.std.specs.Prelude.{◌≡◌, ℕ, ◌<◌, [], ◌∷◌, Some, All};
+ghost use Rattle.std.specs.Prelude.{◌≡◌, ◌<◌, [], ◌∷◌, Some, All};
 ghost use Rattle.parcel.specs.Run.{JobView};
 ghost use Rattle.workers.specs.Desk.{IsAtBench, IsBench, idle};
 ghost use Rattle.workers.specs.declared.tray.Load.TheVariants.{Offered};

@@ -1,5 +1,5 @@
 //! Parcels of which nothing is made and nothing is out. All memory is taken here.
-ghost use Rattle.std.specs.Prelude.{◌≡◌, IfOk};
+ghost use Rattle.std.specs.Prelude.{IfOk};
 ghost use Rattle.parcel.specs.Levels.{IsNewLogical, IsNewVolume, IsNewAggregate, IsNewRoot};
 
 use super::{Aggr, Label, Logical, Root, Vol};

@@ -1,6 +1,6 @@
 //! Parcels are taken out of the tree, level by level. Nothing is taken where something at the path,
 //! above it or below it is out.
-ghost use Rattle.std.specs.Prelude.{◌≡◌, [], ◌∷◌, zero, suc, ℕ, IfNone, IfSome};
+ghost use Rattle.std.specs.Prelude.{[], ◌∷◌, zero, suc, ℕ, IfNone, IfSome};
 ghost use Rattle.affinity.specs.Interval.{IsPath};
 ghost use Rattle.affinity.specs.Place.{path};
 ghost use Rattle.parcel.specs.Fits.{Fits, FitsStripe, FitsLogical, FitsVolume, FitsAggregate, FitsRoot};

@@ -8,7 +8,7 @@ ghost use Rattle.parcel.specs.Dropping.{Empties};
 ghost use Rattle.plain.specs.Serial.{tests};
 ghost use Rattle.parcel.specs.Fits.{FitsAggregate, FitsLogical, FitsVolume, IsWholeAggregate, IsWholeChild, IsWholeLogical, IsWholeVolume, Suits};
 ghost use Rattle.parcel.specs.Run.{IsSerialStep};
-ghost use Rattle.parcel.specs.Shown.{blocks_of, by_child, volume_facts, has_file, shown_state};
+ghost use Rattle.parcel.specs.Shown.{blocks_of, by_child, volume_facts, shown_state};
 ghost use Rattle.parcel.specs.Steps.{at_aggregate};
 ghost use Rattle.parcel.specs.Totals.{with_made};
 ghost use Rattle.parcel.specs.Volume.{nothing};

@@ -1,6 +1,5 @@
 //! Messages at the whole server: they ask how much all volumes hold.
 
-ghost use Rattle.std.specs.Prelude.{◌≡◌};
 ghost use Rattle.message.specs.declared.Msg.{Msg};
 ghost use Rattle.message.specs.Messages.{place};
 ghost use Rattle.parcel.specs.Fits.{FitsRoot, Suits};

@@ -5,7 +5,6 @@ ghost use Rattle.parcel.specs.Fits.{FitsAggregate, FitsLogical, FitsRoot, FitsVo
 ghost use Rattle.parcel.specs.Shown.{blocks_of, by_aggregate, by_child, by_root, volume_facts, has_file};
 ghost use Rattle.stripe.specs.Stripe.{StripeRule};
 ghost use Rattle.parcel.specs.Totals.{block_total, entry_count, file_total, sum_totals, totals_of};
-ghost use Rattle.plain.specs.State.{sum_below};
 
 use super::refusals::has_file;
 use crate::{Aggr, Logical, Root, StripeParcel, Vol};
