@@ -57,5 +57,5 @@ returns-clause-any_moment g c = λ k.
 pub returns-clause-open : goal.returns-clause-open
 returns-clause-open g c = λ k.
     let now = ap (λ (m : Medium). m.now) ((c.in_ok-sync-2.ensures.syncs k).ok ∙ ap synced (c.in_ok-write_at-2.ensures.writes k).ok) in
-    let room : c.args.gate < length (g.D.Disk.medium c.sync.new.self).now = omega (arith, c.requires.inside, c.write_at.ensures.len, c.sync.ensures.len) in
+    let room : c.args.gate < length (g.D.Disk.medium c.sync.new.self).now = omega (arith, c.requires.inside, c.write_at.ensures.call.1, c.sync.ensures.call.1) in
     ap (λ (l : List ℕ). slice_index l c.args.gate) now ∙ item-overlaid (g.D.Disk.medium c.sync.new.self).now c.args.gate 1 0 [] room
