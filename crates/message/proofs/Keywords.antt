@@ -1,12 +1,10 @@
 -- The message of a line by its first word.
-use Rattle.std.proofs.Common.{◌≡◌, ℕ, ◌<◌, ◌≤◌, Bool, true, false, cond, zero, suc, lit≤, List, [], ◌∷◌, length, get_or, Option, Some, None, Result, Ok, Err, Bor, subst, refl, ap, sym, ◌∙◌, inl, inr, ◌⊎◌}
-use Rattle.std.specs.Prelude.{◌&&◌, nat_lt, MatchResult}
-use Rattle.std.specs.Result.{result_ok}
-use Rattle.std.specs.Str.{bytes_eq, IsAscii, IsUtf8}
-use Rattle.std.proofs.lemmas.Bool.{and_parts, cond-true, cond-false, lt-ltb, le-ltb, ltb-true}
+use Rattle.std.proofs.Common.{◌≡◌, ℕ, ◌<◌, ◌≤◌, Bool, true, false, cond, List, [], ◌∷◌, length, Option, Some, None, refl, ap, sym, ◌∙◌, inl, inr, ◌⊎◌}
+use Rattle.std.specs.Prelude.{◌==◌}
+use Rattle.std.specs.Str.{bytes_eq}
+use Rattle.std.proofs.lemmas.Bool.{both_ways, cond-true, cond-false, eqb-false, false_from_ne_true, lt-ltb, le-ltb}
 use Rattle.std.proofs.lemmas.Option.{same_Some}
 use Rattle.std.proofs.lemmas.Slice.Eq.{bytes_eq-Decides}
-use Rattle.std.proofs.lemmas.Str.{IsUtf8-from_ascii}
 use Rattle.affinity.specs.declared.kinds.Kind.{Kind}
 use Rattle.affinity.specs.declared.kinds.Kind.TheVariants.{MakeVol, DropVol, Create, Delete, Seal, Unseal, Write, Punch, Read, List as ListFiles, Usage, Summary, SetLabel, Label}
 use Rattle.message.specs.Lines.{words}
@@ -90,50 +88,43 @@ names_none word none = elim (kind_named word) as (λ o. kind_named word ≡ o �
 pub names_it : (word : List ℕ) (k : Kind) → word ≡ keyword k → Some k ≡ kind_named word
 names_it word k is = sym (ap kind_named is ∙ keyword_names k)
 
--- ---- keywords are text
+-- a word that passes the test for a keyword names its kind
+pub passes : (word : List ℕ) (k : Kind) → bytes_eq word (keyword k) ≡ true → Some k ≡ kind_named word
+passes word k h = names_it word k ((bytes_eq-Decides word (keyword k)).0 h)
 
-are_ascii : List ℕ → Bool
-are_ascii [] = true
-are_ascii (b ∷ bs) = nat_lt b 128 && are_ascii bs
+-- ---- the keywords of one length
 
-found_ascii : (bs : List ℕ) → are_ascii bs ≡ true → IsAscii bs
-unfolding are_ascii
-found_ascii [] h = λ i. lit≤ tt
-found_ascii (b ∷ bs) h =
-    let parts = and_parts (nat_lt b 128) (are_ascii bs) h in
-    λ i. elim i as (λ i. get_or (b ∷ bs) i 0 < 128) [ zero ↦ ltb-true b 128 parts.0 | suc i ↦ found_ascii bs parts.1 i ]
+-- what is left to see of a word once it failed the test for a keyword, if that has its length
+abbrev pub FailsAlso : Bool → Bool → Type 0 → Type 0
+FailsAlso true test rest = (test ≡ false) × rest
+FailsAlso false test rest = rest
 
-keyword_is_ascii : (k : Kind) → are_ascii (keyword k) ≡ true
-unfolding are_ascii
-keyword_is_ascii MakeVol = refl
-keyword_is_ascii DropVol = refl
-keyword_is_ascii Create = refl
-keyword_is_ascii Delete = refl
-keyword_is_ascii Seal = refl
-keyword_is_ascii Unseal = refl
-keyword_is_ascii Write = refl
-keyword_is_ascii Punch = refl
-keyword_is_ascii Read = refl
-keyword_is_ascii ListFiles = refl
-keyword_is_ascii Usage = refl
-keyword_is_ascii Summary = refl
-keyword_is_ascii SetLabel = refl
-keyword_is_ascii Label = refl
+-- the word fails the tests for those of some kinds' keywords that have this length
+abbrev pub FailsEach : ℕ → List ℕ → List Kind → Type 0
+FailsEach n word [] = Unit {0}
+FailsEach n word (k ∷ ks) = FailsAlso (length (keyword k) == n) (bytes_eq word (keyword k)) (FailsEach n word ks)
 
-pub keyword_is_text : (k : Kind) → IsUtf8 (keyword k)
-keyword_is_text k = IsUtf8-from_ascii (keyword k) (found_ascii (keyword k) (keyword_is_ascii k))
+passed_over : (word : List ℕ) (k : Kind) (ks : List Kind) → bytes_eq word (keyword k) ≡ false → named_among ks word ≡ None → named_among (k ∷ ks) word ≡ None
+passed_over word k ks fails rest = cond-false _ _ _ fails ∙ rest
 
-module _ {E : Type 0} (word : List ℕ) (r : Result (Bor (List ℕ)) E) (Q : E → Type 0) (read : MatchResult r (λ s. (s.now ≡ word) × IsUtf8 word) (λ e. (IsUtf8 word → ⊥) × Q e)) where
-  -- the text that was read of a word is the word
-  pub text_read : (s : Bor (List ℕ)) → Some s ≡ result_ok r → s.now ≡ word
-  text_read s told = elim r as (λ r. MatchResult r (λ s. (s.now ≡ word) × IsUtf8 word) (λ e. (IsUtf8 word → ⊥) × Q e) → Some s ≡ result_ok r → s.now ≡ word) [
-    | Ok t ↦ λ read told. ap (λ b. b.now) (same_Some s t told) ∙ read.0
-    | Err e ↦ λ read told. cc told
-  ] read told
+other_length : (n : ℕ) (word : List ℕ) (k : Kind) → length word ≡ n → (length (keyword k) == n) ≡ false → bytes_eq word (keyword k) ≡ false
+other_length n word k len other = false_from_ne_true _ (λ h. eqb-false (length (keyword k)) n other (sym (ap length ((bytes_eq-Decides word (keyword k)).0 h)) ∙ len))
 
-  -- a word that no text was read of names no kind
-  pub no_text : None ≡ result_ok r → kind_named word ≡ None
-  no_text told = elim r as (λ r. MatchResult r (λ s. (s.now ≡ word) × IsUtf8 word) (λ e. (IsUtf8 word → ⊥) × Q e) → None ≡ result_ok r → kind_named word ≡ None) [
-    | Ok t ↦ λ read told. cc told
-    | Err e ↦ λ read told. names_none word (λ k is. read.0 (subst IsUtf8 (sym is) (keyword_is_text k)))
-  ] read told
+none_among : (n : ℕ) (word : List ℕ) (ks : List Kind) → length word ≡ n → FailsEach n word ks → named_among ks word ≡ None
+none_among n word [] len fails = refl
+none_among n word (k ∷ ks) len fails = elim (length (keyword k) == n) as (λ t. (length (keyword k) == n) ≡ t → FailsAlso t (bytes_eq word (keyword k)) (FailsEach n word ks) → named_among (k ∷ ks) word ≡ None) [
+  | true ↦ λ e fails. passed_over word k ks fails.0 (none_among n word ks len fails.1)
+  | false ↦ λ e rest. passed_over word k ks (other_length n word k len e) (none_among n word ks len rest)
+] refl fails
+
+-- a word that fails the tests for all keywords of its length names no kind
+pub fails_all : (n : ℕ) (word : List ℕ) → length word ≡ n → FailsEach n word all_kinds → None ≡ kind_named word
+unfolding kind_named
+fails_all n word len fails = sym (none_among n word all_kinds len fails)
+
+-- a word that has the length of no keyword but one's, and fails the test for that, names no kind
+pub no_length : (word : List ℕ) (k : Kind) → ((j : Kind) → (length word ≡ length (keyword j) → ⊥) ⊎ (j ≡ k)) → bytes_eq word (keyword k) ≡ false → None ≡ kind_named word
+no_length word k others fails = sym (names_none word (λ j is. elim (others j) [
+  | inl other ↦ other (ap length is)
+  | inr same ↦ both_ways (bytes_eq word (keyword k)) fails ((bytes_eq-Decides word (keyword k)).1 (is ∙ ap keyword same))
+]))

@@ -10,7 +10,6 @@ use crate::decoding::decode_to_slice;
 use crate::{Block, LONGEST_LINE, Msg};
 use affinity::Kind;
 use memchr::memchr;
-use std::str;
 
 /// The message that a line spells, the line given without its newline; `None` where it spells none.
 pub fn parse_line(line: &[u8]) -> Option<Msg>
@@ -29,32 +28,87 @@ pub fn parse_line(line: &[u8]) -> Option<Msg>
     }
 }
 
-/// The kind that a word names. No word that isn't text names one.
+/// The kind that a word names. Words of one length are compared at once, as numbers are.
 pub(crate) fn kind_named(word: &[u8]) -> Option<Kind>
     ensures { result ≡ kind_named word.now }
 {
-    kind_spelled(str::from_utf8(word).ok()?)
+    if let Some(four) = word.as_array::<4>() {
+        return kind_of_four(four);
+    }
+    if let Some(five) = word.as_array::<5>() {
+        return kind_of_five(five);
+    }
+    if let Some(six) = word.as_array::<6>() {
+        return kind_of_six(six);
+    }
+    if let Some(seven) = word.as_array::<7>() {
+        return kind_of_seven(seven);
+    }
+    if word == b"setlabel".as_slice() {
+        return Some(Kind::SetLabel);
+    }
+    None
 }
 
-fn kind_spelled(word: &str) -> Option<Kind>
+/// The kind that a word of four bytes names.
+fn kind_of_four(word: &[u8; 4]) -> Option<Kind>
     ensures { result ≡ kind_named word.now }
 {
-    match word {
-        "makevol" => Some(Kind::MakeVol),
-        "dropvol" => Some(Kind::DropVol),
-        "create" => Some(Kind::Create),
-        "delete" => Some(Kind::Delete),
-        "seal" => Some(Kind::Seal),
-        "unseal" => Some(Kind::Unseal),
-        "write" => Some(Kind::Write),
-        "punch" => Some(Kind::Punch),
-        "read" => Some(Kind::Read),
-        "list" => Some(Kind::List),
-        "usage" => Some(Kind::Usage),
-        "summary" => Some(Kind::Summary),
-        "setlabel" => Some(Kind::SetLabel),
-        "label" => Some(Kind::Label),
-        _ => None,
+    if word == b"seal" {
+        Some(Kind::Seal)
+    } else if word == b"read" {
+        Some(Kind::Read)
+    } else if word == b"list" {
+        Some(Kind::List)
+    } else {
+        None
+    }
+}
+
+/// The kind that a word of five bytes names.
+fn kind_of_five(word: &[u8; 5]) -> Option<Kind>
+    ensures { result ≡ kind_named word.now }
+{
+    if word == b"write" {
+        Some(Kind::Write)
+    } else if word == b"punch" {
+        Some(Kind::Punch)
+    } else if word == b"usage" {
+        Some(Kind::Usage)
+    } else if word == b"label" {
+        Some(Kind::Label)
+    } else {
+        None
+    }
+}
+
+/// The kind that a word of six bytes names.
+fn kind_of_six(word: &[u8; 6]) -> Option<Kind>
+    ensures { result ≡ kind_named word.now }
+{
+    if word == b"create" {
+        Some(Kind::Create)
+    } else if word == b"delete" {
+        Some(Kind::Delete)
+    } else if word == b"unseal" {
+        Some(Kind::Unseal)
+    } else {
+        None
+    }
+}
+
+/// The kind that a word of seven bytes names.
+fn kind_of_seven(word: &[u8; 7]) -> Option<Kind>
+    ensures { result ≡ kind_named word.now }
+{
+    if word == b"makevol" {
+        Some(Kind::MakeVol)
+    } else if word == b"dropvol" {
+        Some(Kind::DropVol)
+    } else if word == b"summary" {
+        Some(Kind::Summary)
+    } else {
+        None
     }
 }
 

@@ -1,4 +1,4 @@
-use Rattle.std.proofs.Common.{◌/◌, length, sym, ◌∙◌, refl, arith, inl, inr}
+use Rattle.std.proofs.Common.{◌/◌, length, sym, refl, arith, inl, inr}
 use Rattle.message.proofs.Blocks.{no_bytes, bytes_decoded, bytes_not_decoded}
 use Rattle.message.proofs.heads.read_bytes.Goals as goal
 

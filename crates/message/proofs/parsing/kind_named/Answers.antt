@@ -1,10 +1,32 @@
-use Rattle.std.proofs.Common.{ap, sym, ◌∙◌}
-use Rattle.message.specs.Grammar.{kind_named}
-use Rattle.message.proofs.Keywords.{no_text, text_read}
+use Rattle.std.proofs.Common.{◌≡◌, ◌⊎◌, length, inl, inr, refl, sym, ap, ◌∙◌}
+use Rattle.std.specs.Str.{bytes_eq}
+use Rattle.affinity.specs.declared.kinds.Kind.TheVariants.{MakeVol, DropVol, Create, Delete, Seal, Unseal, Write, Punch, Read, List as ListFiles, Usage, Summary, SetLabel, Label}
+use Rattle.message.specs.Grammar.{keyword}
+use Rattle.message.proofs.Keywords.{no_length, passes}
 use Rattle.message.proofs.parsing.kind_named.Goals as goal
 
-pub returns-in_err-ok : goal.returns-in_err-ok
-returns-in_err-ok c = c.from_residual.ensures ∙ sym (no_text c.args.word.now c.from_utf8.result _ c.from_utf8.ensures.cases c.in_err-ok.ensures.value)
+pub returns-then-eq : goal.returns-then-eq
+returns-then-eq c = passes c.args.word.now SetLabel (ap (bytes_eq c.args.word.now) (sym c.as_slice.ensures) ∙ sym c.eq.ensures ∙ c.if-eq.true)
 
 pub returns : goal.returns
-returns c = c.kind_spelled.ensures ∙ ap kind_named (text_read c.args.word.now c.from_utf8.result _ c.from_utf8.ensures.cases c.in_ok-ok.field-0 c.in_ok-ok.ensures.value)
+returns c =
+    let four = c.in_default.ensures.cases in
+    let five = c.in_default-as_array.ensures.cases in
+    let six = c.in_default-as_array-2.ensures.cases in
+    let seven = c.in_default-as_array-3.ensures.cases in
+    no_length c.args.word.now SetLabel (λ j. elim j as (λ j. (length c.args.word.now ≡ length (keyword j) → ⊥) ⊎ (j ≡ SetLabel)) [
+      | MakeVol ↦ inl seven
+      | DropVol ↦ inl seven
+      | Create ↦ inl six
+      | Delete ↦ inl six
+      | Seal ↦ inl four
+      | Unseal ↦ inl six
+      | Write ↦ inl five
+      | Punch ↦ inl five
+      | Read ↦ inl four
+      | ListFiles ↦ inl four
+      | Usage ↦ inl five
+      | Summary ↦ inl seven
+      | SetLabel ↦ inr refl
+      | Label ↦ inl five
+    ]) (ap (bytes_eq c.args.word.now) (sym c.as_slice.ensures) ∙ sym c.eq.ensures ∙ c.if-eq.false)

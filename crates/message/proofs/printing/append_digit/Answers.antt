@@ -1,4 +1,4 @@
-use Rattle.std.proofs.Common.{List, ℕ, ◌∷◌, sym, ap, subst, ◌+◌}
+use Rattle.std.proofs.Common.{List, ℕ, ◌∷◌, sym, ap, subst}
 use Rattle.std.proofs.lemmas.Fmt.{decimal_digit}
 use Rattle.message.specs.Replies.{Appends}
 use Rattle.message.proofs.printing.append_digit.Goals as goal

@@ -1,0 +1,18 @@
+use Rattle.std.proofs.Common.{sym, ◌∙◌}
+use Rattle.affinity.specs.declared.kinds.Kind.TheVariants.{Create, Delete, Unseal}
+use Rattle.message.proofs.Keywords.{fails_all, passes}
+use Rattle.message.proofs.parsing.kind_of_six.Goals as goal
+
+pub returns-then-eq : goal.returns-then-eq
+returns-then-eq c = passes c.args.word.now Create (sym c.eq.ensures ∙ c.if-eq.true)
+
+pub returns-then-eq-2 : goal.returns-then-eq-2
+returns-then-eq-2 c = passes c.args.word.now Delete (sym c.eq-else-eq.ensures ∙ c.if-eq-2.true)
+
+pub returns-then-eq-3 : goal.returns-then-eq-3
+returns-then-eq-3 c = passes c.args.word.now Unseal (sym c.eq-else-eq-2.ensures ∙ c.if-eq-3.true)
+
+pub returns-else-eq-3 : goal.returns-else-eq-3
+returns-else-eq-3 c =
+    fails_all 6 c.args.word.now c.told-word
+    (sym c.eq.ensures ∙ c.if-eq.false, (sym c.eq-else-eq.ensures ∙ c.if-eq-2.false, (sym c.eq-else-eq-2.ensures ∙ c.if-eq-3.false, tt)))
