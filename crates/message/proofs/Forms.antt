@@ -35,6 +35,11 @@ dead : (o : Option ℕ) (vs : List (List ℕ)) (k : ℕ → List (List ℕ) → 
 dead None vs k h = refl
 dead (Some n) vs k h = sym (h n)
 
+-- a first word that says no number
+pub first_number_none : (ws : List (List ℕ)) (w : List ℕ) (vs : List (List ℕ)) → ws ≡ w ∷ vs → number_in_word w ≡ None → first_number ws ≡ None
+first_number_none ws w [] e h = rw e refl
+first_number_none ws w (v ∷ vs) e h = rw (e, h) refl
+
 -- ---- two, three and four numbers
 
 abbrev pub of_number : (ℕ → Msg) → List (List ℕ) → Option Msg

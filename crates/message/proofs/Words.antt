@@ -69,6 +69,37 @@ words_split line i lt h e =
 pub words_whole : (line : List ℕ) (i : ℕ) → length line ≤ i → HasNoSpace (take i line) → words line ≡ line ∷ []
 words_whole line i h none = words_alone line (let e : take i line ≡ line = take_all i line h in rw e at none)
 
+-- a line goes on in its first word: this is that word, and the words behind it
+pub record GoesOn (line : List ℕ) (i : ℕ) : Type 0 where
+  pub word : List ℕ
+  pub behind : List (List ℕ)
+  pub parts : words line ≡ word ∷ behind
+  pub long : i < length word
+  pub here : get_or word i 0 ≡ get_or line i 0
+  pub same : take (suc i) word ≡ take (suc i) line
+
+words_more : (b : ℕ) (line : List ℕ) → (b == 32) ≡ false → words (b ∷ line) ≡ in_first b (words line)
+words_more b line other = rw other refl
+
+-- no byte up to a place is a space
+pub goes_on : (line : List ℕ) (i : ℕ) → i < length line → HasNoSpace (take i line) → (get_or line i 0 == 32) ≡ false → GoesOn line i
+goes_on [] i lt none other = absurd (omega arith)
+goes_on (b ∷ line) zero lt none other = elim (words line) as (λ ws. words line ≡ ws → GoesOn (b ∷ line) 0) [
+  | [] ↦ λ e. absurd (words_some line e)
+  | w ∷ ws ↦ λ e. record { word = b ∷ w; behind = ws; parts = words_more b line other ∙ ap (in_first b) e; long = omega arith; here = refl; same = refl }
+] refl
+goes_on (b ∷ line) (suc i) lt none other =
+    let rest = goes_on line i (omega arith) none.1 other in
+    let more = rest.long in
+    record {
+      word = b ∷ rest.word;
+      behind = rest.behind;
+      parts = words_more b line none.0 ∙ ap (in_first b) rest.parts;
+      long = omega arith;
+      here = rest.here;
+      same = ap (λ (w : List ℕ). b ∷ w) rest.same;
+    }
+
 -- ---- what a whole line says
 
 -- what a word says that stands alone

@@ -1,6 +1,8 @@
 //! What a line says.
 
-ghost use Rattle.std.specs.Prelude.{◌≡◌, ℕ, ◌<◌, ◌∷◌, [], ◌↔◌, length, slice_index, IsTrue, MatchOption, option_map};
+ghost use Rattle.std.specs.Prelude.{◌≡◌, ℕ, ◌<◌, ◌∷◌, [], true, ◌↔◌, length, slice_index, IsTrue, MatchOption, option_map};
+ghost use Rattle.std.specs.Str.{all_ascii_digits};
+ghost use Rattle.std.specs.Str.Parse.{digits_value};
 ghost use Rattle.message.specs.declared.Msg.{Msg};
 ghost use Rattle.message.specs.declared.Msg.TheVariants.{Write as write, SetLabel as set_label};
 ghost use Rattle.message.specs.Lines.{words, number_in_word, bytes_in_word};
@@ -186,12 +188,43 @@ fn label_message(line: &[u8]) -> Option<Msg>
     Some(Msg::SetLabel(aggregate, volume, bytes_in_word(behind)?))
 }
 
-/// The number that stands before the first space of a line, and what stands behind that.
+/// The number that stands before the first space of a line, and what stands behind that. It looks
+/// at no byte twice.
 pub(crate) fn number_before_space(line: &[u8]) -> Option<(u16, &[u8])>
     ensures { first_number (words line.now) ≡ option_map (λ p. (p.0, words p.1.now)) result }
 {
-    let (word, behind) = split_at_space(line)?;
-    Some((number(word)?, behind))
+    let mut value = 0u32;
+    for end in 0..line.len() {
+        let byte = line[end];
+        if byte == b' ' {
+            let number = plain_number(value, &line[..end])?;
+            return Some((number, &line[end + 1..]));
+        }
+        if !byte.is_ascii_digit() {
+            return None;
+        }
+        value = 10 * value + u32::from(byte - b'0');
+        if value > 65535 {
+            return None;
+        }
+    }
+    None
+}
+
+/// The number that a word of digits says, where this is their value.
+fn plain_number(value: u32, word: &[u8]) -> Option<u16>
+    requires digits { all_ascii_digits word.now ≡ true }
+    requires value { value ≡ digits_value 10 word.now }
+    requires fits { value < 65536 }
+    ensures { result ≡ number_in_word word.now }
+{
+    if word.is_empty() {
+        return None;
+    }
+    if has_leading_zero(word) {
+        return None;
+    }
+    Some(value as u16)
 }
 
 /// The first word of a line and what stands behind the space after it, where there is a space.

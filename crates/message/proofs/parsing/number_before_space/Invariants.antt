@@ -1,0 +1,11 @@
+use Rattle.std.proofs.Common.{◌≡◌, ◌<◌, true, take}
+use Rattle.std.specs.Str.{all_ascii_digits}
+use Rattle.std.specs.Str.Parse.{digits_value}
+use Rattle.message.proofs.parsing.number_before_space.Given as goal
+
+abbrev pub invariant-loop-end : goal.invariant-loop-end
+invariant-loop-end l = record {
+  digits : all_ascii_digits (take l.end l.line) ≡ true;
+  value : l.value ≡ digits_value 10 (take l.end l.line);
+  fits : l.value < 65536;
+}
