@@ -153,10 +153,13 @@ fn append_number(n: u32, out: &mut [u8; 1031], at: usize) -> usize
     if n < 10 {
         return append_digit(n as u8, out, at);
     }
+    if n < 100 {
+        return append_two_digits(n as u8, out, at);
+    }
     append_digits(n, out, at)
 }
 
-/// The same for a number of one digit, as most numbers of files are.
+/// The same for a number of one digit, as the numbers of most files are.
 fn append_digit(n: u8, out: &mut [u8; 1031], at: usize) -> usize
     requires digit { n < 10 }
     requires room { at + 11 ≤ 1031 }
@@ -164,6 +167,17 @@ fn append_digit(n: u8, out: &mut [u8; 1031], at: usize) -> usize
     ensures bound { result ≤ at + 11 }
 {
     append(&[b' ', b'0' + n], out, at)
+}
+
+/// The same for a number of two digits, as the numbers of all other files are.
+fn append_two_digits(n: u8, out: &mut [u8; 1031], at: usize) -> usize
+    requires least { 10 ≤ n }
+    requires most { n < 100 }
+    requires room { at + 11 ≤ 1031 }
+    ensures text { Appends out.old out.new at result (spaced n) }
+    ensures bound { result ≤ at + 11 }
+{
+    append(&[b' ', b'0' + n / 10, b'0' + n % 10], out, at)
 }
 
 /// The same for any number.
