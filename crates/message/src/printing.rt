@@ -94,18 +94,22 @@ fn reason(why: Refusal) -> &'static [u8]
     }
 }
 
+/// Writes what the reply says that lists files, and gives its length. It goes from each file that
+/// there is straight to the next.
 fn write_files(files: u64, out: &mut [u8; 1031]) -> usize
     ensures text { Appends out.old out.new 0 result (reply_text (files_reply files)) }
     ensures bound { result ≤ 1030 }
 {
     let mut end = append(b"files", out, 0);
-    for file in 0..64u32 {
-        if files >> file == 0 {
+    let mut from = 0u32;
+    while from < 64 {
+        let left = files >> from;
+        if left == 0 {
             return end;
         }
-        if (files >> file) & 1 == 1 {
-            end = append_number(file, out, end);
-        }
+        let file = from + left.trailing_zeros();
+        end = append_number(file, out, end);
+        from = file + 1;
     }
     end
 }

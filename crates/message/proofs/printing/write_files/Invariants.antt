@@ -1,9 +1,13 @@
-use Rattle.std.proofs.Common.{◌≤◌, ◌+◌, ◌*◌, codes, ◌++◌}
+use Rattle.std.proofs.Common.{◌≤◌, ◌+◌, ◌-◌, ◌*◌, codes, ◌++◌}
 use Rattle.message.specs.Replies.{Appends, files_below}
 use Rattle.message.proofs.printing.write_files.Given as goal
 
-abbrev pub invariant-loop-file : goal.invariant-loop-file
-invariant-loop-file l = record {
-  text : Appends l.fn.out l.out 0 l.end (codes "files" ++ files_below l.files l.file);
-  bound : l.end ≤ 5 + 11 * l.file;
+abbrev pub invariant-loop-from : goal.invariant-loop-from
+invariant-loop-from l = record {
+  text : Appends l.fn.out l.out 0 l.end (codes "files" ++ files_below l.files l.from);
+  bound : l.end ≤ 5 + 11 * l.from;
+  within : l.from ≤ 64;
 }
+
+abbrev pub decreases-loop-from : goal.decreases-loop-from
+decreases-loop-from l = 64 - l.from
