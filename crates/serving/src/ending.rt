@@ -63,10 +63,11 @@ impl<'c, R: Read, E: Environment> Session<'c, R, E> {
     {
         let rt = self.crew.rt;
         for _ in rt.forever() {
-            if self.row.len() == 0 {
+            let left = self.row.len();
+            if left == 0 {
                 return Ok(());
             }
-            self.advance(false)?;
+            let _idle = self.advance(false)?;
         }
         unreachable!()
     }
@@ -133,10 +134,11 @@ impl<'c, R: Read, E: Environment> Session<'c, R, E> {
         let mut stuck = false;
         let rt = self.crew.rt;
         for _ in rt.forever() {
-            match self.read_more(stuck) {
-                Ok(read) => stuck = self.advance(read)?,
+            let read = match self.read_more(stuck) {
+                Ok(read) => read,
                 Err(stop) => return Ok(stop),
-            }
+            };
+            stuck = self.advance(read)?;
         }
         unreachable!()
     }

@@ -87,10 +87,13 @@ impl<'c, R: Read, E: Environment> Session<'c, R, E> {
     pub(crate) fn move_point_on(&mut self) -> Result<bool, Halt>
         ensures moves { Moves self.old self.new result }
     {
-        match self.core.left() {
-            None => return Ok(false),
-            Some(0) => self.end_point()?,
-            Some(_) => self.write_piece()?,
+        let Some(left) = self.core.left() else {
+            return Ok(false);
+        };
+        if left == 0 {
+            self.end_point()?;
+        } else {
+            self.write_piece()?;
         }
         Ok(true)
     }

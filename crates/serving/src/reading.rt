@@ -101,21 +101,26 @@ impl<'c, R: Read, E: Environment> Session<'c, R, E> {
         }
     }
 
-    /// Reads lines that are held, one after the other, with no read of the input, while there is room for them in the row.
-    fn read_held(&mut self) -> Result<(), Stop>
+    /// Reads lines that are held, one after the other, with no read of the input, while there is room for them in the row: whether
+    /// there was one.
+    fn read_held(&mut self) -> Result<bool, Stop>
         requires reads { self.old.stop ≡ None }
         ensures { StopsBy self.old self.new result }
     {
-        for _ in self.row.len()..self.row.slots() {
-            if !self.row.has_room() {
-                return Ok(());
+        let mut read = false;
+        for _ in 0..self.row.slots() {
+            let has_room = self.row.has_room();
+            if !has_room {
+                return Ok(read);
             }
-            if !self.lines.holds_line() {
-                return Ok(());
+            let is_held = self.lines.holds_line();
+            if !is_held {
+                return Ok(read);
             }
             self.read_next()?;
+            read = true;
         }
-        Ok(())
+        Ok(read)
     }
 
     /// Reads lines that are held; or, where it may wait, the next line, if there is room for it. Whether there was one, or why no
@@ -124,12 +129,11 @@ impl<'c, R: Read, E: Environment> Session<'c, R, E> {
         requires reads { self.old.stop ≡ None }
         ensures { StopsBy self.old self.new result }
     {
-        let before = self.row.len();
-        if !may_wait {
-            self.read_held()?;
-        } else if self.row.has_room() {
+        let has_room = self.row.has_room();
+        if may_wait && has_room {
             self.read_next()?;
+            return Ok(true);
         }
-        Ok(self.row.len() > before)
+        self.read_held()
     }
 }

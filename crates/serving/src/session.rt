@@ -74,7 +74,6 @@ pub(crate) trait Environment {
 }
 
 /// The environment of these types.
-#[derive(Drop)]
 pub(crate) struct With<D, L, T, G, B> {
     of: PhantomData<(D, L, T, G, B)>,
 }

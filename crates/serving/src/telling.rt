@@ -167,7 +167,8 @@ impl<'c, R: Read, E: Environment> Session<'c, R, E> {
         ensures last { OnOk result (comes_next self.new.row.lines ≡ false) }
     {
         for _ in 0..self.row.len() {
-            if !self.say_first()? {
+            let said = self.say_first()?;
+            if !said {
                 return Ok(());
             }
         }

@@ -184,8 +184,10 @@ impl<'c, R: Read, E: Environment> Session<'c, R, E> {
     {
         let rt = self.crew.rt;
         for _ in rt.forever() {
-            self.take_what_came(&mut Batch::new(false));
-            if !self.desk.any_lent() {
+            let mut batch = Batch::new(false);
+            self.take_what_came(&mut batch);
+            let is_lent = self.desk.any_lent();
+            if !is_lent {
                 break;
             }
             self.crew.bench.wait(rt, &mut self.desk);
@@ -296,7 +298,8 @@ impl<'c, R: Read, E: Environment> Session<'c, R, E> {
             self.crew.bench.wait(self.crew.rt, &mut self.desk);
             return Ok(false);
         }
-        if !lacks_room && !self.point_is_due() {
+        let is_due = self.point_is_due();
+        if !lacks_room && !is_due {
             return Ok(true);
         }
         self.begin_point()?;
