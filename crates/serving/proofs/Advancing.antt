@@ -4,10 +4,10 @@ use Rattle.std.specs.Prelude.{Result, Ok, Err, OnErr, OnOk}
 use Rattle.std.proofs.lemmas.Bool.{true≢false}
 use Rattle.std.proofs.KnownBytes.{Appends-trans}
 use Rattle.std.specs.Io.KnownBytes.{Appends}
+use Rattle.std.specs.List.{AllByRecursion}
 use Rattle.machine.specs.Machine.{MachineView}
 use Rattle.serving.specs.Going.{Goes}
 use Rattle.serving.specs.Lines.{AreKnown, Line, is_answered, text}
-use Rattle.serving.specs.Rows.{Says}
 use Rattle.plain.specs.Output.{joined}
 use Rattle.legal_runs.proofs.Lists.{all_join}
 
@@ -18,6 +18,13 @@ texts_both [] more = refl
 texts_both (x ∷ said) more = ap (λ z. text x ++ z) (texts_both said more) ∙ sym (append_assoc (text x) (joined (map text said)) (joined (map text more)))
 
 -- ---- fewer lines in the row
+
+-- The first lines of the old row, each of which is answered, were written behind what was written before, and the new row is left.
+pub record Says (old new : List Line) (before written : Option (List ℕ)) : Type 0 where
+  pub said : List Line
+  pub were : old ≡ said ++ new
+  pub are_answered : AllByRecursion (λ line. is_answered line ≡ true) said
+  pub output : Appends before written (joined (map text said))
 
 pub forgets : (keeps : Type 0) (start now : MachineView) (row : List Line) (input left : Option (List ℕ)) (ended : Bool) (before written : Option (List ℕ))
     → Goes keeps start now row input left ended before written → Goes keeps start now row input left ended None None

@@ -1,6 +1,6 @@
 -- A session that reads no more, and what it promises in the end.
 use Rattle.std.proofs.Common.{◌≡◌, ℕ, zero, suc, ◌≤◌, ◌-◌, ◌^◌, ◌++◌, Bool, true, false, List, [], Option, Some, None, refl, ap, sym, ◌∙◌, subst, length, map, replicate, append-nil}
-use Rattle.std.specs.Prelude.{Result, Ok, Err, IfSome, ◌&&◌}
+use Rattle.std.specs.Prelude.{Result, Ok, Err, IfSome, OnOk, ◌&&◌}
 use Rattle.message.specs.Waiting.{so_far}
 use Rattle.std.proofs.lemmas.Bool.{true≢false}
 use Rattle.std.proofs.lemmas.List.{length-replicate}
@@ -20,16 +20,17 @@ use Rattle.serving.specs.Ends.{EndsSo, IsWoundUp}
 use Rattle.serving.specs.Going.{Goes}
 use Rattle.serving.specs.Lending.{IsHome}
 use Rattle.serving.specs.Lines.{Line}
-use Rattle.serving.specs.Rows.{RowView, comes_next}
-use Rattle.serving.specs.Serve.{PromisesAll}
+use Rattle.line_row.specs.Rows.{RowView, comes_next}
+use Rattle.serving.specs.Serve.{HasWorkers, PromisesAll}
 use Rattle.serving.specs.Runs.{Holds, lent_hand, with_lent}
-use Rattle.serving.specs.Session.{EndsBy, HasGone, HasStopped, CanBegin, IsServed, IsUnderWay, IsUnderWayFrom, SessionView, ReadsOrStops, machine, known_unless}
+use Rattle.serving.specs.Session.{EndsBy, EndsOrDeclines, HasGone, HasStopped, CanBegin, IsServed, IsUnderWay, IsUnderWayFrom, SessionView, ReadsOrStops, machine, known_unless, end_of}
 use Rattle.serving.specs.Telling.{Start, start_machine}
+use Rattle.serving.specs.declared.session.Stop.{Stop}
 use Rattle.serving.specs.declared.session.Stop.TheVariants as stops
 use Rattle.serving.specs.declared.server.ServeFault.{ServeFault}
 use Rattle.serving.specs.declared.server.ServeFault.TheVariants as faults
 use Rattle.workers.specs.Desk.{Desk}
-use Rattle.serving.proofs.Promises.{runs_to_device, runs_to_last_ticket, runs_to_read, runs_to_write, runs_whole}
+use Rattle.serving.proofs.Promises.{no_memory_ran, runs_to_device, runs_to_last_ticket, runs_to_read, runs_to_write, runs_whole}
 use Rattle.serving.proofs.Starting.{holds_at_start, starts}
 use Rattle.serving.proofs.Served.{ends_at_device, ends_at_read, ends_exhausted, ends_whole}
 use Rattle.serving.proofs.Under.{begins_at, begun, gone, to_row}
@@ -150,11 +151,80 @@ module _ (keeps : Type 0) (s : Start) (p : SessionView) (u : IsUnderWay keeps s 
   promises_by (Err faults.NoWorkers) e = absurd e
   promises_by (Err faults.OutOfMemory) e = absurd e
 
--- Where a session has served since a start, and this has ended it, it promises so of that start.
-pub promises_from : (keeps : Type 0) (o : Option Start) (s : Start) (p q : SessionView) → o ≡ Some s → IsUnderWayFrom keeps o p → p ≡ q
-    → (result : Result (Unit {0}) ServeFault) → EndsBy q result → PromisesAll keeps (start_machine s) p.core s.input p.behind s.before p.told result
-promises_from keeps o s p q is u same result e =
-    promises_by keeps s p (begun keeps o s p is u) result (subst (λ (x : SessionView). EndsBy x result) (sym same) e)
+-- Where nothing has moved since the start, it promises what a server does that had no memory.
+declined : (keeps : Type 0) (s : Start) (core : CoreView) (behind told : Option (List ℕ)) → IsIdle (world_of s.core) → core ≡ s.core → behind ≡ s.input
+    → told ≡ s.before → PromisesAll keeps (start_machine s) core s.input behind s.before told (Err faults.OutOfMemory)
+declined keeps s core behind told idle same unread untold =
+    let Promised : CoreView → Option (List ℕ) → Option (List ℕ) → Type 0 =
+    λ c b w. PromisesAll keeps (start_machine s) c s.input b s.before w (Err faults.OutOfMemory) in
+    subst (λ (c : CoreView). Promised c behind told) (sym same)
+    (subst (λ (b : Option (List ℕ)). Promised s.core b told) (sym unread)
+    (subst (λ (w : Option (List ℕ)). Promised s.core s.input w) (sym untold) (record {
+      run = λ no_doubt stands. no_memory_ran keeps s.core s.places idle no_doubt stands s.input s.before;
+      ends = (refl, refl, refl);
+    })))
+
+-- So it promises, whether it has ended or nothing has moved since the start.
+promises_or_declines : (keeps : Type 0) (s : Start) (old p : SessionView) → IsUnderWay keeps s p → old.core ≡ s.core → old.behind ≡ s.input
+    → old.told ≡ s.before → (result : Result (Unit {0}) ServeFault) → EndsOrDeclines old p result
+    → PromisesAll keeps (start_machine s) p.core s.input p.behind s.before p.told result
+promises_or_declines keeps s old p u core input before (Ok tt) e = promises_by keeps s p u (Ok tt) e
+promises_or_declines keeps s old p u core input before (Err faults.OutOfMemory) e =
+    declined keeps s p.core p.behind p.told u.idle (ap (λ (q : SessionView). q.core) e ∙ core) (ap (λ (q : SessionView). q.behind) e ∙ input)
+    (ap (λ (q : SessionView). q.told) e ∙ before)
+promises_or_declines keeps s old p u core input before (Err faults.Read) e = promises_by keeps s p u (Err faults.Read) e
+promises_or_declines keeps s old p u core input before (Err faults.Exhausted) e = promises_by keeps s p u (Err faults.Exhausted) e
+promises_or_declines keeps s old p u core input before (Err faults.Device) e = promises_by keeps s p u (Err faults.Device) e
+promises_or_declines keeps s old p u core input before (Err faults.Write) e = promises_by keeps s p u (Err faults.Write) e
+promises_or_declines keeps s old p u core input before (Err faults.NoWorkers) e = absurd e
+
+-- Where a session has served since a start, and this has ended it or nothing has moved, it promises so of that start.
+pub promises_from : (keeps : Type 0) (o : Option Start) (s : Start) (old p q : SessionView) → o ≡ Some s → IsUnderWayFrom keeps o p → p ≡ q
+    → old.core ≡ s.core → old.behind ≡ s.input → old.told ≡ s.before
+    → (result : Result (Unit {0}) ServeFault) → EndsOrDeclines old q result
+    → PromisesAll keeps (start_machine s) p.core s.input p.behind s.before p.told result
+promises_from keeps o s old p q is u same core input before result e =
+    promises_or_declines keeps s old p (begun keeps o s p is u) core input before result
+    (subst (λ (x : SessionView). EndsOrDeclines old x result) (sym same) e)
+
+-- Where each line that was read is answered and nothing has failed, the reason why no more was read has ended it.
+ended_for : (keeps : Type 0) (o : Option Start) (p : SessionView) → IsUnderWayFrom keeps o p → IsServed p → (stop : Stop) → p.stop ≡ Some stop
+    → EndsBy p (end_of stop)
+ended_for keeps None p u served stop is = absurd u
+ended_for keeps (Some s) p u served stops.End is = (served, is)
+ended_for keeps (Some s) p u served stops.Fault is = (served, is)
+ended_for keeps (Some s) p u served stops.Exhausted is = (served, is)
+ended_for keeps (Some s) p u served stops.Failed is = absurd (true≢false (sym (stopped keeps s p u stops.Failed is).why ∙ served.works))
+
+pub ends_for : (keeps : Type 0) (o : Option Start) (p q : SessionView) → IsUnderWayFrom keeps o p → p ≡ q → IsServed q → (stop : Stop)
+    → q.stop ≡ Some stop → EndsBy q (end_of stop)
+ends_for keeps o p q u same served stop is =
+    ended_for keeps o q (subst (λ (x : SessionView). IsUnderWayFrom keeps o x) same u) served stop is
+
+pub empties_for : (stop : Stop) (P : Type 0) → (stop ≡ stops.End → P) → OnOk (end_of stop) P
+empties_for stops.End P emptied = emptied refl
+empties_for stops.Fault P emptied = tt
+empties_for stops.Exhausted P emptied = tt
+empties_for stops.Failed P emptied = tt
+
+-- What has ended it is no want of workers or memory.
+pub ends_or_declines : (old p : SessionView) (result : Result (Unit {0}) ServeFault) → EndsBy p result → EndsOrDeclines old p result
+ends_or_declines old p (Ok tt) e = e
+ends_or_declines old p (Err faults.OutOfMemory) e = absurd e
+ends_or_declines old p (Err faults.Read) e = e
+ends_or_declines old p (Err faults.Exhausted) e = e
+ends_or_declines old p (Err faults.Device) e = e
+ends_or_declines old p (Err faults.Write) e = e
+ends_or_declines old p (Err faults.NoWorkers) e = absurd e
+
+pub has_workers : (old p : SessionView) (result : Result (Unit {0}) ServeFault) → EndsOrDeclines old p result → HasWorkers result
+has_workers old p (Ok tt) e = tt
+has_workers old p (Err faults.OutOfMemory) e = tt
+has_workers old p (Err faults.Read) e = tt
+has_workers old p (Err faults.Exhausted) e = tt
+has_workers old p (Err faults.Device) e = tt
+has_workers old p (Err faults.Write) e = tt
+has_workers old p (Err faults.NoWorkers) e = absurd e
 
 -- ---- where it begins
 

@@ -8,7 +8,7 @@ use Rattle.message.specs.declared.Msg.{Msg}
 use Rattle.message.specs.declared.Reply.{Reply}
 use Rattle.serving.specs.Going.{IsServing}
 use Rattle.serving.specs.Lines.{Answered, AreKnown, IsKnown, Line, NoMessage, OutOfRange, Unanswered, asked, asked_in, next_ticket}
-use Rattle.serving.specs.Rows.{AreFrom, AreConsecutive, with_tickets}
+use Rattle.line_row.specs.Rows.{AreFrom, AreConsecutive, with_tickets}
 use Rattle.serving.proofs.Arriving.{next_is}
 use Rattle.serving.proofs.Tickets.{next-append}
 

@@ -16,8 +16,6 @@ pub mod Counting
 pub mod Inside
 pub mod Slots
 pub mod Served
-pub mod Rows
-pub mod Order
 pub mod Said
 pub mod Advancing
 pub mod Stopping

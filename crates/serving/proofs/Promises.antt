@@ -11,7 +11,7 @@ use Rattle.scheduler.specs.Kept.{CoreView, StandsNow, world_of}
 use Rattle.serving.specs.Ends.{HasServed}
 use Rattle.serving.specs.Going.{Goes}
 use Rattle.serving.specs.Lines.{Line}
-use Rattle.serving.specs.Rows.{comes_next}
+use Rattle.line_row.specs.Rows.{comes_next}
 use Rattle.serving.specs.Runs.{with_lent}
 use Rattle.serving.specs.Serve.{AreAll, HasRunSo}
 use Rattle.serving.specs.declared.server.ServeFault.TheVariants as faults

@@ -2,7 +2,7 @@
 use Rattle.std.proofs.Common.{◌≡◌, ◌+◌, true, false, List, [], ◌∷◌, drop, length, refl, ap, sym, arith}
 use Rattle.std.proofs.lemmas.Bool.{true≢false}
 use Rattle.serving.specs.Lines.{Answered, Line, NoMessage, OutOfRange, Unanswered, is_answered, text}
-use Rattle.serving.specs.Rows.{comes_next, next_text}
+use Rattle.line_row.specs.Rows.{comes_next, next_text}
 
 pub one_less : (row rest : List Line) → rest ≡ drop 1 row → comes_next row ≡ true → length rest + 1 ≡ length row
 one_less [] rest is next = absurd (true≢false (sym next))

@@ -19,15 +19,14 @@ use Rattle.serving.specs.Going.{Goes}
 use Rattle.plain.specs.Output.{joined}
 use Rattle.serving.specs.Lines.{AreAnswered, Answered, Line, NoMessage, OutOfRange, Unanswered, answer_one, is_answered, text}
 use Rattle.serving.specs.Reads.{IsTaken}
-use Rattle.serving.specs.Rows.{AreConsecutive, RowView, Says, comes_next, next_text, with_tickets}
+use Rattle.line_row.specs.Rows.{AreConsecutive, RowView, comes_next, next_text, with_tickets}
 use Rattle.serving.specs.Runs.{Holds, IsQuiet, Passes, with_lent}
-use Rattle.atomic_table.specs.Seated.{TableId}
-use Rattle.serving.specs.Session.{HasGone, AreAtBench, IsStop, IsUnderWay, IsUnderWayFrom, SessionView, ReadsOrStops, machine, known_unless}
+use Rattle.serving.specs.Session.{HasGone, IsStop, IsUnderWay, IsUnderWayFrom, SessionView, ReadsOrStops, machine, known_unless}
 use Rattle.serving.specs.Telling.{MayTell, Start, start_machine}
 use Rattle.serving.specs.declared.session.Stop.{Stop}
 use Rattle.serving.specs.declared.session.Stop.TheVariants as stops
 use Rattle.workers.specs.Desk.{Desk}
-use Rattle.serving.proofs.Advancing.{forgets, says_on, texts_both}
+use Rattle.serving.proofs.Advancing.{Says, forgets, says_on, texts_both}
 use Rattle.serving.proofs.Answering.{answered_goes_on}
 use Rattle.serving.proofs.Following.{next_follows}
 use Rattle.serving.proofs.Inside.{idle_again}
@@ -392,11 +391,6 @@ module _ (keeps : Type 0) where
       let fits = u.fits in
       finds_a_slot keeps (start_machine s) (machine p) u.idle p.row.lines s.input p.left p.drained (known_unless p.broken s.before)
       (known_unless p.broken (so_far p.told p.out)) m (to_row s p p.left p.drained (reading s p none u)) (omega (arith, room, fits))
-
--- ---- the bench
-
-pub at_still : (bench : Option TableId) (old new crew : TableId) → new ≡ old → AreAtBench bench old crew → AreAtBench bench new crew
-at_still bench old new crew same at = record { same = same ∙ at.same; is = at.is ∙ ap (λ (b : TableId). Some b) (sym same) }
 
 -- ---- where it begins
 

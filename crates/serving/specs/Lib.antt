@@ -1,6 +1,6 @@
 pub mod Lines
 pub mod Told
-pub mod Rows
+pub use Rattle.line_row.specs.Rows
 pub mod Runs
 pub mod Going
 pub mod Lending

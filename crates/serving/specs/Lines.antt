@@ -1,17 +1,15 @@
 -- Which lines take a ticket, and what is known of each line that was read.
-use Rattle.std.specs.Prelude.{◌≡◌, ℕ, ◌+◌, ◌==◌, Bool, true, false, List, [], ◌∷◌, ◌++◌, if◌then◌else◌, Option, Some, None}
-use Rattle.std.specs.List.{AllByRecursion, Contains}
+use Rattle.std.specs.Prelude.{◌≡◌, ℕ, ◌+◌, true, false, List, [], ◌∷◌, ◌++◌, if◌then◌else◌, Option, Some, None}
+use Rattle.std.specs.List.{Contains}
 use Rattle.affinity.specs.declared.geometry.Geometry.{Geometry}
 use Rattle.legal_runs.specs.World.{Entry}
 use Rattle.message.specs.declared.Msg.{Msg}
 use Rattle.message.specs.declared.Reply.{Reply}
-use Rattle.message.specs.declared.Reply.TheVariants.{Refused}
-use Rattle.message.specs.declared.Refusal.TheVariants.{Range}
 use Rattle.message.specs.Grammar.{message_of}
 use Rattle.message.specs.Messages.{is_in_range}
-use Rattle.message.specs.Replies.{reply_line, no_message}
-pub use Rattle.serving.specs.declared.row.Line.{Line}
-pub use Rattle.serving.specs.declared.row.Line.TheVariants.{NoMessage, OutOfRange, Unanswered, Answered}
+pub use Rattle.line_row.specs.Rows.{AreAnswered, answer_one, is_answered, text}
+pub use Rattle.line_row.specs.declared.row.Line.{Line}
+pub use Rattle.line_row.specs.declared.row.Line.TheVariants.{NoMessage, OutOfRange, Unanswered, Answered}
 
 -- ---- the messages that take tickets
 
@@ -50,25 +48,3 @@ AreKnown g replies n [] [] = Unit {0}
 AreKnown g replies n (line ∷ ls) (known ∷ row) =
     IsKnown g replies n (message_of line) known × AreKnown g replies (next_ticket n (asked_in g (message_of line))) ls row
 AreKnown g replies n _ _ = ⊥
-
--- ---- what a line is answered
-
-abbrev pub is_answered : Line → Bool
-is_answered (Unanswered ticket) = false
-is_answered _ = true
-
--- each of them is
-abbrev pub AreAnswered : List Line → Type 0
-AreAnswered lines = AllByRecursion (λ line. is_answered line ≡ true) lines
-
--- the line of the output. None is written for a line that is not answered yet.
-abbrev pub text : Line → List ℕ
-text NoMessage = no_message
-text OutOfRange = reply_line (Refused Range)
-text (Unanswered ticket) = []
-text (Answered ticket reply) = reply_line reply
-
--- the line, where the message with this ticket was given this reply
-abbrev pub answer_one : ℕ → Reply → Line → Line
-answer_one ticket reply (Unanswered t) = if t == ticket then Answered t reply else Unanswered t
-answer_one ticket reply line = line

@@ -8,7 +8,7 @@ use Rattle.oplog.specs.Stands.{in_force, named_area}
 use Rattle.scheduler.specs.Kept.{CoreView, StandsNow}
 use Rattle.serving.specs.Ends.{EndsSo, HasRunLines, HasServed}
 use Rattle.serving.specs.Lines.{Line}
-use Rattle.serving.specs.Rows.{comes_next}
+use Rattle.line_row.specs.Rows.{comes_next}
 use Rattle.serving.specs.declared.server.ServeFault.{ServeFault}
 use Rattle.serving.specs.declared.server.ServeFault.TheVariants as faults
 
@@ -37,12 +37,6 @@ HasRunSo keeps start new input before written (Err _) = HasServed keeps start ne
 abbrev pub RefusesNone : ℕ → Result (Unit {0}) ServeFault → Type 0
 RefusesNone workers (Err faults.NoWorkers) = workers ≡ 0
 RefusesNone workers _ = workers ≢ 0
-
--- It is no refusal of a server that has not begun.
-abbrev pub HasBegun : Result (Unit {0}) ServeFault → Type 0
-HasBegun (Err faults.NoWorkers) = ⊥
-HasBegun (Err faults.OutOfMemory) = ⊥
-HasBegun _ = Unit {0}
 
 -- It is no refusal for want of workers.
 abbrev pub HasWorkers : Result (Unit {0}) ServeFault → Type 0

@@ -1,7 +1,6 @@
 -- Where a session is, that it is under way since its start, and how a call moves it.
 use Rattle.std.specs.Prelude.{◌≡◌, ◌≤◌, ◌-◌, ◌^◌, ℕ, Bool, true, false, List, [], ◌++◌, length, map, Option, Some, None, IfSome, IsTrue, Result, Ok, Err}
 use Rattle.std.specs.Io.KnownBytes.{IsAtEnd}
-use Rattle.atomic_table.specs.Seated.{TableId}
 use Rattle.affinity.specs.declared.geometry.Geometry.{Geometry}
 use Rattle.legal_runs.specs.Laws.{IsIdle}
 use Rattle.machine.specs.Machine.{MachineView}
@@ -14,7 +13,7 @@ use Rattle.scheduler.specs.Kept.{CoreView, world_of}
 use Rattle.serving.specs.Going.{Goes}
 use Rattle.serving.specs.Lending.{IsHome}
 use Rattle.serving.specs.Lines.{AreAnswered, Line, text}
-use Rattle.serving.specs.Rows.{RowView, comes_next}
+use Rattle.line_row.specs.Rows.{RowView, comes_next}
 use Rattle.serving.specs.Runs.{Holds, with_lent}
 use Rattle.serving.specs.Telling.{Start, start_machine}
 use Rattle.serving.specs.declared.session.Halt.{Halt}
@@ -110,11 +109,6 @@ pub record CanBegin (start : Option Start) (core : CoreView) (places : ℕ) (inp
   pub none : row.lines ≡ []
   pub fits : row.slots ≤ core.slots
 
--- The desk and those who work belong to this bench.
-pub record AreAtBench (bench : Option TableId) (desk crew : TableId) : Type 0 where
-  pub same : desk ≡ crew
-  pub is : bench ≡ Some desk
-
 -- ---- how a call moves it
 
 -- No line was read, and the output has not failed.
@@ -126,11 +120,6 @@ abbrev pub Moves : {A : Type 0} → SessionView → SessionView → Result A Hal
 Moves old new (Ok _) = IsAsBefore old new
 Moves old new (Err halts.Device) = IsAsBefore old new × (new.core.failed ≡ true)
 Moves old new (Err halts.Write) = new.stop ≡ old.stop
-
--- It reads on, or it has stopped for this reason. The output has not failed.
-abbrev pub StopsBy : {A : Type 0} → SessionView → SessionView → Result A Stop → Type 0
-StopsBy old new (Ok _) = (new.stop ≡ None) × (new.broken ≡ old.broken)
-StopsBy old new (Err stop) = (new.stop ≡ Some stop) × (new.broken ≡ old.broken)
 
 -- What has halted it: the device has failed; or the output, of which nothing is known then.
 abbrev pub HaltsBy : Halt → SessionView → Type 0
@@ -146,6 +135,13 @@ pub record IsServed (p : SessionView) : Type 0 where
   pub works : p.core.failed ≡ false
   pub whole : p.broken ≡ false
 
+-- what is reported where no more was read for this reason, and all that was is answered
+abbrev pub end_of : Stop → Result (Unit {0}) ServeFault
+end_of stops.End = Ok tt
+end_of stops.Fault = Err faults.Read
+end_of stops.Exhausted = Err faults.Exhausted
+end_of stops.Failed = Err faults.Device
+
 -- What ended it, by the answer of the call. Where something has failed, all jobs are back, and what was logged is answered.
 abbrev pub EndsBy : SessionView → Result (Unit {0}) ServeFault → Type 0
 EndsBy p (Ok _) = IsServed p × (p.stop ≡ Some stops.End)
@@ -156,3 +152,8 @@ EndsBy p (Err faults.Device) =
     × (comes_next p.row.lines ≡ false)
 EndsBy p (Err faults.Write) = IsHome p.desk.lent × (p.core.logged ≡ []) × (p.core.failed ≡ false → p.core.ran ≡ [])
 EndsBy p (Err _) = ⊥
+
+-- This has ended it; or nothing has moved, since a worker could not be started.
+abbrev pub EndsOrDeclines : SessionView → SessionView → Result (Unit {0}) ServeFault → Type 0
+EndsOrDeclines old new (Err faults.OutOfMemory) = new ≡ old
+EndsOrDeclines old new result = EndsBy new result

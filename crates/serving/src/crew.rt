@@ -1,12 +1,13 @@
-//! Who works at a call of a server: threads at a bench, for as long as a duty there takes, and the gate that is told of their jobs.
+//! Who works for a session: threads at a bench, for as long as a duty there takes, and the gate that is told of their jobs.
 
-ghost use Rattle.std.specs.Prelude.{◌≡◌, ◌≤◌, All, None, replicate};
+ghost use Rattle.std.specs.Prelude.{◌≡◌, ◌<◌, All, Some, is_none, position, slice_set};
 
-use std::alloc::Global;
+use crate::server::ServeFault;
+use parcel::Job;
 use std::sync::Wait;
 use std::thread;
-use std::thread::Threads;
-use workers::{Bench, DispatchSeat, Gate};
+use std::thread::{Scope, Threads};
+use workers::{Bench, DispatchSeat, Gate, WorkSeat};
 
 /// What the dispatcher works with: the calls that wait, the bench where jobs are lent, and the gate.
 #[derive(Drop)]
@@ -16,70 +17,97 @@ pub(crate) struct Crew<'c, T: Wait, G: Gate> {
     pub(crate) gate: &'c G,
 }
 
-/// What the calling thread does at a bench while others work there.
-pub(crate) trait Duty {
-    /// What comes of it.
-    type Output;
-
-    ghost use Rattle.std.specs.Prelude.{◌≡◌, ℕ, None, replicate};
-
-    /// Whether it can be begun at a bench of this many places.
-    ghost can_begin: { Self → ℕ → Type 0 };
-
-    /// What comes of it at a bench of this many places, where nothing is lent at first.
-    ghost gives: { Self → ℕ → Self.Output → Type 0 };
-
-    /// Does it, and hands the seat back.
-    fn fulfil<'c, T: Wait, G: Gate>(
-        self,
-        crew: Crew<'c, T, G>,
-        desk: DispatchSeat,
-    ) -> (Self::Output, DispatchSeat)
-        requires can_begin { can_begin self crew.bench.now.slots }
-        requires bench { desk.bench ≡ crew.bench.now }
-        requires lent { desk.lent ≡ replicate crew.bench.now.slots None }
-        ensures gives { gives self crew.entry.bench.now.slots result.0 }
-        ensures bench { result.1.bench ≡ desk.bench };
-
-    /// Leaves it undone, since there is no memory or a worker can't be started.
-    fn decline(self) -> Self::Output
-        requires can_begin { (places : ℕ) × can_begin self places }
-        ensures gives { (places : ℕ) → can_begin self places → gives self places result };
+impl<'c, T: Wait, G: Gate> Crew<'c, T, G> {
+    /// Lends a job to the workers at place k, the first where nothing is lent.
+    #[inline(always)]
+    pub(crate) fn lend(&self, desk: &mut DispatchSeat, k: usize, job: Job)
+        requires bench { desk.old.bench ≡ self.now.bench.now }
+        requires place { k < self.now.bench.now.slots }
+        requires first { position is_none desk.old.lent ≡ Some k }
+        ensures bench { desk.new.bench ≡ desk.old.bench }
+        ensures lent { desk.new.lent ≡ slice_set desk.old.lent k (Some job) }
+    {
+        let Ok(()) = self.bench.offer(desk, k, job) else {
+            unreachable!()
+        };
+    }
 }
 
-/// Does a duty while workers run at a bench of as many places. Declines it where there is no
-/// memory or one of them can't be started.
-pub(crate) fn with_workers<T: Threads + Wait + Sync, G: Gate + Sync, S: Duty<Output = A> + Drop, A>(
-    rt: &T,
-    alloc: Global,
-    workers: usize,
-    gate: &G,
-    duty: S,
-) -> A
-    requires places { workers ≤ 64 }
-    requires can_begin { S.can_begin duty workers }
-    ensures { S.gives duty workers result }
+/// What the calling thread does at a bench while others work there.
+pub(crate) trait Duty {
+    ghost use Rattle.std.specs.Prelude.{◌≡◌, Err, Result};
+    ghost use Rattle.serving.specs.declared.server.ServeFault.{ServeFault};
+    ghost use Rattle.serving.specs.declared.server.ServeFault.TheVariants.{OutOfMemory};
+
+    /// Whether it can be begun.
+    ghost can_begin: { Self → Type 0 };
+
+    /// What comes of it, by how it was before and how it is then.
+    ghost gives: { Self → Self → Result (Unit {0}) ServeFault → Type 0 };
+
+    /// Does it.
+    fn fulfil(&mut self) -> Result<(), ServeFault>
+        requires { can_begin self.old }
+        ensures { gives self.old self.new result };
+
+    /// Tells the workers to end.
+    fn release(&mut self)
+        ensures { self.new ≡ self.old };
+
+    /// It is left undone where there is no memory.
+    ghost leaves: { (s : Self) → gives s s (Err OutOfMemory) };
+}
+
+/// Tells the proof that what was lent through this reference is its owner's again.
+pub(crate) fn come_back<T>(lent: &mut T)
+    ensures { lent.new ≡ lent.old }
 {
-    let Ok((bench, desk, seats)) = Bench::open(alloc, workers, workers) else {
-        return duty.decline();
+    let _ = lent;
+}
+
+// Does a duty that is lent while a worker works at each of these seats, and gives it back.
+fn fulfil_lent<'s, 'm, T: Threads + Wait + Sync, G: Gate + Sync, S: Duty, E>(
+    scope: &Scope<'s, E>,
+    crew: Crew<'s, T, G>,
+    duty: &'m mut S,
+    seats: Vec<WorkSeat>,
+) -> (Result<(), ServeFault>, &'m mut S)
+    requires can_begin { S.can_begin duty.now }
+    requires seats { All (λ w. w ≡ crew.bench.now) seats.items }
+    ensures same { result.1.ghost_name ≡ duty.entry.ghost_name }
+    ensures gives { S.gives duty.entry.now result.1.now result.0 }
+{
+    let Crew { rt, bench, gate } = crew;
+    let ended = match bench.start_all(rt, scope, seats, gate) {
+        Ok(()) => duty.fulfil(),
+        Err(_) => Err(ServeFault::OutOfMemory),
     };
-    let bench = &bench;
-    thread::scope(
+    duty.release();
+    (ended, duty)
+}
+
+/// Does a duty while a worker works at each of these seats. All of them have ended when it returns. Where one of them can't be started,
+/// the duty is left undone.
+pub(crate) fn with_workers<'c, T: Threads + Wait + Sync, G: Gate + Sync, S: Duty>(
+    crew: Crew<'c, T, G>,
+    duty: &mut S,
+    seats: Vec<WorkSeat>,
+) -> Result<(), ServeFault>
+    requires can_begin { S.can_begin duty.old }
+    requires seats { All (λ w. w ≡ crew.bench.now) seats.items }
+    ensures { S.gives duty.old duty.new result }
+{
+    let Crew { rt, bench, gate } = crew;
+    let (ended, duty) = thread::scope(
         thread::scope_env(),
         rt,
-        move |scope| -> A
-            requires can_begin { S.can_begin duty bench.now.slots }
-            requires desk { (desk.bench ≡ bench.now) × (desk.lent ≡ replicate bench.now.slots None) }
+        move |scope|
+            requires can_begin { S.can_begin duty.now }
             requires seats { All (λ w. w ≡ bench.now) seats.items }
-            ensures { S.gives duty bench.entry.now.slots result }
-        {
-            let mut desk = desk;
-            if bench.start(rt, scope, &mut desk, seats, gate).is_err() {
-                return duty.decline();
-            }
-            let (output, mut desk) = duty.fulfil(Crew { rt, bench, gate }, desk);
-            bench.stop(&mut desk);
-            output
-        },
-    )
+            ensures same { result.1.ghost_name ≡ duty.entry.ghost_name }
+            ensures gives { S.gives duty.entry.now result.1.now result.0 }
+        { fulfil_lent(scope, Crew { rt, bench, gate }, duty, seats) },
+    );
+    come_back(duty);
+    ended
 }

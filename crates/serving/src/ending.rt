@@ -1,17 +1,34 @@
 //! The loop of a session: lines are read and worked off, until no more is read and each is answered. Where the device or the output
 //! has failed, jobs that are out come back, and what can still be done is done.
 
-ghost use Rattle.std.specs.Prelude.{◌≡◌, Err, MatchResult, None, OnOk, Some, [], false};
+ghost use Rattle.std.specs.Prelude.{◌≡◌, Err, IfSome, MatchResult, OnOk, Some, [], false};
 ghost use Rattle.serving.specs.Lending.{IsHome};
-ghost use Rattle.serving.specs.Rows.{comes_next};
+ghost use Rattle.line_row.specs.Rows.{comes_next};
 ghost use Rattle.serving.specs.Serve.{HasEmptyLog};
-ghost use Rattle.serving.specs.Session.{EndsBy, HaltsBy, Moves};
+ghost use Rattle.serving.specs.Session.{EndsBy, HaltsBy, Moves, end_of};
+ghost use Rattle.serving.specs.declared.session.Stop.TheVariants as stops;
 
 use crate::server::ServeFault;
-use crate::session::{Environment, Halt, Session, Stop};
+use crate::session::{Halt, Session, Stop};
+use crate::telling::Teller;
+use disk::Disk;
 use std::io::Read;
+use std::sync::Wait;
+use workers::Gate;
 
-impl<'c, R: Read, E: Environment> Session<'c, R, E> {
+/// What a server reports where no more was read for this reason.
+fn told_of(stop: Stop) -> Result<(), ServeFault>
+    ensures { result ≡ end_of stop }
+{
+    match stop {
+        Stop::End => Ok(()),
+        Stop::Fault => Err(ServeFault::Read),
+        Stop::Exhausted => Err(ServeFault::Exhausted),
+        Stop::Failed => Err(ServeFault::Device),
+    }
+}
+
+impl<'c, R: Read, D: Disk, L: Teller<D>, T: Wait, G: Gate> Session<'c, R, D, L, T, G> {
     /// Where the device has failed: nothing more is logged. Jobs that are out come back, and the lines next in order are still
     /// written.
     fn end_without_device(&mut self) -> Result<(), Halt>
@@ -56,91 +73,65 @@ impl<'c, R: Read, E: Environment> Session<'c, R, E> {
         }
     }
 
-    /// Goes on without reading until each line that was read is answered in the output.
-    fn finish_row(&mut self) -> Result<(), Halt>
-        ensures moves { Moves self.old self.new result }
-        ensures all { OnOk result (self.new.row.lines ≡ []) }
+    /// Why no more is read, where that is so and each line that was read is answered in the output.
+    fn ended(&self) -> Option<Stop>
+        ensures { IfSome result (λ stop. (self.now.stop ≡ Some stop) × (self.now.row.lines ≡ [])) }
     {
-        let rt = self.crew.rt;
-        for _ in rt.forever() {
-            let left = self.row.len();
-            if left == 0 {
-                return Ok(());
-            }
-            let _idle = self.advance(false)?;
-        }
-        unreachable!()
+        if self.row.len() == 0 { self.stop } else { None }
     }
 
-    /// Goes on without reading until each line that was read is answered, and sends all that waits. The device works then: nothing
-    /// is left to log, and a log of nothing tells whether it has failed.
-    fn answer_the_rest(&mut self) -> Result<(), Halt>
-        ensures moves { Moves self.old self.new result }
-        ensures all { OnOk result ((self.new.row.lines ≡ []) × (self.new.out ≡ [])) }
-        ensures works { OnOk result (self.new.core.failed ≡ false) }
-    {
-        self.finish_row()?;
-        self.log_what_ran()?;
-        self.send()
-    }
-
-    /// Answers each line that was read, and makes the last consistency point behind them.
-    fn end_whole(&mut self) -> Result<(), Halt>
-        ensures moves { Moves self.old self.new result }
-        ensures all { OnOk result ((self.new.row.lines ≡ []) × (self.new.out ≡ [])) }
-        ensures works { OnOk result (self.new.core.failed ≡ false) }
-        ensures emptied { OnOk result (E.Device.keeps → HasEmptyLog self.new.core) }
-    {
-        self.answer_the_rest()?;
-        self.make_last_point()
-    }
-
-    /// Ends where no more is read: each line that was read is answered, unless something fails, and at the end of the input the
-    /// last consistency point is made.
-    fn end_for(&mut self, stop: Stop) -> Result<(), ServeFault>
-        requires stopped { self.old.stop ≡ Some stop }
-        requires whole { self.old.broken ≡ false }
-        ensures ends { EndsBy self.new result }
-        ensures emptied { OnOk result (E.Device.keeps → HasEmptyLog self.new.core) }
-    {
-        match stop {
-            Stop::End => match self.end_whole() {
-                Ok(()) => Ok(()),
-                Err(why) => Err(self.end_early(why)),
-            },
-            Stop::Fault => match self.answer_the_rest() {
-                Ok(()) => Err(ServeFault::Read),
-                Err(why) => Err(self.end_early(why)),
-            },
-            Stop::Exhausted => match self.answer_the_rest() {
-                Ok(()) => Err(ServeFault::Exhausted),
-                Err(why) => Err(self.end_early(why)),
-            },
-            Stop::Failed => {
-                // This look does nothing but open the session's invariant to the proof: the device has failed.
-                let _ = &self.core;
-                Err(self.end_early(Halt::Device))
-            }
-        }
-    }
-
-    /// Serves line after line until no more is read.
+    /// Reads lines and answers them, until no more is read and each is answered in the output: why no more is read.
     fn serve_lines(&mut self) -> Result<Stop, Halt>
-        requires reads { self.old.stop ≡ None }
         requires whole { self.old.broken ≡ false }
         ensures { MatchResult result
-            (λ stop. (self.new.stop ≡ Some stop) × (self.new.broken ≡ false)) (λ why. HaltsBy why self.new) }
+            (λ stop. (self.new.stop ≡ Some stop) × (self.new.row.lines ≡ []) × (self.new.broken ≡ false)) (λ why. HaltsBy why self.new) }
     {
         let mut stuck = false;
         let rt = self.crew.rt;
         for _ in rt.forever() {
-            let read = match self.read_more(stuck) {
-                Ok(read) => read,
-                Err(stop) => return Ok(stop),
-            };
+            let read = self.read_more(stuck);
+            let ended = self.ended();
+            if let Some(stop) = ended {
+                return Ok(stop);
+            }
             stuck = self.advance(read)?;
         }
         unreachable!()
+    }
+
+    /// Sends all that waits, and makes the last consistency point at the end of the input. The device works then: nothing is left to
+    /// log, and a log of nothing tells whether it has failed.
+    fn finish(&mut self, stop: Stop) -> Result<(), Halt>
+        requires row { self.old.row.lines ≡ [] }
+        ensures moves { Moves self.old self.new result }
+        ensures all { OnOk result ((self.new.row.lines ≡ []) × (self.new.out ≡ [])) }
+        ensures works { OnOk result (self.new.core.failed ≡ false) }
+        ensures emptied { OnOk result (stop ≡ stops.End → D.keeps → HasEmptyLog self.new.core) }
+    {
+        self.log_what_ran()?;
+        self.send()?;
+        match stop {
+            Stop::End => self.make_last_point(),
+            Stop::Fault | Stop::Exhausted | Stop::Failed => Ok(()),
+        }
+    }
+
+    /// Ends where no more is read for this reason and each line that was read is answered, unless something fails.
+    fn end_for(&mut self, stop: Stop) -> Result<(), ServeFault>
+        requires stopped { self.old.stop ≡ Some stop }
+        requires row { self.old.row.lines ≡ [] }
+        requires whole { self.old.broken ≡ false }
+        ensures ends { EndsBy self.new result }
+        ensures emptied { OnOk result (D.keeps → HasEmptyLog self.new.core) }
+    {
+        match self.finish(stop) {
+            Ok(()) => {
+                // This look does nothing but open the session's invariant to the proof: a device that works is no reason to stop.
+                let _ = &self.core;
+                told_of(stop)
+            }
+            Err(why) => Err(self.end_early(why)),
+        }
     }
 
     /// Serves line after line until the input ends, with a consistency point where one is due, and one at the end. All that was
@@ -151,10 +142,9 @@ impl<'c, R: Read, E: Environment> Session<'c, R, E> {
     /// `ServeFault::Read`, `ServeFault::Exhausted`, `ServeFault::Device` and `ServeFault::Write`, as they say. Where several befall
     /// one call, a fault of the output goes before one of the device, and that before the others.
     pub(crate) fn serve_all(&mut self) -> Result<(), ServeFault>
-        requires reads { self.old.stop ≡ None }
         requires whole { self.old.broken ≡ false }
         ensures ends { EndsBy self.new result }
-        ensures emptied { OnOk result (E.Device.keeps → HasEmptyLog self.new.core) }
+        ensures emptied { OnOk result (D.keeps → HasEmptyLog self.new.core) }
     {
         match self.serve_lines() {
             Ok(stop) => self.end_for(stop),

@@ -13,7 +13,6 @@ mod ending;
 pub mod laws;
 mod points;
 mod reading;
-mod row;
 mod server;
 mod session;
 mod telling;

@@ -7,10 +7,14 @@ ghost use Rattle.scheduler.specs.Kept.{world_of};
 ghost use Rattle.serving.specs.Serve.{HasEmptyLog};
 ghost use Rattle.serving.specs.Session.{Moves};
 
-use crate::session::{Environment, Halt, Session};
+use crate::session::{Halt, Session};
+use crate::telling::Teller;
+use disk::Disk;
 use legal_runs::PointRefusal;
 use message::Reply;
 use std::io::Read;
+use std::sync::Wait;
+use workers::Gate;
 
 /// When consistency points are due. A wrong count makes them at other times, which no contract forbids.
 #[derive(Clone, Copy)]
@@ -51,7 +55,7 @@ fn tells_of_held(why: PointRefusal) -> bool
     matches!(why, PointRefusal::Held)
 }
 
-impl<'c, R: Read, E: Environment> Session<'c, R, E> {
+impl<'c, R: Read, D: Disk, L: Teller<D>, T: Wait, G: Gate> Session<'c, R, D, L, T, G> {
     /// Whether a consistency point is due by the number of records. None is while one is in progress.
     pub(crate) fn point_is_due(&self) -> bool {
         self.core.left().is_none() && self.course.is_due()
@@ -155,7 +159,7 @@ impl<'c, R: Read, E: Environment> Session<'c, R, E> {
         ensures moves { Moves self.old self.new result }
         ensures same { (self.new.row ≡ self.old.row) × (self.new.out ≡ self.old.out) }
         ensures works { OnOk result (self.new.core.failed ≡ false) }
-        ensures emptied { OnOk result (E.Device.keeps → HasEmptyLog self.new.core) }
+        ensures emptied { OnOk result (D.keeps → HasEmptyLog self.new.core) }
     {
         let Err(_) = self.core.point() else {
             return Ok(());
@@ -169,7 +173,7 @@ impl<'c, R: Read, E: Environment> Session<'c, R, E> {
         ensures moves { Moves self.old self.new result }
         ensures same { (self.new.row ≡ self.old.row) × (self.new.out ≡ self.old.out) }
         ensures works { OnOk result (self.new.core.failed ≡ false) }
-        ensures emptied { OnOk result (E.Device.keeps → HasEmptyLog self.new.core) }
+        ensures emptied { OnOk result (D.keeps → HasEmptyLog self.new.core) }
     {
         self.finish_point()?;
         self.make_point()

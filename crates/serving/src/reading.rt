@@ -1,20 +1,22 @@
 //! Lines that are read: each is in the row then, and its message in the core.
 
-ghost use Rattle.std.specs.Prelude.{◌≡◌, ◌<◌, ◌++◌, ◌⊎◌, List, [], ◌∷◌, None, IfOk, OnErr, length};
+ghost use Rattle.std.specs.Prelude.{◌≡◌, ◌<◌, ◌++◌, ◌⊎◌, List, [], ◌∷◌, None, IfOk, OnErr, is_none, length};
 ghost use Rattle.machine.specs.declared.hands.Hand.{Hand};
 ghost use Rattle.serving.specs.Lines.{OutOfRange, Unanswered};
 ghost use Rattle.serving.specs.Reads.{TakesLine, TakesMessage, stop_of};
-ghost use Rattle.serving.specs.Rows.{AreConsecutive, with_tickets};
+ghost use Rattle.line_row.specs.Rows.{AreConsecutive, with_tickets};
 ghost use Rattle.serving.specs.Runs.{Holds};
-ghost use Rattle.serving.specs.Session.{StopsBy};
 
-use crate::row::{Line, Row};
-use crate::session::{Environment, Session, Stop};
+use crate::session::{Session, Stop};
+use crate::telling::Teller;
 use disk::Disk;
 use legal_runs::ArriveRefusal;
+use line_row::{Line, LineRow};
 use message::{Found, Msg, parse_line};
 use scheduler::Core;
 use std::io::Read;
+use std::sync::Wait;
+use workers::Gate;
 
 /// Takes a message in: what is known of its line then, or why it isn't taken.
 fn take_message<D: Disk>(core: &mut Core<D>, m: &Msg) -> Result<Line, ArriveRefusal>
@@ -33,7 +35,7 @@ fn take_message<D: Disk>(core: &mut Core<D>, m: &Msg) -> Result<Line, ArriveRefu
 }
 
 /// Takes a line into the row, and its message into the core; or tells why its message isn't taken.
-fn take_line<D: Disk>(core: &mut Core<D>, row: &mut Row, line: &[u8]) -> Result<(), ArriveRefusal>
+fn take_line<D: Disk>(core: &mut Core<D>, row: &mut LineRow, line: &[u8]) -> Result<(), ArriveRefusal>
     requires room { length row.old.lines < row.old.slots }
     requires order { AreConsecutive (with_tickets row.old.lines ++ Unanswered core.old.next ∷ []) }
     ensures takes { (hands : List Hand) → Holds (record { core = core.old; hands = hands })
@@ -66,74 +68,79 @@ fn stop_for(why: ArriveRefusal) -> Stop
     }
 }
 
-impl<'c, R: Read, E: Environment> Session<'c, R, E> {
-    /// Reads the next line, for which there is room; or tells why no more are read.
-    fn read_next(&mut self) -> Result<(), Stop>
+impl<'c, R: Read, D: Disk, L: Teller<D>, T: Wait, G: Gate> Session<'c, R, D, L, T, G> {
+    /// Reads the next line, for which there is room, if there is one: whether more may be read then. Else the session has stopped.
+    fn read_next(&mut self) -> bool
         requires reads { self.old.stop ≡ None }
         requires room { length self.old.row.lines < self.old.row.slots }
-        ensures { StopsBy self.old self.new result }
+        ensures reads { result ≡ is_none self.new.stop }
+        ensures whole { self.new.broken ≡ self.old.broken }
     {
         if self.lines.is_drained() {
             self.stop = Some(Stop::End);
-            return Err(Stop::End);
+            return false;
         }
         match self.lines.next_line() {
             Ok(Found::Line) => match take_line(&mut self.core, &mut self.row, self.lines.line()) {
-                Ok(()) => Ok(()),
+                Ok(()) => true,
                 Err(why) => {
-                    let stop = stop_for(why);
-                    self.stop = Some(stop);
-                    Err(stop)
+                    self.stop = Some(stop_for(why));
+                    false
                 }
             },
             Ok(Found::TooLong) => {
                 self.row.push(Line::NoMessage);
-                Ok(())
+                true
             }
             Ok(Found::End) => {
                 self.stop = Some(Stop::End);
-                Err(Stop::End)
+                false
             }
             Err(_) => {
                 self.stop = Some(Stop::Fault);
-                Err(Stop::Fault)
+                false
             }
         }
     }
 
     /// Reads lines that are held, one after the other, with no read of the input, while there is room for them in the row: whether
     /// there was one.
-    fn read_held(&mut self) -> Result<bool, Stop>
+    fn read_held(&mut self) -> bool
         requires reads { self.old.stop ≡ None }
-        ensures { StopsBy self.old self.new result }
+        ensures whole { self.new.broken ≡ self.old.broken }
     {
         let mut read = false;
         for _ in 0..self.row.slots() {
             let has_room = self.row.has_room();
             if !has_room {
-                return Ok(read);
+                return read;
             }
             let is_held = self.lines.holds_line();
             if !is_held {
-                return Ok(read);
+                return read;
             }
-            self.read_next()?;
+            let reads = self.read_next();
+            if !reads {
+                return read;
+            }
             read = true;
         }
-        Ok(read)
+        read
     }
 
-    /// Reads lines that are held; or, where it may wait, the next line, if there is room for it. Whether there was one, or why no
-    /// more are read.
-    pub(crate) fn read_more(&mut self, may_wait: bool) -> Result<bool, Stop>
-        requires reads { self.old.stop ≡ None }
-        ensures { StopsBy self.old self.new result }
+    /// Reads lines that are held; or, where it may wait, the next line, if there is room for it. Whether there was one. None is read
+    /// once the session has stopped.
+    pub(crate) fn read_more(&mut self, may_wait: bool) -> bool
+        ensures whole { self.new.broken ≡ self.old.broken }
     {
+        if self.stop.is_some() {
+            return false;
+        }
         let has_room = self.row.has_room();
         if may_wait && has_room {
-            self.read_next()?;
-            return Ok(true);
+            self.read_next()
+        } else {
+            self.read_held()
         }
-        self.read_held()
     }
 }

@@ -1,19 +1,19 @@
 //! The whole call of a server: its memory, its workers and its end.
 
-ghost use Rattle.std.specs.Prelude.{◌≡◌, ◌≤◌, false, [], None, Ok, Err, IfOk, MatchResult, OnOk, Some, replicate, vec_len};
+ghost use Rattle.std.specs.Prelude.{◌≡◌, ◌≤◌, All, false, [], None, Ok, Err, IfOk, MatchResult, OnOk, Some, replicate, vec_len};
 ghost use Rattle.legal_runs.specs.Laws.{IsIdle};
 ghost use Rattle.scheduler.specs.Kept.{world_of};
 ghost use Rattle.serving.specs.Ends.{EndsSo};
 ghost use Rattle.serving.specs.Runs.{with_lent};
-ghost use Rattle.serving.specs.Serve.{HasBegun, HasEmptyLog, HasRunSo, RefusesNone};
+ghost use Rattle.serving.specs.Serve.{HasEmptyLog, HasRunSo, HasWorkers, RefusesNone};
 ghost use Rattle.serving.specs.Session.{CanBegin};
 
-use crate::crew::{Crew, Duty, with_workers};
+use crate::crew::{Crew, Duty, come_back, with_workers};
 use crate::points::Course;
-use crate::row::Row;
-use crate::session::{Benched, Session, With};
+use crate::session::Session;
 use crate::telling::Teller;
 use disk::Disk;
+use line_row::LineRow;
 use message::{LentReader, LineReader, Loan, ReplyBuffer, WriteFault};
 use scheduler::Core;
 use std::alloc::{AllocError, Global};
@@ -21,7 +21,7 @@ use std::io::{Read, Write};
 use std::marker::{Brand, PhantomData};
 use std::sync::Wait;
 use std::thread::Threads;
-use workers::{DispatchSeat, Gate};
+use workers::{Bench, DispatchSeat, Gate, WorkSeat};
 
 /// How many bytes are read at a time: some 240 lines with a full block. A line is taken in only where it is held already or nothing
 /// else can be done, so this bounds how many changes a write of the log finds.
@@ -57,7 +57,7 @@ pub struct ServeError<D: Disk> {
 #[derive(Drop)]
 struct Buffers {
     input: Vec<u8>,
-    row: Row,
+    row: LineRow,
     out: ReplyBuffer,
 }
 
@@ -69,13 +69,31 @@ fn take_buffers(alloc: Global, slots: usize) -> Result<Buffers, AllocError>
 {
     Ok(Buffers {
         input: vec![in alloc; 0; READ_SIZE]?,
-        row: Row::new(alloc, slots)?,
+        row: LineRow::new(alloc, slots)?,
         out: ReplyBuffer::new(alloc)?,
     })
 }
 
+// Takes the memory that the lines need, and lays a bench with a place for each worker.
+fn take_room(
+    alloc: Global,
+    slots: usize,
+    workers: usize,
+) -> Result<(Buffers, Bench, DispatchSeat, Vec<WorkSeat>), AllocError>
+    requires { workers ≤ 64 }
+    ensures input { IfOk result (λ r. 1101 ≤ vec_len r.0.input) }
+    ensures row { IfOk result (λ r. (r.0.row.lines ≡ []) × (r.0.row.slots ≡ slots)) }
+    ensures none_waits { IfOk result (λ r. r.0.out ≡ []) }
+    ensures places { IfOk result (λ r. r.1.slots ≡ workers) }
+    ensures dispatcher { IfOk result (λ r. (r.2.bench ≡ r.1) × (r.2.lent ≡ replicate workers None)) }
+    ensures workers { IfOk result (λ r. All (λ w. w ≡ r.1) r.3.items) }
+{
+    let buffers = take_buffers(alloc, slots)?;
+    let (bench, desk, seats) = Bench::open(alloc, workers, workers)?;
+    Ok((buffers, bench, desk, seats))
+}
+
 // What the calling thread of a server has: it serves with it.
-#[derive(Drop)]
 struct Serving<'a, D: Disk, R, L> {
     core: Core<D>,
     reader: &'a mut R,
@@ -84,43 +102,58 @@ struct Serving<'a, D: Disk, R, L> {
     every: u64,
 }
 
+impl<'c, R: Read, D: Disk, L: Teller<D>, T: Wait, G: Gate> Duty for Session<'c, R, D, L, T, G> {
+    ghost use Rattle.std.specs.Prelude.{◌≡◌, OnOk, false, refl};
+    ghost use Rattle.serving.specs.Serve.{HasEmptyLog};
+    ghost use Rattle.serving.specs.Session.{EndsOrDeclines};
+
+    ghost can_begin = { λ s. s.broken ≡ false };
+
+    ghost gives = { λ old new end. EndsOrDeclines old new end × OnOk end (D.keeps → HasEmptyLog new.core) };
+
+    fn fulfil(&mut self) -> Result<(), ServeFault> {
+        self.serve_all()
+    }
+
+    fn release(&mut self) {
+        self.crew.bench.stop(&mut self.desk);
+    }
+
+    ghost leaves = { λ s. (refl, tt) };
+}
+
 // Serves the lines of a reader that is lent, and gives it back with whom they were told.
 fn serve_lent<
     'a,
     'c,
-    T: Wait + 'c,
+    T: Threads + Wait + Sync,
     R: Read,
-    L: Teller<D> + 'c,
-    D: Disk + 'c,
-    G: Gate + 'c,
+    L: Teller<D>,
+    D: Disk,
+    G: Gate + Sync,
     N: Loan,
-    B: Benched + 'c,
 >(
     serving: Serving<'a, D, R, L>,
     crew: Crew<'c, T, G>,
     desk: DispatchSeat,
+    seats: Vec<WorkSeat>,
     of: PhantomData<N>,
-    _at: PhantomData<B>,
-) -> (
-    (Core<D>, Result<(), ServeFault>, &'a mut R, L),
-    DispatchSeat,
-)
+) -> (Core<D>, Result<(), ServeFault>, &'a mut R, L)
     requires reader { serving.reader.ghost_name ≡ N.name }
-    requires at { B.bench ≡ Some desk.bench }
     requires can_begin { CanBegin L.start serving.core crew.bench.now.slots (R.remaining serving.reader.now) (L.told serving.teller)
         serving.buffers.row }
     requires input { 1101 ≤ vec_len serving.buffers.input }
     requires none_waits { serving.buffers.out ≡ [] }
     requires bench { desk.bench ≡ crew.bench.now }
     requires lent { desk.lent ≡ replicate crew.bench.now.slots None }
-    ensures same { result.0.2.ghost_name ≡ serving.entry.reader.ghost_name }
-    ensures run { HasRunSo D.keeps (with_lent serving.entry.core (replicate crew.entry.bench.now.slots None)) result.0.0
-        (R.remaining serving.entry.reader.now) (L.told serving.entry.teller) (L.told result.0.3) result.0.1 }
-    ensures ends { EndsSo serving.entry.core result.0.0 (R.remaining serving.entry.reader.now) (R.remaining result.0.2.now)
-        (L.told serving.entry.teller) (L.told result.0.3) result.0.1 }
-    ensures emptied { OnOk result.0.1 (D.keeps → HasEmptyLog result.0.0) }
-    ensures begun { HasBegun result.0.1 }
-    ensures desk { result.1.bench ≡ desk.bench }
+    requires seats { All (λ w. w ≡ desk.bench) seats.items }
+    ensures same { result.2.ghost_name ≡ serving.entry.reader.ghost_name }
+    ensures run { HasRunSo D.keeps (with_lent serving.entry.core (replicate crew.entry.bench.now.slots None)) result.0
+        (R.remaining serving.entry.reader.now) (L.told serving.entry.teller) (L.told result.3) result.1 }
+    ensures ends { EndsSo serving.entry.core result.0 (R.remaining serving.entry.reader.now) (R.remaining result.2.now)
+        (L.told serving.entry.teller) (L.told result.3) result.1 }
+    ensures emptied { OnOk result.1 (D.keeps → HasEmptyLog result.0) }
+    ensures workers { HasWorkers result.1 }
 {
     let Serving {
         core,
@@ -132,7 +165,8 @@ fn serve_lent<
     let Buffers { input, row, out } = buffers;
     core.stands();
     let lines = LineReader::new(LentReader { reader, of }, input);
-    let mut session = Session::<LentReader<R, N>, With<D, L, T, G, B>> {
+    let Crew { rt, bench, gate } = crew;
+    let mut session = Session {
         core,
         desk,
         row,
@@ -142,68 +176,18 @@ fn serve_lent<
         stop: None,
         teller,
         broken: false,
-        crew,
+        crew: Crew { rt, bench, gate },
     };
-    let ended = session.serve_all();
+    let ended = with_workers(Crew { rt, bench, gate }, &mut session, seats);
     session.core.stands();
     let Session {
         core,
-        desk,
         lines,
         teller,
         ..
     } = session;
     let LentReader { reader, of: _ } = lines.into_inner();
-    ((core, ended, reader, teller), desk)
-}
-
-impl<'a, D: Disk, R: Read, L: Teller<D>> Duty for Serving<'a, D, R, L> {
-    type Output = (Core<D>, Result<(), ServeFault>, &'a mut R, L);
-
-    ghost use Rattle.std.specs.Prelude.{◌≡◌, ◌≤◌, [], None, OnOk, replicate, vec_len};
-    ghost use Rattle.serving.specs.Ends.{EndsSo};
-    ghost use Rattle.serving.specs.Runs.{with_lent};
-    ghost use Rattle.serving.specs.Serve.{HasEmptyLog, HasRunSo, HasWorkers};
-    ghost use Rattle.serving.specs.Session.{CanBegin};
-
-    ghost can_begin = { λ s places. CanBegin L.start s.core places (R.remaining s.reader.now) (L.told s.teller) s.buffers.row
-        × (1101 ≤ vec_len s.buffers.input) × (s.buffers.out ≡ []) };
-
-    ghost gives = { λ s places end. (end.2.ghost_name ≡ s.reader.ghost_name)
-        × HasRunSo D.keeps (with_lent s.core (replicate places None)) end.0 (R.remaining s.reader.now)
-        (L.told s.teller) (L.told end.3) end.1
-        × EndsSo s.core end.0 (R.remaining s.reader.now) (R.remaining end.2.now) (L.told s.teller) (L.told end.3) end.1
-        × OnOk end.1 (D.keeps → HasEmptyLog end.0)
-        × HasWorkers end.1 };
-
-    fn fulfil<'c, T: Wait, G: Gate>(
-        self,
-        crew: Crew<'c, T, G>,
-        desk: DispatchSeat,
-    ) -> (
-        (Core<D>, Result<(), ServeFault>, &'a mut R, L),
-        DispatchSeat,
-    ) {
-        serve_lent::<T, R, L, D, G, Brand, Brand>(self, crew, desk, PhantomData, PhantomData)
-    }
-
-    fn decline(self) -> (Core<D>, Result<(), ServeFault>, &'a mut R, L) {
-        let Serving {
-            core,
-            reader,
-            teller,
-            ..
-        } = self;
-        core.stands();
-        (core, Err(ServeFault::OutOfMemory), reader, teller)
-    }
-}
-
-// Tells the proof that what was lent through this reference is its owner's again.
-fn come_back<T>(lent: &mut T)
-    ensures { lent.new ≡ lent.old }
-{
-    let _ = lent;
+    (core, ended, reader, teller)
 }
 
 /// Answers each line that a reader has left with one line, which it tells, while so many workers, each a thread of its own, run
@@ -258,7 +242,7 @@ pub fn serve_to<
             teller,
         );
     }
-    let Ok(buffers) = take_buffers(alloc, core.slots()) else {
+    let Ok((buffers, bench, desk, seats)) = take_room(alloc, core.slots(), workers) else {
         return (
             Err(ServeError {
                 core,
@@ -274,7 +258,10 @@ pub fn serve_to<
         buffers,
         every,
     };
-    let (core, ended, reader, teller) = with_workers(rt, alloc, workers, gate, serving);
+    let bench = &bench;
+    let crew = Crew { rt, bench, gate };
+    let (core, ended, reader, teller) =
+        serve_lent::<T, R, L, D, G, Brand>(serving, crew, desk, seats, PhantomData);
     come_back(reader);
     match ended {
         Ok(()) => (Ok(core), teller),

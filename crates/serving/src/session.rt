@@ -1,17 +1,15 @@
 //! A session: the core, the dispatcher's seat, the lines that were read, and the answers that wait, with the input of the call and
 //! whom it tells. It is under way: from the start of the call a legal run has led to where it is.
 
-ghost use Rattle.std.specs.Prelude.{Option, None};
-
 use crate::crew::Crew;
 use crate::points::Course;
-use crate::row::Row;
 use crate::telling::Teller;
 use disk::Disk;
+use line_row::LineRow;
 use message::{LineReader, ReplyBuffer};
 use scheduler::Core;
 use std::io::Read;
-use std::marker::{Brand, Model, PhantomData};
+use std::marker::Model;
 use std::sync::Wait;
 use workers::{DispatchSeat, Gate};
 
@@ -37,68 +35,15 @@ pub(crate) enum Halt {
     Write,
 }
 
-/// The bench of a session, fixed for the call.
-pub(crate) trait Benched {
-    ghost use Rattle.std.specs.Prelude.{Option};
-    ghost use Rattle.atomic_table.specs.Seated.{TableId};
-
-    /// The bench, once the session has begun.
-    ghost bench: { Option TableId };
-}
-
-impl Benched for Brand {
-    ghost use Rattle.std.specs.Prelude.{None};
-
-    ghost bench = { None };
-}
-
-/// What a session works with, beside its input.
-pub(crate) trait Environment {
-    ghost use Rattle.std.specs.Prelude.{Option};
-    ghost use Rattle.atomic_table.specs.Seated.{TableId};
-
-    /// The device of the core.
-    type Device: Disk;
-
-    /// Whom it tells the lines.
-    type Teller: Teller<Self::Device>;
-
-    /// The calls that wait.
-    type Waits: Wait;
-
-    /// The gate that is told of jobs and answers.
-    type Gate: Gate;
-
-    /// The bench, once the session has begun.
-    ghost bench: { Option TableId };
-}
-
-/// The environment of these types.
-pub(crate) struct With<D, L, T, G, B> {
-    of: PhantomData<(D, L, T, G, B)>,
-}
-
-impl<D: Disk, L: Teller<D>, T: Wait, G: Gate, B: Benched> Environment for With<D, L, T, G, B> {
-    type Device = D;
-
-    type Teller = L;
-
-    type Waits = T;
-
-    type Gate = G;
-
-    ghost bench = { B.bench };
-}
-
 /// What a server has while it serves.
 #[derive(Drop)]
-pub(crate) struct Session<'c, R: Read, E: Environment> {
+pub(crate) struct Session<'c, R: Read, D: Disk, L: Teller<D>, T: Wait, G: Gate> {
     /// The core.
-    pub(crate) core: Core<E::Device>,
+    pub(crate) core: Core<D>,
     /// The dispatcher's seat at the bench.
     pub(crate) desk: DispatchSeat,
     /// The lines that were read and are not answered in the output.
-    pub(crate) row: Row,
+    pub(crate) row: LineRow,
     /// The answers that wait to be told.
     pub(crate) out: ReplyBuffer,
     /// When consistency points are due.
@@ -108,17 +53,17 @@ pub(crate) struct Session<'c, R: Read, E: Environment> {
     /// Why no more of it is read, once that is so.
     pub(crate) stop: Option<Stop>,
     /// Whom it tells the lines.
-    pub(crate) teller: E::Teller,
+    pub(crate) teller: L,
     /// Whether that has failed. Nothing more is told then.
     pub(crate) broken: bool,
     /// Who works for it.
-    pub(crate) crew: Crew<'c, E::Waits, E::Gate>,
+    pub(crate) crew: Crew<'c, T, G>,
 }
 
-impl<'c, R: Read, E: Environment> Model for Session<'c, R, E> {
-    ghost use Rattle.std.specs.Prelude.{Option};
+impl<'c, R: Read, D: Disk, L: Teller<D>, T: Wait, G: Gate> Model for Session<'c, R, D, L, T, G> {
+    ghost use Rattle.std.specs.Prelude.{◌≡◌, Option};
     ghost use Rattle.message.specs.Reader.{has_ended, is_drained, source, unread};
-    ghost use Rattle.serving.specs.Session.{AreAtBench, IsUnderWayFrom, SessionView};
+    ghost use Rattle.serving.specs.Session.{IsUnderWayFrom, SessionView};
 
     ghost Value = { SessionView };
 
@@ -127,7 +72,7 @@ impl<'c, R: Read, E: Environment> Model for Session<'c, R, E> {
       desk = s.desk;
       row = s.row;
       out = s.out;
-      told = E.Teller.told s.teller;
+      told = L.told s.teller;
       broken = s.broken;
       stop = s.stop;
       left = unread R.remaining s.lines;
@@ -136,17 +81,17 @@ impl<'c, R: Read, E: Environment> Model for Session<'c, R, E> {
       behind = R.remaining (source s.lines);
     } };
 
-    ghost invariant = { λ s. IsUnderWayFrom E.Device.keeps E.Teller.start (record {
+    ghost invariant = { λ s. IsUnderWayFrom D.keeps L.start (record {
       core = s.core;
       desk = s.desk;
       row = s.row;
       out = s.out;
-      told = E.Teller.told s.teller;
+      told = L.told s.teller;
       broken = s.broken;
       stop = s.stop;
       left = unread R.remaining s.lines;
       drained = is_drained s.lines;
       ended = has_ended s.lines;
       behind = R.remaining (source s.lines);
-    }) × AreAtBench E.bench s.desk.bench s.crew.bench.now };
+    }) × (s.desk.bench ≡ s.crew.bench.now) };
 }

@@ -3,16 +3,15 @@
 ghost use Rattle.std.specs.Prelude.{◌≡◌, ◌+◌, ◌++◌, [], false, length, true, IfOk, IsFalse, IsTrue, OnOk};
 ghost use Rattle.message.specs.Waiting.{FitsReply};
 ghost use Rattle.scheduler.specs.Kept.{world_of};
-ghost use Rattle.serving.specs.Lines.{text};
-ghost use Rattle.serving.specs.Rows.{comes_next, next_text};
+ghost use Rattle.line_row.specs.Rows.{comes_next};
 ghost use Rattle.serving.specs.Session.{IsAsBefore, Moves};
 
-use crate::row::{Line, Row};
-use crate::session::{Environment, Halt, Session};
+use crate::session::{Halt, Session};
 use disk::Disk;
-use message::{Refusal, ReplyBuffer, WriteFault};
+use message::WriteFault;
 use scheduler::Core;
 use std::io::Read;
+use std::sync::Wait;
 use workers::Gate;
 
 /// Whom a server tells its lines. Its condition binds each call when it is made, in every body, also in one that never returns: what
@@ -38,30 +37,7 @@ pub trait Teller<D: Disk> {
         ensures told { OnOk result (Appends (told self.old) (told self.new) lines.now) };
 }
 
-/// Adds what a line is answered to the lines that wait, if it is answered.
-fn say(line: &Line, out: &mut ReplyBuffer)
-    requires { FitsReply out.old }
-    ensures { out.new ≡ out.old ++ text line.now }
-{
-    match line {
-        Line::NoMessage => out.add_no_message(),
-        Line::OutOfRange => out.add_refusal(Refusal::Range),
-        Line::Answered(_, reply) => out.add_reply(reply),
-        Line::Unanswered(_) => {}
-    }
-}
-
-/// Does so for the oldest line of the row, if there is one.
-fn say_front(row: &Row, out: &mut ReplyBuffer)
-    requires { FitsReply out.old }
-    ensures { out.new ≡ out.old ++ next_text row.now.lines }
-{
-    if let Some(line) = row.front() {
-        say(line, out);
-    }
-}
-
-impl<'c, R: Read, E: Environment> Session<'c, R, E> {
+impl<'c, R: Read, D: Disk, L: Teller<D>, T: Wait, G: Gate> Session<'c, R, D, L, T, G> {
     /// Answers the message that was logged first, if there is one: its line in the row has its reply then. Counts it for the points
     /// if it changed something, saturating. Whether there was one.
     pub(crate) fn answer_first(&mut self) -> bool
@@ -141,7 +117,7 @@ impl<'c, R: Read, E: Environment> Session<'c, R, E> {
         ensures same { (self.new.core ≡ self.old.core) × (self.new.desk ≡ self.old.desk) }
         ensures fewer { length self.new.row.lines + 1 ≡ length self.old.row.lines }
     {
-        say_front(&self.row, &mut self.out);
+        self.row.say_front(&mut self.out);
         self.row.pop();
     }
 

@@ -6,12 +6,16 @@ ghost use Rattle.scheduler.specs.Kept.{world_of};
 ghost use Rattle.serving.specs.Lending.{GoesTo, IsEndOfSending, IsHome, IsSent};
 ghost use Rattle.serving.specs.Session.{IsAsBefore, Moves};
 
-use crate::session::{Environment, Halt, Session};
+use crate::session::{Halt, Session};
+use crate::telling::Teller;
+use disk::Disk;
 use message::Reply;
 use scheduler::Granted;
 use std::hint::spin_loop;
 use std::io::Read;
+use std::sync::Wait;
 use std::thread::yield_now;
+use workers::Gate;
 
 /// How many messages may come back before what ran is logged: the log writes as many records with one write of their bodies and
 /// one of their gates.
@@ -90,7 +94,7 @@ fn pause(looks: usize) {
     }
 }
 
-impl<'c, R: Read, E: Environment> Session<'c, R, E> {
+impl<'c, R: Read, D: Disk, L: Teller<D>, T: Wait, G: Gate> Session<'c, R, D, L, T, G> {
     /// Lets the eligible message with the least ticket go out to place k, the first where nothing is lent.
     fn send_to(&mut self, k: usize) -> Sent
         requires first { position is_none self.old.desk.lent ≡ Some k }
@@ -102,9 +106,7 @@ impl<'c, R: Read, E: Environment> Session<'c, R, E> {
         self.core.stands();
         match self.core.grant() {
             Granted::Job(job) => {
-                let Ok(()) = self.crew.bench.offer(&mut self.desk, k, job) else {
-                    unreachable!()
-                };
+                self.crew.lend(&mut self.desk, k, job);
                 Sent::Job
             }
             Granted::NoneEligible => Sent::NoneEligible,
@@ -152,7 +154,9 @@ impl<'c, R: Read, E: Environment> Session<'c, R, E> {
         ensures failed { self.new.core.failed ≡ self.old.core.failed }
     {
         self.core.stands();
-        let done = self.crew.bench.collect(&mut self.desk, k)?;
+        let Some(done) = self.crew.bench.collect(&mut self.desk, k) else {
+            return None;
+        };
         let changed = matches!(done.reply(), Reply::Done);
         self.core.give_back(done);
         Some(changed)
@@ -194,26 +198,16 @@ impl<'c, R: Read, E: Environment> Session<'c, R, E> {
         }
     }
 
-    /// Looks once at each place, and lets messages go out where something came back: whether it did.
-    fn look(&mut self, batch: &mut Batch) -> Result<bool, Halt>
-        ensures moves { Moves self.old self.new result }
-    {
-        if !self.take_what_came(batch) {
-            return Ok(false);
-        }
-        let lacks_room = self.send_out()?;
-        batch.lacks_room = lacks_room;
-        Ok(true)
-    }
-
-    /// Looks at the places again and again, until something came back or it has looked often enough: whether something did. It
-    /// waits for nobody.
+    /// Looks at the places again and again, until something came back or it has looked often enough: whether something did. Further
+    /// messages go out then. It waits for nobody.
     fn look_for_some(&mut self, batch: &mut Batch) -> Result<bool, Halt>
         ensures moves { Moves self.old self.new result }
     {
         for looks in 1..=PATIENCE {
-            let came = self.look(batch)?;
+            let came = self.take_what_came(batch);
             if came {
+                let lacks_room = self.send_out()?;
+                batch.lacks_room = lacks_room;
                 return Ok(true);
             }
             pause(looks);

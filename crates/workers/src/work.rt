@@ -53,19 +53,16 @@ impl Bench {
         WorkSeat { seat: pass }
     }
 
-    /// Starts a thread of the scope for each seat, which works until the bench is stopped. Where one
-    /// can't be started it stops the bench, so that those before it end: nothing is left running.
-    pub fn start<'s, E, R: Threads + Wait + Sync, G: Gate + Sync>(
+    /// Starts a thread of the scope for each seat, which works until the bench is stopped. Where one can't be started, those before it
+    /// work on: they too end when the bench is stopped.
+    pub fn start_all<'s, E, R: Threads + Wait + Sync, G: Gate + Sync>(
         &'s self,
         rt: &'s R,
         scope: &Scope<'s, E>,
-        desk: &mut DispatchSeat,
         mut seats: Vec<WorkSeat>,
         gate: &'s G,
     ) -> Result<(), AllocError>
-        requires desk { desk.old.bench ≡ self.now }
-        requires seats { All (λ w. w ≡ self.now) seats.items }
-        ensures { desk.new ≡ desk.old }
+        requires { All (λ w. w ≡ self.now) seats.items }
     {
         while let Some(seat) = seats.pop() {
             let started = scope.spawn(
@@ -74,11 +71,31 @@ impl Bench {
                 { self.work(rt, seat, gate) },
             );
             if started.is_err() {
-                self.stop(desk);
                 return Err(AllocError);
             }
         }
         Ok(())
+    }
+
+    /// Starts a thread of the scope for each seat, which works until the bench is stopped. Where one
+    /// can't be started it stops the bench, so that those before it end: nothing is left running.
+    pub fn start<'s, E, R: Threads + Wait + Sync, G: Gate + Sync>(
+        &'s self,
+        rt: &'s R,
+        scope: &Scope<'s, E>,
+        desk: &mut DispatchSeat,
+        seats: Vec<WorkSeat>,
+        gate: &'s G,
+    ) -> Result<(), AllocError>
+        requires desk { desk.old.bench ≡ self.now }
+        requires seats { All (λ w. w ≡ self.now) seats.items }
+        ensures { desk.new ≡ desk.old }
+    {
+        let started = self.start_all(rt, scope, seats, gate);
+        if started.is_err() {
+            self.stop(desk);
+        }
+        started
     }
 
     /// Sleeps until something was delivered since the last wait returned, or since the start.

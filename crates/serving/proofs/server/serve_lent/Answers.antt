@@ -1,11 +1,11 @@
 -- Where it begins; and what it promises, since the core at the end is as it always is.
-use Rattle.std.proofs.Common.{ap, sym, subst}
+use Rattle.std.proofs.Common.{ap, refl, sym, subst}
 use Rattle.std.specs.Prelude.{OnOk}
 use Rattle.scheduler.specs.Kept.{CoreView}
 use Rattle.serving.specs.Serve.{HasEmptyLog}
 use Rattle.serving.specs.Session.{SessionView}
 use Rattle.serving.specs.Telling.{Start}
-use Rattle.serving.proofs.Closing.{first_at, not_drained, promises_from}
+use Rattle.serving.proofs.Closing.{first_at, has_workers, not_drained, promises_from}
 use Rattle.serving.proofs.server.serve_lent.Goals as goal
 
 pub invariant_of-session : goal.invariant_of-session
@@ -13,7 +13,7 @@ invariant_of-session g c =
     let lines = c.new-lines.ensures in (
       first_at g.D.Disk.keeps g.L.Teller.start _ _ _ _ _ _ _ _ _ _ _ c.requires.can_begin c.stands.ensures.no_doubt c.requires.none_waits
           lines.unread (not_drained _ _ lines.open) lines.open (ap (λ (b : _). b.slots) c.requires.bench) c.requires.lent,
-      record { same = c.requires.bench; is = c.requires.at },
+      c.requires.bench,
     )
 
 pub returns-clause-run : goal.returns-clause-run
@@ -24,8 +24,8 @@ returns-clause-run g c =
       input = g.R.Read.remaining c.args.serving.reader.now;
       before = g.L.Teller.told c.args.serving.teller;
     } in
-    let all = promises_from g.D.Disk.keeps g.L.Teller.start s _ _ c.requires.can_begin.is c.session.invariant.0 c.session.view_is
-    c.serve_all-ended.result c.serve_all-ended.ensures.ends in
+    let all = promises_from g.D.Disk.keeps g.L.Teller.start s _ _ _ c.requires.can_begin.is c.session.invariant.0 c.session.view_is
+    refl (ap (λ (l : _). g.R.Read.remaining l.reader.now) c.new-lines.ensures.source) refl c.with_workers-ended.result c.with_workers-ended.ensures.0 in
     all.run c.stands-2.ensures.no_doubt c.stands-2.ensures.now
 
 pub returns-clause-ends : goal.returns-clause-ends
@@ -36,11 +36,15 @@ returns-clause-ends g c =
       input = g.R.Read.remaining c.args.serving.reader.now;
       before = g.L.Teller.told c.args.serving.teller;
     } in
-    let all = promises_from g.D.Disk.keeps g.L.Teller.start s _ _ c.requires.can_begin.is c.session.invariant.0 c.session.view_is
-    c.serve_all-ended.result c.serve_all-ended.ensures.ends in
+    let all = promises_from g.D.Disk.keeps g.L.Teller.start s _ _ _ c.requires.can_begin.is c.session.invariant.0 c.session.view_is
+    refl (ap (λ (l : _). g.R.Read.remaining l.reader.now) c.new-lines.ensures.source) refl
+    c.with_workers-ended.result c.with_workers-ended.ensures.0 in
     rw c.into_inner-reader.ensures all.ends
 
 pub returns-clause-emptied : goal.returns-clause-emptied
 returns-clause-emptied g c =
-    subst (λ (k : CoreView). OnOk c.serve_all-ended.result (g.D.Disk.keeps → HasEmptyLog k))
-    (ap (λ (p : SessionView). p.core) (sym c.session.view_is)) c.serve_all-ended.ensures.emptied
+    subst (λ (p : SessionView). OnOk c.with_workers-ended.result (g.D.Disk.keeps → HasEmptyLog p.core))
+    (sym c.session.view_is) c.with_workers-ended.ensures.1
+
+pub returns-clause-workers : goal.returns-clause-workers
+returns-clause-workers g c = has_workers _ _ c.with_workers-ended.result c.with_workers-ended.ensures.0

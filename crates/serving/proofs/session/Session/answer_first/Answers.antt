@@ -11,10 +11,10 @@ pub invariant_of-self : goal.invariant_of-self
 invariant_of-self g c =
     let old = c.self.inside.core in
     let new = c.answer-told.new.self in
-    let so = is_answered_so g.E.Device.Disk.keeps old new c.answer-told.result
-    (answer_step g.E.Device.Disk.keeps old new c.stands.ensures.no_doubt c.stands.ensures.now c.answer-told.ensures.geometry c.answer-told.ensures.untouched
-    c.answer-told.result c.answer-told.ensures.world) _ (holds_of g.E.Device.Disk.keeps _ _ c.self.invariant.0) in (
-      on_machine g.E.Device.Disk.keeps _ _ _ _ c.self.invariant.0 (none_answered g.E.Device.Disk.keeps _ _ c.answer-told.result c.in_default.not-Some so) refl refl,
+    let so = is_answered_so g.D.Disk.keeps old new c.answer-told.result
+    (answer_step g.D.Disk.keeps old new c.stands.ensures.no_doubt c.stands.ensures.now c.answer-told.ensures.geometry c.answer-told.ensures.untouched
+    c.answer-told.result c.answer-told.ensures.world) _ (holds_of g.D.Disk.keeps _ _ c.self.invariant.0) in (
+      on_machine g.D.Disk.keeps _ _ _ _ c.self.invariant.0 (none_answered g.D.Disk.keeps _ _ c.answer-told.result c.in_default.not-Some so) refl refl,
       c.self.invariant.1,
     )
 
@@ -22,11 +22,11 @@ pub invariant_of-self-2 : goal.invariant_of-self-2
 invariant_of-self-2 g c =
     let old = c.self.inside.core in
     let new = c.answer-told.new.self in
-    let so = is_answered_so g.E.Device.Disk.keeps old new c.answer-told.result
-    (answer_step g.E.Device.Disk.keeps old new c.stands.ensures.no_doubt c.stands.ensures.now c.answer-told.ensures.geometry c.answer-told.ensures.untouched
-    c.answer-told.result c.answer-told.ensures.world) _ (holds_of g.E.Device.Disk.keeps _ _ c.self.invariant.0) in (
-      on_answer g.E.Device.Disk.keeps _ _ _ _ _ _ c.self.invariant.0
-          (subst (λ (o : Option (ℕ × Reply)). IsAnswered g.E.Device.Disk.keeps (with_lent old c.self.inside.desk.lent) (with_lent new c.self.inside.desk.lent) o)
+    let so = is_answered_so g.D.Disk.keeps old new c.answer-told.result
+    (answer_step g.D.Disk.keeps old new c.stands.ensures.no_doubt c.stands.ensures.now c.answer-told.ensures.geometry c.answer-told.ensures.untouched
+    c.answer-told.result c.answer-told.ensures.world) _ (holds_of g.D.Disk.keeps _ _ c.self.invariant.0) in (
+      on_answer g.D.Disk.keeps _ _ _ _ _ _ c.self.invariant.0
+          (subst (λ (o : Option (ℕ × Reply)). IsAnswered g.D.Disk.keeps (with_lent old c.self.inside.desk.lent) (with_lent new c.self.inside.desk.lent) o)
           c.in-Some.is so) c.answer.ensures.lines c.answer.ensures.slots,
       c.self.invariant.1,
     )

@@ -10,6 +10,6 @@ pub invariant_of-self : goal.invariant_of-self
 invariant_of-self g c =
     let old = c.self.inside.core in
     let new = c.flip.new.self in
-    let quiet = flip_is_quiet g.E.Device.Disk.keeps old new c.flip.ensures.geometry c.flip.ensures.any_moment c.flip.result
+    let quiet = flip_is_quiet g.D.Disk.keeps old new c.flip.ensures.geometry c.flip.ensures.any_moment c.flip.result
     (flip_called old.geometry (world_of old) (world_of new) c.flip.result c.flip.ensures.world) c.flip.ensures.counts in
-    (on_machine g.E.Device.Disk.keeps _ _ _ _ c.self.invariant.0 (quiet _ (holds_of g.E.Device.Disk.keeps _ _ c.self.invariant.0)) refl refl, c.self.invariant.1)
+    (on_machine g.D.Disk.keeps _ _ _ _ c.self.invariant.0 (quiet _ (holds_of g.D.Disk.keeps _ _ c.self.invariant.0)) refl refl, c.self.invariant.1)

@@ -10,8 +10,8 @@ pub invariant_of-self : goal.invariant_of-self
 invariant_of-self g c =
     let old = c.self.inside.core in
     let n = c.slots-count.result in
-    let k = log_is_quiet g.E.Device.Disk.keeps old c.log.new.self n c.log.result
+    let k = log_is_quiet g.D.Disk.keeps old c.log.new.self n c.log.result
     (log_called old.geometry (world_of old) (world_of c.log.new.self) n c.log.result c.log.ensures.world)
     c.log.ensures.geometry c.log.ensures.counts c.log.ensures.any_moment in
-    let h = holds_of g.E.Device.Disk.keeps _ _ c.self.invariant.0 in
-    (on_machine g.E.Device.Disk.keeps _ _ _ _ c.self.invariant.0 (k _ h) refl refl, c.self.invariant.1)
+    let h = holds_of g.D.Disk.keeps _ _ c.self.invariant.0 in
+    (on_machine g.D.Disk.keeps _ _ _ _ c.self.invariant.0 (k _ h) refl refl, c.self.invariant.1)

@@ -12,21 +12,21 @@ pub invariant_of-self : goal.invariant_of-self
 invariant_of-self g c =
     let old = c.self.inside.core in
     let new = c.point.new.self in
-    let quiet = point_is_quiet g.E.Device.Disk.keeps old new c.point.ensures.geometry c.point.ensures.any_moment c.point.result
+    let quiet = point_is_quiet g.D.Disk.keeps old new c.point.ensures.geometry c.point.ensures.any_moment c.point.result
     (point_called old.geometry (world_of old) (world_of new) c.point.result c.point.ensures.world) c.point.ensures.counts in
-    (on_machine g.E.Device.Disk.keeps _ _ _ _ c.self.invariant.0 (quiet _ (holds_of g.E.Device.Disk.keeps _ _ c.self.invariant.0)) refl refl, c.self.invariant.1)
+    (on_machine g.D.Disk.keeps _ _ _ _ c.self.invariant.0 (quiet _ (holds_of g.D.Disk.keeps _ _ c.self.invariant.0)) refl refl, c.self.invariant.1)
 
 pub invariant_of-self-2 : goal.invariant_of-self-2
 invariant_of-self-2 g c =
     let old = c.self.inside.core in
     let new = c.point.new.self in
-    let quiet = point_is_quiet g.E.Device.Disk.keeps old new c.point.ensures.geometry c.point.ensures.any_moment c.point.result
+    let quiet = point_is_quiet g.D.Disk.keeps old new c.point.ensures.geometry c.point.ensures.any_moment c.point.result
     (point_called old.geometry (world_of old) (world_of new) c.point.result c.point.ensures.world) c.point.ensures.counts in
-    (on_machine g.E.Device.Disk.keeps _ _ _ _ c.self.invariant.0 (quiet _ (holds_of g.E.Device.Disk.keeps _ _ c.self.invariant.0)) refl refl, c.self.invariant.1)
+    (on_machine g.D.Disk.keeps _ _ _ _ c.self.invariant.0 (quiet _ (holds_of g.D.Disk.keeps _ _ c.self.invariant.0)) refl refl, c.self.invariant.1)
 
 pub returns-clause-moves : goal.returns-clause-moves
 returns-clause-moves g c =
-    let idle = idle_of g.E.Device.Disk.keeps _ _ c.self.invariant.0 (ap (λ (p : SessionView). p.row.lines) c.self.view_is ∙ c.requires.row) in
+    let idle = idle_of g.D.Disk.keeps _ _ c.self.invariant.0 (ap (λ (p : SessionView). p.row.lines) c.self.view_is ∙ c.requires.row) in
     let left = ap (λ (p : SessionView). p.core.left) c.self.view_is ∙ c.requires.none in (
       (ap (λ (p : SessionView). p.stop) c.self.view_is, ap (λ (p : SessionView). p.broken) c.self.view_is),
       point_fails (world_of c.self.inside.core) left idle.none_held (world_of c.point.new.self)

@@ -1,12 +1,12 @@
 -- The line is read, or no more is; and the session stays under way.
-use Rattle.std.proofs.Common.{◌<◌, ℕ, List, Ok, Option, Some, ap, length, map, refl, subst, sym, ◌∙◌}
+use Rattle.std.proofs.Common.{◌≡◌, ◌<◌, ℕ, List, Ok, Option, Some, ap, length, map, refl, subst, sym, ◌∙◌}
 use Rattle.std.specs.Prelude.{IfSome}
 use Rattle.message.specs.Reader.{Closes, Finds, GivesLine, LosesFront, has_ended, is_drained, line_of, source, unread}
 use Rattle.message.specs.declared.reading.Found.{Found}
 use Rattle.serving.specs.Lines.{NoMessage}
 use Rattle.serving.specs.Reads.{stop_of}
 use Rattle.serving.specs.Runs.{lent_hand}
-use Rattle.serving.specs.Session.{AreAtBench, IsUnderWayFrom, SessionView}
+use Rattle.serving.specs.Session.{IsUnderWayFrom, SessionView}
 use Rattle.serving.specs.declared.session.Stop.{Stop}
 use Rattle.serving.specs.declared.session.Stop.TheVariants as stops
 use Rattle.serving.proofs.Stopping.{stops_at_refusal}
@@ -16,7 +16,7 @@ use Rattle.serving.proofs.session.Session.read_next.Goals as goal
 
 pub take_line-requires-clause-order : goal.take_line-requires-clause-order
 take_line-requires-clause-order g c =
-    follows g.E.Device.Disk.keeps _ _ (ap (λ (p : SessionView). p.stop) c.self.view_is ∙ c.requires.reads) c.self.invariant.0
+    follows g.D.Disk.keeps _ _ (ap (λ (p : SessionView). p.stop) c.self.view_is ∙ c.requires.reads) c.self.invariant.0
 
 pub invariant_of-self : goal.invariant_of-self
 invariant_of-self g c =
@@ -25,9 +25,9 @@ invariant_of-self g c =
     let u = c.self.invariant.0 in
     let none = ap (λ (p : SessionView). p.stop) c.self.view_is ∙ c.requires.reads in
     let drained = sym c.if-is_drained.ensures.value in
-    let knows = knows_of g.E.Device.Disk.keeps _ _ u in (
-      on_stop g.E.Device.Disk.keeps _ f.core f.row (unread rest f.lines) (is_drained f.lines) (has_ended f.lines) (rest (source f.lines)) none refl knows
-          _ stops.End u (still g.E.Device.Disk.keeps _ (holds_of g.E.Device.Disk.keeps _ _ u)) refl
+    let knows = knows_of g.D.Disk.keeps _ _ u in (
+      on_stop g.D.Disk.keeps _ f.core f.row (unread rest f.lines) (is_drained f.lines) (has_ended f.lines) (rest (source f.lines)) none refl knows
+          _ stops.End u (still g.D.Disk.keeps _ (holds_of g.D.Disk.keeps _ _ u)) refl
           (none_left (unread rest f.lines) (c.if-is_drained.ensures.nothing refl), knows (has_told_end _ _ drained)),
       c.self.invariant.1,
     )
@@ -40,10 +40,10 @@ invariant_of-self-in-Ok g c =
     let u = c.self.invariant.0 in
     let none = ap (λ (p : SessionView). p.stop) c.self.view_is ∙ c.requires.reads in
     let going = sym c.if-is_drained.ensures.value in
-    let knows = c.next_line.ensures.at_end (knows_of g.E.Device.Disk.keeps _ _ u) in
+    let knows = c.next_line.ensures.at_end (knows_of g.D.Disk.keeps _ _ u) in
     let left = unread rest f.lines in
-    let took = c.in-Ok.ensures.takes (map lent_hand f.desk.lent) (holds_of g.E.Device.Disk.keeps _ _ u) in (
-      on_line g.E.Device.Disk.keeps _ c.take_line.new.core c.take_line.new.row (unread rest n) (is_drained n) (has_ended n) (rest (source n)) none c.in-Ok.ensures.slots knows
+    let took = c.in-Ok.ensures.takes (map lent_hand f.desk.lent) (holds_of g.D.Disk.keeps _ _ u) in (
+      on_line g.D.Disk.keeps _ c.take_line.new.core c.take_line.new.row (unread rest n) (is_drained n) (has_ended n) (rest (source n)) none c.in-Ok.ensures.slots knows
           took.0 took.2 going
           (subst (λ (x : Found). Closes (Ok x) left (is_drained n)) c.in-Ok-Line.field-0-is c.in-Ok-Line.ensures.closes)
           _ c.line.result.now u took.1
@@ -60,30 +60,30 @@ invariant_of-self-in-Err-take_line g c =
     let u = c.self.invariant.0 in
     let none = ap (λ (p : SessionView). p.stop) c.self.view_is ∙ c.requires.reads in
     let going = sym c.if-is_drained.ensures.value in
-    let knows = c.next_line.ensures.at_end (knows_of g.E.Device.Disk.keeps _ _ u) in
+    let knows = c.next_line.ensures.at_end (knows_of g.D.Disk.keeps _ _ u) in
     let left = unread rest f.lines in
     let why = c.in-Err-take_line.why in
-    let took = c.in-Err-take_line.ensures.takes (map lent_hand f.desk.lent) (holds_of g.E.Device.Disk.keeps _ _ u) in
+    let took = c.in-Err-take_line.ensures.takes (map lent_hand f.desk.lent) (holds_of g.D.Disk.keeps _ _ u) in
     let room = subst (λ (p : SessionView). length p.row.lines < p.row.slots) (sym c.self.view_is) c.requires.room in
     let found = subst (λ (l : List ℕ). IfSome left (λ bs. GivesLine l bs (unread rest n))) (sym c.line.ensures)
     (subst (λ (x : Found). Finds (Ok x) left (line_of n) (unread rest n)) c.in-Ok-Line.field-0-is c.in-Ok-Line.ensures.found) in
-    subst (λ (stop : Stop). IsUnderWayFrom g.E.Device.Disk.keeps g.E.Teller.Teller.start (record {
+    subst (λ (stop : Stop). IsUnderWayFrom g.D.Disk.keeps g.L.Teller.start (record {
       core = c.take_line.new.core;
       desk = f.desk;
       row = c.take_line.new.row;
       out = f.out;
-      told = g.E.Teller.Teller.told f.teller;
+      told = g.L.Teller.told f.teller;
       broken = f.broken;
       stop = Some stop;
       left = unread rest n;
       drained = is_drained n;
       ended = has_ended n;
       behind = rest (source n);
-    }) × AreAtBench g.E.Environment.bench f.desk.bench f.crew.bench.now) (sym c.stop_for-stop.ensures) (
-      on_stop g.E.Device.Disk.keeps _ c.take_line.new.core c.take_line.new.row (unread rest n) (is_drained n) (has_ended n) (rest (source n)) none c.in-Err-take_line.ensures.slots knows
+    }) × (f.desk.bench ≡ f.crew.bench.now)) (sym c.stop_for.ensures) (
+      on_stop g.D.Disk.keeps _ c.take_line.new.core c.take_line.new.row (unread rest n) (is_drained n) (has_ended n) (rest (source n)) none c.in-Err-take_line.ensures.slots knows
           _ (stop_of why) u took.2.quiet took.3
-          (stops_at_refusal g.E.Device.Disk.keeps _ _ left (unread rest n) (rest (source n)) (is_drained f.lines) c.line.result.now took.0 why took.1 found took.2
-          (has_slot g.E.Device.Disk.keeps _ _ took.0 none u room)),
+          (stops_at_refusal g.D.Disk.keeps _ _ left (unread rest n) (rest (source n)) (is_drained f.lines) c.line.result.now took.0 why took.1 found took.2
+          (has_slot g.D.Disk.keeps _ _ took.0 none u room)),
       c.self.invariant.1,
     )
 
@@ -95,12 +95,12 @@ invariant_of-self-in-Ok-TooLong g c =
     let u = c.self.invariant.0 in
     let none = ap (λ (p : SessionView). p.stop) c.self.view_is ∙ c.requires.reads in
     let going = sym c.if-is_drained.ensures.value in
-    let knows = c.next_line.ensures.at_end (knows_of g.E.Device.Disk.keeps _ _ u) in
+    let knows = c.next_line.ensures.at_end (knows_of g.D.Disk.keeps _ _ u) in
     let left = unread rest f.lines in (
-      on_long_line g.E.Device.Disk.keeps _ f.core c.push.new.self (unread rest n) (is_drained n) (has_ended n) (rest (source n)) none c.push.ensures.slots knows
+      on_long_line g.D.Disk.keeps _ f.core c.push.new.self (unread rest n) (is_drained n) (has_ended n) (rest (source n)) none c.push.ensures.slots knows
           NoMessage c.push.ensures.lines going
           (subst (λ (x : Found). Closes (Ok x) left (is_drained n)) c.in-Ok-TooLong.field-0-is c.in-Ok-TooLong.ensures.closes)
-          _ u (takes_none g.E.Device.Disk.keeps _ (holds_of g.E.Device.Disk.keeps _ _ u))
+          _ u (takes_none g.D.Disk.keeps _ (holds_of g.D.Disk.keeps _ _ u))
           (subst (λ (x : Found). Finds (Ok x) left (line_of n) (unread rest n)) c.in-Ok-TooLong.field-0-is c.in-Ok-TooLong.ensures.found),
       c.self.invariant.1,
     )
@@ -113,11 +113,11 @@ invariant_of-self-in-Ok-End g c =
     let u = c.self.invariant.0 in
     let none = ap (λ (p : SessionView). p.stop) c.self.view_is ∙ c.requires.reads in
     let going = sym c.if-is_drained.ensures.value in
-    let knows = c.next_line.ensures.at_end (knows_of g.E.Device.Disk.keeps _ _ u) in
+    let knows = c.next_line.ensures.at_end (knows_of g.D.Disk.keeps _ _ u) in
     let left = unread rest f.lines in
     let found = subst (λ (x : Found). Finds (Ok x) left (line_of n) (unread rest n)) c.in-Ok-End.field-0-is c.in-Ok-End.ensures.found in (
-      on_stop g.E.Device.Disk.keeps _ f.core f.row (unread rest n) (is_drained n) (has_ended n) (rest (source n)) none refl knows
-          _ stops.End u (still g.E.Device.Disk.keeps _ (holds_of g.E.Device.Disk.keeps _ _ u)) refl
+      on_stop g.D.Disk.keeps _ f.core f.row (unread rest n) (is_drained n) (has_ended n) (rest (source n)) none refl knows
+          _ stops.End u (still g.D.Disk.keeps _ (holds_of g.D.Disk.keeps _ _ u)) refl
           (at_end left (unread rest n) found, knows (c.next_line.ensures.end (c.in-Ok-End.is ∙ ap Ok c.in-Ok-End.field-0-is))),
       c.self.invariant.1,
     )
@@ -130,10 +130,10 @@ invariant_of-self-in-Err g c =
     let u = c.self.invariant.0 in
     let none = ap (λ (p : SessionView). p.stop) c.self.view_is ∙ c.requires.reads in
     let going = sym c.if-is_drained.ensures.value in
-    let knows = c.next_line.ensures.at_end (knows_of g.E.Device.Disk.keeps _ _ u) in
+    let knows = c.next_line.ensures.at_end (knows_of g.D.Disk.keeps _ _ u) in
     let left = unread rest f.lines in (
-      on_stop g.E.Device.Disk.keeps _ f.core f.row (unread rest n) (is_drained n) (has_ended n) (rest (source n)) none refl knows
-          _ stops.Fault u (still g.E.Device.Disk.keeps _ (holds_of g.E.Device.Disk.keeps _ _ u)) refl
+      on_stop g.D.Disk.keeps _ f.core f.row (unread rest n) (is_drained n) (has_ended n) (rest (source n)) none refl knows
+          _ stops.Fault u (still g.D.Disk.keeps _ (holds_of g.D.Disk.keeps _ _ u)) refl
           (going, subst (λ (l : Option (List ℕ)). IfSome left (λ bs. LosesFront bs l)) c.in-Err.ensures.lost c.in-Err.ensures.found),
       c.self.invariant.1,
     )

@@ -9,16 +9,16 @@ pub tell-requires : goal.tell-requires
 tell-requires g c =
     let s = c.self.inside in
     record {
-      may = subst (λ (bytes : List ℕ). MayTell g.E.Device.Disk.keeps g.E.Teller.Teller.start (g.E.Teller.Teller.told s.teller) s.core bytes)
+      may = subst (λ (bytes : List ℕ). MayTell g.D.Disk.keeps g.L.Teller.start (g.L.Teller.told s.teller) s.core bytes)
           (sym c.waiting.ensures)
-          (may_tell g.E.Device.Disk.keeps _ _ c.self.invariant.0 c.if-self.false c.stands.ensures.no_doubt c.stands.ensures.now);
+          (may_tell g.D.Disk.keeps _ _ c.self.invariant.0 c.if-self.false c.stands.ensures.no_doubt c.stands.ensures.now);
     }
 
 pub invariant_of-self : goal.invariant_of-self
 invariant_of-self g c =
-    let told = subst (λ (bytes : List ℕ). Appends (g.E.Teller.Teller.told c.self.inside.teller) (g.E.Teller.Teller.told c.tell.new.self) bytes)
+    let told = subst (λ (bytes : List ℕ). Appends (g.L.Teller.told c.self.inside.teller) (g.L.Teller.told c.tell.new.self) bytes)
     c.waiting.ensures c.in-Ok.ensures.told in
-    (on_tell g.E.Device.Disk.keeps _ _ _ _ c.self.invariant.0 c.clear.ensures told, c.self.invariant.1)
+    (on_tell g.D.Disk.keeps _ _ _ _ c.self.invariant.0 c.clear.ensures told, c.self.invariant.1)
 
 pub invariant_of-self-in-Err : goal.invariant_of-self-in-Err
-invariant_of-self-in-Err g c = (on_break g.E.Device.Disk.keeps _ _ _ c.self.invariant.0, c.self.invariant.1)
+invariant_of-self-in-Err g c = (on_break g.D.Disk.keeps _ _ _ c.self.invariant.0, c.self.invariant.1)

@@ -1,5 +1,5 @@
-use Rattle.std.proofs.Common.{◌≡◌, None, false}
+use Rattle.std.proofs.Common.{◌≡◌, false}
 use Rattle.serving.proofs.session.Session.serve_lines.Given as goal
 
 abbrev pub invariant-loop : goal.invariant-loop
-invariant-loop g l = (l.self.stop ≡ None) × (l.self.broken ≡ false)
+invariant-loop g l = l.self.broken ≡ false

@@ -1,0 +1,6 @@
+//! The row of lines: what is known of each line that was read and is not answered in the output, in the order in which they were read.
+#![tactic(auto)]
+
+mod row;
+
+pub use row::{Line, LineRow};

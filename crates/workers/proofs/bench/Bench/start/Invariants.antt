@@ -1,8 +1,0 @@
-use Rattle.std.proofs.Common.{◌≡◌, All, vec_len}
-use Rattle.workers.proofs.bench.Bench.start.Given as goal
-
-abbrev pub invariant-loop-seat : goal.invariant-loop-seat
-invariant-loop-seat g l = (l.desk ≡ l.initial.desk) × All (λ w. w ≡ l.self) l.seats.items
-
-abbrev pub decreases-loop-seat : goal.decreases-loop-seat
-decreases-loop-seat g l = vec_len l.seats
