@@ -1,64 +1,39 @@
--- How a command ends where it serves nothing, and that words which are wrong ask for nothing.
-use Rattle.std.proofs.Common.{◌≡◌, ◌∙◌, refl, sym, subst, inl, inr, ℕ, List, [], ◌∷◌, true, false, Option, Some, None, codes}
+-- How a call ends where its words give no request, and where they do.
+use Rattle.std.proofs.Common.{◌≡◌, ◌∙◌, refl, sym, ap, subst, inl, inr, ℕ, List, [], Option, Some, None, codes}
 use Rattle.std.specs.Prelude.{Err, Ok, Result}
-use Rattle.std.specs.List.{list_all}
 use Rattle.std.proofs.KnownBytes.{Appends-nil}
 use Rattle.checkpoint.specs.declared.fault.FormatFault.TheVariants as formatting
 use Rattle.checkpoint.specs.declared.fault.OpenFault.TheVariants as opening
-use Rattle.std.proofs.lemmas.Bool.{and_parts}
-use Rattle.std.proofs.lemmas.Option.{same_Some}
 use Rattle.affinity.specs.declared.geometry.Geometry.{Geometry}
 use Rattle.affinity.specs.Limits.{AreInRange}
 use Rattle.affinity.proofs.Numbers.{geometry_same}
-use Rattle.clap.specs.Words.{IsAmong, Kinds, Row, Text, kind_of}
-use Rattle.clap.specs.declared.error.kind.ErrorKind.{ErrorKind}
+use Rattle.clap.specs.Words.{IsAmong, Text, kind_of}
 use Rattle.plain.specs.Output.{WritesOutput, IsBeginning}
 use Rattle.plain.specs.State.{empty}
-use Rattle.command_line.proofs.Options.{in_range}
 use Rattle.commands.specs.Ends.{EndsMaking, EndsServing}
 use Rattle.commands.specs.Serving.{EndsInFile}
 use Rattle.commands.specs.declared.service.Service.{Service}
 use Rattle.command_line.proofs.Services.{service_same}
 use Rattle.disk.specs.declared.fault.FileFault.TheVariants as file
-use Rattle.command_line.specs.Ends.{Ends, EndsFormat, EndsHelp, EndsPlain, EndsRefused, EndsServe, EndsShow, status_at}
+use Rattle.command_line.specs.Ends.{Ends, EndsFormat, EndsHelp, EndsPlain, EndsRefused, EndsServe, EndsShow, status_at, status_of_refusal}
+use Rattle.command_line.specs.Services.{AsksServe, with_few_workers}
 use Rattle.commands.specs.Faults.{status_of}
-use Rattle.command_line.specs.Words.{Asks, AsksFormat, AsksNoService, AsksPlain, AsksServe, AsksShow, IsNamed, IsReason, AreRefused, command_of, findings, is_mistake}
+use Rattle.words.proofs.Asking.{no_mistake, two_names}
+use Rattle.words.proofs.Options.{in_range}
+use Rattle.words.specs.Words.{Asks, AsksFormat, AsksNoService, AsksPlain, AsksShow, IsReason, command_of}
 use Rattle.commands.specs.declared.faults.Fault.{Fault}
 use Rattle.commands.specs.declared.faults.Fault.TheVariants.{Read, Write, GeometryOutOfRange, OutOfMemory, Device, NoWorkers, NoTicketLeft, Format as ByFormat, Open as ByOpen}
-use Rattle.command_line.specs.declared.words.WordRefusal.TheVariants.{Fault as by_fault, Words as by_words}
-use Rattle.clap.specs.declared.error.Error.{Error}
-use Rattle.command_line.specs.declared.words.Request.{Request}
-use Rattle.command_line.specs.declared.words.Request.TheVariants.{Help, Plain, Format, Show, Serve}
-
--- ---- words that are wrong
-
-mistake_among : (kinds : Kinds) (k : ErrorKind) → list_all is_mistake kinds ≡ true → IsAmong k kinds → is_mistake k ≡ true
-mistake_among [] k all among = absurd among
-mistake_among (x ∷ xs) k all among = elim among [
-  | inl is ↦ rw is (and_parts (is_mistake x) (list_all is_mistake xs) all).0
-  | inr later ↦ mistake_among xs k (and_parts (is_mistake x) (list_all is_mistake xs) all).1 later
-]
-
-pub ask_for_nothing : (words : List Text) (request : Request) → Asks words request → AreRefused words → ⊥
-ask_for_nothing words (Plain g) asks (inl wrong) = wrong.0 asks.0
-ask_for_nothing words (Plain g) asks (inr out_of_range) = out_of_range.3 (subst AreInRange asks.2 (in_range g))
-ask_for_nothing words (Format path g) asks (inl wrong) = wrong.0 asks.0
-ask_for_nothing words (Format path g) asks (inr out_of_range) = out_of_range.3 (subst AreInRange asks.3 (in_range g))
-ask_for_nothing words (Show path) asks (inl wrong) = wrong.0 asks.0
-ask_for_nothing words (Show path) asks (inr out_of_range) = out_of_range.1 asks.1
-ask_for_nothing words (Serve path s) asks (inl wrong) = wrong.0 asks.0
-ask_for_nothing words (Serve path s) asks (inr out_of_range) = out_of_range.2 asks.1
-ask_for_nothing words (Help text) asks (inl wrong) =
-    let bad : true ≡ false = sym (mistake_among _ (kind_of text) wrong.1 asks.0) ∙ asks.1 in
-    cc
-ask_for_nothing words (Help text) asks (inr out_of_range) = subst (IsAmong (kind_of text)) out_of_range.0 asks.0
+use Rattle.words.specs.declared.words.WordRefusal.{WordRefusal}
+use Rattle.words.specs.declared.words.WordRefusal.TheVariants as refusal
+use Rattle.words.specs.declared.words.Request.{Request}
+use Rattle.words.specs.declared.words.Request.TheVariants.{Help, Plain, Format, Show, Serve}
 
 -- ---- words that ask for no service
 
-pub refused_by : (words : List Text) (fault : Fault) → IsReason words (by_fault fault) → EndsRefused (status_of fault)
-refused_by words OutOfMemory reason = inr refl
-refused_by words GeometryOutOfRange reason = inl refl
-refused_by words fault reason = absurd reason
+pub refused_by : (why : WordRefusal) → EndsRefused (status_of_refusal why)
+refused_by (refusal.Words error) = inl refl
+refused_by refusal.OutOfMemory = inr refl
+refused_by refusal.GeometryOutOfRange = inl refl
 
 pub helped : (words : List Text) (request : Request) (end : Result (Unit {0}) Fault) (input left old new : Option (List ℕ)) → AsksNoService words → Asks words request
     → Ends request end input left old new → EndsHelp (status_at end) × (left ≡ input)
@@ -85,36 +60,41 @@ is_told (ByFormat fault) none = cc
 is_told (ByOpen opening.OutOfMemory) none = cc
 is_told (ByOpen fault) none = cc
 
--- ---- want of memory while the words are read
+pub is_refused : (why : WordRefusal) → status_of_refusal why ≡ 0 → ⊥
+is_refused (refusal.Words error) none = cc
+is_refused refusal.OutOfMemory none = cc
+is_refused refusal.GeometryOutOfRange none = cc
+
+-- ---- words that ask for something give no request for want of memory alone
 
 nothing_written : (g : Geometry) (input old : Option (List ℕ)) → WritesOutput input old old (IsBeginning g empty)
 nothing_written g None old = tt
 nothing_written g (Some bytes) old = ([], Appends-nil old, (0, refl))
 
-pub served_nothing : (words : List Text) (g : Geometry) (fault : Fault) (input old : Option (List ℕ)) → AsksPlain words g → IsReason words (by_fault fault)
-    → EndsPlain g (status_of fault) input input old old
-served_nothing words g OutOfMemory input old asks reason = (Err OutOfMemory, refl, nothing_written g input old)
-served_nothing words g GeometryOutOfRange input old asks reason = absurd (reason.3 (subst AreInRange asks.2 (in_range g)))
-served_nothing words g fault input old asks reason = absurd reason
+pub served_nothing : (words : List Text) (g : Geometry) (why : WordRefusal) (input old : Option (List ℕ)) → AsksPlain words g → IsReason words why
+    → EndsPlain g (status_of_refusal why) input input old old
+served_nothing words g refusal.OutOfMemory input old asks reason = (Err OutOfMemory, refl, nothing_written g input old)
+served_nothing words g refusal.GeometryOutOfRange input old asks reason = absurd (reason.3 (subst AreInRange asks.2 (in_range g)))
+served_nothing words g (refusal.Words error) input old asks reason = absurd (no_mistake words error asks.0 reason)
 
-pub formatted_nothing : (words : List Text) (path : List ℕ) (g : Geometry) (fault : Fault) (old : Option (List ℕ)) → AsksFormat words path g → IsReason words (by_fault fault)
-    → EndsFormat g (status_of fault) old old
-formatted_nothing words path g OutOfMemory old asks reason = (Err OutOfMemory, refl, refl)
-formatted_nothing words path g GeometryOutOfRange old asks reason = absurd (reason.3 (subst AreInRange asks.3 (in_range g)))
-formatted_nothing words path g fault old asks reason = absurd reason
+pub formatted_nothing : (words : List Text) (path : List ℕ) (g : Geometry) (why : WordRefusal) (old : Option (List ℕ)) → AsksFormat words path g → IsReason words why
+    → EndsFormat g (status_of_refusal why) old old
+formatted_nothing words path g refusal.OutOfMemory old asks reason = (Err OutOfMemory, refl, refl)
+formatted_nothing words path g refusal.GeometryOutOfRange old asks reason = absurd (reason.3 (subst AreInRange asks.3 (in_range g)))
+formatted_nothing words path g (refusal.Words error) old asks reason = absurd (no_mistake words error asks.0 reason)
 
-pub shown_nothing : (words : List Text) (path : List ℕ) (fault : Fault) (old : Option (List ℕ)) → AsksShow words path → IsReason words (by_fault fault)
-    → EndsShow (status_of fault) old old
-shown_nothing words path OutOfMemory old asks reason = (Err OutOfMemory, refl, refl)
-shown_nothing words path GeometryOutOfRange old asks reason = absurd (reason.1 asks.1)
-shown_nothing words path fault old asks reason = absurd reason
+pub shown_nothing : (words : List Text) (path : List ℕ) (why : WordRefusal) (old : Option (List ℕ)) → AsksShow words path → IsReason words why
+    → EndsShow (status_of_refusal why) old old
+shown_nothing words path refusal.OutOfMemory old asks reason = (Err OutOfMemory, refl, refl)
+shown_nothing words path refusal.GeometryOutOfRange old asks reason = absurd (reason.1 asks.1)
+shown_nothing words path (refusal.Words error) old asks reason = absurd (no_mistake words error asks.0 reason)
 
-pub served_on_nothing : (words : List Text) (path : List ℕ) (s : Service) (fault : Fault) (input old : Option (List ℕ)) → AsksServe words path s
-    → IsReason words (by_fault fault) → EndsServe s (status_of fault) input input old old
-served_on_nothing words path s OutOfMemory input old asks reason =
+pub served_on_nothing : (words : List Text) (path : List ℕ) (s : Service) (why : WordRefusal) (input old : Option (List ℕ)) → AsksServe words path s
+    → IsReason words why → EndsServe s (status_of_refusal why) input input old old
+served_on_nothing words path s refusal.OutOfMemory input old asks reason =
     (Err OutOfMemory, refl, inl (record { why = file.OutOfMemory; ends = refl; unread = refl; unwritten = refl }))
-served_on_nothing words path s GeometryOutOfRange input old asks reason = absurd (reason.2 asks.1)
-served_on_nothing words path s fault input old asks reason = absurd reason
+served_on_nothing words path s refusal.GeometryOutOfRange input old asks reason = absurd (reason.2 asks.1)
+served_on_nothing words path s (refusal.Words error) input old asks reason = absurd (no_mistake words error asks.0 reason)
 
 -- ---- what the words ask for is done
 
@@ -126,10 +106,6 @@ served words (Format path h) g end input left old new given asks ends = absurd (
 served words (Show path) g end input left old new given asks ends = absurd (asks.1.1 given.1)
 served words (Serve path s) g end input left old new given asks ends = absurd (asks.1.2 given.1)
 served words (Help text) g end input left old new given asks ends = absurd (subst (IsAmong (kind_of text)) asks.0 given.0)
-
--- a command has one name
-two_names : (name other : Text) (command : Option (Text × List Row)) → IsNamed name command → IsNamed other command → name ≡ other
-two_names name other command named called = same_Some _ _ (sym named ∙ called)
 
 pub formatted : (words : List Text) (request : Request) (path : List ℕ) (g : Geometry) (end : Result (Unit {0}) Fault) (input left old new : Option (List ℕ)) → Asks words request
     → AsksFormat words path g → Ends request end input left old new → EndsFormat g (status_at end) old new × (left ≡ input)
@@ -160,10 +136,5 @@ served_on words (Format there h) path s end input left old new given asks ends =
 served_on words (Show there) path s end input left old new given asks ends =
     let same : codes "show" ≡ codes "serve" = two_names _ _ (command_of words) given.1 asks.1 in cc
 served_on words (Serve there t) path s end input left old new given asks ends =
-    (end, refl, subst (λ u. EndsInFile u end input left old new) (service_same t s (given.3 ∙ sym asks.3)) ends)
+    (end, refl, subst (λ u. EndsInFile u end input left old new) (service_same ends.0 s (ends.1 ∙ ap with_few_workers given.3 ∙ sym asks.3)) ends.2)
 served_on words (Help text) path s end input left old new given asks ends = absurd (subst (IsAmong (kind_of text)) asks.0 given.0)
-
--- ---- words that name a command have no mistakes
-
-pub no_mistake : (words : List Text) (error : Error) → findings words ≡ [] → IsReason words (by_words error) → ⊥
-no_mistake words error nothing reason = subst (IsAmong (kind_of error)) nothing reason.0

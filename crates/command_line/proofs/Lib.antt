@@ -1,5 +1,3 @@
-pub mod Reading
 pub mod Ending
-pub mod Options
 pub mod Services
 pub mod Examples

@@ -3,15 +3,19 @@ use Rattle.std.specs.Prelude.{◌≡◌, ◌⊎◌, ℕ, List, Option, Result, O
 use Rattle.affinity.specs.declared.geometry.Geometry.{Geometry}
 use Rattle.commands.specs.Ends.{EndsMaking, EndsServing, EndsShowing}
 use Rattle.commands.specs.Faults.{status_of}
-use Rattle.commands.specs.Serving.{EndsInFile}
+use Rattle.commands.specs.Serving.{EndsInFile, numbers_of_service}
 use Rattle.commands.specs.declared.faults.Fault.{Fault}
-use Rattle.commands.specs.declared.faults.Fault.TheVariants.{Write, OutOfMemory}
+use Rattle.commands.specs.declared.faults.Fault.TheVariants.{Write, GeometryOutOfRange, OutOfMemory}
 use Rattle.commands.specs.declared.service.Service.{Service}
-use Rattle.command_line.specs.declared.words.Request.{Request}
-use Rattle.command_line.specs.declared.words.Request.TheVariants.{Help, Plain, Format, Show, Serve}
+use Rattle.command_line.specs.Services.{with_few_workers}
+use Rattle.words.specs.Words.{service_numbers}
+use Rattle.words.specs.declared.words.Request.{Request}
+use Rattle.words.specs.declared.words.Request.TheVariants.{Help, Plain, Format, Show, Serve}
+use Rattle.words.specs.declared.words.WordRefusal.{WordRefusal}
+use Rattle.words.specs.declared.words.WordRefusal.TheVariants as refusal
 
 -- What was written where the request came to this end, and what is left of the input: that of its command.
--- Help reads nothing. Its text, and whether it was written, is open.
+-- Help reads nothing. Its text, and whether it was written, is open. The service is that of the numbers that were given.
 abbrev pub Ends : Request → Result (Unit {0}) Fault → Option (List ℕ) → Option (List ℕ) → Option (List ℕ) → Option (List ℕ) → Type 0
 Ends (Help text) (Ok _) input left old new = left ≡ input
 Ends (Help text) (Err Write) input left old new = left ≡ input
@@ -19,11 +23,18 @@ Ends (Help text) (Err _) input left old new = ⊥
 Ends (Plain g) end input left old new = EndsServing g end input left old new
 Ends (Format path g) end input left old new = (left ≡ input) × EndsMaking g end old new
 Ends (Show path) end input left old new = (left ≡ input) × EndsShowing end old new
-Ends (Serve path s) end input left old new = EndsInFile s end input left old new
+Ends (Serve path given) end input left old new = (s : Service) × (numbers_of_service s ≡ with_few_workers (service_numbers given))
+    × EndsInFile s end input left old new
 
 abbrev pub status_at : Result (Unit {0}) Fault → ℕ
 status_at (Ok _) = 0
 status_at (Err fault) = status_of fault
+
+-- the status where the words give no request
+abbrev pub status_of_refusal : WordRefusal → ℕ
+status_of_refusal (refusal.Words _) = 2
+status_of_refusal refusal.OutOfMemory = status_of OutOfMemory
+status_of_refusal refusal.GeometryOutOfRange = status_of GeometryOutOfRange
 
 -- The service came to an end that has this status.
 abbrev pub EndsPlain : Geometry → ℕ → Option (List ℕ) → Option (List ℕ) → Option (List ℕ) → Option (List ℕ) → Type 0

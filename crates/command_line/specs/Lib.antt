@@ -1,2 +1,2 @@
-pub mod Words
+pub mod Services
 pub mod Ends

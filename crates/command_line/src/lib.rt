@@ -1,8 +1,7 @@
-//! The command line: which words the program takes, what they ask for, and that it is done.
+//! The command line: what the words of a call ask for is done.
 #![tactic(auto)]
 
 mod program;
-mod words;
 
 pub use commands::report_unread_words;
 pub use program::command;

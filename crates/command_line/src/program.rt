@@ -1,14 +1,15 @@
 //! The program over a reader and two writers.
 ghost use Rattle.std.specs.Prelude.{◌≡◌, ◌⊎◌, ℕ, List, [], ◌∷◌, codes, map, string_bytes};
 ghost use Rattle.affinity.specs.Geometry.{standard};
-ghost use Rattle.command_line.specs.Ends.{Ends, EndsFormat, EndsHelp, EndsPlain, EndsRefused, EndsServe, EndsShow};
-ghost use Rattle.command_line.specs.Words.{AsksFormat, AsksHelp, AsksNoService, AsksPlain, AsksServe, AsksShow, AreRefused};
+ghost use Rattle.command_line.specs.Ends.{Ends, EndsFormat, EndsHelp, EndsPlain, EndsRefused, EndsServe, EndsShow, status_of_refusal};
+ghost use Rattle.command_line.specs.Services.{AsksServe, with_few_workers};
+ghost use Rattle.words.specs.Words.{AsksFormat, AsksHelp, AsksNoService, AsksPlain, AsksShow, AreRefused, service_numbers};
 ghost use Rattle.affinity.specs.declared.geometry.Geometry.{Geometry};
+ghost use Rattle.commands.specs.Serving.{numbers_of_service};
 ghost use Rattle.commands.specs.declared.service.Service.{Service};
 
-use crate::words::{Request, WordRefusal, read_words};
 use commands::{
-    Fault, WRONG_WORDS, answer_input, format_device, report, serve_device, show_device,
+    Fault, Service, WRONG_WORDS, answer_input, format_device, report, serve_device, show_device,
 };
 use std::alloc::Global;
 use std::fs::File;
@@ -16,6 +17,14 @@ use std::io::{Read, Write};
 use std::rt::Files;
 use std::sync::Wait;
 use std::thread::Threads;
+use words::{Request, ServiceNumbers, WordRefusal, read_words};
+
+/// The service that has these numbers, with 64 workers where more are given.
+fn service_of(numbers: ServiceNumbers) -> Service
+    ensures { numbers_of_service result ≡ with_few_workers (service_numbers numbers) }
+{
+    Service::new(numbers.workers, numbers.slots, numbers.every)
+}
 
 /// Does what was asked for, from `r` to `w`.
 pub fn run<T: Files<File = File> + Threads + Wait + Sync, R: Read, W: Write>(
@@ -36,7 +45,23 @@ pub fn run<T: Files<File = File> + Threads + Wait + Sync, R: Read, W: Write>(
         Request::Plain(geometry) => answer_input(alloc, &geometry, r, w),
         Request::Format(path, geometry) => format_device(rt, alloc, path, geometry, w),
         Request::Show(path) => show_device(rt, alloc, path, w),
-        Request::Serve(path, service) => serve_device(rt, alloc, path, service, r, w),
+        Request::Serve(path, numbers) => {
+            serve_device(rt, alloc, path, service_of(numbers), r, w)
+        }
+    }
+}
+
+/// Prints on `e` why the words give no request, and answers the exit status. A write that fails is not looked at.
+fn report_refusal<E: Write>(refusal: WordRefusal, e: &mut E) -> u8
+    ensures { result ≡ status_of_refusal refusal }
+{
+    match refusal {
+        WordRefusal::Words(error) => {
+            let _ = write!(e, "{error}");
+            WRONG_WORDS
+        }
+        WordRefusal::OutOfMemory => report(Fault::OutOfMemory, e),
+        WordRefusal::GeometryOutOfRange => report(Fault::GeometryOutOfRange, e),
     }
 }
 
@@ -76,11 +101,7 @@ pub fn command<T: Files<File = File> + Threads + Wait + Sync, R: Read, W: Write,
 {
     let request = match read_words(alloc, words) {
         Ok(request) => request,
-        Err(WordRefusal::Fault(fault)) => return report(fault, e),
-        Err(WordRefusal::Words(error)) => {
-            let _ = write!(e, "{error}");
-            return WRONG_WORDS;
-        }
+        Err(refusal) => return report_refusal(refusal, e),
     };
     match run(rt, alloc, request, r, w) {
         Ok(()) => 0,

@@ -2,9 +2,9 @@ use Rattle.std.proofs.Common.{◌≡◌, ◌∙◌, ap, ap₂, codes, true}
 use Rattle.std.proofs.lemmas.Result.{IfOk-weaker}
 use Rattle.clap.specs.Simple.{on_top}
 use Rattle.clap.specs.Words.{App, app_of, new_app, with_subcommand}
-use Rattle.command_line.proofs.Options.{no_globals}
-use Rattle.command_line.specs.Words.{bare, format, plain, serve, show, with_numbers, with_service}
-use Rattle.command_line.proofs.words.commands.Goals as goal
+use Rattle.words.proofs.Options.{no_globals}
+use Rattle.words.specs.Words.{bare, format, plain, serve, show, with_numbers, with_service}
+use Rattle.words.proofs.words.commands.Goals as goal
 
 abbrev top_of : App → App
 top_of a = on_top (λ s. record s { subcommand_required = true; arg_required_else_help = true }) a

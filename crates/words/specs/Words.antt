@@ -1,5 +1,5 @@
 -- What the words of a call ask for. `clap` reads them, by its rules for the commands and options that stand here.
-use Rattle.std.specs.Prelude.{◌≡◌, ◌≢◌, ◌&&◌, ◌⊎◌, ℕ, Bool, true, false, List, [], ◌∷◌, fold, length, Option, Some, None, option_and_then, option_map, unwrap_or, min, Result, Ok, Err, codes, if◌then◌else◌, nat_lt, ℤ, pos}
+use Rattle.std.specs.Prelude.{◌≡◌, ◌≢◌, ◌&&◌, ◌⊎◌, ℕ, Bool, true, false, List, [], ◌∷◌, fold, length, Option, Some, None, option_and_then, option_map, unwrap_or, Result, Ok, Err, codes, if◌then◌else◌, nat_lt, ℤ, pos}
 use Rattle.std.specs.Char.{digit_value}
 use Rattle.std.specs.List.{list_all}
 use Rattle.std.specs.Str.Parse.{digits_value, without_leading_plus}
@@ -14,13 +14,11 @@ use Rattle.clap.specs.declared.error.Error.{Error}
 use Rattle.clap.specs.declared.error.kind.ErrorKind.{ErrorKind}
 use Rattle.clap.specs.declared.error.kind.ErrorKind.TheVariants.{DisplayHelp, DisplayVersion}
 use Rattle.clap.specs.declared.error.kind.ErrorKind.TheVariants as kind
-use Rattle.commands.specs.Serving.{numbers_of_service}
-use Rattle.commands.specs.declared.faults.Fault.TheVariants.{GeometryOutOfRange, OutOfMemory}
-use Rattle.commands.specs.declared.service.Service.{Service}
-use Rattle.command_line.specs.declared.words.Request.{Request}
-use Rattle.command_line.specs.declared.words.Request.TheVariants.{Help, Plain, Format, Show, Serve}
-use Rattle.command_line.specs.declared.words.WordRefusal.{WordRefusal}
-use Rattle.command_line.specs.declared.words.WordRefusal.TheVariants.{Words, Fault}
+use Rattle.words.specs.declared.words.Request.{Request}
+use Rattle.words.specs.declared.words.Request.TheVariants.{Help, Plain, Format, Show, Serve}
+use Rattle.words.specs.declared.words.ServiceNumbers.{ServiceNumbers}
+use Rattle.words.specs.declared.words.WordRefusal.{WordRefusal}
+use Rattle.words.specs.declared.words.WordRefusal.TheVariants.{Words, OutOfMemory, GeometryOutOfRange}
 
 -- ---- the commands
 
@@ -101,10 +99,14 @@ numbers_in rows =
     ∷ number_in rows (codes "half") standard.half
     ∷ []
 
--- the numbers of a service; no words pass that give it more than 64 workers
+-- the numbers of a service in their order: its workers, its slots, and after how many records it makes a point
+abbrev pub service_numbers : ServiceNumbers → List ℕ
+service_numbers s = s.workers ∷ s.slots ∷ s.every ∷ []
+
+-- the numbers of a service
 abbrev pub service_in : List Row → List ℕ
 service_in rows =
-    min (number_in rows (codes "workers") 2) 64
+    number_in rows (codes "workers") 2
     ∷ number_in rows (codes "slots") 16
     ∷ number_in rows (codes "every") 0
     ∷ []
@@ -153,7 +155,7 @@ device_at (Some command) = device_in command.1
 -- The geometry of these numbers, or their refusal.
 abbrev pub GivesGeometry : List ℕ → Result Geometry WordRefusal → Type 0
 GivesGeometry numbers (Ok g) = numbers_of g ≡ numbers
-GivesGeometry numbers (Err refusal) = (refusal ≡ Fault GeometryOutOfRange) × (¬ (AreInRange numbers))
+GivesGeometry numbers (Err refusal) = (refusal ≡ GeometryOutOfRange) × (¬ (AreInRange numbers))
 
 -- The request, or its refusal, by the command.
 abbrev pub IsRequested : Option (Text × List Row) → Result Request WordRefusal → Type 0
@@ -162,8 +164,8 @@ IsRequested command (Ok (Format path g)) = IsNamed (codes "format") command × (
     × (numbers_of g ≡ numbers_at command)
 IsRequested command (Ok (Show path)) = IsNamed (codes "show") command × (path.now ≡ device_at command)
 IsRequested command (Ok (Serve path s)) = IsNamed (codes "serve") command × (path.now ≡ device_at command)
-    × (numbers_of_service s ≡ service_at command)
-IsRequested command (Err (Fault GeometryOutOfRange)) =
+    × (service_numbers s ≡ service_at command)
+IsRequested command (Err GeometryOutOfRange) =
     (¬ (IsNamed (codes "show") command)) × (¬ (IsNamed (codes "serve") command)) × (¬ (AreInRange (numbers_at command)))
 IsRequested command _ = ⊥
 
@@ -180,11 +182,11 @@ AsksFormat words path g = (findings words ≡ []) × IsNamed (codes "format") (c
 abbrev pub AsksShow : List Text → Text → Type 0
 AsksShow words path = (findings words ≡ []) × IsNamed (codes "show") (command_of words) × (path ≡ device_at (command_of words))
 
--- The words ask for service with the device in the file of this path.
-abbrev pub AsksServe : List Text → Text → Service → Type 0
-AsksServe words path s =
+-- The words ask for service with the device in the file of this path, and give these numbers for it.
+abbrev pub AsksServeWith : List Text → Text → List ℕ → Type 0
+AsksServeWith words path numbers =
     (findings words ≡ []) × IsNamed (codes "serve") (command_of words) × (path ≡ device_at (command_of words))
-    × (numbers_of_service s ≡ service_at (command_of words))
+    × (numbers ≡ service_at (command_of words))
 
 -- The words ask for service without a device, or for a device, at numbers that are no geometry.
 abbrev pub AsksOutOfRange : List Text → Type 0
@@ -215,21 +217,17 @@ Asks words (Help text) = IsAmong (kind_of text) (findings words) × (is_mistake 
 Asks words (Plain g) = AsksPlain words g
 Asks words (Format path g) = AsksFormat words path.now g
 Asks words (Show path) = AsksShow words path.now
-Asks words (Serve path s) = AsksServe words path.now s
+Asks words (Serve path s) = AsksServeWith words path.now (service_numbers s)
 
 -- The words give no request for this reason. Memory may be wanting at any words.
 abbrev pub IsReason : List Text → WordRefusal → Type 0
 IsReason words (Words error) = IsAmong (kind_of error) (findings words) × (is_mistake (kind_of error) ≡ true)
-IsReason words (Fault OutOfMemory) = Unit {0}
-IsReason words (Fault GeometryOutOfRange) = AsksOutOfRange words
-IsReason words (Fault _) = ⊥
-
-abbrev pub no_memory : WordRefusal
-no_memory = Fault OutOfMemory
+IsReason words OutOfMemory = Unit {0}
+IsReason words GeometryOutOfRange = AsksOutOfRange words
 
 -- what an error of `clap` stands for, by its kind
 abbrev pub answer_by : Error → ErrorKind → Result Request WordRefusal
-answer_by error kind.OutOfMemory = Err no_memory
+answer_by error kind.OutOfMemory = Err OutOfMemory
 answer_by error DisplayHelp = Ok (Help error)
 answer_by error DisplayVersion = Ok (Help error)
 answer_by error _ = Err (Words error)

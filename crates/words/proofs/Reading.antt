@@ -5,12 +5,11 @@ use Rattle.clap.specs.Words.{HasKind, IsAmong, Text, kind_of, subcommand_of}
 use Rattle.clap.specs.declared.error.Error.{Error}
 use Rattle.clap.specs.declared.error.kind.ErrorKind.{ErrorKind}
 use Rattle.clap.specs.declared.error.kind.ErrorKind.TheVariants as kind
-use Rattle.command_line.specs.Words.{Asks, IsReason, IsRequested, findings, waffd, answer_by, answer_of, is_mistake}
-use Rattle.commands.specs.declared.faults.Fault.TheVariants.{GeometryOutOfRange}
-use Rattle.command_line.specs.declared.words.Request.{Request}
-use Rattle.command_line.specs.declared.words.Request.TheVariants.{Plain, Format, Show, Serve}
-use Rattle.command_line.specs.declared.words.WordRefusal.TheVariants.{Fault}
-use Rattle.command_line.specs.declared.words.WordRefusal.{WordRefusal}
+use Rattle.words.specs.Words.{Asks, IsReason, IsRequested, findings, waffd, answer_by, answer_of, is_mistake}
+use Rattle.words.specs.declared.words.Request.{Request}
+use Rattle.words.specs.declared.words.Request.TheVariants.{Plain, Format, Show, Serve}
+use Rattle.words.specs.declared.words.WordRefusal.TheVariants.{GeometryOutOfRange}
+use Rattle.words.specs.declared.words.WordRefusal.{WordRefusal}
 use Rattle.std.specs.Result.{IfErr, IfOk, MatchResult}
 
 abbrev pub Holds : List Text → Result Request WordRefusal → Type 0
@@ -38,7 +37,7 @@ holds_requested words (Ok (Plain g)) nothing is = (nothing, is.0, is.1)
 holds_requested words (Ok (Format path g)) nothing is = (nothing, is.0, is.1, is.2)
 holds_requested words (Ok (Show path)) nothing is = (nothing, is.0, is.1)
 holds_requested words (Ok (Serve path s)) nothing is = (nothing, is.0, is.1, is.2)
-holds_requested words (Err (Fault GeometryOutOfRange)) nothing is = (nothing, is.0, is.1, is.2)
+holds_requested words (Err GeometryOutOfRange) nothing is = (nothing, is.0, is.1, is.2)
 holds_requested words _ nothing is = absurd is
 
 pub if_ok : (words : List Text) (r : Result Request WordRefusal) → Holds words r → IfOk r (Asks words)

@@ -2,8 +2,8 @@ use Rattle.std.proofs.Common.{◌∙◌, ap, Bor, List, [], ℕ, refl}
 use Rattle.std.specs.Prelude.{unwrap_or}
 use Rattle.clap.specs.Words.{found_of}
 use Rattle.clap.proofs.WalkLemmas.{first_value-rows}
-use Rattle.command_line.proofs.Options.{unwrap_or-now}
-use Rattle.command_line.proofs.words.device_given.Goals as goal
+use Rattle.words.proofs.Options.{unwrap_or-now}
+use Rattle.words.proofs.words.device_given.Goals as goal
 
 pub returns : goal.returns
 returns c =

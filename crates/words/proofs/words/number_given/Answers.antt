@@ -3,9 +3,9 @@ use Rattle.std.specs.Prelude.{option_and_then, unwrap_or}
 use Rattle.std.specs.Str.Parse.{ExplainsUnsignedError, HasUnsignedDigitsIfOk, ParsesUnsigned}
 use Rattle.clap.specs.Words.{found_of, one_text}
 use Rattle.clap.proofs.WalkLemmas.{one_text-rows}
-use Rattle.command_line.specs.Words.{number_of}
-use Rattle.command_line.proofs.Options.{got_number}
-use Rattle.command_line.proofs.words.number_given.Goals as goal
+use Rattle.words.specs.Words.{number_of}
+use Rattle.words.proofs.Options.{got_number}
+use Rattle.words.proofs.words.number_given.Goals as goal
 
 pub returns : goal.returns
 returns c =

@@ -1,8 +1,8 @@
 use Rattle.std.proofs.Common.{◌≡◌, map, string_bytes, subst, true, refl, []}
 use Rattle.clap.specs.Words.{App, HasKind, fault_of, is_simple, is_simple_and_free, subcommand_of, subcommand_rows_of}
-use Rattle.command_line.specs.Words.{IsRequested, findings, waffd}
-use Rattle.command_line.proofs.Reading.{Holds, holds, holds_requested, if_err, if_ok}
-use Rattle.command_line.proofs.words.read_words.Goals as goal
+use Rattle.words.specs.Words.{IsRequested, findings, waffd}
+use Rattle.words.proofs.Reading.{Holds, holds, holds_requested, if_err, if_ok}
+use Rattle.words.proofs.words.read_words.Goals as goal
 
 -- clap took the words, and the options tell the rest
 taken : (c : goal.Joined-matches) → Holds (map string_bytes c.args.words.now) c.requested.result

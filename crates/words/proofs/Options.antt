@@ -11,7 +11,7 @@ use Rattle.affinity.specs.Geometry.{numbers_of}
 use Rattle.affinity.specs.Limits.{AreInRange}
 use Rattle.clap.specs.Words.{Text}
 use Rattle.clap.specs.Matches.{ReadsOne}
-use Rattle.command_line.specs.Words.{number_of}
+use Rattle.words.specs.Words.{number_of}
 
 -- a command that is plain has no argument for the commands below it
 pub no_globals : (groups external globals rest : Bool) → (groups && (external && (not globals && rest))) ≡ true → globals ≡ false

@@ -1,14 +1,13 @@
 //! The words that the program is called with, and what they ask for.
 ghost use Rattle.std.specs.Prelude.{◌≡◌, IfOk, IfErr, false, map, string_bytes};
 ghost use Rattle.clap.specs.Words.{app_of, found_of, new_app, rows_of, rule_of, subcommand_rows_of, with_rule};
-ghost use Rattle.command_line.specs.Words.{Asks, GivesGeometry, IsReason, IsRequested, answer_of, device_in, device_rule, no_memory, number_in, number_rule, numbers_in, rule_within, service_in, waffd, with_numbers, with_service};
-ghost use Rattle.commands.specs.Serving.{numbers_of_service};
+ghost use Rattle.words.specs.Words.{Asks, GivesGeometry, IsReason, IsRequested, answer_of, device_in, device_rule, number_in, number_rule, numbers_in, rule_within, service_in, service_numbers, waffd, with_numbers, with_service};
+ghost use Rattle.words.specs.declared.words.WordRefusal.TheVariants.{OutOfMemory};
 
 use affinity::{BadGeometry, Geometry};
 use clap::builder::ValueParser;
 use clap::error::ErrorKind;
 use clap::{Arg, ArgMatches, Command, value_parser};
-use commands::{Fault, Service};
 use std::alloc::{AllocError, Global};
 
 // What help says of the commands.
@@ -49,6 +48,17 @@ const SLOTS: &str = "Lines that are read and not answered yet, 1 to 1024 [defaul
 const EVERY: &str =
     "Changes between consistency points, 0 to 1024; 0 makes them where the log is full [default: 0]";
 
+/// The numbers that the words give for a service.
+#[derive(Clone, Copy)]
+pub struct ServiceNumbers {
+    /// Threads that run messages.
+    pub workers: u16,
+    /// Lines that may be read and not be answered yet.
+    pub slots: u16,
+    /// Records after which a consistency point is made; with 0 one is made where the log is full.
+    pub every: u16,
+}
+
 /// What the words ask for.
 #[derive(Drop)]
 pub enum Request<'a> {
@@ -61,7 +71,7 @@ pub enum Request<'a> {
     /// Tell what the device in the file of this path holds.
     Show(&'a str),
     /// Serve standard input to standard output with the device in the file of this path.
-    Serve(&'a str, Service),
+    Serve(&'a str, ServiceNumbers),
 }
 
 /// Why the words give no request.
@@ -69,15 +79,17 @@ pub enum Request<'a> {
 pub enum WordRefusal {
     /// `clap` says what is wrong with them.
     Words(clap::Error),
-    /// They are good, and something else is not.
-    Fault(Fault),
+    /// There was no memory to read them.
+    OutOfMemory,
+    /// One of the numbers of the geometry is out of its range.
+    GeometryOutOfRange,
 }
 
 impl From<AllocError> for WordRefusal {
-    ghost from_gives = { λ _ refusal. refusal ≡ no_memory };
+    ghost from_gives = { λ _ refusal. refusal ≡ OutOfMemory };
 
     fn from(_error: AllocError) -> WordRefusal {
-        WordRefusal::Fault(Fault::OutOfMemory)
+        WordRefusal::OutOfMemory
     }
 }
 
@@ -86,7 +98,7 @@ fn answered<'a>(error: clap::Error) -> Result<Request<'a>, WordRefusal>
     ensures { result ≡ answer_of error }
 {
     if error.kind() == ErrorKind::OutOfMemory {
-        return Err(WordRefusal::Fault(Fault::OutOfMemory));
+        return Err(WordRefusal::OutOfMemory);
     }
     if error.use_stderr() {
         return Err(WordRefusal::Words(error));
@@ -209,19 +221,19 @@ fn geometry_given(options: &ArgMatches<'_>) -> Result<Geometry, WordRefusal>
 {
     match Geometry::new(numbers_given(options)) {
         Ok(geometry) => Ok(geometry),
-        Err(BadGeometry) => Err(WordRefusal::Fault(Fault::GeometryOutOfRange)),
+        Err(BadGeometry) => Err(WordRefusal::GeometryOutOfRange),
     }
 }
 
-/// The service that the options ask for.
-fn service_given(options: &ArgMatches<'_>) -> Service
-    ensures { numbers_of_service result ≡ service_in (rows_of (found_of options.now)) }
+/// The numbers of the service that the options ask for.
+fn service_given(options: &ArgMatches<'_>) -> ServiceNumbers
+    ensures { service_numbers result ≡ service_in (rows_of (found_of options.now)) }
 {
-    Service::new(
-        number_given(options, "workers", 2),
-        number_given(options, "slots", 16),
-        number_given(options, "every", 0),
-    )
+    ServiceNumbers {
+        workers: number_given(options, "workers", 2),
+        slots: number_given(options, "slots", 16),
+        every: number_given(options, "every", 0),
+    }
 }
 
 /// The file of the device that was given.

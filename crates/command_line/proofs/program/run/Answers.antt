@@ -1,0 +1,5 @@
+use Rattle.command_line.proofs.program.run.Goals as goal
+
+-- the service is that of the numbers that were given
+pub returns-in-Serve : goal.returns-in-Serve
+returns-in-Serve g c = rw c.in-Serve.is (c.service_of.result, c.service_of.ensures, c.serve_device.ensures)
