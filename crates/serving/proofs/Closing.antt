@@ -178,14 +178,18 @@ promises_or_declines keeps s old p u core input before (Err faults.Device) e = p
 promises_or_declines keeps s old p u core input before (Err faults.Write) e = promises_by keeps s p u (Err faults.Write) e
 promises_or_declines keeps s old p u core input before (Err faults.NoWorkers) e = absurd e
 
--- Where a session has served since a start, and this has ended it or nothing has moved, it promises so of that start.
-pub promises_from : (keeps : Type 0) (o : Option Start) (s : Start) (old p q : SessionView) → o ≡ Some s → IsUnderWayFrom keeps o p → p ≡ q
-    → old.core ≡ s.core → old.behind ≡ s.input → old.told ≡ s.before
-    → (result : Result (Unit {0}) ServeFault) → EndsOrDeclines old q result
-    → PromisesAll keeps (start_machine s) p.core s.input p.behind s.before p.told result
-promises_from keeps o s old p q is u same core input before result e =
-    promises_or_declines keeps s old p (begun keeps o s p is u) core input before result
-    (subst (λ (x : SessionView). EndsOrDeclines old x result) (sym same) e)
+-- Where a session has served since a start, and this has ended it or nothing has moved, so much is promised of its parts.
+pub promises_from : (keeps : Type 0) (o : Option Start) (s : Start) (old p : SessionView) → o ≡ Some s → IsUnderWayFrom keeps o p
+    → old.core ≡ s.core → old.behind ≡ s.input → old.told ≡ s.before → (result : Result (Unit {0}) ServeFault) → EndsOrDeclines old p result
+    → (core : CoreView) (behind told : Option (List ℕ)) → core ≡ p.core → behind ≡ p.behind → told ≡ p.told
+    → PromisesAll keeps (start_machine s) core s.input behind s.before told result
+promises_from keeps o s old p is u at input before result e core behind told same unread untold =
+    let Promised : CoreView → Option (List ℕ) → Option (List ℕ) → Type 0 =
+    λ c b w. PromisesAll keeps (start_machine s) c s.input b s.before w result in
+    subst (λ (c : CoreView). Promised c behind told) (sym same)
+    (subst (λ (b : Option (List ℕ)). Promised p.core b told) (sym unread)
+    (subst (λ (w : Option (List ℕ)). Promised p.core p.behind w) (sym untold)
+    (promises_or_declines keeps s old p (begun keeps o s p is u) at input before result e)))
 
 -- Where each line that was read is answered and nothing has failed, the reason why no more was read has ended it.
 ended_for : (keeps : Type 0) (o : Option Start) (p : SessionView) → IsUnderWayFrom keeps o p → IsServed p → (stop : Stop) → p.stop ≡ Some stop

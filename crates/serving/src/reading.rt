@@ -35,7 +35,11 @@ fn take_message<D: Disk>(core: &mut Core<D>, m: &Msg) -> Result<Line, ArriveRefu
 }
 
 /// Takes a line into the row, and its message into the core; or tells why its message isn't taken.
-fn take_line<D: Disk>(core: &mut Core<D>, row: &mut LineRow, line: &[u8]) -> Result<(), ArriveRefusal>
+fn take_line<D: Disk>(
+    core: &mut Core<D>,
+    row: &mut LineRow,
+    line: &[u8],
+) -> Result<(), ArriveRefusal>
     requires room { length row.old.lines < row.old.slots }
     requires order { AreConsecutive (with_tickets row.old.lines ++ Unanswered core.old.next ∷ []) }
     ensures takes { (hands : List Hand) → Holds (record { core = core.old; hands = hands })

@@ -99,6 +99,7 @@ struct Serving<'a, D: Disk, R, L> {
     reader: &'a mut R,
     teller: L,
     buffers: Buffers,
+    places: usize,
     every: u64,
 }
 
@@ -140,15 +141,16 @@ fn serve_lent<
     of: PhantomData<N>,
 ) -> (Core<D>, Result<(), ServeFault>, &'a mut R, L)
     requires reader { serving.reader.ghost_name ≡ N.name }
-    requires can_begin { CanBegin L.start serving.core crew.bench.now.slots (R.remaining serving.reader.now) (L.told serving.teller)
+    requires can_begin { CanBegin L.start serving.core serving.places (R.remaining serving.reader.now) (L.told serving.teller)
         serving.buffers.row }
+    requires places { crew.bench.now.slots ≡ serving.places }
     requires input { 1101 ≤ vec_len serving.buffers.input }
     requires none_waits { serving.buffers.out ≡ [] }
     requires bench { desk.bench ≡ crew.bench.now }
-    requires lent { desk.lent ≡ replicate crew.bench.now.slots None }
-    requires seats { All (λ w. w ≡ desk.bench) seats.items }
+    requires lent { desk.lent ≡ replicate serving.places None }
+    requires seats { All (λ w. w ≡ crew.bench.now) seats.items }
     ensures same { result.2.ghost_name ≡ serving.entry.reader.ghost_name }
-    ensures run { HasRunSo D.keeps (with_lent serving.entry.core (replicate crew.entry.bench.now.slots None)) result.0
+    ensures run { HasRunSo D.keeps (with_lent serving.entry.core (replicate serving.entry.places None)) result.0
         (R.remaining serving.entry.reader.now) (L.told serving.entry.teller) (L.told result.3) result.1 }
     ensures ends { EndsSo serving.entry.core result.0 (R.remaining serving.entry.reader.now) (R.remaining result.2.now)
         (L.told serving.entry.teller) (L.told result.3) result.1 }
@@ -160,6 +162,7 @@ fn serve_lent<
         reader,
         teller,
         buffers,
+        places: _,
         every,
     } = serving;
     let Buffers { input, row, out } = buffers;
@@ -179,14 +182,9 @@ fn serve_lent<
         crew: Crew { rt, bench, gate },
     };
     let ended = with_workers(Crew { rt, bench, gate }, &mut session, seats);
-    session.core.stands();
-    let Session {
-        core,
-        lines,
-        teller,
-        ..
-    } = session;
-    let LentReader { reader, of: _ } = lines.into_inner();
+    let (core, lent, teller) = session.into_parts();
+    core.stands();
+    let LentReader { reader, of: _ } = lent;
     (core, ended, reader, teller)
 }
 
@@ -256,12 +254,18 @@ pub fn serve_to<
         reader: r,
         teller,
         buffers,
+        places: workers,
         every,
     };
     let bench = &bench;
     let crew = Crew { rt, bench, gate };
-    let (core, ended, reader, teller) =
-        serve_lent::<T, R, L, D, G, Brand>(serving, crew, desk, seats, PhantomData);
+    let (core, ended, reader, teller) = serve_lent::<T, R, L, D, G, Brand>(
+        serving,
+        crew,
+        desk,
+        seats,
+        PhantomData,
+    );
     come_back(reader);
     match ended {
         Ok(()) => (Ok(core), teller),

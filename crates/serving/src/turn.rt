@@ -220,7 +220,9 @@ impl<'c, R: Read, D: Disk, L: Teller<D>, T: Wait, G: Gate> Session<'c, R, D, L, 
         ensures moves { Moves self.old self.new result }
     {
         for _ in 0..BATCH {
-            if batch.is_ripe() || !self.desk.any_lent() {
+            let is_ripe = batch.is_ripe();
+            let is_lent = self.desk.any_lent();
+            if is_ripe || !is_lent {
                 return Ok(());
             }
             let came = self.look_for_some(batch)?;
@@ -288,7 +290,8 @@ impl<'c, R: Read, D: Disk, L: Teller<D>, T: Wait, G: Gate> Session<'c, R, D, L, 
         ensures moves { Moves self.old self.new result }
     {
         self.send()?;
-        if self.desk.any_lent() {
+        let is_lent = self.desk.any_lent();
+        if is_lent {
             self.crew.bench.wait(self.crew.rt, &mut self.desk);
             return Ok(false);
         }

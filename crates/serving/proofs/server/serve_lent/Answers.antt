@@ -1,9 +1,8 @@
 -- Where it begins; and what it promises, since the core at the end is as it always is.
-use Rattle.std.proofs.Common.{ap, refl, sym, subst}
+use Rattle.std.proofs.Common.{ap, refl, sym, subst, ◌∙◌}
 use Rattle.std.specs.Prelude.{OnOk}
 use Rattle.scheduler.specs.Kept.{CoreView}
 use Rattle.serving.specs.Serve.{HasEmptyLog}
-use Rattle.serving.specs.Session.{SessionView}
 use Rattle.serving.specs.Telling.{Start}
 use Rattle.serving.proofs.Closing.{first_at, has_workers, not_drained, promises_from}
 use Rattle.serving.proofs.server.serve_lent.Goals as goal
@@ -12,7 +11,7 @@ pub invariant_of-session : goal.invariant_of-session
 invariant_of-session g c =
     let lines = c.new-lines.ensures in (
       first_at g.D.Disk.keeps g.L.Teller.start _ _ _ _ _ _ _ _ _ _ _ c.requires.can_begin c.stands.ensures.no_doubt c.requires.none_waits
-          lines.unread (not_drained _ _ lines.open) lines.open (ap (λ (b : _). b.slots) c.requires.bench) c.requires.lent,
+          lines.unread (not_drained _ _ lines.open) lines.open (ap (λ (b : _). b.slots) c.requires.bench ∙ c.requires.places) c.requires.lent,
       c.requires.bench,
     )
 
@@ -20,31 +19,34 @@ pub returns-clause-run : goal.returns-clause-run
 returns-clause-run g c =
     let s : Start = record {
       core = c.args.serving.core;
-      places = c.args.crew.bench.now.slots;
+      places = c.args.serving.places;
       input = g.R.Read.remaining c.args.serving.reader.now;
       before = g.L.Teller.told c.args.serving.teller;
     } in
-    let all = promises_from g.D.Disk.keeps g.L.Teller.start s _ _ _ c.requires.can_begin.is c.session.invariant.0 c.session.view_is
-    refl (ap (λ (l : _). g.R.Read.remaining l.reader.now) c.new-lines.ensures.source) refl c.with_workers-ended.result c.with_workers-ended.ensures.0 in
+    let parts = c.into_parts-core.ensures in
+    let all = promises_from g.D.Disk.keeps g.L.Teller.start s _ c.with_workers-ended.new.duty c.requires.can_begin.is parts.way refl
+    (ap (λ (l : _). g.R.Read.remaining l.reader.now) c.new-lines.ensures.source) refl c.with_workers-ended.result c.with_workers-ended.ensures.0
+    _ _ _ parts.core parts.behind parts.told in
     all.run c.stands-2.ensures.no_doubt c.stands-2.ensures.now
 
 pub returns-clause-ends : goal.returns-clause-ends
 returns-clause-ends g c =
     let s : Start = record {
       core = c.args.serving.core;
-      places = c.args.crew.bench.now.slots;
+      places = c.args.serving.places;
       input = g.R.Read.remaining c.args.serving.reader.now;
       before = g.L.Teller.told c.args.serving.teller;
     } in
-    let all = promises_from g.D.Disk.keeps g.L.Teller.start s _ _ _ c.requires.can_begin.is c.session.invariant.0 c.session.view_is
-    refl (ap (λ (l : _). g.R.Read.remaining l.reader.now) c.new-lines.ensures.source) refl
-    c.with_workers-ended.result c.with_workers-ended.ensures.0 in
-    rw c.into_inner-reader.ensures all.ends
+    let parts = c.into_parts-core.ensures in
+    let all = promises_from g.D.Disk.keeps g.L.Teller.start s _ c.with_workers-ended.new.duty c.requires.can_begin.is parts.way refl
+    (ap (λ (l : _). g.R.Read.remaining l.reader.now) c.new-lines.ensures.source) refl c.with_workers-ended.result c.with_workers-ended.ensures.0
+    _ _ _ parts.core parts.behind parts.told in
+    all.ends
 
 pub returns-clause-emptied : goal.returns-clause-emptied
 returns-clause-emptied g c =
-    subst (λ (p : SessionView). OnOk c.with_workers-ended.result (g.D.Disk.keeps → HasEmptyLog p.core))
-    (sym c.session.view_is) c.with_workers-ended.ensures.1
+    subst (λ (k : CoreView). OnOk c.with_workers-ended.result (g.D.Disk.keeps → HasEmptyLog k)) (sym c.into_parts-core.ensures.core)
+    c.with_workers-ended.ensures.1
 
 pub returns-clause-workers : goal.returns-clause-workers
 returns-clause-workers g c = has_workers _ _ c.with_workers-ended.result c.with_workers-ended.ensures.0

@@ -1,14 +1,23 @@
 -- The lemmas on what goes out; and the session stays under way.
-use Rattle.std.proofs.Common.{List, Option, Some, ap, length, refl, sym, subst, ◌∙◌}
+use Rattle.std.proofs.Common.{◌<◌, ℕ, List, None, Option, Some, ap, length, refl, sym, subst, ◌∙◌}
 use Rattle.std.specs.Prelude.{is_none, position, slice_set}
+use Rattle.std.proofs.lemmas.List.Quantifiers.{position-Some}
+use Rattle.atomic_table.specs.Seated.{TableId}
 use Rattle.legal_runs.specs.declared.outcomes.Outcome.TheVariants as outcomes
 use Rattle.parcel.specs.Run.{JobView}
 use Rattle.serving.specs.Runs.{IsQuiet, with_lent}
 use Rattle.serving.specs.Session.{SessionView}
 use Rattle.serving.proofs.Returning.{set-length}
 use Rattle.serving.proofs.Sending.{goes_out, none_goes, none_goes_any_more}
-use Rattle.serving.proofs.Under.{holds_of, on_machine}
+use Rattle.serving.proofs.Under.{holds_of, on_machine, places_of}
 use Rattle.serving.proofs.session.Session.send_to.Goals as goal
+
+pub lend-requires-clause-place : goal.lend-requires-clause-place
+lend-requires-clause-place g c =
+    let old = c.self.inside in
+    let first = ap (λ (p : SessionView). position is_none p.desk.lent) c.self.view_is ∙ c.requires.first in
+    subst (λ (n : ℕ). c.args.k < n) (places_of g.D.Disk.keeps _ _ c.self.invariant.0 ∙ ap (λ (b : TableId). b.slots) c.self.invariant.1)
+    (position-Some is_none old.desk.lent c.args.k None first).0
 
 pub lend-requires-clause-first : goal.lend-requires-clause-first
 lend-requires-clause-first g c = ap (λ (p : SessionView). position is_none p.desk.lent) c.self.view_is ∙ c.requires.first
