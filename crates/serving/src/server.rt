@@ -188,6 +188,79 @@ fn serve_lent<
     (core, ended, reader, teller)
 }
 
+// With what a server serves, beside its core, its input and its output.
+struct Setting<'c, T, G> {
+    alloc: Global,
+    rt: &'c T,
+    workers: usize,
+    every: u64,
+    gate: &'c G,
+}
+
+// Serves whoever is told lines, with threads of its own; or refuses to, where there are no workers or there is no memory.
+fn serve_told<
+    'c,
+    T: Threads + Wait + Sync,
+    R: Read,
+    L: Teller<D> + Drop,
+    D: Disk + Drop,
+    G: Gate + Sync,
+>(
+    setting: Setting<'c, T, G>,
+    core: Core<D>,
+    r: &mut R,
+    teller: L,
+) -> (Core<D>, Result<(), ServeFault>, L)
+    requires start { L.start ≡ Some (record {
+      core = core;
+      places = setting.workers;
+      input = R.remaining r.old;
+      before = L.told teller;
+    }) }
+    requires idle { IsIdle (world_of core) }
+    requires works { core.failed ≡ false }
+    requires few { setting.workers ≤ 64 }
+    ensures run { HasRunSo D.keeps (with_lent core (replicate setting.entry.workers None)) result.0 (R.remaining r.old)
+        (L.told teller) (L.told result.2) result.1 }
+    ensures ends { EndsSo core result.0 (R.remaining r.old) (R.remaining r.new) (L.told teller) (L.told result.2) result.1 }
+    ensures no_workers { RefusesNone setting.entry.workers result.1 }
+    ensures emptied { OnOk result.1 (D.keeps → HasEmptyLog result.0) }
+{
+    let Setting {
+        alloc,
+        rt,
+        workers,
+        every,
+        gate,
+    } = setting;
+    core.stands();
+    if workers == 0 {
+        return (core, Err(ServeFault::NoWorkers), teller);
+    }
+    let Ok((buffers, bench, desk, seats)) = take_room(alloc, core.slots(), workers) else {
+        return (core, Err(ServeFault::OutOfMemory), teller);
+    };
+    let serving = Serving {
+        core,
+        reader: r,
+        teller,
+        buffers,
+        places: workers,
+        every,
+    };
+    let bench = &bench;
+    let crew = Crew { rt, bench, gate };
+    let (core, ended, reader, teller) = serve_lent::<T, R, L, D, G, Brand>(
+        serving,
+        crew,
+        desk,
+        seats,
+        PhantomData,
+    );
+    come_back(reader);
+    (core, ended, teller)
+}
+
 /// Answers each line that a reader has left with one line, which it tells, while so many workers, each a thread of its own, run
 /// the messages. The lines and the core are as the serial server would leave them, whatever the workers do when. A consistency
 /// point is made after `every` records, if that isn't 0, where the log has no room, and at the end. All memory is taken before
@@ -230,43 +303,14 @@ pub fn serve_to<
     ensures no_workers { MatchResult result.0 (λ _. RefusesNone workers (Ok tt)) (λ e. RefusesNone workers (Err e.fault)) }
     ensures emptied { IfOk result.0 (λ after. D.keeps → HasEmptyLog after) }
 {
-    core.stands();
-    if workers == 0 {
-        return (
-            Err(ServeError {
-                core,
-                fault: ServeFault::NoWorkers,
-            }),
-            teller,
-        );
-    }
-    let Ok((buffers, bench, desk, seats)) = take_room(alloc, core.slots(), workers) else {
-        return (
-            Err(ServeError {
-                core,
-                fault: ServeFault::OutOfMemory,
-            }),
-            teller,
-        );
-    };
-    let serving = Serving {
-        core,
-        reader: r,
-        teller,
-        buffers,
-        places: workers,
+    let setting = Setting {
+        alloc,
+        rt,
+        workers,
         every,
+        gate,
     };
-    let bench = &bench;
-    let crew = Crew { rt, bench, gate };
-    let (core, ended, reader, teller) = serve_lent::<T, R, L, D, G, Brand>(
-        serving,
-        crew,
-        desk,
-        seats,
-        PhantomData,
-    );
-    come_back(reader);
+    let (core, ended, teller) = serve_told(setting, core, r, teller);
     match ended {
         Ok(()) => (Ok(core), teller),
         Err(fault) => (Err(ServeError { core, fault }), teller),
@@ -316,15 +360,6 @@ impl<'w, D: Disk, W: Write, B: Beginning> Teller<D> for Output<'w, W, B> {
         }
         Ok(())
     }
-}
-
-// With what a server serves, beside its core, its input and its output.
-struct Setting<'c, T, G> {
-    alloc: Global,
-    rt: &'c T,
-    workers: usize,
-    every: u64,
-    gate: &'c G,
 }
 
 // Serves for a writer that is lent, and gives it back.

@@ -221,8 +221,8 @@ impl<'c, R: Read, D: Disk, L: Teller<D>, T: Wait, G: Gate> Session<'c, R, D, L, 
     {
         for _ in 0..BATCH {
             let is_ripe = batch.is_ripe();
-            let is_lent = self.desk.any_lent();
-            if is_ripe || !is_lent {
+            let more_come = self.desk.any_lent();
+            if is_ripe || !more_come {
                 return Ok(());
             }
             let came = self.look_for_some(batch)?;
@@ -290,8 +290,8 @@ impl<'c, R: Read, D: Disk, L: Teller<D>, T: Wait, G: Gate> Session<'c, R, D, L, 
         ensures moves { Moves self.old self.new result }
     {
         self.send()?;
-        let is_lent = self.desk.any_lent();
-        if is_lent {
+        let one_comes = self.desk.any_lent();
+        if one_comes {
             self.crew.bench.wait(self.crew.rt, &mut self.desk);
             return Ok(false);
         }
