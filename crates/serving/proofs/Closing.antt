@@ -211,16 +211,7 @@ empties_for stops.Fault P emptied = tt
 empties_for stops.Exhausted P emptied = tt
 empties_for stops.Failed P emptied = tt
 
--- What has ended it is no want of workers or memory.
-pub ends_or_declines : (old p : SessionView) (result : Result (Unit {0}) ServeFault) → EndsBy p result → EndsOrDeclines old p result
-ends_or_declines old p (Ok tt) e = e
-ends_or_declines old p (Err faults.OutOfMemory) e = absurd e
-ends_or_declines old p (Err faults.Read) e = e
-ends_or_declines old p (Err faults.Exhausted) e = e
-ends_or_declines old p (Err faults.Device) e = e
-ends_or_declines old p (Err faults.Write) e = e
-ends_or_declines old p (Err faults.NoWorkers) e = absurd e
-
+-- It is no want of workers.
 pub has_workers : (old p : SessionView) (result : Result (Unit {0}) ServeFault) → EndsOrDeclines old p result → HasWorkers result
 has_workers old p (Ok tt) e = tt
 has_workers old p (Err faults.OutOfMemory) e = tt

@@ -18,7 +18,7 @@ pub(crate) struct Crew<'c, T: Wait, G: Gate> {
 }
 
 impl<'c, T: Wait, G: Gate> Crew<'c, T, G> {
-    /// Lends a job to the workers at place k, the first where nothing is lent.
+    /// Lends a job to the workers at place k, the first where nothing is lent. It is inlined, so that the job isn't moved once more.
     #[inline(always)]
     pub(crate) fn lend(&self, desk: &mut DispatchSeat, k: usize, job: Job)
         requires bench { desk.old.bench ≡ self.now.bench.now }
@@ -50,7 +50,7 @@ pub(crate) trait Duty {
         requires { can_begin self.old }
         ensures { gives self.old self.new result };
 
-    /// Tells the workers to end.
+    /// Tells the workers to end, those too that were started before one that couldn't be.
     fn release(&mut self)
         ensures { self.new ≡ self.old };
 

@@ -17,7 +17,7 @@ use std::sync::Wait;
 use workers::Gate;
 
 /// What a server reports where no more was read for this reason.
-fn told_of(stop: Stop) -> Result<(), ServeFault>
+fn reported_for(stop: Stop) -> Result<(), ServeFault>
     ensures { result ≡ end_of stop }
 {
     match stop {
@@ -128,7 +128,7 @@ impl<'c, R: Read, D: Disk, L: Teller<D>, T: Wait, G: Gate> Session<'c, R, D, L, 
             Ok(()) => {
                 // This look does nothing but open the session's invariant to the proof: a device that works is no reason to stop.
                 let _ = &self.core;
-                told_of(stop)
+                reported_for(stop)
             }
             Err(why) => Err(self.end_early(why)),
         }
