@@ -20,7 +20,7 @@ use crate::PlainFault;
 use crate::server::Server;
 use affinity::{Geometry, Kind, changing};
 use message::{
-    Block, Found, Head, LentReader, LineReader, Loan, Msg, Refusal, ReplyBuffer, WriteFault,
+    Block, Found, Head, LentReader, LineReader, Loan, Msg, Refusal, Reply, ReplyBuffer, WriteFault,
     head_of_line, parse_line, read_block,
 };
 use std::alloc::{AllocError, Global};
@@ -119,6 +119,7 @@ fn answer_question(
     }
     let [a, v, _, _] = numbers;
     match kind {
+        Kind::Read => out.add_reply(&Reply::Hole),
         Kind::List => out.add_reply(&server.list_files(g, a, v)),
         Kind::Usage => out.add_reply(&server.usage_of(g, a, v)),
         _ => add_whole_reply(g, kind, numbers, server, out),

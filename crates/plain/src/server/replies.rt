@@ -1,10 +1,11 @@
 //! The reply to a message that passes its tests.
 
-ghost use Rattle.std.specs.Prelude.{◌≡◌, None, false, IfSome};
+ghost use Rattle.std.specs.Prelude.{◌≡◌, None, false, IfNone, IfSome};
 ghost use Rattle.affinity.specs.declared.geometry.Geometry.{Geometry};
 ghost use Rattle.message.specs.declared.Msg.{Msg};
-ghost use Rattle.message.specs.declared.Reply.TheVariants.{Block as shows};
+ghost use Rattle.message.specs.declared.Reply.TheVariants.{Block as shows, Hole};
 ghost use Rattle.affinity.specs.Kind.{is_changing};
+ghost use Rattle.affinity.specs.declared.kinds.Kind.TheVariants as kinds;
 ghost use Rattle.message.specs.Heads.{asking};
 ghost use Rattle.plain.specs.Serial.{refusal, accepted_reply, step};
 ghost use Rattle.plain.specs.Server.{server_state, IsConsistent};
@@ -92,11 +93,14 @@ impl Server {
     }
 
     /// The block that answers a `read`, where it lies: a block that is there has a file and a
-    /// volume, so that one look finds it.
+    /// volume, so that one look finds it. Where there is none, a `read` that passes its tests is
+    /// told of a hole.
     pub(crate) fn block_by(&self, g: &Geometry, kind: Kind, numbers: [u16; 4]) -> Option<&Block>
         requires sound { IsConsistent g.now self.now }
-        ensures { IfSome result (λ content.
+        ensures shown { IfSome result (λ content.
             step g.now (server_state self.now) (asking kind numbers) ≡ (shows content.now, server_state self.now)) }
+        ensures hole { IfNone result (kind ≡ kinds.Read
+            → accepted_reply g.now (server_state self.now) (asking kind numbers) ≡ Hole) }
     {
         let [a, v, f, b] = numbers;
         match kind {

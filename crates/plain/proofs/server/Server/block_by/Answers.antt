@@ -1,14 +1,15 @@
 use Rattle.std.proofs.Common.{◌≡◌, ℕ, None, Some, Option, Bor, ap, sym, ◌∙◌, subst, slice_index}
-use Rattle.std.specs.Prelude.{IfSome}
+use Rattle.std.specs.Prelude.{IfNone, IfSome}
 use Rattle.std.specs.Option.{option_copied}
 use Rattle.affinity.specs.declared.geometry.Geometry.{Geometry}
 use Rattle.affinity.specs.declared.kinds.Kind.{Kind}
+use Rattle.affinity.specs.declared.kinds.Kind.TheVariants as kinds
 use Rattle.message.specs.declared.Block.{Block}
 use Rattle.message.specs.declared.Msg.TheVariants.{Read}
-use Rattle.message.specs.declared.Reply.TheVariants.{Block as shows}
+use Rattle.message.specs.declared.Reply.TheVariants.{Block as shows, Hole}
 use Rattle.message.specs.Heads.{asking}
 use Rattle.plain.specs.State.{State, IsState}
-use Rattle.plain.specs.Serial.{step}
+use Rattle.plain.specs.Serial.{accepted_reply, block_reply, step}
 use Rattle.plain.specs.Server.{server_state}
 use Rattle.plain.proofs.ByKind.{read_told}
 use Rattle.plain.proofs.server.Server.block_by.Goals as goal
@@ -17,7 +18,16 @@ looked_up : (g : Geometry) (x : State) → IsState g x → (a v f b : ℕ) (r : 
 looked_up g x s a v f b (Some content) h = read_told g x s a v f b content.now (sym h)
 looked_up g x s a v f b None h = tt
 
-pub returns-in-Read : goal.returns-in-Read
-returns-in-Read c =
+none_there : (g : Geometry) (x : State) (a v f b : ℕ) (r : Option (Bor Block)) → option_copied r ≡ x.blocks (a, v, f, b) → IfNone r (kinds.Read ≡ kinds.Read → accepted_reply g x (Read a v f b) ≡ Hole)
+none_there g x a v f b (Some content) h = tt
+none_there g x a v f b None h = λ _. ap block_reply (sym h)
+
+pub returns-in-Read-clause-shown : goal.returns-in-Read-clause-shown
+returns-in-Read-clause-shown c =
     let ns = c.args.numbers in
     rw c.in-Read.is (looked_up c.args.g.now (server_state c.args.self.now) c.requires.sound.state (slice_index ns 0) (slice_index ns 1) (slice_index ns 2) (slice_index ns 3) c.get.result c.get.ensures.value)
+
+pub returns-in-Read-clause-hole : goal.returns-in-Read-clause-hole
+returns-in-Read-clause-hole c =
+    let ns = c.args.numbers in
+    rw c.in-Read.is (none_there c.args.g.now (server_state c.args.self.now) (slice_index ns 0) (slice_index ns 1) (slice_index ns 2) (slice_index ns 3) c.get.result c.get.ensures.value)
