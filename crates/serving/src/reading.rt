@@ -132,8 +132,9 @@ impl<'c, R: Read, D: Disk, L: Teller<D>, T: Wait, G: Gate> Session<'c, R, D, L, 
         read
     }
 
-    /// Reads lines that are held; or, where it may wait, the next line, if there is room for it. Whether there was one. None is read
-    /// once the session has stopped.
+    /// Reads lines that are held, while there is room for them. Where it may wait, the next line is read first, if there is room for it:
+    /// others may come with it, and a change is logged with theirs, not by itself. Whether there was one. None is read once the session
+    /// has stopped.
     pub(crate) fn read_more(&mut self, may_wait: bool) -> bool
         ensures whole { self.new.broken ≡ self.old.broken }
     {
@@ -141,10 +142,13 @@ impl<'c, R: Read, D: Disk, L: Teller<D>, T: Wait, G: Gate> Session<'c, R, D, L, 
             return false;
         }
         let has_room = self.row.has_room();
-        if may_wait && has_room {
-            self.read_next()
-        } else {
-            self.read_held()
+        if !may_wait || !has_room {
+            return self.read_held();
         }
+        let reads = self.read_next();
+        if reads {
+            self.read_held();
+        }
+        reads
     }
 }

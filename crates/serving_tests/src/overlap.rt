@@ -1,6 +1,6 @@
 //! Which messages run at once.
 use crate::drawing::draw_lines;
-use crate::running::{End, Ended, SMALL, Way, holds, serve_lines, serve_on, writes};
+use crate::running::{End, Ended, FLAT, SMALL, Way, holds, serve_lines, serve_on, writes};
 use affinity::{Affinity, Geometry, place_of, related};
 use harness::{Wrong, device_with};
 use message::parse_line;
@@ -44,9 +44,6 @@ impl Gate for Holding {
         }
     }
 }
-
-/// One volume of one file of eight blocks, each in a stripe of its own, and eight records in a half.
-const FLAT: [u16; 8] = [1, 1, 8, 1, 1, 8, 1, 8];
 
 /// Numbers of a server; lines; how many workers and slots there are; and what is answered. The last message is answered while
 /// a worker has each of those before it.

@@ -1,6 +1,6 @@
 //! When records are logged, and when points are made.
 use crate::noting::{Notes, Noting, Pieces, Taking};
-use crate::running::{End, Ended, SMALL, Way, holds, serve_on};
+use crate::running::{End, Ended, FLAT, SMALL, Way, holds, serve_lines, serve_on};
 use checkpoint::inspect;
 use harness::{Wrong, device_with};
 use std::alloc::{AllocError, Global};
@@ -98,4 +98,54 @@ fn points_are_made_where_they_are_due(rt: HostRuntime) -> Result<(), Fail> {
         }
     }
     Ok(())
+}
+
+/// One change of each stripe.
+const EIGHT: &[u8] = b"punch 0 0 0 0
+punch 0 0 0 1
+punch 0 0 0 2
+punch 0 0 0 3
+punch 0 0 0 4
+punch 0 0 0 5
+punch 0 0 0 6
+punch 0 0 0 7
+";
+
+/// How many syncs there are where these lines come with one read and one worker runs them, from the opening to the last point.
+fn syncs_of<T: Threads + Wait + Sync + Abort>(
+    rt: &T,
+    alloc: Global,
+    lines: &[u8],
+) -> Result<u64, Wrong> {
+    let way = Way {
+        workers: 1,
+        slots: 8,
+        every: 0,
+    };
+    let device = device_with(alloc, FLAT, &[])?;
+    let (device, _) = serve_lines(rt, alloc, device, way, b"makevol 0 0\ncreate 0 0 0\n")?;
+    let notes = Notes::new();
+    let device = Noting {
+        device,
+        notes: &notes,
+    };
+    let mut input = lines;
+    let mut output = Vec::new(alloc);
+    let ended = serve_on(rt, alloc, device, way, &mut input, &mut output, &OpenGate);
+    holds(rt, ended.end == End::Whole);
+    Ok(notes.syncs.get())
+}
+
+/// How often lines are served until they are logged at once: a worker that waits for a processor comes too late.
+const TRIES: usize = 100;
+
+#[test]
+fn lines_that_come_together_are_logged_together(rt: HostRuntime) -> Result<(), Fail> {
+    let one = syncs_of(&rt, rt.alloc(), b"punch 0 0 0 0\n")?;
+    for _ in 0..TRIES {
+        if syncs_of(&rt, rt.alloc(), EIGHT)? == one {
+            return Ok(());
+        }
+    }
+    Err(Wrong::Endless.into())
 }

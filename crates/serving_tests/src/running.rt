@@ -20,6 +20,9 @@ use workers::{Gate, OpenGate};
 /// Neighboring blocks of a file lie in different stripes.
 pub(crate) const SMALL: [u16; 8] = [1, 1, 2, 1, 2, 4, 2, 4];
 
+/// One volume of one file of eight blocks, each in a stripe of its own, and eight records in a half.
+pub(crate) const FLAT: [u16; 8] = [1, 1, 8, 1, 1, 8, 1, 8];
+
 /// How a server is run: its workers and slots, and after how many records there is a point.
 #[derive(Clone, Copy)]
 pub(crate) struct Way {
