@@ -5,7 +5,6 @@ use Rattle.legal_runs.specs.declared.outcomes.ArriveRefusal.{ArriveRefusal}
 use Rattle.legal_runs.specs.declared.outcomes.ArriveRefusal.TheVariants as arrivals
 use Rattle.legal_runs.specs.declared.outcomes.Outcome.TheVariants.{ArriveRefused}
 use Rattle.machine.specs.Machine.{MachineView}
-use Rattle.message.specs.Grammar.{message_of}
 use Rattle.message.specs.declared.Msg.{Msg}
 use Rattle.scheduler.specs.Kept.{world_of}
 use Rattle.serving.specs.Lines.{IsKnown, Line, asked_in, ticketed}
@@ -30,12 +29,11 @@ abbrev pub TakesMessage : Type 0 → MachineView → MachineView → Msg → Res
 TakesMessage keeps old new m (Ok known) = IsTaken keeps old new (Some m) known
 TakesMessage keeps old new m (Err why) = IsRefusedLine keeps old new m why
 
--- The line is taken, and is the last of the new row; or its message is refused, and the row is the same.
-abbrev pub TakesLine : Type 0 → MachineView → List Line → MachineView → List Line → List ℕ → Result (Unit {0}) ArriveRefusal → Type 0
-TakesLine keeps old row new new_row line (Ok _) =
-    (known : Line) × IsTaken keeps old new (message_of line) known × (new_row ≡ row ++ known ∷ [])
-TakesLine keeps old row new new_row line (Err why) =
-    (m : Msg) × (message_of line ≡ Some m) × IsRefusedLine keeps old new m why × (new_row ≡ row)
+-- A line of this message, or of none, is taken, and is the last of the new row; or its message is refused, and the row is the same.
+abbrev pub TakesLine : Type 0 → MachineView → List Line → MachineView → List Line → Option Msg → Result (Unit {0}) ArriveRefusal → Type 0
+TakesLine keeps old row new new_row m (Ok _) = (known : Line) × IsTaken keeps old new m known × (new_row ≡ row ++ known ∷ [])
+TakesLine keeps old row new new_row m (Err why) =
+    (refused : Msg) × (m ≡ Some refused) × IsRefusedLine keeps old new refused why × (new_row ≡ row)
 
 -- why no more is read where a message is refused so
 abbrev pub stop_of : ArriveRefusal → Stop

@@ -1,6 +1,9 @@
 //! Lines that are read: each is in the row then, and its message in the core.
 
-ghost use Rattle.std.specs.Prelude.{◌≡◌, ◌<◌, ◌++◌, ◌⊎◌, List, [], ◌∷◌, None, IfOk, OnErr, is_none, length};
+ghost use Rattle.std.specs.Prelude.{◌≡◌, ◌<◌, ◌++◌, ◌⊎◌, List, [], ◌∷◌, None, Some, IfOk, OnErr, false, is_none, length, option_map};
+ghost use Rattle.message.specs.Grammar.{message_of};
+ghost use Rattle.message.specs.Heads.{asking, has_data, writing};
+ghost use Rattle.message.specs.Lines.{block_in_word};
 ghost use Rattle.machine.specs.declared.hands.Hand.{Hand};
 ghost use Rattle.serving.specs.Lines.{OutOfRange, Unanswered};
 ghost use Rattle.serving.specs.Reads.{TakesLine, TakesMessage, stop_of};
@@ -9,10 +12,11 @@ ghost use Rattle.serving.specs.Runs.{Holds};
 
 use crate::session::{Session, Stop};
 use crate::telling::Teller;
+use affinity::Kind;
 use disk::Disk;
 use legal_runs::ArriveRefusal;
 use line_row::{Line, LineRow};
-use message::{Found, Msg, parse_line};
+use message::{Block, Found, Head, Msg, head_of_line, parse_line, read_block};
 use scheduler::Core;
 use std::io::Read;
 use std::sync::Wait;
@@ -34,6 +38,100 @@ fn take_message<D: Disk>(core: &mut Core<D>, m: &Msg) -> Result<Line, ArriveRefu
     }
 }
 
+/// The message of a kind without data and its numbers. It is made where it lies: no room for a block is moved.
+fn asked(kind: Kind, numbers: [u16; 4]) -> Msg
+    requires { has_data kind ≡ false }
+    ensures { result ≡ asking kind numbers }
+{
+    let [a, v, f, b] = numbers;
+    match kind {
+        Kind::MakeVol => Msg::MakeVol(a, v),
+        Kind::DropVol => Msg::DropVol(a, v),
+        Kind::Create => Msg::Create(a, v, f),
+        Kind::Delete => Msg::Delete(a, v, f),
+        Kind::Seal => Msg::Seal(a, v),
+        Kind::Unseal => Msg::Unseal(a, v),
+        Kind::Punch => Msg::Punch(a, v, f, b),
+        Kind::Read => Msg::Read(a, v, f, b),
+        Kind::List => Msg::List(a, v),
+        Kind::Usage => Msg::Usage(a, v),
+        Kind::Summary => Msg::Summary,
+        Kind::Label => Msg::Label(a, v),
+        Kind::Write | Kind::SetLabel => unreachable!(),
+    }
+}
+
+/// Takes a line of this message into the row, and the message into the core; or tells why the message isn't taken.
+fn take_spelled<D: Disk>(
+    core: &mut Core<D>,
+    row: &mut LineRow,
+    m: &Msg,
+) -> Result<(), ArriveRefusal>
+    requires room { length row.old.lines < row.old.slots }
+    requires order { AreConsecutive (with_tickets row.old.lines ++ Unanswered core.old.next ∷ []) }
+    ensures takes { (hands : List Hand) → Holds (record { core = core.old; hands = hands })
+        → TakesLine D.keeps (record { core = core.old; hands = hands }) row.old.lines
+        (record { core = core.new; hands = hands }) row.new.lines (Some m.now) result }
+    ensures slots { row.new.slots ≡ row.old.slots }
+    ensures same { OnErr result (row.new ≡ row.old) }
+{
+    match take_message(core, m) {
+        Ok(known) => {
+            row.push(known);
+            Ok(())
+        }
+        Err(why) => Err(why),
+    }
+}
+
+/// The same for the message that a line spells, if it spells one.
+fn take_parsed<D: Disk>(
+    core: &mut Core<D>,
+    row: &mut LineRow,
+    line: &[u8],
+) -> Result<(), ArriveRefusal>
+    requires room { length row.old.lines < row.old.slots }
+    requires order { AreConsecutive (with_tickets row.old.lines ++ Unanswered core.old.next ∷ []) }
+    ensures takes { (hands : List Hand) → Holds (record { core = core.old; hands = hands })
+        → TakesLine D.keeps (record { core = core.old; hands = hands }) row.old.lines
+        (record { core = core.new; hands = hands }) row.new.lines (message_of line.now) result }
+    ensures slots { row.new.slots ≡ row.old.slots }
+    ensures same { OnErr result (row.new ≡ row.old) }
+{
+    match &parse_line(line) {
+        Some(m) => take_spelled(core, row, m),
+        None => {
+            row.push(Line::NoMessage);
+            Ok(())
+        }
+    }
+}
+
+/// The same for a `write` of these numbers, if these are the digits of a block. The block is decoded where its message is made.
+fn take_write<D: Disk>(
+    core: &mut Core<D>,
+    row: &mut LineRow,
+    numbers: [u16; 4],
+    digits: &[u8],
+) -> Result<(), ArriveRefusal>
+    requires room { length row.old.lines < row.old.slots }
+    requires order { AreConsecutive (with_tickets row.old.lines ++ Unanswered core.old.next ∷ []) }
+    ensures takes { (hands : List Hand) → Holds (record { core = core.old; hands = hands })
+        → TakesLine D.keeps (record { core = core.old; hands = hands }) row.old.lines
+        (record { core = core.new; hands = hands }) row.new.lines
+        (option_map (writing numbers) (block_in_word digits.now)) result }
+    ensures slots { row.new.slots ≡ row.old.slots }
+    ensures same { OnErr result (row.new ≡ row.old) }
+{
+    let mut content = Block([0; 512]);
+    if read_block(digits, &mut content).is_none() {
+        row.push(Line::NoMessage);
+        return Ok(());
+    }
+    let [a, v, f, b] = numbers;
+    take_spelled(core, row, &Msg::Write(a, v, f, b, content))
+}
+
 /// Takes a line into the row, and its message into the core; or tells why its message isn't taken.
 fn take_line<D: Disk>(
     core: &mut Core<D>,
@@ -44,20 +142,18 @@ fn take_line<D: Disk>(
     requires order { AreConsecutive (with_tickets row.old.lines ++ Unanswered core.old.next ∷ []) }
     ensures takes { (hands : List Hand) → Holds (record { core = core.old; hands = hands })
         → TakesLine D.keeps (record { core = core.old; hands = hands }) row.old.lines
-        (record { core = core.new; hands = hands }) row.new.lines line.now result }
+        (record { core = core.new; hands = hands }) row.new.lines (message_of line.now) result }
     ensures slots { row.new.slots ≡ row.old.slots }
     ensures same { OnErr result (row.new ≡ row.old) }
 {
-    let Some(m) = parse_line(line) else {
-        row.push(Line::NoMessage);
-        return Ok(());
-    };
-    match take_message(core, &m) {
-        Ok(known) => {
-            row.push(known);
+    match head_of_line(line) {
+        Head::NoMessage => {
+            row.push(Line::NoMessage);
             Ok(())
         }
-        Err(why) => Err(why),
+        Head::Asks(kind, numbers) => take_spelled(core, row, &asked(kind, numbers)),
+        Head::Writes(numbers, digits) => take_write(core, row, numbers, digits),
+        Head::SetsLabel => take_parsed(core, row, line),
     }
 }
 
