@@ -1,13 +1,11 @@
-use Rattle.std.proofs.Common.{◌≡◌, ℕ, None, Some, Option, Bor, ap, sym, ◌∙◌, subst, slice_index}
+use Rattle.std.proofs.Common.{◌≡◌, ℕ, None, Some, Option, Bor, ap, sym, slice_index}
 use Rattle.std.specs.Prelude.{IfNone, IfSome}
 use Rattle.std.specs.Option.{option_copied}
 use Rattle.affinity.specs.declared.geometry.Geometry.{Geometry}
-use Rattle.affinity.specs.declared.kinds.Kind.{Kind}
 use Rattle.affinity.specs.declared.kinds.Kind.TheVariants as kinds
 use Rattle.message.specs.declared.Block.{Block}
 use Rattle.message.specs.declared.Msg.TheVariants.{Read}
 use Rattle.message.specs.declared.Reply.TheVariants.{Block as shows, Hole}
-use Rattle.message.specs.Heads.{asking}
 use Rattle.plain.specs.State.{State, IsState}
 use Rattle.plain.specs.Serial.{accepted_reply, block_reply, step}
 use Rattle.plain.specs.Server.{server_state}
