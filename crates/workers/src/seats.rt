@@ -24,11 +24,17 @@ pub type Seat = atomic_table::Seat<Tray, View>;
 
 /// The seat of the thread that offers jobs and collects their results. A clause sees which bench it
 /// belongs to and the job that is lent at each place.
-#[derive(Drop)]
 pub struct DispatchSeat {
     pub(crate) seat: Seat,
     // Whether something is lent at each place.
     pub(crate) lent: Vec<bool>,
+}
+
+// By hand, as a bench's.
+impl Drop for DispatchSeat {
+    fn drop(self) {
+        let DispatchSeat { seat: _, lent: _ } = self;
+    }
 }
 
 impl Model for DispatchSeat {
@@ -79,9 +85,15 @@ fn is_any_up(flags: &[bool]) -> bool
 }
 
 /// The seat of a worker that has no job. A clause sees which bench it belongs to.
-#[derive(Drop)]
 pub struct WorkSeat {
     pub(crate) seat: Seat,
+}
+
+// By hand, as a bench's.
+impl Drop for WorkSeat {
+    fn drop(self) {
+        let WorkSeat { seat: _ } = self;
+    }
 }
 
 impl Model for WorkSeat {
@@ -94,6 +106,20 @@ impl Model for WorkSeat {
     ghost view = { λ w. w.seat.table_id };
 
     ghost invariant = { λ w. w.seat.me ≡ idle };
+}
+
+impl WorkSeat {
+    ghost use Rattle.std.specs.Prelude.{◌≡◌};
+    ghost use Rattle.workers.specs.Desk.{idle};
+
+    // The seat as the table knows it.
+    pub(crate) fn into_inner(self) -> Seat
+        ensures bench { result.table_id ≡ self }
+        ensures idle { result.me ≡ idle }
+    {
+        let WorkSeat { seat } = self;
+        seat
+    }
 }
 
 // Brings the slots of a desk round, from those of the places from `from` on to those from `to` on.

@@ -35,7 +35,7 @@ impl Bench {
     {
         let words = &self.table.shared;
         let places = self.table.slot_count();
-        let WorkSeat { seat: mut pass } = seat;
+        let mut pass = seat.into_inner();
         let mut last = Round::Idle;
         for _ in rt.forever() {
             let heard = rings(words.peek(OFFERS));
