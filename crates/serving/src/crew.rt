@@ -9,15 +9,26 @@ use std::thread;
 use std::thread::{Scope, Threads};
 use workers::{Bench, DispatchSeat, Gate, WorkSeat};
 
-/// What the dispatcher works with: the calls that wait, the bench where jobs are lent, and the gate.
-#[derive(Drop)]
-pub(crate) struct Crew<'c, T: Wait, G: Gate> {
-    pub(crate) rt: &'c T,
-    pub(crate) bench: &'c Bench,
-    pub(crate) gate: &'c G,
+/// A runtime with the gate that is told of the jobs.
+pub(crate) trait Gated: Wait {
+    /// The message of this ticket was just answered.
+    fn answered(&self, ticket: u64);
 }
 
-impl<'c, T: Wait, G: Gate> Crew<'c, T, G> {
+impl<'g, T: Wait, G: Gate> Gated for (&'g T, &'g G) {
+    fn answered(&self, ticket: u64) {
+        self.1.answered(ticket);
+    }
+}
+
+/// What the dispatcher works with: the calls that wait, with the gate, and the bench where jobs are lent.
+#[derive(Drop)]
+pub(crate) struct Crew<'c, W: Gated> {
+    pub(crate) rt: &'c W,
+    pub(crate) bench: &'c Bench,
+}
+
+impl<'c, W: Gated> Crew<'c, W> {
     /// Lends a job to the workers at place k, the first where nothing is lent. It is inlined, so that the job isn't moved once more.
     #[inline(always)]
     pub(crate) fn lend(&self, desk: &mut DispatchSeat, k: usize, job: Job)
@@ -27,9 +38,10 @@ impl<'c, T: Wait, G: Gate> Crew<'c, T, G> {
         ensures bench { desk.new.bench ≡ desk.old.bench }
         ensures lent { desk.new.lent ≡ slice_set desk.old.lent k (Some job) }
     {
-        let Ok(()) = self.bench.offer(desk, k, job) else {
-            unreachable!()
-        };
+        match self.bench.offer(desk, k, job) {
+            Ok(()) => {}
+            Err(_) => unreachable!(),
+        }
     }
 }
 
@@ -68,7 +80,7 @@ pub(crate) fn come_back<T>(lent: &mut T)
 // Does a duty that is lent while a worker works at each of these seats, and gives it back.
 fn fulfil_lent<'s, 'm, T: Threads + Wait + Sync, G: Gate + Sync, S: Duty, E>(
     scope: &Scope<'s, E>,
-    crew: Crew<'s, T, G>,
+    crew: Crew<'s, (&'s T, &'s G)>,
     duty: &'m mut S,
     seats: Vec<WorkSeat>,
 ) -> (Result<(), ServeFault>, &'m mut S)
@@ -77,7 +89,8 @@ fn fulfil_lent<'s, 'm, T: Threads + Wait + Sync, G: Gate + Sync, S: Duty, E>(
     ensures same { result.1.ghost_name ≡ duty.entry.ghost_name }
     ensures gives { S.gives duty.entry.now result.1.now result.0 }
 {
-    let Crew { rt, bench, gate } = crew;
+    let Crew { rt, bench } = crew;
+    let (rt, gate) = *rt;
     let ended = match bench.start_all(rt, scope, seats, gate) {
         Ok(()) => duty.fulfil(),
         Err(_) => Err(ServeFault::OutOfMemory),
@@ -89,7 +102,7 @@ fn fulfil_lent<'s, 'm, T: Threads + Wait + Sync, G: Gate + Sync, S: Duty, E>(
 /// Does a duty while a worker works at each of these seats. All of them have ended when it returns. Where one of them can't be started,
 /// the duty is left undone.
 pub(crate) fn with_workers<'c, T: Threads + Wait + Sync, G: Gate + Sync, S: Duty>(
-    crew: Crew<'c, T, G>,
+    crew: Crew<'c, (&'c T, &'c G)>,
     duty: &mut S,
     seats: Vec<WorkSeat>,
 ) -> Result<(), ServeFault>
@@ -97,16 +110,16 @@ pub(crate) fn with_workers<'c, T: Threads + Wait + Sync, G: Gate + Sync, S: Duty
     requires seats { All (λ w. w ≡ crew.bench.now) seats.items }
     ensures { S.gives duty.old duty.new result }
 {
-    let Crew { rt, bench, gate } = crew;
+    let Crew { rt, bench } = crew;
     let (ended, duty) = thread::scope(
         thread::scope_env(),
-        rt,
+        rt.0,
         move |scope|
             requires can_begin { S.can_begin duty.now }
             requires seats { All (λ w. w ≡ bench.now) seats.items }
             ensures same { result.1.ghost_name ≡ duty.entry.ghost_name }
             ensures gives { S.gives duty.entry.now result.1.now result.0 }
-        { fulfil_lent(scope, Crew { rt, bench, gate }, duty, seats) },
+        { fulfil_lent(scope, Crew { rt, bench }, duty, seats) },
     );
     come_back(duty);
     ended

@@ -8,13 +8,12 @@ ghost use Rattle.serving.specs.Serve.{HasEmptyLog};
 ghost use Rattle.serving.specs.Session.{EndsBy, HaltsBy, Moves, end_of};
 ghost use Rattle.serving.specs.declared.session.Stop.TheVariants as stops;
 
+use crate::crew::{Duty, Gated};
 use crate::server::ServeFault;
 use crate::session::{Halt, Session, Stop};
 use crate::telling::Teller;
 use disk::Disk;
 use std::io::Read;
-use std::sync::Wait;
-use workers::Gate;
 
 /// What a server reports where no more was read for this reason.
 fn reported_for(stop: Stop) -> Result<(), ServeFault>
@@ -28,7 +27,7 @@ fn reported_for(stop: Stop) -> Result<(), ServeFault>
     }
 }
 
-impl<'c, R: Read, D: Disk, L: Teller<D>, T: Wait, G: Gate> Session<'c, R, D, L, T, G> {
+impl<'c, R: Read, D: Disk, L: Teller<D>, W: Gated> Session<'c, R, D, L, W> {
     /// Where the device has failed: nothing more is logged. Jobs that are out come back, and the lines next in order are still
     /// written.
     fn end_without_device(&mut self) -> Result<(), Halt>
@@ -133,22 +132,30 @@ impl<'c, R: Read, D: Disk, L: Teller<D>, T: Wait, G: Gate> Session<'c, R, D, L, 
             Err(why) => Err(self.end_early(why)),
         }
     }
+}
+
+impl<'c, R: Read, D: Disk, L: Teller<D>, W: Gated> Duty for Session<'c, R, D, L, W> {
+    ghost use Rattle.std.specs.Prelude.{◌≡◌, OnOk, false, refl};
+    ghost use Rattle.serving.specs.Serve.{HasEmptyLog};
+    ghost use Rattle.serving.specs.Session.{EndsOrDeclines};
+
+    ghost can_begin = { λ s. s.broken ≡ false };
+
+    ghost gives = { λ old new end. EndsOrDeclines old new end × OnOk end (D.keeps → HasEmptyLog new.core) };
 
     /// Serves line after line until the input ends, with a consistency point where one is due, and one at the end. All that was
-    /// answered is written when it returns, unless the output failed.
-    ///
-    /// # Errors
-    ///
-    /// `ServeFault::Read`, `ServeFault::Exhausted`, `ServeFault::Device` and `ServeFault::Write`, as they say. Where several befall
-    /// one call, a fault of the output goes before one of the device, and that before the others.
-    pub(crate) fn serve_all(&mut self) -> Result<(), ServeFault>
-        requires whole { self.old.broken ≡ false }
-        ensures ends { EndsBy self.new result }
-        ensures emptied { OnOk result (D.keeps → HasEmptyLog self.new.core) }
-    {
+    /// answered is written when it returns, unless the output failed. Where several faults befall one call, one of the output goes
+    /// before one of the device, and that before the others.
+    fn fulfil(&mut self) -> Result<(), ServeFault> {
         match self.serve_lines() {
             Ok(stop) => self.end_for(stop),
             Err(why) => Err(self.end_early(why)),
         }
     }
+
+    fn release(&mut self) {
+        self.crew.bench.stop(&mut self.desk);
+    }
+
+    ghost leaves = { λ s. (refl, tt) };
 }

@@ -7,14 +7,13 @@ ghost use Rattle.scheduler.specs.Kept.{world_of};
 ghost use Rattle.serving.specs.Serve.{HasEmptyLog};
 ghost use Rattle.serving.specs.Session.{Moves};
 
+use crate::crew::Gated;
 use crate::session::{Halt, Session};
 use crate::telling::Teller;
 use disk::Disk;
 use legal_runs::PointRefusal;
 use message::Reply;
 use std::io::Read;
-use std::sync::Wait;
-use workers::Gate;
 
 /// When consistency points are due. A wrong count makes them at other times, which no contract forbids.
 #[derive(Clone, Copy)]
@@ -55,7 +54,7 @@ fn tells_of_held(why: PointRefusal) -> bool
     matches!(why, PointRefusal::Held)
 }
 
-impl<'c, R: Read, D: Disk, L: Teller<D>, T: Wait, G: Gate> Session<'c, R, D, L, T, G> {
+impl<'c, R: Read, D: Disk, L: Teller<D>, W: Gated> Session<'c, R, D, L, W> {
     /// Whether a consistency point is due by the number of records. None is while one is in progress.
     pub(crate) fn point_is_due(&self) -> bool {
         self.core.left().is_none() && self.course.is_due()

@@ -10,6 +10,7 @@ ghost use Rattle.serving.specs.Reads.{TakesLine, TakesMessage, stop_of};
 ghost use Rattle.line_row.specs.Rows.{AreConsecutive, with_tickets};
 ghost use Rattle.serving.specs.Runs.{Holds};
 
+use crate::crew::Gated;
 use crate::session::{Session, Stop};
 use crate::telling::Teller;
 use affinity::Kind;
@@ -19,8 +20,6 @@ use line_row::{Line, LineRow};
 use message::{Block, Found, Head, Msg, head_of_line, parse_line, read_block};
 use scheduler::Core;
 use std::io::Read;
-use std::sync::Wait;
-use workers::Gate;
 
 /// Takes a message in: what is known of its line then, or why it isn't taken.
 fn take_message<D: Disk>(core: &mut Core<D>, m: &Msg) -> Result<Line, ArriveRefusal>
@@ -168,7 +167,7 @@ fn stop_for(why: ArriveRefusal) -> Stop
     }
 }
 
-impl<'c, R: Read, D: Disk, L: Teller<D>, T: Wait, G: Gate> Session<'c, R, D, L, T, G> {
+impl<'c, R: Read, D: Disk, L: Teller<D>, W: Gated> Session<'c, R, D, L, W> {
     /// Reads the next line, for which there is room, if there is one: whether more may be read then. Else the session has stopped.
     fn read_next(&mut self) -> bool
         requires reads { self.old.stop ≡ None }

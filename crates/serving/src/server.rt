@@ -8,7 +8,7 @@ ghost use Rattle.serving.specs.Runs.{with_lent};
 ghost use Rattle.serving.specs.Serve.{HasEmptyLog, HasRunSo, HasWorkers, RefusesNone};
 ghost use Rattle.serving.specs.Session.{CanBegin};
 
-use crate::crew::{Crew, Duty, come_back, with_workers};
+use crate::crew::{Crew, come_back, with_workers};
 use crate::points::Course;
 use crate::session::Session;
 use crate::telling::Teller;
@@ -61,20 +61,8 @@ struct Buffers {
     out: ReplyBuffer,
 }
 
-// Takes the memory that the lines need, of which `slots` are read and not answered at once.
-fn take_buffers(alloc: Global, slots: usize) -> Result<Buffers, AllocError>
-    ensures room { IfOk result (λ buffers. 1101 ≤ vec_len buffers.input) }
-    ensures row { IfOk result (λ buffers. (buffers.row.lines ≡ []) × (buffers.row.slots ≡ slots)) }
-    ensures none_waits { IfOk result (λ buffers. buffers.out ≡ []) }
-{
-    Ok(Buffers {
-        input: vec![in alloc; 0; READ_SIZE]?,
-        row: LineRow::new(alloc, slots)?,
-        out: ReplyBuffer::new(alloc)?,
-    })
-}
-
-// Takes the memory that the lines need, and lays a bench with a place for each worker.
+// Takes the memory that the lines need, of which `slots` are read and not answered at once, and lays a bench with a place for each
+// worker.
 fn take_room(
     alloc: Global,
     slots: usize,
@@ -88,7 +76,11 @@ fn take_room(
     ensures dispatcher { IfOk result (λ r. (r.2.bench ≡ r.1) × (r.2.lent ≡ replicate workers None)) }
     ensures workers { IfOk result (λ r. All (λ w. w ≡ r.1) r.3.items) }
 {
-    let buffers = take_buffers(alloc, slots)?;
+    let buffers = Buffers {
+        input: vec![in alloc; 0; READ_SIZE]?,
+        row: LineRow::new(alloc, slots)?,
+        out: ReplyBuffer::new(alloc)?,
+    };
     let (bench, desk, seats) = Bench::open(alloc, workers, workers)?;
     Ok((buffers, bench, desk, seats))
 }
@@ -103,26 +95,6 @@ struct Serving<'a, D: Disk, R, L> {
     every: u64,
 }
 
-impl<'c, R: Read, D: Disk, L: Teller<D>, T: Wait, G: Gate> Duty for Session<'c, R, D, L, T, G> {
-    ghost use Rattle.std.specs.Prelude.{◌≡◌, OnOk, false, refl};
-    ghost use Rattle.serving.specs.Serve.{HasEmptyLog};
-    ghost use Rattle.serving.specs.Session.{EndsOrDeclines};
-
-    ghost can_begin = { λ s. s.broken ≡ false };
-
-    ghost gives = { λ old new end. EndsOrDeclines old new end × OnOk end (D.keeps → HasEmptyLog new.core) };
-
-    fn fulfil(&mut self) -> Result<(), ServeFault> {
-        self.serve_all()
-    }
-
-    fn release(&mut self) {
-        self.crew.bench.stop(&mut self.desk);
-    }
-
-    ghost leaves = { λ s. (refl, tt) };
-}
-
 // Serves the lines of a reader that is lent, and gives it back with whom they were told.
 fn serve_lent<
     'a,
@@ -135,7 +107,7 @@ fn serve_lent<
     N: Loan,
 >(
     serving: Serving<'a, D, R, L>,
-    crew: Crew<'c, T, G>,
+    crew: Crew<'c, (&'c T, &'c G)>,
     desk: DispatchSeat,
     seats: Vec<WorkSeat>,
     of: PhantomData<N>,
@@ -168,7 +140,7 @@ fn serve_lent<
     let Buffers { input, row, out } = buffers;
     core.stands();
     let lines = LineReader::new(LentReader { reader, of }, input);
-    let Crew { rt, bench, gate } = crew;
+    let Crew { rt, bench } = crew;
     let mut session = Session {
         core,
         desk,
@@ -179,86 +151,13 @@ fn serve_lent<
         stop: None,
         teller,
         broken: false,
-        crew: Crew { rt, bench, gate },
+        crew: Crew { rt, bench },
     };
-    let ended = with_workers(Crew { rt, bench, gate }, &mut session, seats);
+    let ended = with_workers(Crew { rt, bench }, &mut session, seats);
     let (core, lent, teller) = session.into_parts();
     core.stands();
     let LentReader { reader, of: _ } = lent;
     (core, ended, reader, teller)
-}
-
-// With what a server serves, beside its core, its input and its output.
-struct Setting<'c, T, G> {
-    alloc: Global,
-    rt: &'c T,
-    workers: usize,
-    every: u64,
-    gate: &'c G,
-}
-
-// Serves whoever is told lines, with threads of its own; or refuses to, where there are no workers or there is no memory.
-fn serve_told<
-    'c,
-    T: Threads + Wait + Sync,
-    R: Read,
-    L: Teller<D> + Drop,
-    D: Disk + Drop,
-    G: Gate + Sync,
->(
-    setting: Setting<'c, T, G>,
-    core: Core<D>,
-    r: &mut R,
-    teller: L,
-) -> (Core<D>, Result<(), ServeFault>, L)
-    requires start { L.start ≡ Some (record {
-      core = core;
-      places = setting.workers;
-      input = R.remaining r.old;
-      before = L.told teller;
-    }) }
-    requires idle { IsIdle (world_of core) }
-    requires works { core.failed ≡ false }
-    requires few { setting.workers ≤ 64 }
-    ensures run { HasRunSo D.keeps (with_lent core (replicate setting.entry.workers None)) result.0 (R.remaining r.old)
-        (L.told teller) (L.told result.2) result.1 }
-    ensures ends { EndsSo core result.0 (R.remaining r.old) (R.remaining r.new) (L.told teller) (L.told result.2) result.1 }
-    ensures no_workers { RefusesNone setting.entry.workers result.1 }
-    ensures emptied { OnOk result.1 (D.keeps → HasEmptyLog result.0) }
-{
-    let Setting {
-        alloc,
-        rt,
-        workers,
-        every,
-        gate,
-    } = setting;
-    core.stands();
-    if workers == 0 {
-        return (core, Err(ServeFault::NoWorkers), teller);
-    }
-    let Ok((buffers, bench, desk, seats)) = take_room(alloc, core.slots(), workers) else {
-        return (core, Err(ServeFault::OutOfMemory), teller);
-    };
-    let serving = Serving {
-        core,
-        reader: r,
-        teller,
-        buffers,
-        places: workers,
-        every,
-    };
-    let bench = &bench;
-    let crew = Crew { rt, bench, gate };
-    let (core, ended, reader, teller) = serve_lent::<T, R, L, D, G, Brand>(
-        serving,
-        crew,
-        desk,
-        seats,
-        PhantomData,
-    );
-    come_back(reader);
-    (core, ended, teller)
 }
 
 /// Answers each line that a reader has left with one line, which it tells, while so many workers, each a thread of its own, run
@@ -303,14 +202,34 @@ pub fn serve_to<
     ensures no_workers { MatchResult result.0 (λ _. RefusesNone workers (Ok tt)) (λ e. RefusesNone workers (Err e.fault)) }
     ensures emptied { IfOk result.0 (λ after. D.keeps → HasEmptyLog after) }
 {
-    let setting = Setting {
-        alloc,
-        rt,
-        workers,
-        every,
-        gate,
+    core.stands();
+    if workers == 0 {
+        let fault = ServeFault::NoWorkers;
+        return (Err(ServeError { core, fault }), teller);
+    }
+    let Ok((buffers, bench, desk, seats)) = take_room(alloc, core.slots(), workers) else {
+        let fault = ServeFault::OutOfMemory;
+        return (Err(ServeError { core, fault }), teller);
     };
-    let (core, ended, teller) = serve_told(setting, core, r, teller);
+    let serving = Serving {
+        core,
+        reader: r,
+        teller,
+        buffers,
+        places: workers,
+        every,
+    };
+    let bench = &bench;
+    let rt = &(rt, gate);
+    let crew = Crew { rt, bench };
+    let (core, ended, reader, teller) = serve_lent::<T, R, L, D, G, Brand>(
+        serving,
+        crew,
+        desk,
+        seats,
+        PhantomData,
+    );
+    come_back(reader);
     match ended {
         Ok(()) => (Ok(core), teller),
         Err(fault) => (Err(ServeError { core, fault }), teller),
@@ -360,6 +279,15 @@ impl<'w, D: Disk, W: Write, B: Beginning> Teller<D> for Output<'w, W, B> {
         }
         Ok(())
     }
+}
+
+// With what a server serves, beside its core, its input and its output.
+struct Setting<'c, T, G> {
+    alloc: Global,
+    rt: &'c T,
+    workers: usize,
+    every: u64,
+    gate: &'c G,
 }
 
 // Serves for a writer that is lent, and gives it back.

@@ -1,7 +1,7 @@
 //! A session: the core, the dispatcher's seat, the lines that were read, and the answers that wait, with the input of the call and
 //! whom it tells. It is under way: from the start of the call a legal run has led to where it is.
 
-use crate::crew::Crew;
+use crate::crew::{Crew, Gated};
 use crate::points::Course;
 use crate::telling::Teller;
 use disk::Disk;
@@ -10,8 +10,7 @@ use message::{LineReader, ReplyBuffer};
 use scheduler::Core;
 use std::io::Read;
 use std::marker::Model;
-use std::sync::Wait;
-use workers::{DispatchSeat, Gate};
+use workers::DispatchSeat;
 
 /// Why a session reads no more.
 #[derive(Clone, Copy)]
@@ -37,7 +36,7 @@ pub(crate) enum Halt {
 
 /// What a server has while it serves.
 #[derive(Drop)]
-pub(crate) struct Session<'c, R: Read, D: Disk, L: Teller<D>, T: Wait, G: Gate> {
+pub(crate) struct Session<'c, R: Read, D: Disk, L: Teller<D>, W: Gated> {
     /// The core.
     pub(crate) core: Core<D>,
     /// The dispatcher's seat at the bench.
@@ -57,10 +56,10 @@ pub(crate) struct Session<'c, R: Read, D: Disk, L: Teller<D>, T: Wait, G: Gate> 
     /// Whether that has failed. Nothing more is told then.
     pub(crate) broken: bool,
     /// Who works for it.
-    pub(crate) crew: Crew<'c, T, G>,
+    pub(crate) crew: Crew<'c, W>,
 }
 
-impl<'c, R: Read, D: Disk, L: Teller<D>, T: Wait, G: Gate> Model for Session<'c, R, D, L, T, G> {
+impl<'c, R: Read, D: Disk, L: Teller<D>, W: Gated> Model for Session<'c, R, D, L, W> {
     ghost use Rattle.std.specs.Prelude.{◌≡◌, Option};
     ghost use Rattle.message.specs.Reader.{has_ended, is_drained, source, unread};
     ghost use Rattle.serving.specs.Session.{IsUnderWayFrom, SessionView};
@@ -96,7 +95,7 @@ impl<'c, R: Read, D: Disk, L: Teller<D>, T: Wait, G: Gate> Model for Session<'c,
     }) × (s.desk.bench ≡ s.crew.bench.now) };
 }
 
-impl<'c, R: Read, D: Disk, L: Teller<D>, T: Wait, G: Gate> Session<'c, R, D, L, T, G> {
+impl<'c, R: Read, D: Disk, L: Teller<D>, W: Gated> Session<'c, R, D, L, W> {
     ghost use Rattle.std.specs.Prelude.{◌≡◌};
     ghost use Rattle.serving.specs.Session.{IsUnderWayFrom};
 

@@ -6,13 +6,12 @@ ghost use Rattle.scheduler.specs.Kept.{world_of};
 ghost use Rattle.line_row.specs.Rows.{comes_next};
 ghost use Rattle.serving.specs.Session.{IsAsBefore, Moves};
 
+use crate::crew::Gated;
 use crate::session::{Halt, Session};
 use disk::Disk;
 use message::WriteFault;
 use scheduler::Core;
 use std::io::Read;
-use std::sync::Wait;
-use workers::Gate;
 
 /// Whom a server tells its lines. Its condition binds each call when it is made, in every body, also in one that never returns: what
 /// is told was answered before, and whatever a crash leaves of the device then holds it.
@@ -37,7 +36,7 @@ pub trait Teller<D: Disk> {
         ensures told { OnOk result (Appends (told self.old) (told self.new) lines.now) };
 }
 
-impl<'c, R: Read, D: Disk, L: Teller<D>, T: Wait, G: Gate> Session<'c, R, D, L, T, G> {
+impl<'c, R: Read, D: Disk, L: Teller<D>, W: Gated> Session<'c, R, D, L, W> {
     /// Answers the message that was logged first, if there is one: its line in the row has its reply then. Counts it for the points
     /// if it changed something, saturating. Whether there was one.
     pub(crate) fn answer_first(&mut self) -> bool
@@ -52,7 +51,7 @@ impl<'c, R: Read, D: Disk, L: Teller<D>, T: Wait, G: Gate> Session<'c, R, D, L, 
         let Some((ticket, reply)) = told else {
             return false;
         };
-        self.crew.gate.answered(ticket);
+        self.crew.rt.answered(ticket);
         self.course.count(&reply);
         self.row.answer(ticket, reply);
         true

@@ -6,6 +6,7 @@ ghost use Rattle.scheduler.specs.Kept.{world_of};
 ghost use Rattle.serving.specs.Lending.{GoesTo, IsEndOfSending, IsHome, IsSent};
 ghost use Rattle.serving.specs.Session.{IsAsBefore, Moves};
 
+use crate::crew::Gated;
 use crate::session::{Halt, Session};
 use crate::telling::Teller;
 use disk::Disk;
@@ -13,9 +14,7 @@ use message::Reply;
 use scheduler::Granted;
 use std::hint::spin_loop;
 use std::io::Read;
-use std::sync::Wait;
 use std::thread::yield_now;
-use workers::Gate;
 
 /// How many messages may come back before what ran is logged: the log writes as many records with one write of their bodies and
 /// one of their gates.
@@ -94,7 +93,7 @@ fn pause(looks: usize) {
     }
 }
 
-impl<'c, R: Read, D: Disk, L: Teller<D>, T: Wait, G: Gate> Session<'c, R, D, L, T, G> {
+impl<'c, R: Read, D: Disk, L: Teller<D>, W: Gated> Session<'c, R, D, L, W> {
     /// Lets the eligible message with the least ticket go out to place k, the first where nothing is lent.
     fn send_to(&mut self, k: usize) -> Sent
         requires first { position is_none self.old.desk.lent ≡ Some k }

@@ -1,5 +1,5 @@
 -- Nothing is lent at the first place where nothing is.
-use Rattle.std.proofs.Common.{◌≡◌, Err, Ok, Some}
+use Rattle.std.proofs.Common.{◌≡◌, Err, Ok, Some, sym, ◌∙◌}
 use Rattle.std.specs.Prelude.{slice_set}
 use Rattle.serving.proofs.Sending.{nothing_there, offered}
 use Rattle.workers.specs.Rule.{lent_at}
@@ -12,7 +12,7 @@ unreachable-requires g c =
     ((c.offer.result ≡ Ok tt) × (c.offer.new.seat.lent ≡ slice_set lent c.args.k (Some c.args.job)))
     (λ _. (c.offer.result ≡ Err c.args.job) × (c.offer.new.seat ≡ c.args.desk.now))
     (nothing_there lent c.args.k c.requires.first) c.offer.ensures.answer in
-    c.in_default.not-Ok tt taken.0
+    cc (sym taken.0 ∙ c.in-Err.is)
 
 pub returns-clause-lent : goal.returns-clause-lent
 returns-clause-lent g c =

@@ -27,11 +27,13 @@ invariant_of-self g c =
     let old = c.self.inside in
     let lent = old.desk.lent in
     let first = ap (λ (p : SessionView). position is_none p.desk.lent) c.self.view_is ∙ c.requires.first in
+    let filled = slice_set lent c.args.k (Some c.in-Job.job) in
     let taken = c.lend.ensures.lent in
-    let quiet = subst (λ (l : List (Option JobView)). IsQuiet g.D.Disk.keeps (with_lent old.core lent) (with_lent c.grant.new.self l)) (sym taken)
+    let quiet = subst (λ (l : List (Option JobView)). IsQuiet g.D.Disk.keeps (with_lent old.core lent) (with_lent c.grant.new.self l))
+    {x = filled} (sym {b = filled} taken)
     (goes_out g.D.Disk.keeps old.core c.grant.new.self lent c.stands.ensures.no_doubt c.stands.ensures.now c.in-Job.ensures.geometry
     c.in-Job.ensures.untouched (holds_of g.D.Disk.keeps _ _ c.self.invariant.0) c.args.k first c.in-Job.job c.in-Job.ensures.world) in
-    let places = ap (λ (l : List (Option JobView)). length l) taken ∙ set-length lent c.args.k (Some c.in-Job.job) in
+    let places = ap (λ (l : List (Option JobView)). length l) {y = filled} taken ∙ set-length lent c.args.k (Some c.in-Job.job) in
     (on_machine g.D.Disk.keeps _ _ _ _ c.self.invariant.0 quiet c.lend.ensures.bench places, c.lend.ensures.bench ∙ c.self.invariant.1)
 
 pub invariant_of-self-in-NoneEligible : goal.invariant_of-self-in-NoneEligible

@@ -1,4 +1,4 @@
-use Rattle.serving.proofs.server.serve_told.Given as goal
+use Rattle.serving.proofs.server.serve_to.Given as goal
 
 -- the loan of the reader
 abbrev pub ghosts-serve_lent : goal.ghosts-serve_lent

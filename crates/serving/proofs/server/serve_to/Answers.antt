@@ -1,0 +1,28 @@
+-- The lemmas on a server that was refused, and on the run of one that was not.
+use Rattle.std.proofs.Common.{None, replicate, subst}
+use Rattle.std.specs.Prelude.{Result}
+use Rattle.serving.specs.Runs.{with_lent}
+use Rattle.serving.specs.Serve.{HasRunSo}
+use Rattle.serving.specs.declared.server.ServeFault.{ServeFault}
+use Rattle.serving.proofs.Promises.{no_memory_ran, no_workers_ran}
+use Rattle.serving.proofs.server.serve_to.Goals as goal
+
+pub returns-then-workers-eq0-clause-run : goal.returns-then-workers-eq0-clause-run
+returns-then-workers-eq0-clause-run g c = no_workers_ran g.D.Disk.keeps c.args.core c.args.workers c.requires.idle
+    c.stands.ensures.no_doubt c.stands.ensures.now (g.R.Read.remaining c.args.r.now) (g.L.Teller.told c.args.teller)
+
+pub returns-in_default-clause-run : goal.returns-in_default-clause-run
+returns-in_default-clause-run g c = no_memory_ran g.D.Disk.keeps c.args.core c.args.workers c.requires.idle
+    c.stands.ensures.no_doubt c.stands.ensures.now (g.R.Read.remaining c.args.r.now) (g.L.Teller.told c.args.teller)
+
+pub returns-in-Ok-ended-clause-run : goal.returns-in-Ok-ended-clause-run
+returns-in-Ok-ended-clause-run g c =
+    subst (λ (r : Result (Unit {0}) ServeFault). HasRunSo g.D.Disk.keeps (with_lent c.args.core (replicate c.args.workers None))
+    c.serve_lent-core.result.0 (g.R.Read.remaining c.args.r.now) (g.L.Teller.told c.args.teller)
+    (g.L.Teller.told c.serve_lent-core.result.3) r) c.in-Ok-ended.is c.serve_lent-core.ensures.run
+
+pub returns-clause-run : goal.returns-clause-run
+returns-clause-run g c =
+    subst (λ (r : Result (Unit {0}) ServeFault). HasRunSo g.D.Disk.keeps (with_lent c.args.core (replicate c.args.workers None))
+    c.serve_lent-core.result.0 (g.R.Read.remaining c.args.r.now) (g.L.Teller.told c.args.teller)
+    (g.L.Teller.told c.serve_lent-core.result.3) r) c.in-Err.is c.serve_lent-core.ensures.run
