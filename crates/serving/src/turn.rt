@@ -214,32 +214,24 @@ impl<'c, R: Read, D: Disk, L: Teller<D>, W: Gated> Session<'c, R, D, L, W> {
         Ok(false)
     }
 
-    /// Lets the batch grow until it is full, nothing is lent any more, or nothing came back in a while.
-    fn look_on(&mut self, batch: &mut Batch) -> Result<(), Halt>
-        ensures moves { Moves self.old self.new result }
-    {
-        for _ in 0..BATCH {
-            let is_ripe = batch.is_ripe();
-            let more_come = self.desk.any_lent();
-            if is_ripe || !more_come {
-                return Ok(());
-            }
-            let came = self.look_for_some(batch)?;
-            if !came {
-                return Ok(());
-            }
-        }
-        Ok(())
-    }
-
-    /// Lets messages go out and takes back what comes of them, until it is worth a write of the log. Jobs are out then as far as
-    /// may be, so that they run meanwhile.
+    /// Lets messages go out and takes back what comes of them, until the batch is worth a write of the log, nothing is lent any more,
+    /// or nothing came back in a while. Jobs are out then as far as may be, so that they run meanwhile.
     fn gather(&mut self) -> Result<Batch, Halt>
         ensures moves { Moves self.old self.new result }
     {
         let lacks_room = self.send_out()?;
         let mut batch = Batch::new(lacks_room);
-        self.look_on(&mut batch)?;
+        for _ in 0..BATCH {
+            let is_ripe = batch.is_ripe();
+            let more_come = self.desk.any_lent();
+            if is_ripe || !more_come {
+                return Ok(batch);
+            }
+            let came = self.look_for_some(&mut batch)?;
+            if !came {
+                return Ok(batch);
+            }
+        }
         Ok(batch)
     }
 
