@@ -1,5 +1,5 @@
 -- Where a session is, that it is under way since its start, and how a call moves it.
-use Rattle.std.specs.Prelude.{◌≡◌, ◌≤◌, ◌-◌, ◌^◌, ℕ, Bool, true, false, List, [], ◌++◌, length, map, Option, Some, None, IfSome, IsTrue, Result, Ok, Err}
+use Rattle.std.specs.Prelude.{◌≡◌, ◌+◌, ◌≤◌, ◌-◌, ◌^◌, ℕ, Bool, true, false, List, [], ◌++◌, length, map, Option, Some, None, IfSome, IsTrue, Result, Ok, Err}
 use Rattle.std.specs.Io.KnownBytes.{IsAtEnd}
 use Rattle.affinity.specs.declared.geometry.Geometry.{Geometry}
 use Rattle.legal_runs.specs.Laws.{IsIdle}
@@ -125,6 +125,11 @@ Moves old new (Err halts.Write) = new.stop ≡ old.stop
 abbrev pub HaltsBy : Halt → SessionView → Type 0
 HaltsBy halts.Device p = (p.core.failed ≡ true) × (p.broken ≡ false)
 HaltsBy halts.Write p = Unit {0}
+
+-- how many steps a consistency point takes to its end, by how many of its pieces are left
+abbrev pub steps_left : Option ℕ → ℕ
+steps_left None = 0
+steps_left (Some n) = n + 1
 
 -- ---- the end
 

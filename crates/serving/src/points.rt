@@ -1,11 +1,11 @@
 //! Consistency points of a session: when one is due, the one in progress, which is carried to its end, and the last one.
 
-ghost use Rattle.std.specs.Prelude.{◌≡◌, ◌≢◌, ◌-◌, ℕ, false, [], None, Some, MatchBool, OnOk};
+ghost use Rattle.std.specs.Prelude.{◌≡◌, ◌≢◌, ◌+◌, ℕ, false, [], None, Some, IfOk, MatchBool, OnOk};
 ghost use Rattle.legal_runs.specs.World.{held};
 ghost use Rattle.legal_runs.specs.declared.outcomes.PointRefusal.TheVariants as refusals;
 ghost use Rattle.scheduler.specs.Kept.{world_of};
 ghost use Rattle.serving.specs.Serve.{HasEmptyLog};
-ghost use Rattle.serving.specs.Session.{Moves};
+ghost use Rattle.serving.specs.Session.{Moves, steps_left};
 
 use crate::crew::Gated;
 use crate::session::{Halt, Session};
@@ -60,58 +60,27 @@ impl<'c, R: Read, D: Disk, L: Teller<D>, W: Gated> Session<'c, R, D, L, W> {
         self.core.left().is_none() && self.course.is_due()
     }
 
-    /// Writes the next piece of the consistency point in progress.
-    fn write_piece(&mut self) -> Result<(), Halt>
-        requires progress { (n : ℕ) × (self.old.core.left ≡ Some n) }
-        ensures moves { Moves self.old self.new result }
-        ensures same { (self.new.row ≡ self.old.row) × (self.new.out ≡ self.old.out) }
-        ensures written { OnOk result ((n : ℕ) → self.old.core.left ≡ Some n → self.new.core.left ≡ Some (n - 1)) }
-    {
-        match self.core.piece() {
-            Ok(_) => Ok(()),
-            Err(_) => Err(Halt::Device),
-        }
-    }
-
-    /// Ends the consistency point in progress, of which all pieces are written.
-    fn end_point(&mut self) -> Result<(), Halt>
-        requires whole { self.old.core.left ≡ Some 0 }
-        ensures moves { Moves self.old self.new result }
-        ensures same { (self.new.row ≡ self.old.row) × (self.new.out ≡ self.old.out) }
-        ensures ended { OnOk result (self.new.core.left ≡ None) }
-    {
-        match self.core.flip() {
-            Ok(()) => Ok(()),
-            Err(_) => Err(Halt::Device),
-        }
-    }
-
-    /// Takes the consistency point in progress a step on, if there is one: whether there was.
+    /// Takes the consistency point in progress a step on, if there is one: to its next piece or, where all are written, to its end.
+    /// Whether there was one.
     pub(crate) fn move_point_on(&mut self) -> Result<bool, Halt>
         ensures moves { Moves self.old self.new result }
+        ensures same { (self.new.row ≡ self.old.row) × (self.new.out ≡ self.old.out) }
+        ensures step { IfOk result (λ moved. MatchBool moved (steps_left self.new.core.left + 1 ≡ steps_left self.old.core.left)
+            (self.new.core.left ≡ None)) }
     {
         let Some(left) = self.core.left() else {
             return Ok(false);
         };
         if left == 0 {
-            self.end_point()?;
-        } else {
-            self.write_piece()?;
+            return match self.core.flip() {
+                Ok(()) => Ok(true),
+                Err(_) => Err(Halt::Device),
+            };
         }
-        Ok(true)
-    }
-
-    /// Writes the pieces that are left of the consistency point in progress.
-    fn write_pieces(&mut self, left: usize) -> Result<(), Halt>
-        requires progress { self.old.core.left ≡ Some left }
-        ensures moves { Moves self.old self.new result }
-        ensures same { (self.new.row ≡ self.old.row) × (self.new.out ≡ self.old.out) }
-        ensures written { OnOk result (self.new.core.left ≡ Some 0) }
-    {
-        for _ in 0..left {
-            self.write_piece()?;
+        match self.core.piece() {
+            Ok(_) => Ok(true),
+            Err(_) => Err(Halt::Device),
         }
-        Ok(())
     }
 
     /// Carries the consistency point in progress to its end, if there is one.
@@ -120,11 +89,8 @@ impl<'c, R: Read, D: Disk, L: Teller<D>, W: Gated> Session<'c, R, D, L, W> {
         ensures same { (self.new.row ≡ self.old.row) × (self.new.out ≡ self.old.out) }
         ensures ended { OnOk result (self.new.core.left ≡ None) }
     {
-        let Some(left) = self.core.left() else {
-            return Ok(());
-        };
-        self.write_pieces(left)?;
-        self.end_point()
+        while self.move_point_on()? {}
+        Ok(())
     }
 
     /// Begins a consistency point, where none is in progress: it begins unless a message is held.
