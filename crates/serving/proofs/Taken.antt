@@ -66,6 +66,6 @@ pub none_left : (left : Option (List ℕ)) → IfSome left (λ bs. bs ≡ []) �
 none_left None none = tt
 none_left (Some bs) none = none
 
-pub no_message : (o : Option Msg) → ((m : Msg) → o ≡ Some m → ⊥) → o ≡ None
+pub no_message : {A : Type 0} → (o : Option A) → ((m : A) → o ≡ Some m → ⊥) → o ≡ None
 no_message None not = refl
 no_message (Some m) not = absurd (not m refl)

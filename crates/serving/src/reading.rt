@@ -1,9 +1,8 @@
 //! Lines that are read: each is in the row then, and its message in the core.
 
-ghost use Rattle.std.specs.Prelude.{◌≡◌, ◌<◌, ◌++◌, ◌⊎◌, List, [], ◌∷◌, None, Some, IfOk, OnErr, false, is_none, length, option_map};
+ghost use Rattle.std.specs.Prelude.{◌≡◌, ◌<◌, ◌++◌, ◌⊎◌, List, [], ◌∷◌, None, Some, IfOk, OnErr, false, is_none, length, option_copied};
 ghost use Rattle.message.specs.Grammar.{message_of};
-ghost use Rattle.message.specs.Heads.{asking, has_data, writing};
-ghost use Rattle.message.specs.Lines.{block_in_word};
+ghost use Rattle.message.specs.Heads.{asking, has_data};
 ghost use Rattle.machine.specs.declared.hands.Hand.{Hand};
 ghost use Rattle.serving.specs.Lines.{OutOfRange, Unanswered};
 ghost use Rattle.serving.specs.Reads.{TakesLine, TakesMessage, stop_of};
@@ -60,20 +59,24 @@ fn asked(kind: Kind, numbers: [u16; 4]) -> Msg
     }
 }
 
-/// Takes a line of this message into the row, and the message into the core; or tells why the message isn't taken.
-fn take_spelled<D: Disk>(
+/// Takes a line into the row, and its message, if it has one, into the core; or tells why its message isn't taken.
+fn take<D: Disk>(
     core: &mut Core<D>,
     row: &mut LineRow,
-    m: &Msg,
+    message: Option<&Msg>,
 ) -> Result<(), ArriveRefusal>
     requires room { length row.old.lines < row.old.slots }
     requires order { AreConsecutive (with_tickets row.old.lines ++ Unanswered core.old.next ∷ []) }
     ensures takes { (hands : List Hand) → Holds (record { core = core.old; hands = hands })
         → TakesLine D.keeps (record { core = core.old; hands = hands }) row.old.lines
-        (record { core = core.new; hands = hands }) row.new.lines (Some m.now) result }
+        (record { core = core.new; hands = hands }) row.new.lines (option_copied message.entry) result }
     ensures slots { row.new.slots ≡ row.old.slots }
     ensures same { OnErr result (row.new ≡ row.old) }
 {
+    let Some(m) = message else {
+        row.push(Line::NoMessage);
+        return Ok(());
+    };
     match take_message(core, m) {
         Ok(known) => {
             row.push(known);
@@ -83,55 +86,7 @@ fn take_spelled<D: Disk>(
     }
 }
 
-/// The same for the message that a line spells, if it spells one.
-fn take_parsed<D: Disk>(
-    core: &mut Core<D>,
-    row: &mut LineRow,
-    line: &[u8],
-) -> Result<(), ArriveRefusal>
-    requires room { length row.old.lines < row.old.slots }
-    requires order { AreConsecutive (with_tickets row.old.lines ++ Unanswered core.old.next ∷ []) }
-    ensures takes { (hands : List Hand) → Holds (record { core = core.old; hands = hands })
-        → TakesLine D.keeps (record { core = core.old; hands = hands }) row.old.lines
-        (record { core = core.new; hands = hands }) row.new.lines (message_of line.now) result }
-    ensures slots { row.new.slots ≡ row.old.slots }
-    ensures same { OnErr result (row.new ≡ row.old) }
-{
-    match &parse_line(line) {
-        Some(m) => take_spelled(core, row, m),
-        None => {
-            row.push(Line::NoMessage);
-            Ok(())
-        }
-    }
-}
-
-/// The same for a `write` of these numbers, if these are the digits of a block. The block is decoded where its message is made.
-fn take_write<D: Disk>(
-    core: &mut Core<D>,
-    row: &mut LineRow,
-    numbers: [u16; 4],
-    digits: &[u8],
-) -> Result<(), ArriveRefusal>
-    requires room { length row.old.lines < row.old.slots }
-    requires order { AreConsecutive (with_tickets row.old.lines ++ Unanswered core.old.next ∷ []) }
-    ensures takes { (hands : List Hand) → Holds (record { core = core.old; hands = hands })
-        → TakesLine D.keeps (record { core = core.old; hands = hands }) row.old.lines
-        (record { core = core.new; hands = hands }) row.new.lines
-        (option_map (writing numbers) (block_in_word digits.now)) result }
-    ensures slots { row.new.slots ≡ row.old.slots }
-    ensures same { OnErr result (row.new ≡ row.old) }
-{
-    let mut content = Block([0; 512]);
-    if read_block(digits, &mut content).is_none() {
-        row.push(Line::NoMessage);
-        return Ok(());
-    }
-    let [a, v, f, b] = numbers;
-    take_spelled(core, row, &Msg::Write(a, v, f, b, content))
-}
-
-/// Takes a line into the row, and its message into the core; or tells why its message isn't taken.
+/// Takes a line of these bytes so. Its message is made where it lies, and a block is decoded there: no room for one is moved.
 fn take_line<D: Disk>(
     core: &mut Core<D>,
     row: &mut LineRow,
@@ -146,13 +101,25 @@ fn take_line<D: Disk>(
     ensures same { OnErr result (row.new ≡ row.old) }
 {
     match head_of_line(line) {
-        Head::NoMessage => {
-            row.push(Line::NoMessage);
-            Ok(())
+        Head::NoMessage => take(core, row, None),
+        Head::Asks(kind, numbers) => {
+            let message = asked(kind, numbers);
+            take(core, row, Some(&message))
         }
-        Head::Asks(kind, numbers) => take_spelled(core, row, &asked(kind, numbers)),
-        Head::Writes(numbers, digits) => take_write(core, row, numbers, digits),
-        Head::SetsLabel => take_parsed(core, row, line),
+        Head::Writes(numbers, digits) => {
+            let mut content = Block([0; 512]);
+            let is_block = read_block(digits, &mut content).is_some();
+            if !is_block {
+                return take(core, row, None);
+            }
+            let [a, v, f, b] = numbers;
+            let message = Msg::Write(a, v, f, b, content);
+            take(core, row, Some(&message))
+        }
+        Head::SetsLabel => {
+            let parsed = parse_line(line);
+            take(core, row, parsed.as_ref())
+        }
     }
 }
 
