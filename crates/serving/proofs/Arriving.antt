@@ -23,7 +23,7 @@ use Rattle.message.specs.declared.Reply.{Reply}
 use Rattle.plain.specs.Order.{messages}
 use Rattle.serving.specs.Going.{IsServing}
 use Rattle.serving.specs.Lines.{AreKnown, IsKnown, Line, OutOfRange, Unanswered, asked, asked_in, next_ticket, ticketed, Answered, NoMessage}
-use Rattle.serving.specs.Reads.{IsRefusedLine, IsTaken, TakesMessage}
+use Rattle.serving.specs.Reads.{IsRefusedLine, IsTaken}
 use Rattle.serving.specs.Runs.{Holds, Passes}
 use Rattle.serving.proofs.Chain.{passes_on}
 use Rattle.serving.proofs.Serial.{asked-append, messages-ticketed}
@@ -169,14 +169,14 @@ module _ (keeps : Type 0) (old new : CoreView) (m : Msg) (hands : List Hand) (h 
     not_range = not_range;
   }
 
-  -- what is known of its line then
-  abbrev pub line_of : Result ℕ ArriveRefusal → Result Line ArriveRefusal
-  line_of (Ok t) = Ok (Unanswered t)
-  line_of (Err arrivals.Range) = Ok OutOfRange
-  line_of (Err why) = Err why
+  -- Its line is taken, or it is refused.
+  abbrev pub ArrivesSo : Result ℕ ArriveRefusal → Type 0
+  ArrivesSo (Ok t) = IsTaken keeps was now (Some m) (Unanswered t)
+  ArrivesSo (Err arrivals.Range) = IsTaken keeps was now (Some m) OutOfRange
+  ArrivesSo (Err why) = IsRefusedLine keeps was now m why
 
   pub arrives_so : (r : Result ℕ ArriveRefusal) → IsCoreStep keeps old new (steps.Arrive m) (arrived_so r)
-      → (arrived_so r, world_of new) ≡ arrive old.geometry (world_of old) m → TakesMessage keeps was now m (line_of r)
+      → (arrived_so r, world_of new) ≡ arrive old.geometry (world_of old) m → ArrivesSo r
   arrives_so (Ok t) step e =
       let w = world_of old in
       let k = gives_ticket w.next w (record w { waiting = w.waiting ++ (w.next, m) ∷ []; next = w.next + 1 }) w.failed (is_in_range old.geometry m)

@@ -24,11 +24,6 @@ pub record IsRefusedLine (keeps : Type 0) (old new : MachineView) (m : Msg) (why
   pub refused : (arrive old.core.geometry (world_of old.core) m).0 ≡ ArriveRefused why
   pub not_range : why ≢ arrivals.Range
 
--- This is known of the line of the message, which is taken; or the message is refused.
-abbrev pub TakesMessage : Type 0 → MachineView → MachineView → Msg → Result Line ArriveRefusal → Type 0
-TakesMessage keeps old new m (Ok known) = IsTaken keeps old new (Some m) known
-TakesMessage keeps old new m (Err why) = IsRefusedLine keeps old new m why
-
 -- A line of this message, or of none, is taken, and is the last of the new row; or its message is refused, and the row is the same.
 abbrev pub TakesLine : Type 0 → MachineView → List Line → MachineView → List Line → Option Msg → Result (Unit {0}) ArriveRefusal → Type 0
 TakesLine keeps old row new new_row m (Ok _) = (known : Line) × IsTaken keeps old new m known × (new_row ≡ row ++ known ∷ [])

@@ -1,11 +1,11 @@
 //! Lines that are read: each is in the row then, and its message in the core.
 
-ghost use Rattle.std.specs.Prelude.{◌≡◌, ◌<◌, ◌++◌, ◌⊎◌, List, [], ◌∷◌, None, Some, IfOk, OnErr, false, is_none, length, option_copied};
+ghost use Rattle.std.specs.Prelude.{◌≡◌, ◌<◌, ◌++◌, List, [], ◌∷◌, None, Some, OnErr, false, is_none, length, option_copied};
 ghost use Rattle.message.specs.Grammar.{message_of};
 ghost use Rattle.message.specs.Heads.{asking, has_data};
 ghost use Rattle.machine.specs.declared.hands.Hand.{Hand};
-ghost use Rattle.serving.specs.Lines.{OutOfRange, Unanswered};
-ghost use Rattle.serving.specs.Reads.{TakesLine, TakesMessage, stop_of};
+ghost use Rattle.serving.specs.Lines.{Unanswered};
+ghost use Rattle.serving.specs.Reads.{TakesLine, stop_of};
 ghost use Rattle.line_row.specs.Rows.{AreConsecutive, with_tickets};
 ghost use Rattle.serving.specs.Runs.{Holds};
 
@@ -19,22 +19,6 @@ use line_row::{Line, LineRow};
 use message::{Block, Found, Head, Msg, head_of_line, parse_line, read_block};
 use scheduler::Core;
 use std::io::Read;
-
-/// Takes a message in: what is known of its line then, or why it isn't taken.
-fn take_message<D: Disk>(core: &mut Core<D>, m: &Msg) -> Result<Line, ArriveRefusal>
-    ensures ticket { IfOk result (λ known. (known ≡ OutOfRange) ⊎ (known ≡ Unanswered core.old.next)) }
-    ensures takes { (hands : List Hand) → Holds (record { core = core.old; hands = hands })
-        → TakesMessage D.keeps (record { core = core.old; hands = hands }) (record { core = core.new; hands = hands }) m.now result }
-{
-    core.stands();
-    match core.arrive(m) {
-        Ok(ticket) => Ok(Line::Unanswered(ticket)),
-        Err(ArriveRefusal::Range) => Ok(Line::OutOfRange),
-        Err(ArriveRefusal::Full) => Err(ArriveRefusal::Full),
-        Err(ArriveRefusal::Exhausted) => Err(ArriveRefusal::Exhausted),
-        Err(ArriveRefusal::Failed) => Err(ArriveRefusal::Failed),
-    }
-}
 
 /// The message of a kind without data and its numbers. It is made where it lies: no room for a block is moved.
 fn asked(kind: Kind, numbers: [u16; 4]) -> Msg
@@ -59,7 +43,8 @@ fn asked(kind: Kind, numbers: [u16; 4]) -> Msg
     }
 }
 
-/// Takes a line into the row, and its message, if it has one, into the core; or tells why its message isn't taken.
+/// Takes a line into the row, and its message, if it has one, into the core; or tells why its message isn't taken. One that is out of range
+/// takes no ticket.
 fn take<D: Disk>(
     core: &mut Core<D>,
     row: &mut LineRow,
@@ -77,12 +62,19 @@ fn take<D: Disk>(
         row.push(Line::NoMessage);
         return Ok(());
     };
-    match take_message(core, m) {
-        Ok(known) => {
-            row.push(known);
+    core.stands();
+    match core.arrive(m) {
+        Ok(ticket) => {
+            row.push(Line::Unanswered(ticket));
             Ok(())
         }
-        Err(why) => Err(why),
+        Err(ArriveRefusal::Range) => {
+            row.push(Line::OutOfRange);
+            Ok(())
+        }
+        Err(ArriveRefusal::Full) => Err(ArriveRefusal::Full),
+        Err(ArriveRefusal::Exhausted) => Err(ArriveRefusal::Exhausted),
+        Err(ArriveRefusal::Failed) => Err(ArriveRefusal::Failed),
     }
 }
 
