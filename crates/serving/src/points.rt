@@ -93,12 +93,12 @@ impl<'c, R: Read, D: Disk, L: Teller<D>, W: Gated> Session<'c, R, D, L, W> {
         Ok(())
     }
 
-    /// Begins a consistency point, where none is in progress: it begins unless a message is held.
-    fn begin_next(&mut self) -> Result<(), Halt>
-        requires none { self.old.core.left ≡ None }
+    /// Begins the next consistency point, after the one in progress: it begins unless a message is held.
+    pub(crate) fn begin_point(&mut self) -> Result<(), Halt>
         ensures moves { Moves self.old self.new result }
-        ensures begun { OnOk result (held (world_of self.old.core) ≡ [] → (n : ℕ) × (self.new.core.left ≡ Some n)) }
+        ensures begun { OnOk result (held (world_of self.new.core) ≡ [] → (n : ℕ) × (self.new.core.left ≡ Some n)) }
     {
+        self.finish_point()?;
         let Err(why) = self.core.cut() else {
             self.course.begin();
             return Ok(());
@@ -109,30 +109,8 @@ impl<'c, R: Read, D: Disk, L: Teller<D>, W: Gated> Session<'c, R, D, L, W> {
         Err(Halt::Device)
     }
 
-    /// Begins the next consistency point, after the one in progress, where nothing is held.
-    pub(crate) fn begin_point(&mut self) -> Result<(), Halt>
-        ensures moves { Moves self.old self.new result }
-    {
-        self.finish_point()?;
-        self.begin_next()
-    }
-
-    /// Makes a whole consistency point at once, where nothing waits or is held and none is in progress: the log is empty then.
-    fn make_point(&mut self) -> Result<(), Halt>
-        requires row { self.old.row.lines ≡ [] }
-        requires none { self.old.core.left ≡ None }
-        ensures moves { Moves self.old self.new result }
-        ensures same { (self.new.row ≡ self.old.row) × (self.new.out ≡ self.old.out) }
-        ensures works { OnOk result (self.new.core.failed ≡ false) }
-        ensures emptied { OnOk result (D.keeps → HasEmptyLog self.new.core) }
-    {
-        let Err(_) = self.core.point() else {
-            return Ok(());
-        };
-        Err(Halt::Device)
-    }
-
-    /// Makes the last consistency point, where each line is answered in the output, after the one in progress.
+    /// Makes the last consistency point, where each line is answered in the output, after the one in progress: nothing waits or is held
+    /// then, and the log is empty behind it.
     pub(crate) fn make_last_point(&mut self) -> Result<(), Halt>
         requires row { self.old.row.lines ≡ [] }
         ensures moves { Moves self.old self.new result }
@@ -141,6 +119,9 @@ impl<'c, R: Read, D: Disk, L: Teller<D>, W: Gated> Session<'c, R, D, L, W> {
         ensures emptied { OnOk result (D.keeps → HasEmptyLog self.new.core) }
     {
         self.finish_point()?;
-        self.make_point()
+        let Err(_) = self.core.point() else {
+            return Ok(());
+        };
+        Err(Halt::Device)
     }
 }

@@ -1,12 +1,13 @@
--- It stays under way.
+-- It stays under way; and a point fails only where the device does.
 use Rattle.std.proofs.Common.{◌≡◌, ap, refl, ◌∙◌}
+use Rattle.line_row.specs.Rows.{RowView}
 use Rattle.scheduler.proofs.Called.{point_called}
 use Rattle.scheduler.specs.Kept.{world_of}
 use Rattle.serving.proofs.Stretches.{point_is_quiet}
 use Rattle.serving.proofs.Pointing.{point_fails}
 use Rattle.serving.proofs.Under.{holds_of, idle_of, on_machine}
 use Rattle.serving.specs.Session.{SessionView}
-use Rattle.serving.proofs.session.Session.make_point.Goals as goal
+use Rattle.serving.proofs.session.Session.make_last_point.Goals as goal
 
 pub invariant_of-self : goal.invariant_of-self
 invariant_of-self g c =
@@ -26,9 +27,11 @@ invariant_of-self-2 g c =
 
 pub returns-clause-moves : goal.returns-clause-moves
 returns-clause-moves g c =
-    let idle = idle_of g.D.Disk.keeps _ _ c.self.invariant.0 (ap (λ (p : SessionView). p.row.lines) c.self.view_is ∙ c.requires.row) in
-    let left = ap (λ (p : SessionView). p.core.left) c.self.view_is ∙ c.requires.none in (
-      (ap (λ (p : SessionView). p.stop) c.self.view_is, ap (λ (p : SessionView). p.broken) c.self.view_is),
+    let finished = c.in_ok-finish_point.ensures in
+    let row = ap (λ (p : SessionView). p.row.lines) c.self.view_is ∙ ap (λ (r : RowView). r.lines) finished.same.0 ∙ c.requires.row in
+    let idle = idle_of g.D.Disk.keeps _ _ c.self.invariant.0 row in
+    let left = ap (λ (p : SessionView). p.core.left) c.self.view_is ∙ finished.ended in (
+      (ap (λ (p : SessionView). p.stop) c.self.view_is ∙ finished.moves.0, ap (λ (p : SessionView). p.broken) c.self.view_is ∙ finished.moves.1),
       point_fails (world_of c.self.inside.core) left idle.none_held (world_of c.point.new.self)
           (world_of c.point.new.self ≡ record (world_of c.self.inside.core) { room = c.self.inside.core.geometry.half }) c.in-Err.field-0 c.in-Err.ensures.world,
     )

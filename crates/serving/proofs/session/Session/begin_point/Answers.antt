@@ -4,7 +4,7 @@ use Rattle.scheduler.proofs.Called.{cut_called}
 use Rattle.scheduler.specs.Kept.{world_of}
 use Rattle.serving.proofs.Stretches.{cut_is_quiet}
 use Rattle.serving.proofs.Under.{holds_of, on_machine}
-use Rattle.serving.proofs.session.Session.begin_next.Goals as goal
+use Rattle.serving.proofs.session.Session.begin_point.Goals as goal
 
 pub invariant_of-self : goal.invariant_of-self
 invariant_of-self g c =
