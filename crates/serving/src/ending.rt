@@ -1,11 +1,9 @@
 //! The loop of a session: lines are read and worked off, until no more is read and each is answered. Where the device or the output
 //! has failed, jobs that are out come back, and what can still be done is done.
 
-ghost use Rattle.std.specs.Prelude.{◌≡◌, Err, IfSome, MatchResult, OnOk, Some, [], false};
-ghost use Rattle.serving.specs.Lending.{IsHome};
-ghost use Rattle.line_row.specs.Rows.{comes_next};
+ghost use Rattle.std.specs.Prelude.{◌≡◌, Err, IfOk, IfSome, MatchResult, OnOk, Some, [], false};
 ghost use Rattle.serving.specs.Serve.{HasEmptyLog};
-ghost use Rattle.serving.specs.Session.{EndsBy, HaltsBy, Moves, end_of};
+ghost use Rattle.serving.specs.Session.{EndsBy, HaltsBy, IsServed, Moves, end_of};
 ghost use Rattle.serving.specs.declared.session.Stop.TheVariants as stops;
 
 use crate::crew::{Duty, Gated};
@@ -28,45 +26,22 @@ fn reported_for(stop: Stop) -> Result<(), ServeFault>
 }
 
 impl<'c, R: Read, D: Disk, L: Teller<D>, W: Gated> Session<'c, R, D, L, W> {
-    /// Where the device has failed: nothing more is logged. Jobs that are out come back, and the lines next in order are still
-    /// written.
-    fn end_without_device(&mut self) -> Result<(), Halt>
-        ensures moves { Moves self.old self.new result }
-        ensures failed { self.new.core.failed ≡ self.old.core.failed }
-        ensures none_waits { OnOk result (self.new.out ≡ []) }
-        ensures home { IsHome self.new.desk.lent }
-        ensures answered { self.new.core.logged ≡ [] }
-        ensures last { OnOk result (comes_next self.new.row.lines ≡ false) }
-    {
-        self.come_home();
-        self.say_what_is_logged()?;
-        self.send()
-    }
-
-    /// Where the output has failed: nothing more is read or written. Jobs that are out come back, and are logged and answered.
-    fn end_without_output(&mut self)
-        ensures home { IsHome self.new.desk.lent }
-        ensures answered { self.new.core.logged ≡ [] }
-        ensures logged { self.new.core.failed ≡ false → self.new.core.ran ≡ [] }
-    {
-        self.come_home();
-        // A fault of the device changes nothing any more.
-        let _logged = self.log_what_ran();
-        self.answer_what_is_logged();
-    }
-
-    /// Ends where something has failed: jobs that are out come back, and what can still be done is done. Why the server ends then.
+    /// Ends where something has failed: jobs that are out come back. Where it is the device, nothing more is logged, and the lines next
+    /// in order are still written; where it is the output, what ran is logged and answered. Why the server ends then.
     fn end_early(&mut self, why: Halt) -> ServeFault
         requires halted { HaltsBy why self.old }
         ensures { EndsBy self.new (Err result) }
     {
+        self.come_home();
         match why {
-            Halt::Device => match self.end_without_device() {
+            Halt::Device => match self.tell_the_rest() {
                 Ok(()) => ServeFault::Device,
                 Err(_) => ServeFault::Write,
             },
             Halt::Write => {
-                self.end_without_output();
+                // A fault of the device changes nothing any more.
+                let _logged = self.log_what_ran();
+                self.answer_what_is_logged();
                 ServeFault::Write
             }
         }
@@ -77,25 +52,6 @@ impl<'c, R: Read, D: Disk, L: Teller<D>, W: Gated> Session<'c, R, D, L, W> {
         ensures { IfSome result (λ stop. (self.now.stop ≡ Some stop) × (self.now.row.lines ≡ [])) }
     {
         if self.row.len() == 0 { self.stop } else { None }
-    }
-
-    /// Reads lines and answers them, until no more is read and each is answered in the output: why no more is read.
-    fn serve_lines(&mut self) -> Result<Stop, Halt>
-        requires whole { self.old.broken ≡ false }
-        ensures { MatchResult result
-            (λ stop. (self.new.stop ≡ Some stop) × (self.new.row.lines ≡ []) × (self.new.broken ≡ false)) (λ why. HaltsBy why self.new) }
-    {
-        let mut stuck = false;
-        let rt = self.crew.rt;
-        for _ in rt.forever() {
-            let read = self.read_more(stuck);
-            let ended = self.ended();
-            if let Some(stop) = ended {
-                return Ok(stop);
-            }
-            stuck = self.advance(read)?;
-        }
-        unreachable!()
     }
 
     /// Sends all that waits, and makes the last consistency point at the end of the input. The device works then: nothing is left to
@@ -115,22 +71,24 @@ impl<'c, R: Read, D: Disk, L: Teller<D>, W: Gated> Session<'c, R, D, L, W> {
         }
     }
 
-    /// Ends where no more is read for this reason and each line that was read is answered, unless something fails.
-    fn end_for(&mut self, stop: Stop) -> Result<(), ServeFault>
-        requires stopped { self.old.stop ≡ Some stop }
-        requires row { self.old.row.lines ≡ [] }
+    /// Reads lines and answers them, until no more is read and all that was is answered in the output: why no more is read.
+    fn serve_lines(&mut self) -> Result<Stop, Halt>
         requires whole { self.old.broken ≡ false }
-        ensures ends { EndsBy self.new result }
-        ensures emptied { OnOk result (D.keeps → HasEmptyLog self.new.core) }
+        ensures served { MatchResult result (λ stop. (self.new.stop ≡ Some stop) × IsServed self.new) (λ why. HaltsBy why self.new) }
+        ensures emptied { IfOk result (λ stop. stop ≡ stops.End → D.keeps → HasEmptyLog self.new.core) }
     {
-        match self.finish(stop) {
-            Ok(()) => {
-                // This look does nothing but open the session's invariant to the proof: a device that works is no reason to stop.
-                let _ = &self.core;
-                reported_for(stop)
+        let mut stuck = false;
+        let rt = self.crew.rt;
+        for _ in rt.forever() {
+            let read = self.read_more(stuck);
+            let ended = self.ended();
+            if let Some(stop) = ended {
+                self.finish(stop)?;
+                return Ok(stop);
             }
-            Err(why) => Err(self.end_early(why)),
+            stuck = self.advance(read)?;
         }
+        unreachable!()
     }
 }
 
@@ -148,7 +106,11 @@ impl<'c, R: Read, D: Disk, L: Teller<D>, W: Gated> Duty for Session<'c, R, D, L,
     /// before one of the device, and that before the others.
     fn fulfil(&mut self) -> Result<(), ServeFault> {
         match self.serve_lines() {
-            Ok(stop) => self.end_for(stop),
+            Ok(stop) => {
+                // This look does nothing but open the session's invariant to the proof: a device that works is no reason to stop.
+                let _ = &self.core;
+                reported_for(stop)
+            }
             Err(why) => Err(self.end_early(why)),
         }
     }

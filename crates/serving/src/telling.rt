@@ -108,18 +108,6 @@ impl<'c, R: Read, D: Disk, L: Teller<D>, W: Gated> Session<'c, R, D, L, W> {
         }
     }
 
-    /// Lets the oldest line of the row, which is answered, wait to be told.
-    fn add_first(&mut self)
-        requires next { comes_next self.old.row.lines ≡ true }
-        requires room { FitsReply self.old.out }
-        ensures as_before { IsAsBefore self.old self.new }
-        ensures same { (self.new.core ≡ self.old.core) × (self.new.desk ≡ self.old.desk) }
-        ensures fewer { length self.new.row.lines + 1 ≡ length self.old.row.lines }
-    {
-        self.row.say_front(&mut self.out);
-        self.row.pop();
-    }
-
     /// Lets the oldest line of the row wait to be told, if it is answered: whether it is. It leaves the row then.
     fn say_first(&mut self) -> Result<bool, Halt>
         ensures moves { Moves self.old self.new result }
@@ -131,7 +119,8 @@ impl<'c, R: Read, D: Disk, L: Teller<D>, W: Gated> Session<'c, R, D, L, W> {
             return Ok(false);
         }
         self.make_room()?;
-        self.add_first();
+        self.row.say_front(&mut self.out);
+        self.row.pop();
         Ok(true)
     }
 
@@ -150,14 +139,16 @@ impl<'c, R: Read, D: Disk, L: Teller<D>, W: Gated> Session<'c, R, D, L, W> {
         Ok(())
     }
 
-    /// Answers all that is logged, and lets the lines that are next in order wait to be told.
-    pub(crate) fn say_what_is_logged(&mut self) -> Result<(), Halt>
+    /// Answers all that is logged, and tells the lines that are next in order.
+    pub(crate) fn tell_the_rest(&mut self) -> Result<(), Halt>
         ensures moves { Moves self.old self.new result }
         ensures desk { self.new.desk ≡ self.old.desk }
         ensures world { world_of self.new.core ≡ record (world_of self.old.core) { logged = [] } }
+        ensures none_waits { OnOk result (self.new.out ≡ []) }
         ensures last { OnOk result (comes_next self.new.row.lines ≡ false) }
     {
         self.answer_what_is_logged();
-        self.say_what_is_next()
+        self.say_what_is_next()?;
+        self.send()
     }
 }
