@@ -53,46 +53,41 @@ pub struct ServeError<D: Disk> {
     pub fault: ServeFault,
 }
 
-// What a server takes before it reads: room for what is read, for the lines that are not answered, and for the answers that wait.
+// What a server takes before it reads: room for what is read, for the lines that are not answered and for the answers that wait, and a
+// bench with its seats. Nothing lies there yet.
 #[derive(Drop)]
-struct Buffers {
+struct Room {
     input: Vec<u8>,
     row: LineRow,
     out: ReplyBuffer,
+    bench: Bench,
+    desk: DispatchSeat,
+    seats: Vec<WorkSeat>,
+    ghost holds_a_line: { 1101 ≤ vec_len input },
+    ghost none_read: { row.lines ≡ [] },
+    ghost none_waits: { out ≡ [] },
+    ghost at_bench: { (desk.bench ≡ bench) × All (λ w. w ≡ bench) seats.items },
+    ghost none_lent: { desk.lent ≡ replicate bench.slots None },
 }
 
-// Takes the memory that the lines need, of which `slots` are read and not answered at once, and lays a bench with a place for each
-// worker.
-fn take_room(
-    alloc: Global,
-    slots: usize,
-    workers: usize,
-) -> Result<(Buffers, Bench, DispatchSeat, Vec<WorkSeat>), AllocError>
+// Takes the memory for lines of which `slots` are read and not answered at once, and lays a bench with a place for each worker.
+fn take_room(alloc: Global, slots: usize, workers: usize) -> Result<Room, AllocError>
     requires { workers ≤ 64 }
-    ensures input { IfOk result (λ r. 1101 ≤ vec_len r.0.input) }
-    ensures row { IfOk result (λ r. (r.0.row.lines ≡ []) × (r.0.row.slots ≡ slots)) }
-    ensures none_waits { IfOk result (λ r. r.0.out ≡ []) }
-    ensures places { IfOk result (λ r. r.1.slots ≡ workers) }
-    ensures dispatcher { IfOk result (λ r. (r.2.bench ≡ r.1) × (r.2.lent ≡ replicate workers None)) }
-    ensures workers { IfOk result (λ r. All (λ w. w ≡ r.1) r.3.items) }
+    ensures row { IfOk result (λ room. room.row.slots ≡ slots) }
+    ensures places { IfOk result (λ room. room.bench.slots ≡ workers) }
 {
-    let buffers = Buffers {
-        input: vec![in alloc; 0; READ_SIZE]?,
-        row: LineRow::new(alloc, slots)?,
-        out: ReplyBuffer::new(alloc)?,
-    };
+    let input = vec![in alloc; 0; READ_SIZE]?;
+    let row = LineRow::new(alloc, slots)?;
+    let out = ReplyBuffer::new(alloc)?;
     let (bench, desk, seats) = Bench::open(alloc, workers, workers)?;
-    Ok((buffers, bench, desk, seats))
-}
-
-// What the calling thread of a server has: it serves with it.
-struct Serving<'a, D: Disk, R, L> {
-    core: Core<D>,
-    reader: &'a mut R,
-    teller: L,
-    buffers: Buffers,
-    places: usize,
-    every: u64,
+    Ok(Room {
+        input,
+        row,
+        out,
+        bench,
+        desk,
+        seats,
+    })
 }
 
 // Serves the lines of a reader that is lent, and gives it back with whom they were told.
@@ -106,41 +101,34 @@ fn serve_lent<
     G: Gate + Sync,
     N: Loan,
 >(
-    serving: Serving<'a, D, R, L>,
-    crew: Crew<'c, (&'c T, &'c G)>,
-    desk: DispatchSeat,
-    seats: Vec<WorkSeat>,
+    rt: &'c (&'c T, &'c G),
+    core: Core<D>,
+    reader: &'a mut R,
+    teller: L,
+    room: Room,
+    every: u64,
     of: PhantomData<N>,
 ) -> (Core<D>, Result<(), ServeFault>, &'a mut R, L)
-    requires reader { serving.reader.ghost_name ≡ N.name }
-    requires can_begin { CanBegin L.start serving.core serving.places (R.remaining serving.reader.now) (L.told serving.teller)
-        serving.buffers.row }
-    requires places { crew.bench.now.slots ≡ serving.places }
-    requires input { 1101 ≤ vec_len serving.buffers.input }
-    requires none_waits { serving.buffers.out ≡ [] }
-    requires bench { desk.bench ≡ crew.bench.now }
-    requires lent { desk.lent ≡ replicate serving.places None }
-    requires seats { All (λ w. w ≡ crew.bench.now) seats.items }
-    ensures same { result.2.ghost_name ≡ serving.entry.reader.ghost_name }
-    ensures run { HasRunSo D.keeps (with_lent serving.entry.core (replicate serving.entry.places None)) result.0
-        (R.remaining serving.entry.reader.now) (L.told serving.entry.teller) (L.told result.3) result.1 }
-    ensures ends { EndsSo serving.entry.core result.0 (R.remaining serving.entry.reader.now) (R.remaining result.2.now)
-        (L.told serving.entry.teller) (L.told result.3) result.1 }
+    requires reader { reader.ghost_name ≡ N.name }
+    requires can_begin { CanBegin L.start core room.bench.slots (R.remaining reader.now) (L.told teller) room.row }
+    ensures same { result.2.ghost_name ≡ reader.entry.ghost_name }
+    ensures run { HasRunSo D.keeps (with_lent core (replicate room.bench.slots None)) result.0
+        (R.remaining reader.entry.now) (L.told teller) (L.told result.3) result.1 }
+    ensures ends { EndsSo core result.0 (R.remaining reader.entry.now) (R.remaining result.2.now) (L.told teller) (L.told result.3) result.1 }
     ensures emptied { OnOk result.1 (D.keeps → HasEmptyLog result.0) }
     ensures workers { HasWorkers result.1 }
 {
-    let Serving {
-        core,
-        reader,
-        teller,
-        buffers,
-        places: _,
-        every,
-    } = serving;
-    let Buffers { input, row, out } = buffers;
+    let Room {
+        input,
+        row,
+        out,
+        bench,
+        desk,
+        seats,
+    } = room;
     core.stands();
+    let bench = &bench;
     let lines = LineReader::new(LentReader { reader, of }, input);
-    let Crew { rt, bench } = crew;
     let mut session = Session {
         core,
         desk,
@@ -207,28 +195,13 @@ pub fn serve_to<
         let fault = ServeFault::NoWorkers;
         return (Err(ServeError { core, fault }), teller);
     }
-    let Ok((buffers, bench, desk, seats)) = take_room(alloc, core.slots(), workers) else {
+    let Ok(room) = take_room(alloc, core.slots(), workers) else {
         let fault = ServeFault::OutOfMemory;
         return (Err(ServeError { core, fault }), teller);
     };
-    let serving = Serving {
-        core,
-        reader: r,
-        teller,
-        buffers,
-        places: workers,
-        every,
-    };
-    let bench = &bench;
     let rt = &(rt, gate);
-    let crew = Crew { rt, bench };
-    let (core, ended, reader, teller) = serve_lent::<T, R, L, D, G, Brand>(
-        serving,
-        crew,
-        desk,
-        seats,
-        PhantomData,
-    );
+    let (core, ended, reader, teller) =
+        serve_lent::<T, R, L, D, G, Brand>(rt, core, r, teller, room, every, PhantomData);
     come_back(reader);
     match ended {
         Ok(()) => (Ok(core), teller),

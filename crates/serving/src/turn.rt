@@ -3,7 +3,7 @@
 
 ghost use Rattle.std.specs.Prelude.{◌≡◌, ◌<◌, OnErr, OnOk, Some, [], false, is_none, length, position, true};
 ghost use Rattle.scheduler.specs.Kept.{world_of};
-ghost use Rattle.serving.specs.Lending.{GoesTo, IsEndOfSending, IsHome, IsSent};
+ghost use Rattle.serving.specs.Lending.{GoesTo, IsEndOfSending, IsHome};
 ghost use Rattle.serving.specs.Session.{IsAsBefore, Moves};
 
 use crate::crew::Gated;
@@ -98,9 +98,9 @@ impl<'c, R: Read, D: Disk, L: Teller<D>, W: Gated> Session<'c, R, D, L, W> {
     fn send_to(&mut self, k: usize) -> Sent
         requires first { position is_none self.old.desk.lent ≡ Some k }
         ensures as_before { IsAsBefore self.old self.new }
-        ensures sent { IsSent self.old.core.geometry (world_of self.old.core) result }
         ensures geometry { self.new.core.geometry ≡ self.old.core.geometry }
-        ensures goes { GoesTo k (world_of self.old.core) self.old.desk.lent (world_of self.new.core) self.new.desk.lent result }
+        ensures goes { GoesTo self.old.core.geometry k (world_of self.old.core) self.old.desk.lent (world_of self.new.core) self.new.desk.lent
+            result }
     {
         self.core.stands();
         match self.core.grant() {

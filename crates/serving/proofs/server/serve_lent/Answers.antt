@@ -9,19 +9,20 @@ use Rattle.serving.proofs.server.serve_lent.Goals as goal
 
 pub invariant_of-session : goal.invariant_of-session
 invariant_of-session g c =
+    let room = c.args.room in
     let lines = c.new-lines.ensures in (
-      first_at g.D.Disk.keeps g.L.Teller.start _ _ _ _ _ _ _ _ _ _ _ c.requires.can_begin c.stands.ensures.no_doubt c.requires.none_waits
-          lines.unread (not_drained _ _ lines.open) lines.open (ap (λ (b : _). b.slots) c.requires.bench ∙ c.requires.places) c.requires.lent,
-      c.requires.bench,
+      first_at g.D.Disk.keeps g.L.Teller.start _ _ _ _ _ _ _ _ _ _ _ c.requires.can_begin c.stands.ensures.no_doubt room.none_waits
+          lines.unread (not_drained _ _ lines.open) lines.open (ap (λ (b : _). b.slots) room.at_bench.0) room.none_lent,
+      room.at_bench.0,
     )
 
 pub returns-clause-run : goal.returns-clause-run
 returns-clause-run g c =
     let s : Start = record {
-      core = c.args.serving.core;
-      places = c.args.serving.places;
-      input = g.R.Read.remaining c.args.serving.reader.now;
-      before = g.L.Teller.told c.args.serving.teller;
+      core = c.args.core;
+      places = c.args.room.bench.slots;
+      input = g.R.Read.remaining c.args.reader.now;
+      before = g.L.Teller.told c.args.teller;
     } in
     let parts = c.into_parts-core.ensures in
     let all = promises_from g.D.Disk.keeps g.L.Teller.start s _ c.with_workers-ended.new.duty c.requires.can_begin.is parts.way refl
@@ -32,10 +33,10 @@ returns-clause-run g c =
 pub returns-clause-ends : goal.returns-clause-ends
 returns-clause-ends g c =
     let s : Start = record {
-      core = c.args.serving.core;
-      places = c.args.serving.places;
-      input = g.R.Read.remaining c.args.serving.reader.now;
-      before = g.L.Teller.told c.args.serving.teller;
+      core = c.args.core;
+      places = c.args.room.bench.slots;
+      input = g.R.Read.remaining c.args.reader.now;
+      before = g.L.Teller.told c.args.teller;
     } in
     let parts = c.into_parts-core.ensures in
     let all = promises_from g.D.Disk.keeps g.L.Teller.start s _ c.with_workers-ended.new.duty c.requires.can_begin.is parts.way refl

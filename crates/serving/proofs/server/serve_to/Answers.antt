@@ -1,6 +1,6 @@
 -- The lemmas on a server that was refused, and on the run of one that was not.
-use Rattle.std.proofs.Common.{None, replicate, subst}
-use Rattle.std.specs.Prelude.{Result}
+use Rattle.std.proofs.Common.{ℕ, None, replicate, subst}
+use Rattle.std.specs.Prelude.{Err, Ok, Result}
 use Rattle.serving.specs.Runs.{with_lent}
 use Rattle.serving.specs.Serve.{HasRunSo}
 use Rattle.serving.specs.declared.server.ServeFault.{ServeFault}
@@ -17,12 +17,16 @@ returns-in_default-clause-run g c = no_memory_ran g.D.Disk.keeps c.args.core c.a
 
 pub returns-in-Ok-ended-clause-run : goal.returns-in-Ok-ended-clause-run
 returns-in-Ok-ended-clause-run g c =
-    subst (λ (r : Result (Unit {0}) ServeFault). HasRunSo g.D.Disk.keeps (with_lent c.args.core (replicate c.args.workers None))
+    subst (λ (n : ℕ). HasRunSo g.D.Disk.keeps (with_lent c.args.core (replicate n None)) c.serve_lent-core.result.0 (g.R.Read.remaining c.args.r.now)
+    (g.L.Teller.told c.args.teller) (g.L.Teller.told c.serve_lent-core.result.3) (Ok tt)) c.in-Ok.ensures.places
+    (subst (λ (r : Result (Unit {0}) ServeFault). HasRunSo g.D.Disk.keeps (with_lent c.args.core (replicate c.in-Ok.room.bench.slots None))
     c.serve_lent-core.result.0 (g.R.Read.remaining c.args.r.now) (g.L.Teller.told c.args.teller)
-    (g.L.Teller.told c.serve_lent-core.result.3) r) c.in-Ok-ended.is c.serve_lent-core.ensures.run
+    (g.L.Teller.told c.serve_lent-core.result.3) r) c.in-Ok-ended.is c.serve_lent-core.ensures.run)
 
-pub returns-clause-run : goal.returns-clause-run
-returns-clause-run g c =
-    subst (λ (r : Result (Unit {0}) ServeFault). HasRunSo g.D.Disk.keeps (with_lent c.args.core (replicate c.args.workers None))
+pub returns-in-Err-clause-run : goal.returns-in-Err-clause-run
+returns-in-Err-clause-run g c =
+    subst (λ (n : ℕ). HasRunSo g.D.Disk.keeps (with_lent c.args.core (replicate n None)) c.serve_lent-core.result.0 (g.R.Read.remaining c.args.r.now)
+    (g.L.Teller.told c.args.teller) (g.L.Teller.told c.serve_lent-core.result.3) (Err c.in-Err.fault)) c.in-Ok.ensures.places
+    (subst (λ (r : Result (Unit {0}) ServeFault). HasRunSo g.D.Disk.keeps (with_lent c.args.core (replicate c.in-Ok.room.bench.slots None))
     c.serve_lent-core.result.0 (g.R.Read.remaining c.args.r.now) (g.L.Teller.told c.args.teller)
-    (g.L.Teller.told c.serve_lent-core.result.3) r) c.in-Err.is c.serve_lent-core.ensures.run
+    (g.L.Teller.told c.serve_lent-core.result.3) r) c.in-Err.is c.serve_lent-core.ensures.run)

@@ -5,8 +5,11 @@ use Rattle.std.proofs.lemmas.List.Quantifiers.{position-Some}
 use Rattle.atomic_table.specs.Seated.{TableId}
 use Rattle.legal_runs.specs.declared.outcomes.Outcome.TheVariants as outcomes
 use Rattle.parcel.specs.Run.{JobView}
+use Rattle.scheduler.specs.Kept.{world_of}
 use Rattle.serving.specs.Runs.{IsQuiet, with_lent}
+use Rattle.serving.specs.Lending.{GoesTo}
 use Rattle.serving.specs.Session.{SessionView}
+use Rattle.serving.specs.declared.turn.Sent.TheVariants as sent
 use Rattle.serving.proofs.Returning.{set-length}
 use Rattle.serving.proofs.Sending.{goes_out, none_goes, none_goes_any_more}
 use Rattle.serving.proofs.Under.{holds_of, on_machine, places_of}
@@ -71,4 +74,20 @@ invariant_of-self-in-Failed g c =
 
 pub returns-in-Job-clause-goes : goal.returns-in-Job-clause-goes
 returns-in-Job-clause-goes g c =
-    (c.in-Job.job, c.lend.ensures.lent ∙ ap (λ (p : SessionView). slice_set p.desk.lent c.args.k (Some c.in-Job.job)) c.self.view_is)
+    subst (λ (p : SessionView). GoesTo p.core.geometry c.args.k (world_of p.core) p.desk.lent (world_of c.grant.new.self) c.lend.new.desk.lent sent.Job)
+    c.self.view_is (c.in-Job.job, c.in-Job.ensures.world, c.lend.ensures.lent)
+
+pub returns-in-NoneEligible-clause-goes : goal.returns-in-NoneEligible-clause-goes
+returns-in-NoneEligible-clause-goes g c =
+    subst (λ (p : SessionView). GoesTo p.core.geometry c.args.k (world_of p.core) p.desk.lent (world_of c.grant.new.self) c.self.inside.desk.lent
+    sent.NoneEligible) c.self.view_is (c.in-NoneEligible.ensures.world, refl)
+
+pub returns-in-NoRoom-clause-goes : goal.returns-in-NoRoom-clause-goes
+returns-in-NoRoom-clause-goes g c =
+    subst (λ (p : SessionView). GoesTo p.core.geometry c.args.k (world_of p.core) p.desk.lent (world_of c.grant.new.self) c.self.inside.desk.lent
+    sent.NoRoom) c.self.view_is (c.in-NoRoom.ensures.world, refl)
+
+pub returns-in-Failed-clause-goes : goal.returns-in-Failed-clause-goes
+returns-in-Failed-clause-goes g c =
+    subst (λ (p : SessionView). GoesTo p.core.geometry c.args.k (world_of p.core) p.desk.lent (world_of c.grant.new.self) c.self.inside.desk.lent
+    sent.Failed) c.self.view_is (c.in-Failed.ensures.world.0, c.in-Failed.ensures.world.1, refl)
