@@ -142,9 +142,14 @@ fn serve_lent<
         crew: Crew { rt, bench },
     };
     let ended = with_workers(Crew { rt, bench }, &mut session, seats);
-    let (core, lent, teller) = session.into_parts();
+    let Session {
+        core,
+        lines,
+        teller,
+        ..
+    } = session;
     core.stands();
-    let LentReader { reader, of: _ } = lent;
+    let LentReader { reader, of: _ } = lines.into_inner();
     (core, ended, reader, teller)
 }
 

@@ -94,24 +94,3 @@ impl<'c, R: Read, D: Disk, L: Teller<D>, W: Gated> Model for Session<'c, R, D, L
       behind = R.remaining (source s.lines);
     }) × (s.desk.bench ≡ s.crew.bench.now) };
 }
-
-impl<'c, R: Read, D: Disk, L: Teller<D>, W: Gated> Session<'c, R, D, L, W> {
-    ghost use Rattle.std.specs.Prelude.{◌≡◌};
-    ghost use Rattle.serving.specs.Session.{IsUnderWayFrom};
-
-    /// Takes it apart: its core, its input and whom it told the lines. It was under way.
-    pub(crate) fn into_parts(self) -> (Core<D>, R, L)
-        ensures way { IsUnderWayFrom D.keeps L.start self.entry }
-        ensures core { result.0 ≡ self.entry.core }
-        ensures behind { R.remaining result.1 ≡ self.entry.behind }
-        ensures told { L.told result.2 ≡ self.entry.told }
-    {
-        let Session {
-            core,
-            lines,
-            teller,
-            ..
-        } = self;
-        (core, lines.into_inner(), teller)
-    }
-}

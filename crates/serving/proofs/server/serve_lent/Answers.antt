@@ -1,8 +1,8 @@
 -- Where it begins; and what it promises, since the core at the end is as it always is.
 use Rattle.std.proofs.Common.{ap, refl, sym, subst, ◌∙◌}
 use Rattle.std.specs.Prelude.{OnOk}
-use Rattle.scheduler.specs.Kept.{CoreView}
 use Rattle.serving.specs.Serve.{HasEmptyLog}
+use Rattle.serving.specs.Session.{IsUnderWayFrom, SessionView}
 use Rattle.serving.specs.Telling.{Start}
 use Rattle.serving.proofs.Closing.{first_at, has_workers, not_drained, promises_from}
 use Rattle.serving.proofs.server.serve_lent.Goals as goal
@@ -24,10 +24,13 @@ returns-clause-run g c =
       input = g.R.Read.remaining c.args.reader.now;
       before = g.L.Teller.told c.args.teller;
     } in
-    let parts = c.into_parts-core.ensures in
-    let all = promises_from g.D.Disk.keeps g.L.Teller.start s _ c.with_workers-ended.new.duty c.requires.can_begin.is parts.way refl
+    let now = c.with_workers-ended.new.duty in
+    let view = c.session.view_is in
+    let way = subst (λ (p : SessionView). IsUnderWayFrom g.D.Disk.keeps g.L.Teller.start p) view c.session.invariant.0 in
+    let behind = ap (λ (l : _). g.R.Read.remaining l.reader.now) c.into_inner-reader.ensures ∙ ap (λ (p : SessionView). p.behind) view in
+    let all = promises_from g.D.Disk.keeps g.L.Teller.start s _ now c.requires.can_begin.is way refl
     (ap (λ (l : _). g.R.Read.remaining l.reader.now) c.new-lines.ensures.source) refl c.with_workers-ended.result c.with_workers-ended.ensures.0
-    _ _ _ parts.core parts.behind parts.told in
+    _ _ _ (ap (λ (p : SessionView). p.core) view) behind (ap (λ (p : SessionView). p.told) view) in
     all.run c.stands-2.ensures.no_doubt c.stands-2.ensures.now
 
 pub returns-clause-ends : goal.returns-clause-ends
@@ -38,15 +41,18 @@ returns-clause-ends g c =
       input = g.R.Read.remaining c.args.reader.now;
       before = g.L.Teller.told c.args.teller;
     } in
-    let parts = c.into_parts-core.ensures in
-    let all = promises_from g.D.Disk.keeps g.L.Teller.start s _ c.with_workers-ended.new.duty c.requires.can_begin.is parts.way refl
+    let now = c.with_workers-ended.new.duty in
+    let view = c.session.view_is in
+    let way = subst (λ (p : SessionView). IsUnderWayFrom g.D.Disk.keeps g.L.Teller.start p) view c.session.invariant.0 in
+    let behind = ap (λ (l : _). g.R.Read.remaining l.reader.now) c.into_inner-reader.ensures ∙ ap (λ (p : SessionView). p.behind) view in
+    let all = promises_from g.D.Disk.keeps g.L.Teller.start s _ now c.requires.can_begin.is way refl
     (ap (λ (l : _). g.R.Read.remaining l.reader.now) c.new-lines.ensures.source) refl c.with_workers-ended.result c.with_workers-ended.ensures.0
-    _ _ _ parts.core parts.behind parts.told in
+    _ _ _ (ap (λ (p : SessionView). p.core) view) behind (ap (λ (p : SessionView). p.told) view) in
     all.ends
 
 pub returns-clause-emptied : goal.returns-clause-emptied
 returns-clause-emptied g c =
-    subst (λ (k : CoreView). OnOk c.with_workers-ended.result (g.D.Disk.keeps → HasEmptyLog k)) (sym c.into_parts-core.ensures.core)
+    subst (λ (p : SessionView). OnOk c.with_workers-ended.result (g.D.Disk.keeps → HasEmptyLog p.core)) (sym c.session.view_is)
     c.with_workers-ended.ensures.1
 
 pub returns-clause-workers : goal.returns-clause-workers

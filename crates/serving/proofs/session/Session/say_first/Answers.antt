@@ -1,5 +1,5 @@
 -- The line waits, and the session stays under way.
-use Rattle.std.proofs.Common.{◌≡◌, ◌∙◌, true, ap, sym}
+use Rattle.std.proofs.Common.{◌∙◌, ap, sym}
 use Rattle.line_row.specs.Rows.{RowView, comes_next}
 use Rattle.serving.specs.Session.{SessionView}
 use Rattle.serving.proofs.Under.{on_say}
