@@ -1,5 +1,5 @@
 -- A message that is answered, and its line in the row.
-use Rattle.std.proofs.Common.{◌≡◌, ℕ, true, false, List, [], ◌∷◌, ◌++◌, Option, Some, None, refl, ap, sym, ◌∙◌, subst, map, inl, append-nil, length, suc, Bool}
+use Rattle.std.proofs.Common.{◌≡◌, ◌+◌, ℕ, true, false, List, [], ◌∷◌, ◌++◌, Option, Some, None, refl, ap, sym, ◌∙◌, subst, map, inl, append-nil, arith, length, suc, Bool}
 use Rattle.std.specs.Prelude.{if◌then◌else◌, ◌==◌}
 use Rattle.std.specs.List.{Contains}
 use Rattle.std.proofs.lemmas.Bool.{eqb-true}
@@ -133,3 +133,23 @@ pub none_answered : (keeps : Type 0) (old new : MachineView) (r : Option (ℕ ×
     → IsAnswered keeps old new r → IsQuiet keeps old new
 none_answered keeps old new (Some told) not a = absurd (not told refl)
 none_answered keeps old new None not a = a
+
+-- ---- the world behind an answer
+
+-- Nothing has changed but what is logged.
+pub answered_world : (w new : World) (logged : List Replied) (o : Outcome) → (o, new) ≡ answer w logged → new ≡ record w { logged = new.logged }
+answered_world w new [] o e =
+    let is = ap (λ (x : Outcome × World). x.1) e in is ∙ ap (λ (x : World). record w { logged = x.logged }) (sym is)
+answered_world w new (a ∷ as') o e =
+    let is = ap (λ (x : Outcome × World). x.1) e in is ∙ ap (λ (x : World). record w { logged = x.logged }) (sym is)
+
+-- One less is logged.
+pub fewer_logged : (w new : World) (logged : List Replied) (p : ℕ × Reply) → (answer_outcome (Some p), new) ≡ answer w logged
+    → length new.logged + 1 ≡ length logged
+fewer_logged w new [] p e = let o : outcomes.Answered p.0 p.1 ≡ outcomes.Idle = ap (λ (x : Outcome × World). x.0) e in cc
+fewer_logged w new (a ∷ as') p e = let left = ap (λ (x : Outcome × World). length x.1.logged) e in omega (arith, left)
+
+-- None was.
+pub none_logged : (w new : World) (logged : List Replied) → (answer_outcome None, new) ≡ answer w logged → w.logged ≡ logged → new.logged ≡ []
+none_logged w new [] e is = ap (λ (x : Outcome × World). x.1.logged) e ∙ is
+none_logged w new (a ∷ as') e is = let o : outcomes.Idle ≡ outcomes.Answered a.0 a.2 = ap (λ (x : Outcome × World). x.0) e in cc

@@ -1,13 +1,17 @@
 -- The lemmas on a line that is taken with its message, if it has one.
-use Rattle.std.proofs.Common.{◌∙◌, ℕ, Bor, Err, Option, ap, refl, subst, sym}
+use Rattle.std.proofs.Common.{◌≡◌, ◌∙◌, ◌++◌, ◌∷◌, [], ℕ, Bor, Err, Option, ap, refl, subst, sym}
 use Rattle.std.specs.Prelude.{Result, option_copied}
+use Rattle.legal_runs.specs.Events.{arrive}
 use Rattle.legal_runs.specs.declared.outcomes.ArriveRefusal.{ArriveRefusal}
+use Rattle.line_row.specs.Rows.{AreConsecutive, with_tickets}
 use Rattle.machine.proofs.Events.{arrive_step}
 use Rattle.machine.specs.Machine.{MachineView}
 use Rattle.message.specs.declared.Msg.{Msg}
+use Rattle.scheduler.specs.Calls.{arrive_outcome}
+use Rattle.scheduler.specs.Kept.{world_of}
 use Rattle.serving.specs.Lines.{NoMessage, OutOfRange, Unanswered}
 use Rattle.serving.specs.Reads.{IsTaken}
-use Rattle.serving.proofs.Arriving.{ArrivesSo, arrives_so}
+use Rattle.serving.proofs.Arriving.{ArrivesSo, arrives_so, ticket_is_next}
 use Rattle.serving.proofs.Taken.{no_message, takes_none}
 use Rattle.serving.proofs.reading.take.Goals as goal
 
@@ -91,3 +95,27 @@ returns-in-Err-Failed-clause-takes g c hands h =
           c.arrive.result c.arrive.ensures.world) c.arrive.ensures.world),
       refl,
     )
+
+pub push-requires-clause-order : goal.push-requires-clause-order
+push-requires-clause-order g c ticket none = absurd none
+
+pub push-requires-in-Ok-clause-order : goal.push-requires-in-Ok-clause-order
+push-requires-in-Ok-clause-order g c ticket is =
+    let old = c.args.core.now in
+    let new = c.arrive.new.self in
+    let m = c.in-Some.m.now in
+    let next = ticket_is_next old.geometry (world_of old) (world_of new) m c.in-Ok.ticket
+    (subst (λ (r : Result ℕ ArriveRefusal). (arrive_outcome r, world_of new) ≡ arrive old.geometry (world_of old) m) c.in-Ok.is c.arrive.ensures.world) in
+    subst (λ (t : ℕ). AreConsecutive (with_tickets c.args.row.now.lines ++ Unanswered t ∷ [])) (sym next) c.requires.order
+
+pub push-requires-in-Err-Range-clause-order : goal.push-requires-in-Err-Range-clause-order
+push-requires-in-Err-Range-clause-order g c ticket none = absurd none
+
+pub returns-in_default-clause-slots : goal.returns-in_default-clause-slots
+returns-in_default-clause-slots g c = c.push.ensures.slots
+
+pub returns-in-Ok-clause-slots : goal.returns-in-Ok-clause-slots
+returns-in-Ok-clause-slots g c = c.push-in-Ok.ensures.slots
+
+pub returns-in-Err-Range-clause-slots : goal.returns-in-Err-Range-clause-slots
+returns-in-Err-Range-clause-slots g c = c.push-in-Err-Range.ensures.slots

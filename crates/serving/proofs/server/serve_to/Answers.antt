@@ -1,5 +1,5 @@
 -- The lemmas on a server that was refused, and on the run of one that was not.
-use Rattle.std.proofs.Common.{ℕ, None, replicate, subst}
+use Rattle.std.proofs.Common.{ℕ, None, refl, replicate, subst}
 use Rattle.std.specs.Prelude.{Err, Ok, Result}
 use Rattle.serving.specs.Runs.{with_lent}
 use Rattle.serving.specs.Serve.{HasRunSo}
@@ -30,3 +30,18 @@ returns-in-Err-clause-run g c =
     (subst (λ (r : Result (Unit {0}) ServeFault). HasRunSo g.D.Disk.keeps (with_lent c.args.core (replicate c.in-Ok.room.bench.slots None))
     c.serve_lent-core.result.0 (g.R.Read.remaining c.args.r.now) (g.L.Teller.told c.args.teller)
     (g.L.Teller.told c.serve_lent-core.result.3) r) c.in-Err.is c.serve_lent-core.ensures.run)
+
+pub returns-then-workers-eq0-clause-ends : goal.returns-then-workers-eq0-clause-ends
+returns-then-workers-eq0-clause-ends g c = (refl, refl, refl)
+
+pub returns-then-workers-eq0-clause-no_workers : goal.returns-then-workers-eq0-clause-no_workers
+returns-then-workers-eq0-clause-no_workers g c = c.if-workers-eq0.true
+
+pub returns-in_default-clause-ends : goal.returns-in_default-clause-ends
+returns-in_default-clause-ends g c = (refl, refl, refl)
+
+pub returns-in_default-clause-no_workers : goal.returns-in_default-clause-no_workers
+returns-in_default-clause-no_workers g c = c.if-workers-eq0.false
+
+pub returns-in-Ok-ended-clause-no_workers : goal.returns-in-Ok-ended-clause-no_workers
+returns-in-Ok-ended-clause-no_workers g c = c.if-workers-eq0.false
