@@ -1,5 +1,5 @@
 -- A session that reads no more, and what it promises in the end.
-use Rattle.std.proofs.Common.{◌≡◌, ℕ, zero, suc, ◌≤◌, ◌-◌, ◌^◌, ◌++◌, Bool, true, false, List, [], Option, Some, None, refl, ap, sym, ◌∙◌, subst, length, map, replicate, append-nil}
+use Rattle.std.proofs.Common.{◌≡◌, ◌≢◌, ℕ, zero, suc, ◌≤◌, ◌-◌, ◌^◌, ◌++◌, Bool, true, false, List, [], Option, Some, None, refl, ap, sym, ◌∙◌, subst, length, map, replicate, append-nil}
 use Rattle.std.specs.Prelude.{Result, Ok, Err, IfSome, OnOk, ◌&&◌}
 use Rattle.message.specs.Waiting.{so_far}
 use Rattle.std.proofs.lemmas.Bool.{true≢false}
@@ -21,7 +21,7 @@ use Rattle.serving.specs.Going.{Goes}
 use Rattle.serving.specs.Lending.{IsHome}
 use Rattle.serving.specs.Lines.{Line}
 use Rattle.line_row.specs.Rows.{RowView, comes_next}
-use Rattle.serving.specs.Serve.{HasWorkers, PromisesAll}
+use Rattle.serving.specs.Serve.{HasWorkers, PromisesAll, RefusesNone}
 use Rattle.serving.specs.Runs.{Holds, lent_hand, with_lent}
 use Rattle.serving.specs.Session.{EndsBy, EndsOrDeclines, HasGone, HasStopped, CanBegin, IsServed, IsUnderWay, IsUnderWayFrom, SessionView, ReadsOrStops, machine, known_unless, end_of}
 use Rattle.serving.specs.Telling.{Start, start_machine}
@@ -220,6 +220,16 @@ has_workers old p (Err faults.Exhausted) e = tt
 has_workers old p (Err faults.Device) e = tt
 has_workers old p (Err faults.Write) e = tt
 has_workers old p (Err faults.NoWorkers) e = absurd e
+
+-- Where there are workers, their want is not answered.
+pub refuses_none : (workers : ℕ) → workers ≢ 0 → (result : Result (Unit {0}) ServeFault) → HasWorkers result → RefusesNone workers result
+refuses_none workers some (Ok tt) h = some
+refuses_none workers some (Err faults.NoWorkers) h = absurd h
+refuses_none workers some (Err faults.Read) h = some
+refuses_none workers some (Err faults.Write) h = some
+refuses_none workers some (Err faults.Device) h = some
+refuses_none workers some (Err faults.OutOfMemory) h = some
+refuses_none workers some (Err faults.Exhausted) h = some
 
 -- ---- where it begins
 

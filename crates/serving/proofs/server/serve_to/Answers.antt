@@ -1,9 +1,10 @@
 -- The lemmas on a server that was refused, and on the run of one that was not.
 use Rattle.std.proofs.Common.{ℕ, None, refl, replicate, subst}
-use Rattle.std.specs.Prelude.{Err, Ok, Result}
+use Rattle.std.specs.Prelude.{Err, Ok, OnOk, Result}
 use Rattle.serving.specs.Runs.{with_lent}
-use Rattle.serving.specs.Serve.{HasRunSo}
+use Rattle.serving.specs.Serve.{HasEmptyLog, HasRunSo, RefusesNone}
 use Rattle.serving.specs.declared.server.ServeFault.{ServeFault}
+use Rattle.serving.proofs.Closing.{refuses_none}
 use Rattle.serving.proofs.Promises.{no_memory_ran, no_workers_ran}
 use Rattle.serving.proofs.server.serve_to.Goals as goal
 
@@ -45,3 +46,13 @@ returns-in_default-clause-no_workers g c = c.if-workers-eq0.false
 
 pub returns-in-Ok-ended-clause-no_workers : goal.returns-in-Ok-ended-clause-no_workers
 returns-in-Ok-ended-clause-no_workers g c = c.if-workers-eq0.false
+
+pub returns-in-Ok-ended-clause-emptied : goal.returns-in-Ok-ended-clause-emptied
+returns-in-Ok-ended-clause-emptied g c =
+    subst (λ (r : Result (Unit {0}) ServeFault). OnOk r (g.D.Disk.keeps → HasEmptyLog c.serve_lent-core.result.0)) c.in-Ok-ended.is
+    c.serve_lent-core.ensures.emptied
+
+pub returns-in-Err-clause-no_workers : goal.returns-in-Err-clause-no_workers
+returns-in-Err-clause-no_workers g c =
+    subst (λ (r : Result (Unit {0}) ServeFault). RefusesNone c.args.workers r) c.in-Err.is
+    (refuses_none c.args.workers c.if-workers-eq0.false c.serve_lent-core.result.1 c.serve_lent-core.ensures.workers)
