@@ -153,3 +153,12 @@ fewer_logged w new (a ∷ as') p e = let left = ap (λ (x : Outcome × World). l
 pub none_logged : (w new : World) (logged : List Replied) → (answer_outcome None, new) ≡ answer w logged → w.logged ≡ logged → new.logged ≡ []
 none_logged w new [] e is = ap (λ (x : Outcome × World). x.1.logged) e ∙ is
 none_logged w new (a ∷ as') e is = let o : outcomes.Idle ≡ outcomes.Answered a.0 a.2 = ap (λ (x : Outcome × World). x.0) e in cc
+
+-- What changed nothing else so far, and then changed nothing else, has changed nothing else.
+pub answered_on : (w once now : World) → once ≡ record w { logged = once.logged } → now ≡ record once { logged = now.logged }
+    → now ≡ record w { logged = now.logged }
+answered_on w once now before one = one ∙ ap (λ (x : World). record x { logged = now.logged }) before
+
+pub all_answered : (w once now : World) → once ≡ record w { logged = once.logged } → now ≡ record once { logged = now.logged } → now.logged ≡ []
+    → now ≡ record w { logged = [] }
+all_answered w once now before one none = answered_on w once now before one ∙ ap (λ (l : List Replied). record w { logged = l }) none

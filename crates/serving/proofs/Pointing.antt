@@ -1,5 +1,5 @@
 -- Steps of a consistency point: what is left of it, and that they fail only where the device does.
-use Rattle.std.proofs.Common.{◌≡◌, ℕ, ◌-◌, true, false, List, [], length, Option, Some, None, Result, Ok, Err, refl, ap, sym, ◌∙◌}
+use Rattle.std.proofs.Common.{◌≡◌, ◌≢◌, ℕ, ◌-◌, true, false, List, [], length, Option, Some, None, Result, Ok, Err, refl, ap, sym, ◌∙◌}
 use Rattle.std.specs.Prelude.{Bool, if◌then◌else◌, is_some, nat_lt, OnOk}
 use Rattle.std.proofs.lemmas.Option.{none-some}
 use Rattle.legal_runs.specs.Events.{fewer, point_refusal}
@@ -50,6 +50,20 @@ module _ (old : World) (left : old.left ≡ None) where
         → new.failed ≡ true
     point_fails new made refusal h = refused_so old new (point_refusal old) made refusal h
         (λ e. failed_so old.failed rest refusal e (λ d. absurd (none-some refusal (none_rests ∙ d))))
+
+  abbrev why_of : Option PointRefusal → PointRefusal
+  why_of None = points.Held
+  why_of (Some why) = why
+
+  held_alone : (b : Bool) (refusal : PointRefusal) → if_held b ≡ Some refusal → refusal ≡ points.Held
+  held_alone true refusal e = sym (ap why_of e)
+  held_alone false refusal e = absurd (none-some refusal e)
+
+  -- Where it is refused for another reason than that one is held, it is by the device.
+  pub begins_or_fails : (new : World) (made : Type 0) (refusal : PointRefusal) → refusal ≢ points.Held
+      → IsPointStep old new (point_refusal old) made (Err refusal) → new.failed ≡ true
+  begins_or_fails new made refusal not_held h = refused_so old new (point_refusal old) made refusal h
+      (λ e. failed_so old.failed rest refusal e (λ d. absurd (not_held (held_alone (nat_lt 0 (length (held old))) refusal (no_other ∙ d)))))
 
 -- ---- a point at once
 
