@@ -40,12 +40,22 @@ enum LineKind {
 ///
 /// A line without a ticket is its kind alone. Those with tickets lie in a queue of their own. Their tickets go up by one, so that a
 /// ticket tells where its line lies.
-#[derive(Drop)]
 pub struct LineRow {
     kinds: VecDeque<LineKind>,
     /// The lines with tickets, oldest first.
     ticketed: VecDeque<Line>,
     slots: usize,
+}
+
+// By hand, as a derived one is proved anew in each crate that drops a row.
+impl Drop for LineRow {
+    fn drop(self) {
+        let LineRow {
+            kinds: _,
+            ticketed: _,
+            slots: _,
+        } = self;
+    }
 }
 
 impl Model for LineRow {
