@@ -205,8 +205,15 @@ pub fn serve_to<
         return (Err(ServeError { core, fault }), teller);
     };
     let rt = &(rt, gate);
-    let (core, ended, reader, teller) =
-        serve_lent::<T, R, L, D, G, Brand>(rt, core, r, teller, room, every, PhantomData);
+    let (core, ended, reader, teller) = serve_lent::<T, R, L, D, G, Brand>(
+        rt,
+        core,
+        r,
+        teller,
+        room,
+        every,
+        PhantomData,
+    );
     come_back(reader);
     match ended {
         Ok(()) => (Ok(core), teller),
