@@ -114,7 +114,8 @@ fn serve_lent<
     ensures same { result.2.ghost_name ≡ reader.entry.ghost_name }
     ensures run { HasRunSo D.keeps (with_lent core (replicate room.bench.slots None)) result.0
         (R.remaining reader.entry.now) (L.told teller) (L.told result.3) result.1 }
-    ensures ends { EndsSo core result.0 (R.remaining reader.entry.now) (R.remaining result.2.now) (L.told teller) (L.told result.3) result.1 }
+    ensures ends { EndsSo core result.0 (R.remaining reader.entry.now) (R.remaining result.2.now)
+        (L.told teller) (L.told result.3) result.1 }
     ensures emptied { OnOk result.1 (D.keeps → HasEmptyLog result.0) }
     ensures workers { HasWorkers result.1 }
 {

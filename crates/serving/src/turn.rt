@@ -99,8 +99,8 @@ impl<'c, R: Read, D: Disk, L: Teller<D>, W: Gated> Session<'c, R, D, L, W> {
         requires first { position is_none self.old.desk.lent ≡ Some k }
         ensures as_before { IsAsBefore self.old self.new }
         ensures geometry { self.new.core.geometry ≡ self.old.core.geometry }
-        ensures goes { GoesTo self.old.core.geometry k (world_of self.old.core) self.old.desk.lent (world_of self.new.core) self.new.desk.lent
-            result }
+        ensures goes { GoesTo self.old.core.geometry k (world_of self.old.core) self.old.desk.lent
+            (world_of self.new.core) self.new.desk.lent result }
     {
         self.core.stands();
         match self.core.grant() {
