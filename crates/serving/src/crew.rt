@@ -22,26 +22,24 @@ impl<'g, T: Wait, G: Gate> Gated for (&'g T, &'g G) {
 }
 
 /// What the dispatcher works with: the calls that wait, with the gate, and the bench where jobs are lent.
-#[derive(Drop)]
 pub(crate) struct Crew<'c, W: Gated> {
     pub(crate) rt: &'c W,
     pub(crate) bench: &'c Bench,
 }
 
-impl<'c, W: Gated> Crew<'c, W> {
-    /// Lends a job to the workers at place k, the first where nothing is lent. It is inlined, so that the job isn't moved once more.
-    #[inline(always)]
-    pub(crate) fn lend(&self, desk: &mut DispatchSeat, k: usize, job: Job)
-        requires bench { desk.old.bench ≡ self.now.bench.now }
-        requires place { k < self.now.bench.now.slots }
-        requires first { position is_none desk.old.lent ≡ Some k }
-        ensures bench { desk.new.bench ≡ desk.old.bench }
-        ensures lent { desk.new.lent ≡ slice_set desk.old.lent k (Some job) }
-    {
-        match self.bench.offer(desk, k, job) {
-            Ok(()) => {}
-            Err(_) => unreachable!(),
-        }
+/// Lends a job to the workers at place k of a bench, the first where nothing is lent. It is inlined, so that the job isn't moved once
+/// more.
+#[inline(always)]
+pub(crate) fn lend(bench: &Bench, desk: &mut DispatchSeat, k: usize, job: Job)
+    requires bench { desk.old.bench ≡ bench.now }
+    requires place { k < bench.now.slots }
+    requires first { position is_none desk.old.lent ≡ Some k }
+    ensures bench { desk.new.bench ≡ desk.old.bench }
+    ensures lent { desk.new.lent ≡ slice_set desk.old.lent k (Some job) }
+{
+    match bench.offer(desk, k, job) {
+        Ok(()) => {}
+        Err(_) => unreachable!(),
     }
 }
 
@@ -58,7 +56,7 @@ pub(crate) trait Duty {
     ghost gives: { Self → Self → Result (Unit {0}) ServeFault → Type 0 };
 
     /// Does it.
-    fn fulfil(&mut self) -> Result<(), ServeFault>
+    fn fulfil<W: Gated>(&mut self, rt: &W) -> Result<(), ServeFault>
         requires { can_begin self.old }
         ensures { gives self.old self.new result };
 
@@ -90,9 +88,9 @@ fn fulfil_lent<'s, 'm, T: Threads + Wait + Sync, G: Gate + Sync, S: Duty, E>(
     ensures gives { S.gives duty.entry.now result.1.now result.0 }
 {
     let Crew { rt, bench } = crew;
-    let (rt, gate) = *rt;
-    let ended = match bench.start_all(rt, scope, seats, gate) {
-        Ok(()) => duty.fulfil(),
+    let (runtime, gate) = *rt;
+    let ended = match bench.start_all(runtime, scope, seats, gate) {
+        Ok(()) => duty.fulfil(rt),
         Err(_) => Err(ServeFault::OutOfMemory),
     };
     duty.release();

@@ -25,23 +25,23 @@ fn reported_for(stop: Stop) -> Result<(), ServeFault>
     }
 }
 
-impl<'c, R: Read, D: Disk, L: Teller<D>, W: Gated> Session<'c, R, D, L, W> {
+impl<'c, R: Read, D: Disk, L: Teller<D>> Session<'c, R, D, L> {
     /// Ends where something has failed: jobs that are out come back. Where it is the device, nothing more is logged, and the lines next
     /// in order are still written; where it is the output, what ran is logged and answered. Why the server ends then.
-    fn end_early(&mut self, why: Halt) -> ServeFault
+    fn end_early<W: Gated>(&mut self, rt: &W, why: Halt) -> ServeFault
         requires halted { HaltsBy why self.old }
         ensures { EndsBy self.new (Err result) }
     {
-        self.come_home();
+        self.come_home(rt);
         match why {
-            Halt::Device => match self.tell_the_rest() {
+            Halt::Device => match self.tell_the_rest(rt) {
                 Ok(()) => ServeFault::Device,
                 Err(_) => ServeFault::Write,
             },
             Halt::Write => {
                 // A fault of the device changes nothing any more.
                 let _logged = self.log_what_ran();
-                self.answer_what_is_logged();
+                self.answer_what_is_logged(rt);
                 ServeFault::Write
             }
         }
@@ -72,13 +72,12 @@ impl<'c, R: Read, D: Disk, L: Teller<D>, W: Gated> Session<'c, R, D, L, W> {
     }
 
     /// Reads lines and answers them, until no more is read and all that was is answered in the output: why no more is read.
-    fn serve_lines(&mut self) -> Result<Stop, Halt>
+    fn serve_lines<W: Gated>(&mut self, rt: &W) -> Result<Stop, Halt>
         requires whole { self.old.broken ≡ false }
         ensures served { MatchResult result (λ stop. (self.new.stop ≡ Some stop) × IsServed self.new) (λ why. HaltsBy why self.new) }
         ensures emptied { IfOk result (λ stop. stop ≡ stops.End → D.keeps → HasEmptyLog self.new.core) }
     {
         let mut stuck = false;
-        let rt = self.crew.rt;
         for _ in rt.forever() {
             let read = self.read_more(stuck);
             let ended = self.ended();
@@ -86,13 +85,13 @@ impl<'c, R: Read, D: Disk, L: Teller<D>, W: Gated> Session<'c, R, D, L, W> {
                 self.finish(stop)?;
                 return Ok(stop);
             }
-            stuck = self.advance(read)?;
+            stuck = self.advance(rt, read)?;
         }
         unreachable!()
     }
 }
 
-impl<'c, R: Read, D: Disk, L: Teller<D>, W: Gated> Duty for Session<'c, R, D, L, W> {
+impl<'c, R: Read, D: Disk, L: Teller<D>> Duty for Session<'c, R, D, L> {
     ghost use Rattle.std.specs.Prelude.{◌≡◌, OnOk, false, refl};
     ghost use Rattle.serving.specs.Serve.{HasEmptyLog};
     ghost use Rattle.serving.specs.Session.{EndsOrDeclines};
@@ -104,19 +103,19 @@ impl<'c, R: Read, D: Disk, L: Teller<D>, W: Gated> Duty for Session<'c, R, D, L,
     /// Serves line after line until the input ends, with a consistency point where one is due, and one at the end. All that was
     /// answered is written when it returns, unless the output failed. Where several faults befall one call, one of the output goes
     /// before one of the device, and that before the others.
-    fn fulfil(&mut self) -> Result<(), ServeFault> {
-        match self.serve_lines() {
+    fn fulfil<W: Gated>(&mut self, rt: &W) -> Result<(), ServeFault> {
+        match self.serve_lines(rt) {
             Ok(stop) => {
                 // This look does nothing but open the session's invariant to the proof: a device that works is no reason to stop.
                 let _ = &self.core;
                 reported_for(stop)
             }
-            Err(why) => Err(self.end_early(why)),
+            Err(why) => Err(self.end_early(rt, why)),
         }
     }
 
     fn release(&mut self) {
-        self.crew.bench.stop(&mut self.desk);
+        self.bench.stop(&mut self.desk);
     }
 
     ghost leaves = { λ s. (refl, tt) };

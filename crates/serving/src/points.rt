@@ -7,7 +7,6 @@ ghost use Rattle.scheduler.specs.Kept.{world_of};
 ghost use Rattle.serving.specs.Serve.{HasEmptyLog};
 ghost use Rattle.serving.specs.Session.{Moves, steps_left};
 
-use crate::crew::Gated;
 use crate::session::{Halt, Session};
 use crate::telling::Teller;
 use disk::Disk;
@@ -54,7 +53,7 @@ fn tells_of_held(why: PointRefusal) -> bool
     matches!(why, PointRefusal::Held)
 }
 
-impl<'c, R: Read, D: Disk, L: Teller<D>, W: Gated> Session<'c, R, D, L, W> {
+impl<'c, R: Read, D: Disk, L: Teller<D>> Session<'c, R, D, L> {
     /// Whether a consistency point is due by the number of records. None is while one is in progress.
     pub(crate) fn point_is_due(&self) -> bool {
         self.core.left().is_none() && self.course.is_due()

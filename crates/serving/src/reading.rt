@@ -9,7 +9,6 @@ ghost use Rattle.serving.specs.Reads.{TakesLine, stop_of};
 ghost use Rattle.line_row.specs.Rows.{AreConsecutive, with_tickets};
 ghost use Rattle.serving.specs.Runs.{Holds};
 
-use crate::crew::Gated;
 use crate::session::{Session, Stop};
 use crate::telling::Teller;
 use affinity::Kind;
@@ -126,7 +125,7 @@ fn stop_for(why: ArriveRefusal) -> Stop
     }
 }
 
-impl<'c, R: Read, D: Disk, L: Teller<D>, W: Gated> Session<'c, R, D, L, W> {
+impl<'c, R: Read, D: Disk, L: Teller<D>> Session<'c, R, D, L> {
     /// Reads the next line, for which there is room, if there is one: whether more may be read then. Else the session has stopped.
     fn read_next(&mut self) -> bool
         requires reads { self.old.stop ≡ None }

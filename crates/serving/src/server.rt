@@ -140,7 +140,7 @@ fn serve_lent<
         stop: None,
         teller,
         broken: false,
-        crew: Crew { rt, bench },
+        bench,
     };
     let ended = with_workers(Crew { rt, bench }, &mut session, seats);
     let Session {

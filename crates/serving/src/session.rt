@@ -1,7 +1,6 @@
 //! A session: the core, the dispatcher's seat, the lines that were read, and the answers that wait, with the input of the call and
 //! whom it tells. It is under way: from the start of the call a legal run has led to where it is.
 
-use crate::crew::{Crew, Gated};
 use crate::points::Course;
 use crate::telling::Teller;
 use disk::Disk;
@@ -10,7 +9,7 @@ use message::{LineReader, ReplyBuffer};
 use scheduler::Core;
 use std::io::Read;
 use std::marker::Model;
-use workers::DispatchSeat;
+use workers::{Bench, DispatchSeat};
 
 /// Why a session reads no more.
 #[derive(Clone, Copy)]
@@ -36,7 +35,7 @@ pub(crate) enum Halt {
 
 /// What a server has while it serves.
 #[derive(Drop)]
-pub(crate) struct Session<'c, R: Read, D: Disk, L: Teller<D>, W: Gated> {
+pub(crate) struct Session<'c, R: Read, D: Disk, L: Teller<D>> {
     /// The core.
     pub(crate) core: Core<D>,
     /// The dispatcher's seat at the bench.
@@ -55,11 +54,11 @@ pub(crate) struct Session<'c, R: Read, D: Disk, L: Teller<D>, W: Gated> {
     pub(crate) teller: L,
     /// Whether that has failed. Nothing more is told then.
     pub(crate) broken: bool,
-    /// Who works for it.
-    pub(crate) crew: Crew<'c, W>,
+    /// The bench where its jobs are lent.
+    pub(crate) bench: &'c Bench,
 }
 
-impl<'c, R: Read, D: Disk, L: Teller<D>, W: Gated> Model for Session<'c, R, D, L, W> {
+impl<'c, R: Read, D: Disk, L: Teller<D>> Model for Session<'c, R, D, L> {
     ghost use Rattle.std.specs.Prelude.{◌≡◌, Option};
     ghost use Rattle.message.specs.Reader.{has_ended, is_drained, source, unread};
     ghost use Rattle.serving.specs.Session.{IsUnderWayFrom, SessionView};
@@ -92,5 +91,5 @@ impl<'c, R: Read, D: Disk, L: Teller<D>, W: Gated> Model for Session<'c, R, D, L
       drained = is_drained s.lines;
       ended = has_ended s.lines;
       behind = R.remaining (source s.lines);
-    }) × (s.desk.bench ≡ s.crew.bench.now) };
+    }) × (s.desk.bench ≡ s.bench.now) };
 }

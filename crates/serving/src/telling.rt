@@ -36,10 +36,10 @@ pub trait Teller<D: Disk> {
         ensures told { OnOk result (Appends (told self.old) (told self.new) lines.now) };
 }
 
-impl<'c, R: Read, D: Disk, L: Teller<D>, W: Gated> Session<'c, R, D, L, W> {
+impl<'c, R: Read, D: Disk, L: Teller<D>> Session<'c, R, D, L> {
     /// Answers the message that was logged first, if there is one: its line in the row has its reply then. Counts it for the points
     /// if it changed something, saturating. Whether there was one.
-    pub(crate) fn answer_first(&mut self) -> bool
+    pub(crate) fn answer_first<W: Gated>(&mut self, rt: &W) -> bool
         ensures as_before { IsAsBefore self.old self.new }
         ensures desk { self.new.desk ≡ self.old.desk }
         ensures world { world_of self.new.core ≡ record (world_of self.old.core) { logged = self.new.core.logged } }
@@ -51,20 +51,20 @@ impl<'c, R: Read, D: Disk, L: Teller<D>, W: Gated> Session<'c, R, D, L, W> {
         let Some((ticket, reply)) = told else {
             return false;
         };
-        self.crew.rt.answered(ticket);
+        rt.answered(ticket);
         self.course.count(&reply);
         self.row.answer(ticket, reply);
         true
     }
 
     /// Answers all that is logged.
-    pub(crate) fn answer_what_is_logged(&mut self)
+    pub(crate) fn answer_what_is_logged<W: Gated>(&mut self, rt: &W)
         ensures as_before { IsAsBefore self.old self.new }
         ensures desk { self.new.desk ≡ self.old.desk }
         ensures world { world_of self.new.core ≡ record (world_of self.old.core) { logged = [] } }
     {
         for _ in 0..self.core.slots() {
-            if !self.answer_first() {
+            if !self.answer_first(rt) {
                 return;
             }
         }
@@ -140,14 +140,14 @@ impl<'c, R: Read, D: Disk, L: Teller<D>, W: Gated> Session<'c, R, D, L, W> {
     }
 
     /// Answers all that is logged, and tells the lines that are next in order.
-    pub(crate) fn tell_the_rest(&mut self) -> Result<(), Halt>
+    pub(crate) fn tell_the_rest<W: Gated>(&mut self, rt: &W) -> Result<(), Halt>
         ensures moves { Moves self.old self.new result }
         ensures desk { self.new.desk ≡ self.old.desk }
         ensures world { world_of self.new.core ≡ record (world_of self.old.core) { logged = [] } }
         ensures none_waits { OnOk result (self.new.out ≡ []) }
         ensures last { OnOk result (comes_next self.new.row.lines ≡ false) }
     {
-        self.answer_what_is_logged();
+        self.answer_what_is_logged(rt);
         self.say_what_is_next()?;
         self.send()
     }

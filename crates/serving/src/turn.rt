@@ -6,7 +6,7 @@ ghost use Rattle.scheduler.specs.Kept.{world_of};
 ghost use Rattle.serving.specs.Lending.{GoesTo, IsEndOfSending, IsHome};
 ghost use Rattle.serving.specs.Session.{IsAsBefore, Moves};
 
-use crate::crew::Gated;
+use crate::crew::{Gated, lend};
 use crate::session::{Halt, Session};
 use crate::telling::Teller;
 use disk::Disk;
@@ -93,7 +93,7 @@ fn pause(looks: usize) {
     }
 }
 
-impl<'c, R: Read, D: Disk, L: Teller<D>, W: Gated> Session<'c, R, D, L, W> {
+impl<'c, R: Read, D: Disk, L: Teller<D>> Session<'c, R, D, L> {
     /// Lets the eligible message with the least ticket go out to place k, the first where nothing is lent.
     fn send_to(&mut self, k: usize) -> Sent
         requires first { position is_none self.old.desk.lent ≡ Some k }
@@ -105,7 +105,7 @@ impl<'c, R: Read, D: Disk, L: Teller<D>, W: Gated> Session<'c, R, D, L, W> {
         self.core.stands();
         match self.core.grant() {
             Granted::Job(job) => {
-                self.crew.lend(&mut self.desk, k, job);
+                lend(self.bench, &mut self.desk, k, job);
                 Sent::Job
             }
             Granted::NoneEligible => Sent::NoneEligible,
@@ -153,7 +153,7 @@ impl<'c, R: Read, D: Disk, L: Teller<D>, W: Gated> Session<'c, R, D, L, W> {
         ensures failed { self.new.core.failed ≡ self.old.core.failed }
     {
         self.core.stands();
-        let Some(done) = self.crew.bench.collect(&mut self.desk, k) else {
+        let Some(done) = self.bench.collect(&mut self.desk, k) else {
             return None;
         };
         let changed = matches!(done.reply(), Reply::Done);
@@ -180,12 +180,11 @@ impl<'c, R: Read, D: Disk, L: Teller<D>, W: Gated> Session<'c, R, D, L, W> {
     }
 
     /// Waits for the jobs that are out, and takes back what comes of them. Nothing is lent then.
-    pub(crate) fn come_home(&mut self)
+    pub(crate) fn come_home<W: Gated>(&mut self, rt: &W)
         ensures as_before { IsAsBefore self.old self.new }
         ensures failed { self.new.core.failed ≡ self.old.core.failed }
         ensures home { IsHome self.new.desk.lent }
     {
-        let rt = self.crew.rt;
         for _ in rt.forever() {
             let mut batch = Batch::new(false);
             self.take_what_came(&mut batch);
@@ -193,7 +192,7 @@ impl<'c, R: Read, D: Disk, L: Teller<D>, W: Gated> Session<'c, R, D, L, W> {
             if !is_lent {
                 break;
             }
-            self.crew.bench.wait(rt, &mut self.desk);
+            self.bench.wait(rt, &mut self.desk);
         }
     }
 
@@ -251,11 +250,11 @@ impl<'c, R: Read, D: Disk, L: Teller<D>, W: Gated> Session<'c, R, D, L, W> {
     }
 
     /// Answers all that is logged, and takes the consistency point in progress a step on behind each answer.
-    fn answer_and_move_on(&mut self) -> Result<(), Halt>
+    fn answer_and_move_on<W: Gated>(&mut self, rt: &W) -> Result<(), Halt>
         ensures moves { Moves self.old self.new result }
     {
         for _ in 0..self.core.slots() {
-            if !self.answer_first() {
+            if !self.answer_first(rt) {
                 return Ok(());
             }
             self.move_point_on()?;
@@ -265,25 +264,25 @@ impl<'c, R: Read, D: Disk, L: Teller<D>, W: Gated> Session<'c, R, D, L, W> {
 
     /// Lets messages go out, takes back what comes, logs it in one go, answers it and writes the lines that are next in order. A
     /// consistency point in progress goes on by one step behind each answer.
-    fn work_off(&mut self) -> Result<Batch, Halt>
+    fn work_off<W: Gated>(&mut self, rt: &W) -> Result<Batch, Halt>
         ensures moves { Moves self.old self.new result }
     {
         let batch = self.gather()?;
         self.log_what_ran()?;
-        self.answer_and_move_on()?;
+        self.answer_and_move_on(rt)?;
         self.say_what_is_next()?;
         Ok(batch)
     }
 
     /// Sends what waits, and waits for a result where one is to come, or begins a consistency point where one is due or a
     /// message lacks room. Else nothing is to be done: whether it is so.
-    fn rest(&mut self, lacks_room: bool) -> Result<bool, Halt>
+    fn rest<W: Gated>(&mut self, rt: &W, lacks_room: bool) -> Result<bool, Halt>
         ensures moves { Moves self.old self.new result }
     {
         self.send()?;
         let one_comes = self.desk.any_lent();
         if one_comes {
-            self.crew.bench.wait(self.crew.rt, &mut self.desk);
+            self.bench.wait(rt, &mut self.desk);
             return Ok(false);
         }
         let is_due = self.point_is_due();
@@ -295,10 +294,10 @@ impl<'c, R: Read, D: Disk, L: Teller<D>, W: Gated> Session<'c, R, D, L, W> {
     }
 
     /// Does what can be done: whether nothing is left to do but to read. Where lines were read just before, it doesn't wait.
-    pub(crate) fn advance(&mut self, read: bool) -> Result<bool, Halt>
+    pub(crate) fn advance<W: Gated>(&mut self, rt: &W, read: bool) -> Result<bool, Halt>
         ensures moves { Moves self.old self.new result }
     {
-        let batch = self.work_off()?;
+        let batch = self.work_off(rt)?;
         if read || batch.has_come() {
             return Ok(false);
         }
@@ -306,6 +305,6 @@ impl<'c, R: Read, D: Disk, L: Teller<D>, W: Gated> Session<'c, R, D, L, W> {
         if pointed {
             return Ok(false);
         }
-        self.rest(batch.lacks_room)
+        self.rest(rt, batch.lacks_room)
     }
 }

@@ -79,7 +79,7 @@ invariant_of-self-in-Err-take_line g c =
       drained = is_drained n;
       ended = has_ended n;
       behind = rest (source n);
-    }) × (f.desk.bench ≡ f.crew.bench.now)) (sym c.stop_for.ensures) (
+    }) × (f.desk.bench ≡ f.bench.now)) (sym c.stop_for.ensures) (
       on_stop g.D.Disk.keeps _ c.take_line.new.core c.take_line.new.row (unread rest n) (is_drained n) (has_ended n) (rest (source n)) none c.in-Err-take_line.ensures.slots knows
           _ (stop_of why) u took.2.quiet took.3
           (stops_at_refusal g.D.Disk.keeps _ _ left (unread rest n) (rest (source n)) (is_drained f.lines) c.line.result.now took.0 why took.1 found took.2

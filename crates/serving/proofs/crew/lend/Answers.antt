@@ -3,10 +3,10 @@ use Rattle.std.proofs.Common.{◌≡◌, Err, Ok, Some, sym, ◌∙◌}
 use Rattle.std.specs.Prelude.{slice_set}
 use Rattle.serving.proofs.Sending.{nothing_there, offered}
 use Rattle.workers.specs.Rule.{lent_at}
-use Rattle.serving.proofs.crew.Crew.lend.Goals as goal
+use Rattle.serving.proofs.crew.lend.Goals as goal
 
 pub unreachable-requires : goal.unreachable-requires
-unreachable-requires g c =
+unreachable-requires c =
     let lent = c.args.desk.now.lent in
     let taken = offered (lent_at lent c.args.k)
     ((c.offer.result ≡ Ok tt) × (c.offer.new.seat.lent ≡ slice_set lent c.args.k (Some c.args.job)))
@@ -15,7 +15,7 @@ unreachable-requires g c =
     cc (sym taken.0 ∙ c.in-Err.is)
 
 pub returns-clause-lent : goal.returns-clause-lent
-returns-clause-lent g c =
+returns-clause-lent c =
     let lent = c.args.desk.now.lent in
     let taken = offered (lent_at lent c.args.k)
     ((c.offer.result ≡ Ok tt) × (c.offer.new.seat.lent ≡ slice_set lent c.args.k (Some c.args.job)))
