@@ -90,7 +90,14 @@ fn take_room(alloc: Global, slots: usize, workers: usize) -> Result<Room, AllocE
     })
 }
 
-// Serves the lines of a reader that is lent, and gives it back with whom they were told.
+// What the call of a server is given, and gives back: its core, its reader, which is lent, and whom it tells.
+struct Call<'a, R, L, D: Disk> {
+    core: Core<D>,
+    reader: &'a mut R,
+    teller: L,
+}
+
+// Serves the lines of a reader that is lent.
 fn serve_lent<
     'a,
     'c,
@@ -102,23 +109,26 @@ fn serve_lent<
     N: Loan,
 >(
     rt: &'c (&'c T, &'c G),
-    core: Core<D>,
-    reader: &'a mut R,
-    teller: L,
+    call: Call<'a, R, L, D>,
     room: Room,
     every: u64,
     of: PhantomData<N>,
-) -> (Core<D>, Result<(), ServeFault>, &'a mut R, L)
-    requires reader { reader.ghost_name ≡ N.name }
-    requires can_begin { CanBegin L.start core room.bench.slots (R.remaining reader.now) (L.told teller) room.row }
-    ensures same { result.2.ghost_name ≡ reader.entry.ghost_name }
-    ensures run { HasRunSo D.keeps (with_lent core (replicate room.bench.slots None)) result.0
-        (R.remaining reader.entry.now) (L.told teller) (L.told result.3) result.1 }
-    ensures ends { EndsSo core result.0 (R.remaining reader.entry.now) (R.remaining result.2.now)
-        (L.told teller) (L.told result.3) result.1 }
-    ensures emptied { OnOk result.1 (D.keeps → HasEmptyLog result.0) }
+) -> (Call<'a, R, L, D>, Result<(), ServeFault>)
+    requires reader { call.reader.ghost_name ≡ N.name }
+    requires can_begin { CanBegin L.start call.core room.bench.slots (R.remaining call.reader.now) (L.told call.teller) room.row }
+    ensures same { result.0.reader.ghost_name ≡ call.entry.reader.ghost_name }
+    ensures run { HasRunSo D.keeps (with_lent call.entry.core (replicate room.bench.slots None)) result.0.core
+        (R.remaining call.entry.reader.now) (L.told call.entry.teller) (L.told result.0.teller) result.1 }
+    ensures ends { EndsSo call.entry.core result.0.core (R.remaining call.entry.reader.now) (R.remaining result.0.reader.now)
+        (L.told call.entry.teller) (L.told result.0.teller) result.1 }
+    ensures emptied { OnOk result.1 (D.keeps → HasEmptyLog result.0.core) }
     ensures workers { HasWorkers result.1 }
 {
+    let Call {
+        core,
+        reader,
+        teller,
+    } = call;
     let Room {
         input,
         row,
@@ -151,7 +161,12 @@ fn serve_lent<
     } = session;
     core.stands();
     let LentReader { reader, of: _ } = lines.into_inner();
-    (core, ended, reader, teller)
+    let call = Call {
+        core,
+        reader,
+        teller,
+    };
+    (call, ended)
 }
 
 /// Answers each line that a reader has left with one line, which it tells, while so many workers, each a thread of its own, run
@@ -206,15 +221,17 @@ pub fn serve_to<
         return (Err(ServeError { core, fault }), teller);
     };
     let rt = &(rt, gate);
-    let (core, ended, reader, teller) = serve_lent::<T, R, L, D, G, Brand>(
-        rt,
+    let call = Call {
         core,
-        r,
+        reader: r,
         teller,
-        room,
-        every,
-        PhantomData,
-    );
+    };
+    let (call, ended) = serve_lent::<T, R, L, D, G, Brand>(rt, call, room, every, PhantomData);
+    let Call {
+        core,
+        reader,
+        teller,
+    } = call;
     come_back(reader);
     match ended {
         Ok(()) => (Ok(core), teller),

@@ -19,10 +19,10 @@ invariant_of-session g c =
 pub returns-clause-run : goal.returns-clause-run
 returns-clause-run g c =
     let s : Start = record {
-      core = c.args.core;
+      core = c.args.call.core;
       places = c.args.room.bench.slots;
-      input = g.R.Read.remaining c.args.reader.now;
-      before = g.L.Teller.told c.args.teller;
+      input = g.R.Read.remaining c.args.call.reader.now;
+      before = g.L.Teller.told c.args.call.teller;
     } in
     let now = c.with_workers-ended.new.duty in
     let view = c.session.view_is in
@@ -36,10 +36,10 @@ returns-clause-run g c =
 pub returns-clause-ends : goal.returns-clause-ends
 returns-clause-ends g c =
     let s : Start = record {
-      core = c.args.core;
+      core = c.args.call.core;
       places = c.args.room.bench.slots;
-      input = g.R.Read.remaining c.args.reader.now;
-      before = g.L.Teller.told c.args.teller;
+      input = g.R.Read.remaining c.args.call.reader.now;
+      before = g.L.Teller.told c.args.call.teller;
     } in
     let now = c.with_workers-ended.new.duty in
     let view = c.session.view_is in

@@ -18,19 +18,19 @@ returns-in_default-clause-run g c = no_memory_ran g.D.Disk.keeps c.args.core c.a
 
 pub returns-in-Ok-ended-clause-run : goal.returns-in-Ok-ended-clause-run
 returns-in-Ok-ended-clause-run g c =
-    subst (λ (n : ℕ). HasRunSo g.D.Disk.keeps (with_lent c.args.core (replicate n None)) c.serve_lent-core.result.0 (g.R.Read.remaining c.args.r.now)
-    (g.L.Teller.told c.args.teller) (g.L.Teller.told c.serve_lent-core.result.3) (Ok tt)) c.in-Ok.ensures.places
+    subst (λ (n : ℕ). HasRunSo g.D.Disk.keeps (with_lent c.args.core (replicate n None)) c.serve_lent-call.result.0.core (g.R.Read.remaining c.args.r.now)
+    (g.L.Teller.told c.args.teller) (g.L.Teller.told c.serve_lent-call.result.0.teller) (Ok tt)) c.in-Ok.ensures.places
     (subst (λ (r : Result (Unit {0}) ServeFault). HasRunSo g.D.Disk.keeps (with_lent c.args.core (replicate c.in-Ok.room.bench.slots None))
-    c.serve_lent-core.result.0 (g.R.Read.remaining c.args.r.now) (g.L.Teller.told c.args.teller)
-    (g.L.Teller.told c.serve_lent-core.result.3) r) c.in-Ok-ended.is c.serve_lent-core.ensures.run)
+    c.serve_lent-call.result.0.core (g.R.Read.remaining c.args.r.now) (g.L.Teller.told c.args.teller)
+    (g.L.Teller.told c.serve_lent-call.result.0.teller) r) c.in-Ok-ended.is c.serve_lent-call.ensures.run)
 
 pub returns-in-Err-clause-run : goal.returns-in-Err-clause-run
 returns-in-Err-clause-run g c =
-    subst (λ (n : ℕ). HasRunSo g.D.Disk.keeps (with_lent c.args.core (replicate n None)) c.serve_lent-core.result.0 (g.R.Read.remaining c.args.r.now)
-    (g.L.Teller.told c.args.teller) (g.L.Teller.told c.serve_lent-core.result.3) (Err c.in-Err.fault)) c.in-Ok.ensures.places
+    subst (λ (n : ℕ). HasRunSo g.D.Disk.keeps (with_lent c.args.core (replicate n None)) c.serve_lent-call.result.0.core (g.R.Read.remaining c.args.r.now)
+    (g.L.Teller.told c.args.teller) (g.L.Teller.told c.serve_lent-call.result.0.teller) (Err c.in-Err.fault)) c.in-Ok.ensures.places
     (subst (λ (r : Result (Unit {0}) ServeFault). HasRunSo g.D.Disk.keeps (with_lent c.args.core (replicate c.in-Ok.room.bench.slots None))
-    c.serve_lent-core.result.0 (g.R.Read.remaining c.args.r.now) (g.L.Teller.told c.args.teller)
-    (g.L.Teller.told c.serve_lent-core.result.3) r) c.in-Err.is c.serve_lent-core.ensures.run)
+    c.serve_lent-call.result.0.core (g.R.Read.remaining c.args.r.now) (g.L.Teller.told c.args.teller)
+    (g.L.Teller.told c.serve_lent-call.result.0.teller) r) c.in-Err.is c.serve_lent-call.ensures.run)
 
 pub returns-then-workers-eq0-clause-ends : goal.returns-then-workers-eq0-clause-ends
 returns-then-workers-eq0-clause-ends g c = (refl, refl, refl)
@@ -49,10 +49,10 @@ returns-in-Ok-ended-clause-no_workers g c = c.if-workers-eq0.false
 
 pub returns-in-Ok-ended-clause-emptied : goal.returns-in-Ok-ended-clause-emptied
 returns-in-Ok-ended-clause-emptied g c =
-    subst (λ (r : Result (Unit {0}) ServeFault). OnOk r (g.D.Disk.keeps → HasEmptyLog c.serve_lent-core.result.0)) c.in-Ok-ended.is
-    c.serve_lent-core.ensures.emptied
+    subst (λ (r : Result (Unit {0}) ServeFault). OnOk r (g.D.Disk.keeps → HasEmptyLog c.serve_lent-call.result.0.core)) c.in-Ok-ended.is
+    c.serve_lent-call.ensures.emptied
 
 pub returns-in-Err-clause-no_workers : goal.returns-in-Err-clause-no_workers
 returns-in-Err-clause-no_workers g c =
     subst (λ (r : Result (Unit {0}) ServeFault). RefusesNone c.args.workers r) c.in-Err.is
-    (refuses_none c.args.workers c.if-workers-eq0.false c.serve_lent-core.result.1 c.serve_lent-core.ensures.workers)
+    (refuses_none c.args.workers c.if-workers-eq0.false c.serve_lent-call.result.1 c.serve_lent-call.ensures.workers)
