@@ -63,7 +63,7 @@ impl<'c, R: Read, D: Disk, L: Teller<D>> Session<'c, R, D, L> {
     /// Whether there was one.
     pub(crate) fn move_point_on(&mut self) -> Result<bool, Halt>
         ensures moves { Moves self.old self.new result }
-        ensures same { (self.new.row ≡ self.old.row) × (self.new.out ≡ self.old.out) }
+        ensures same { (self.new.row ≡ self.old.row) × (self.new.out ≡ self.old.out) × (self.new.core.logged ≡ self.old.core.logged) }
         ensures step { IfOk result (λ moved. MatchBool moved (steps_left self.new.core.left + 1 ≡ steps_left self.old.core.left)
             (self.new.core.left ≡ None)) }
     {

@@ -1,6 +1,6 @@
 //! Lines that are read: each is in the row then, and its message in the core.
 
-ghost use Rattle.std.specs.Prelude.{◌≡◌, ◌<◌, ◌++◌, List, [], ◌∷◌, None, Some, OnErr, false, is_none, length, option_copied};
+ghost use Rattle.std.specs.Prelude.{◌≡◌, ◌<◌, ◌+◌, ◌++◌, List, [], ◌∷◌, IsTrue, None, Some, OnErr, false, is_none, length, option_copied};
 ghost use Rattle.message.specs.Grammar.{message_of};
 ghost use Rattle.message.specs.Heads.{asking, has_data};
 ghost use Rattle.machine.specs.declared.hands.Hand.{Hand};
@@ -132,6 +132,8 @@ impl<'c, R: Read, D: Disk, L: Teller<D>> Session<'c, R, D, L> {
         requires room { length self.old.row.lines < self.old.row.slots }
         ensures reads { result ≡ is_none self.new.stop }
         ensures whole { self.new.broken ≡ self.old.broken }
+        ensures slots { self.new.row.slots ≡ self.old.row.slots }
+        ensures longer { IsTrue result → length self.new.row.lines ≡ length self.old.row.lines + 1 }
     {
         if self.lines.is_drained() {
             self.stop = Some(Stop::End);
@@ -167,19 +169,7 @@ impl<'c, R: Read, D: Disk, L: Teller<D>> Session<'c, R, D, L> {
         ensures whole { self.new.broken ≡ self.old.broken }
     {
         let mut read = false;
-        for _ in 0..self.row.slots() {
-            let has_room = self.row.has_room();
-            if !has_room {
-                return read;
-            }
-            let is_held = self.lines.holds_line();
-            if !is_held {
-                return read;
-            }
-            let reads = self.read_next();
-            if !reads {
-                return read;
-            }
+        while self.row.has_room() && self.lines.holds_line() && self.read_next() {
             read = true;
         }
         read

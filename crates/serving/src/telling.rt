@@ -63,11 +63,7 @@ impl<'c, R: Read, D: Disk, L: Teller<D>> Session<'c, R, D, L> {
         ensures desk { self.new.desk ≡ self.old.desk }
         ensures world { world_of self.new.core ≡ record (world_of self.old.core) { logged = [] } }
     {
-        for _ in 0..self.core.slots() {
-            if !self.answer_first(rt) {
-                return;
-            }
-        }
+        while self.answer_first(rt) {}
     }
 
     /// Tells all that waits, unless it could not tell something before.
@@ -130,12 +126,7 @@ impl<'c, R: Read, D: Disk, L: Teller<D>> Session<'c, R, D, L> {
         ensures same { (self.new.core ≡ self.old.core) × (self.new.desk ≡ self.old.desk) }
         ensures last { OnOk result (comes_next self.new.row.lines ≡ false) }
     {
-        for _ in 0..self.row.len() {
-            let said = self.say_first()?;
-            if !said {
-                return Ok(());
-            }
-        }
+        while self.say_first()? {}
         Ok(())
     }
 

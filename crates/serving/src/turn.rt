@@ -1,7 +1,7 @@
 //! One turn of a session: messages go out, and what came back is logged in one go and answered; where nothing else can be done,
 //! it waits or begins a consistency point.
 
-ghost use Rattle.std.specs.Prelude.{◌≡◌, ◌<◌, OnErr, OnOk, Some, [], false, is_none, length, position, true};
+ghost use Rattle.std.specs.Prelude.{◌≡◌, ◌<◌, ◌≤◌, ◌-◌, ◌↔◌, IfOk, IsTrue, OnErr, OnOk, Some, [], false, is_none, length, position, true};
 ghost use Rattle.scheduler.specs.Kept.{world_of};
 ghost use Rattle.serving.specs.Lending.{GoesTo, IsEndOfSending, IsHome};
 ghost use Rattle.serving.specs.Session.{IsAsBefore, Moves};
@@ -50,7 +50,9 @@ impl Batch {
     }
 
     /// A message has come back, which changed something or didn't.
-    fn add(&mut self, changed: bool) {
+    fn add(&mut self, changed: bool)
+        ensures { self.new.left ≡ self.old.left - 1 }
+    {
         self.left = self.left.saturating_sub(1);
         self.changed = self.changed || changed;
     }
@@ -61,7 +63,9 @@ impl Batch {
     }
 
     /// Whether what ran is to be logged before more comes back.
-    fn is_full(&self) -> bool {
+    fn is_full(&self) -> bool
+        ensures { IsTrue result ↔ (self.now.left ≡ 0) }
+    {
         self.left == 0
     }
 
@@ -165,6 +169,8 @@ impl<'c, R: Read, D: Disk, L: Teller<D>> Session<'c, R, D, L> {
     fn take_what_came(&mut self, batch: &mut Batch) -> bool
         ensures as_before { IsAsBefore self.old self.new }
         ensures failed { self.new.core.failed ≡ self.old.core.failed }
+        ensures left { batch.new.left ≤ batch.old.left }
+        ensures less { IsTrue result → batch.new.left < batch.old.left }
     {
         let mut came = false;
         for k in 0..self.desk.places() {
@@ -200,6 +206,7 @@ impl<'c, R: Read, D: Disk, L: Teller<D>> Session<'c, R, D, L> {
     /// messages go out then. It waits for nobody.
     fn look_for_some(&mut self, batch: &mut Batch) -> Result<bool, Halt>
         ensures moves { Moves self.old self.new result }
+        ensures less { IfOk result (λ came. IsTrue came → batch.new.left < batch.old.left) }
     {
         for looks in 1..=PATIENCE {
             let came = self.take_what_came(batch);
@@ -220,17 +227,7 @@ impl<'c, R: Read, D: Disk, L: Teller<D>> Session<'c, R, D, L> {
     {
         let lacks_room = self.send_out()?;
         let mut batch = Batch::new(lacks_room);
-        for _ in 0..BATCH {
-            let is_ripe = batch.is_ripe();
-            let more_come = self.desk.any_lent();
-            if is_ripe || !more_come {
-                return Ok(batch);
-            }
-            let came = self.look_for_some(&mut batch)?;
-            if !came {
-                return Ok(batch);
-            }
-        }
+        while !batch.is_ripe() && self.desk.any_lent() && self.look_for_some(&mut batch)? {}
         Ok(batch)
     }
 
@@ -249,17 +246,15 @@ impl<'c, R: Read, D: Disk, L: Teller<D>> Session<'c, R, D, L> {
         }
     }
 
-    /// Answers all that is logged, and takes the consistency point in progress a step on behind each answer.
-    fn answer_and_move_on<W: Gated>(&mut self, rt: &W) -> Result<(), Halt>
+    /// Answers all that is logged, takes the consistency point in progress a step on behind each answer, and lets the lines that are next
+    /// in order wait to be told.
+    fn answer_and_say<W: Gated>(&mut self, rt: &W) -> Result<(), Halt>
         ensures moves { Moves self.old self.new result }
     {
-        for _ in 0..self.core.slots() {
-            if !self.answer_first(rt) {
-                return Ok(());
-            }
+        while self.answer_first(rt) {
             self.move_point_on()?;
         }
-        Ok(())
+        self.say_what_is_next()
     }
 
     /// Lets messages go out, takes back what comes, logs it in one go, answers it and writes the lines that are next in order. A
@@ -269,8 +264,7 @@ impl<'c, R: Read, D: Disk, L: Teller<D>> Session<'c, R, D, L> {
     {
         let batch = self.gather()?;
         self.log_what_ran()?;
-        self.answer_and_move_on(rt)?;
-        self.say_what_is_next()?;
+        self.answer_and_say(rt)?;
         Ok(batch)
     }
 

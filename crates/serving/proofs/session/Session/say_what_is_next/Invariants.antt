@@ -1,5 +1,5 @@
--- The lines so far were written.
-use Rattle.std.proofs.Common.{◌≡◌, ◌+◌, length}
+-- The lines so far wait to be told; and how many are in the row still.
+use Rattle.std.proofs.Common.{◌≡◌, length}
 use Rattle.serving.specs.Session.{IsAsBefore}
 use Rattle.serving.proofs.session.Session.say_what_is_next.Given as goal
 
@@ -7,5 +7,7 @@ abbrev pub invariant-loop : goal.invariant-loop
 invariant-loop g l = record {
   as_before : IsAsBefore l.initial.self l.self;
   same : (l.self.core ≡ l.initial.self.core) × (l.self.desk ≡ l.initial.self.desk);
-  many : l.counter + length l.self.row.lines ≡ length l.initial.self.row.lines;
 }
+
+abbrev pub decreases-loop : goal.decreases-loop
+decreases-loop g l = length l.self.row.lines

@@ -1,4 +1,5 @@
-use Rattle.std.proofs.Common.{◌≡◌, length}
+use Rattle.std.proofs.Common.{◌≡◌, ◌<◌, ◌≤◌, length}
+use Rattle.std.specs.Prelude.{IsTrue}
 use Rattle.serving.specs.Session.{IsAsBefore}
 use Rattle.serving.proofs.session.Session.take_what_came.Given as goal
 
@@ -7,4 +8,6 @@ invariant-loop-k g l = record {
   as_before : IsAsBefore l.initial.self l.self;
   places : length l.self.desk.lent ≡ length l.initial.self.desk.lent;
   failed : l.self.core.failed ≡ l.initial.self.core.failed;
+  left : l.batch.left ≤ l.initial.batch.left;
+  less : IsTrue l.came → l.batch.left < l.initial.batch.left;
 }
