@@ -129,30 +129,23 @@ fn serve_lent<
         reader,
         teller,
     } = call;
-    let Room {
-        input,
-        row,
-        out,
-        bench,
-        desk,
-        seats,
-    } = room;
     core.stands();
-    let bench = &bench;
-    let lines = LineReader::new(LentReader { reader, of }, input);
+    let bench = room.bench;
+    let lines = LineReader::new(LentReader { reader, of }, room.input);
     let mut session = Session {
         core,
-        desk,
-        row,
-        out,
+        desk: room.desk,
+        row: room.row,
+        out: room.out,
         course: Course::new(every),
         lines,
         stop: None,
         teller,
         broken: false,
-        bench,
+        bench: &bench,
     };
-    let ended = with_workers(Crew { rt, bench }, &mut session, seats);
+    let crew = Crew { rt, bench: &bench };
+    let ended = with_workers(crew, &mut session, room.seats);
     let Session {
         core,
         lines,
