@@ -1,6 +1,6 @@
 //! Lines that are read: each is in the row then, and its message in the core.
 
-ghost use Rattle.std.specs.Prelude.{◌≡◌, ◌<◌, ◌+◌, ◌++◌, List, [], ◌∷◌, IsTrue, None, Some, OnErr, false, is_none, length, option_copied};
+ghost use Rattle.std.specs.Prelude.{◌≡◌, ◌<◌, ◌↔◌, ◌+◌, ◌++◌, List, [], ◌∷◌, IsTrue, None, Some, OnErr, false, is_none, length, option_copied};
 ghost use Rattle.message.specs.Grammar.{message_of};
 ghost use Rattle.message.specs.Heads.{asking, has_data};
 ghost use Rattle.machine.specs.declared.hands.Hand.{Hand};
@@ -126,6 +126,13 @@ fn stop_for(why: ArriveRefusal) -> Stop
 }
 
 impl<'c, R: Read, D: Disk, L: Teller<D>> Session<'c, R, D, L> {
+    /// Whether a further line may be read: the session has not stopped, and there is room for the line in the row.
+    fn may_read(&self) -> bool
+        ensures { IsTrue result ↔ ((self.now.stop ≡ None) × (length self.now.row.lines < self.now.row.slots)) }
+    {
+        self.stop.is_none() && self.row.has_room()
+    }
+
     /// Reads the next line, for which there is room, if there is one: whether more may be read then. Else the session has stopped.
     fn read_next(&mut self) -> bool
         requires reads { self.old.stop ≡ None }
@@ -162,36 +169,16 @@ impl<'c, R: Read, D: Disk, L: Teller<D>> Session<'c, R, D, L> {
         }
     }
 
-    /// Reads lines that are held, one after the other, with no read of the input, while there is room for them in the row: whether
-    /// there was one.
-    fn read_held(&mut self) -> bool
-        requires reads { self.old.stop ≡ None }
-        ensures whole { self.new.broken ≡ self.old.broken }
-    {
-        let mut read = false;
-        while self.row.has_room() && self.lines.holds_line() && self.read_next() {
-            read = true;
-        }
-        read
-    }
-
     /// Reads lines that are held, while there is room for them. Where it may wait, the next line is read first, if there is room for it:
     /// others may come with it, and a change is logged with theirs, not by itself. Whether there was one. None is read once the session
     /// has stopped.
     pub(crate) fn read_more(&mut self, may_wait: bool) -> bool
         ensures whole { self.new.broken ≡ self.old.broken }
     {
-        if self.stop.is_some() {
-            return false;
+        let mut read = may_wait && self.may_read() && self.read_next();
+        while self.may_read() && self.lines.holds_line() && self.read_next() {
+            read = true;
         }
-        let has_room = self.row.has_room();
-        if !may_wait || !has_room {
-            return self.read_held();
-        }
-        let reads = self.read_next();
-        if reads {
-            self.read_held();
-        }
-        reads
+        read
     }
 }

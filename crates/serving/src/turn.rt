@@ -202,32 +202,24 @@ impl<'c, R: Read, D: Disk, L: Teller<D>> Session<'c, R, D, L> {
         }
     }
 
-    /// Looks at the places again and again, until something came back or it has looked often enough: whether something did. Further
-    /// messages go out then. It waits for nobody.
-    fn look_for_some(&mut self, batch: &mut Batch) -> Result<bool, Halt>
-        ensures moves { Moves self.old self.new result }
-        ensures less { IfOk result (λ came. IsTrue came → batch.new.left < batch.old.left) }
-    {
-        for looks in 1..=PATIENCE {
-            let came = self.take_what_came(batch);
-            if came {
-                let lacks_room = self.send_out()?;
-                batch.lacks_room = lacks_room;
-                return Ok(true);
-            }
-            pause(looks);
-        }
-        Ok(false)
-    }
-
     /// Lets messages go out and takes back what comes of them, until the batch is worth a write of the log, nothing is lent any more,
-    /// or nothing came back in a while. Jobs are out then as far as may be, so that they run meanwhile.
+    /// or nothing came back in a while. Where something came, further messages go out, so that jobs run meanwhile. It waits for nobody.
     fn gather(&mut self) -> Result<Batch, Halt>
         ensures moves { Moves self.old self.new result }
     {
         let lacks_room = self.send_out()?;
         let mut batch = Batch::new(lacks_room);
-        while !batch.is_ripe() && self.desk.any_lent() && self.look_for_some(&mut batch)? {}
+        let mut looks = 0;
+        while looks < PATIENCE && !batch.is_ripe() && self.desk.any_lent() {
+            if self.take_what_came(&mut batch) {
+                let lacks_room = self.send_out()?;
+                batch.lacks_room = lacks_room;
+                looks = 0;
+            } else {
+                looks += 1;
+                pause(looks);
+            }
+        }
         Ok(batch)
     }
 

@@ -1,6 +1,7 @@
 -- The line is read, or no more is; and the session stays under way.
-use Rattle.std.proofs.Common.{◌≡◌, ◌<◌, ℕ, List, Ok, Option, Some, ap, length, map, refl, subst, sym, ◌∙◌}
+use Rattle.std.proofs.Common.{◌≡◌, ◌<◌, ◌+◌, ◌∷◌, [], ℕ, List, Ok, Option, Some, ap, length, map, refl, subst, sym, ◌∙◌}
 use Rattle.std.specs.Prelude.{IfSome}
+use Rattle.std.proofs.lemmas.List.{length-append}
 use Rattle.message.specs.Reader.{Closes, Finds, GivesLine, LosesFront, has_ended, is_drained, line_of, source, unread}
 use Rattle.message.specs.declared.reading.Found.{Found}
 use Rattle.serving.specs.Lines.{NoMessage}
@@ -137,3 +138,23 @@ invariant_of-self-in-Err g c =
           (going, subst (λ (l : Option (List ℕ)). IfSome left (λ bs. LosesFront bs l)) c.in-Err.ensures.lost c.in-Err.ensures.found),
       c.self.invariant.1,
     )
+
+pub returns-in-Ok-clause-slots : goal.returns-in-Ok-clause-slots
+returns-in-Ok-clause-slots g c = c.in-Ok.ensures.slots ∙ ap (λ (p : SessionView). p.row.slots) c.self.view_is
+
+pub returns-in-Ok-clause-longer : goal.returns-in-Ok-clause-longer
+returns-in-Ok-clause-longer g c is =
+    let f = c.self.inside in
+    let took = c.in-Ok.ensures.takes (map lent_hand f.desk.lent) (holds_of g.D.Disk.keeps _ _ c.self.invariant.0) in
+    ap length took.2 ∙ length-append f.row.lines (took.0 ∷ []) ∙ ap (λ (p : SessionView). length p.row.lines + 1) c.self.view_is
+
+pub returns-in-Err-take_line-clause-slots : goal.returns-in-Err-take_line-clause-slots
+returns-in-Err-take_line-clause-slots g c = c.in-Err-take_line.ensures.slots ∙ ap (λ (p : SessionView). p.row.slots) c.self.view_is
+
+pub returns-in-Ok-TooLong-clause-slots : goal.returns-in-Ok-TooLong-clause-slots
+returns-in-Ok-TooLong-clause-slots g c = c.push.ensures.slots ∙ ap (λ (p : SessionView). p.row.slots) c.self.view_is
+
+pub returns-in-Ok-TooLong-clause-longer : goal.returns-in-Ok-TooLong-clause-longer
+returns-in-Ok-TooLong-clause-longer g c is =
+    let f = c.self.inside in
+    ap length c.push.ensures.lines ∙ length-append f.row.lines (NoMessage ∷ []) ∙ ap (λ (p : SessionView). length p.row.lines + 1) c.self.view_is
