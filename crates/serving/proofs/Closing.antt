@@ -1,6 +1,6 @@
 -- A session that reads no more, and what it promises in the end.
 use Rattle.std.proofs.Common.{◌≡◌, ◌≢◌, ℕ, zero, suc, ◌≤◌, ◌-◌, ◌^◌, ◌++◌, Bool, true, false, List, [], Option, Some, None, refl, ap, sym, ◌∙◌, subst, length, map, replicate, append-nil}
-use Rattle.std.specs.Prelude.{Result, Ok, Err, IfSome, OnOk, ◌&&◌}
+use Rattle.std.specs.Prelude.{Result, Ok, Err, IfOk, IfSome, OnErr, OnOk, ◌&&◌}
 use Rattle.message.specs.Waiting.{so_far}
 use Rattle.std.proofs.lemmas.Bool.{true≢false}
 use Rattle.std.proofs.lemmas.List.{length-replicate}
@@ -23,7 +23,7 @@ use Rattle.serving.specs.Lines.{Line}
 use Rattle.line_row.specs.Rows.{RowView, comes_next}
 use Rattle.serving.specs.Serve.{HasWorkers, PromisesAll, RefusesNone}
 use Rattle.serving.specs.Runs.{Holds, lent_hand, with_lent}
-use Rattle.serving.specs.Session.{EndsBy, EndsOrDeclines, HasGone, HasStopped, CanBegin, IsServed, IsUnderWay, IsUnderWayFrom, SessionView, ReadsOrStops, machine, known_unless, end_of}
+use Rattle.serving.specs.Session.{EndsBy, EndsOrDeclines, HasGone, HasStopped, CanBegin, IsServed, IsUnderWay, IsUnderWayFrom, SessionView, ReadsOrStops, machine, known_unless, end_of, reported}
 use Rattle.serving.specs.Telling.{Start, start_machine}
 use Rattle.serving.specs.declared.session.Stop.{Stop}
 use Rattle.serving.specs.declared.session.Stop.TheVariants as stops
@@ -210,6 +210,36 @@ empties_for stops.End P emptied = emptied refl
 empties_for stops.Fault P emptied = tt
 empties_for stops.Exhausted P emptied = tt
 empties_for stops.Failed P emptied = tt
+
+-- By what is reported of a call for which all workers were started, or one wasn't.
+reported_so : (old p : SessionView) (F : Type 0) (r : Result (Result (Unit {0}) ServeFault) F) → IfOk r (λ end. EndsBy p end) → OnErr r (p ≡ old)
+    → EndsOrDeclines old p (reported r)
+reported_so old p F (Ok (Ok tt)) ends same = ends
+reported_so old p F (Ok (Err faults.Read)) ends same = ends
+reported_so old p F (Ok (Err faults.Exhausted)) ends same = ends
+reported_so old p F (Ok (Err faults.Device)) ends same = ends
+reported_so old p F (Ok (Err faults.Write)) ends same = ends
+reported_so old p F (Ok (Err faults.OutOfMemory)) ends same = absurd ends
+reported_so old p F (Ok (Err faults.NoWorkers)) ends same = absurd ends
+reported_so old p F (Err f) ends same = same
+
+emptied_so : (P F : Type 0) (r : Result (Result (Unit {0}) ServeFault) F) → IfOk r (λ end. OnOk end P) → OnOk (reported r) P
+emptied_so P F (Ok end) emptied = emptied
+emptied_so P F (Err f) emptied = tt
+
+module _ (p : SessionView) (P F : Type 0) (r : Result (Result (Unit {0}) ServeFault) F) (gives : IfOk r (λ end. EndsBy p end × OnOk end P)) where
+  both : (q : Result (Result (Unit {0}) ServeFault) F) → IfOk q (λ end. EndsBy p end × OnOk end P)
+      → IfOk q (λ end. EndsBy p end) × IfOk q (λ end. OnOk end P)
+  both (Ok end) h = h
+  both (Err f) h = (tt, tt)
+
+  pub ends_or_declines : (old : SessionView) → OnErr r (p ≡ old) → (result : Result (Unit {0}) ServeFault) → result ≡ reported r
+      → EndsOrDeclines old p result
+  ends_or_declines old undone result is = subst (λ (q : Result (Unit {0}) ServeFault). EndsOrDeclines old p q) (sym is)
+      (reported_so old p F r (both r gives).0 undone)
+
+  pub emptied_at_end : (result : Result (Unit {0}) ServeFault) → result ≡ reported r → OnOk result P
+  emptied_at_end result is = subst (λ (q : Result (Unit {0}) ServeFault). OnOk q P) (sym is) (emptied_so P F r (both r gives).1)
 
 -- It is no want of workers.
 pub has_workers : (old p : SessionView) (result : Result (Unit {0}) ServeFault) → EndsOrDeclines old p result → HasWorkers result

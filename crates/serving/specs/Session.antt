@@ -158,6 +158,11 @@ EndsBy p (Err faults.Device) =
 EndsBy p (Err faults.Write) = IsHome p.desk.lent × (p.core.logged ≡ []) × (p.core.failed ≡ false → p.core.ran ≡ [])
 EndsBy p (Err _) = ⊥
 
+-- what is reported where a worker could not be started, or of what came of the call then
+abbrev pub reported : {F : Type 0} → Result (Result (Unit {0}) ServeFault) F → Result (Unit {0}) ServeFault
+reported (Ok result) = result
+reported (Err f) = Err faults.OutOfMemory
+
 -- This has ended it; or nothing has moved, since a worker could not be started.
 abbrev pub EndsOrDeclines : SessionView → SessionView → Result (Unit {0}) ServeFault → Type 0
 EndsOrDeclines old new (Err faults.OutOfMemory) = new ≡ old

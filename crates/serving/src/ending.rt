@@ -6,12 +6,14 @@ ghost use Rattle.serving.specs.Serve.{HasEmptyLog};
 ghost use Rattle.serving.specs.Session.{EndsBy, HaltsBy, IsServed, Moves, end_of};
 ghost use Rattle.serving.specs.declared.session.Stop.TheVariants as stops;
 
-use crate::crew::{Duty, Gated};
+use crate::gated::Gated;
 use crate::server::ServeFault;
 use crate::session::{Halt, Session, Stop};
 use crate::telling::Teller;
 use disk::Disk;
 use std::io::Read;
+use std::sync::Wait;
+use workers::{Duty, Gate};
 
 /// What a server reports where no more was read for this reason.
 fn reported_for(stop: Stop) -> Result<(), ServeFault>
@@ -91,19 +93,20 @@ impl<'c, R: Read, D: Disk, L: Teller<D>> Session<'c, R, D, L> {
     }
 }
 
-impl<'c, R: Read, D: Disk, L: Teller<D>> Duty for Session<'c, R, D, L> {
-    ghost use Rattle.std.specs.Prelude.{◌≡◌, OnOk, false, refl};
+impl<'c, R: Read, D: Disk, L: Teller<D>> Duty<Result<(), ServeFault>> for Session<'c, R, D, L> {
+    ghost use Rattle.std.specs.Prelude.{◌≡◌, OnOk, false};
     ghost use Rattle.serving.specs.Serve.{HasEmptyLog};
-    ghost use Rattle.serving.specs.Session.{EndsOrDeclines};
+    ghost use Rattle.serving.specs.Session.{EndsBy};
 
     ghost can_begin = { λ s. s.broken ≡ false };
 
-    ghost gives = { λ old new end. EndsOrDeclines old new end × OnOk end (D.keeps → HasEmptyLog new.core) };
+    ghost gives = { λ old new end. EndsBy new end × OnOk end (D.keeps → HasEmptyLog new.core) };
 
     /// Serves line after line until the input ends, with a consistency point where one is due, and one at the end. All that was
     /// answered is written when it returns, unless the output failed. Where several faults befall one call, one of the output goes
     /// before one of the device, and that before the others.
-    fn fulfil<W: Gated>(&mut self, rt: &W) -> Result<(), ServeFault> {
+    fn fulfil<T: Wait, G: Gate>(&mut self, rt: &T, gate: &G) -> Result<(), ServeFault> {
+        let rt = &(rt, gate);
         match self.serve_lines(rt) {
             Ok(stop) => {
                 // This look does nothing but open the session's invariant to the proof: a device that works is no reason to stop.
@@ -117,6 +120,4 @@ impl<'c, R: Read, D: Disk, L: Teller<D>> Duty for Session<'c, R, D, L> {
     fn release(&mut self) {
         self.bench.stop(&mut self.desk);
     }
-
-    ghost leaves = { λ s. (refl, tt) };
 }

@@ -8,8 +8,8 @@
 //! next in order. `points` has the consistency points, and `ending` the loop from line to line with its ends.
 #![tactic(auto)]
 
-mod crew;
 mod ending;
+mod gated;
 pub mod laws;
 mod points;
 mod reading;

@@ -6,9 +6,8 @@ ghost use Rattle.scheduler.specs.Kept.{world_of};
 ghost use Rattle.serving.specs.Ends.{EndsSo};
 ghost use Rattle.serving.specs.Runs.{with_lent};
 ghost use Rattle.serving.specs.Serve.{HasEmptyLog, HasRunSo, HasWorkers, RefusesNone};
-ghost use Rattle.serving.specs.Session.{CanBegin};
+ghost use Rattle.serving.specs.Session.{CanBegin, reported};
 
-use crate::crew::{Crew, come_back, with_workers};
 use crate::points::Course;
 use crate::session::Session;
 use crate::telling::Teller;
@@ -21,7 +20,7 @@ use std::io::{Read, Write};
 use std::marker::{Brand, PhantomData};
 use std::sync::Wait;
 use std::thread::Threads;
-use workers::{Bench, DispatchSeat, Gate, WorkSeat};
+use workers::{Bench, DispatchSeat, Gate, WorkSeat, come_back};
 
 /// How many bytes are read at a time: some 240 lines with a full block. A line is taken in only where it is held already or nothing
 /// else can be done, so this bounds how many changes a write of the log finds.
@@ -90,6 +89,16 @@ fn take_room(alloc: Global, slots: usize, workers: usize) -> Result<Room, AllocE
     })
 }
 
+// What a server reports where its threads were started or not, and what came of it then.
+fn ended_so(ended: Result<Result<(), ServeFault>, AllocError>) -> Result<(), ServeFault>
+    ensures { result ≡ reported ended }
+{
+    match ended {
+        Ok(ended) => ended,
+        Err(_) => Err(ServeFault::OutOfMemory),
+    }
+}
+
 // What the call of a server is given, and gives back: its core, its reader, which is lent, and whom it tells.
 struct Call<'a, R, L, D: Disk> {
     core: Core<D>,
@@ -108,7 +117,7 @@ fn serve_lent<
     G: Gate + Sync,
     N: Loan,
 >(
-    rt: &'c (&'c T, &'c G),
+    with: (&'c T, &'c G),
     call: Call<'a, R, L, D>,
     room: Room,
     every: u64,
@@ -144,8 +153,8 @@ fn serve_lent<
         broken: false,
         bench: &bench,
     };
-    let crew = Crew { rt, bench: &bench };
-    let ended = with_workers(crew, &mut session, room.seats);
+    let (rt, gate) = with;
+    let ended = ended_so(bench.with_workers(rt, gate, room.seats, &mut session));
     let Session {
         core,
         lines,
@@ -213,13 +222,18 @@ pub fn serve_to<
         let fault = ServeFault::OutOfMemory;
         return (Err(ServeError { core, fault }), teller);
     };
-    let rt = &(rt, gate);
     let call = Call {
         core,
         reader: r,
         teller,
     };
-    let (call, ended) = serve_lent::<T, R, L, D, G, Brand>(rt, call, room, every, PhantomData);
+    let (call, ended) = serve_lent::<T, R, L, D, G, Brand>(
+        (rt, gate),
+        call,
+        room,
+        every,
+        PhantomData,
+    );
     let Call {
         core,
         reader,

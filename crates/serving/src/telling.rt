@@ -6,7 +6,7 @@ ghost use Rattle.scheduler.specs.Kept.{world_of};
 ghost use Rattle.line_row.specs.Rows.{comes_next};
 ghost use Rattle.serving.specs.Session.{IsAsBefore, Moves};
 
-use crate::crew::Gated;
+use crate::gated::Gated;
 use crate::session::{Halt, Session};
 use disk::Disk;
 use message::WriteFault;

@@ -1,20 +1,22 @@
 //! One turn of a session: messages go out, and what came back is logged in one go and answered; where nothing else can be done,
 //! it waits or begins a consistency point.
 
-ghost use Rattle.std.specs.Prelude.{◌≡◌, ◌<◌, ◌≤◌, ◌-◌, ◌↔◌, IfOk, IsTrue, OnErr, OnOk, Some, [], false, is_none, length, position, true};
+ghost use Rattle.std.specs.Prelude.{◌≡◌, ◌<◌, ◌≤◌, ◌-◌, ◌↔◌, IfOk, IsTrue, OnErr, OnOk, Some, [], false, is_none, length, position, slice_set, true};
 ghost use Rattle.scheduler.specs.Kept.{world_of};
 ghost use Rattle.serving.specs.Lending.{GoesTo, IsEndOfSending, IsHome};
 ghost use Rattle.serving.specs.Session.{IsAsBefore, Moves};
 
-use crate::crew::{Gated, lend};
+use crate::gated::Gated;
 use crate::session::{Halt, Session};
 use crate::telling::Teller;
 use disk::Disk;
 use message::Reply;
+use parcel::Job;
 use scheduler::Granted;
 use std::hint::spin_loop;
 use std::io::Read;
 use std::thread::yield_now;
+use workers::{Bench, DispatchSeat};
 
 /// How many messages may come back before what ran is logged: the log writes as many records with one write of their bodies and
 /// one of their gates.
@@ -86,6 +88,22 @@ enum Sent {
     NoRoom,
     /// Nothing goes out, since the device has failed.
     Failed,
+}
+
+/// Lends a job to the workers at place k of a bench, the first where nothing is lent. It is inlined, so that the job isn't moved once
+/// more.
+#[inline(always)]
+fn lend(bench: &Bench, desk: &mut DispatchSeat, k: usize, job: Job)
+    requires bench { desk.old.bench ≡ bench.now }
+    requires place { k < bench.now.slots }
+    requires first { position is_none desk.old.lent ≡ Some k }
+    ensures bench { desk.new.bench ≡ desk.old.bench }
+    ensures lent { desk.new.lent ≡ slice_set desk.old.lent k (Some job) }
+{
+    match bench.offer(desk, k, job) {
+        Ok(()) => {}
+        Err(_) => unreachable!(),
+    }
 }
 
 /// Spins once after look `looks`, and yields at every 32nd.

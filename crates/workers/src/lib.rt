@@ -3,6 +3,7 @@
 #![tactic(auto)]
 
 mod bench;
+mod duty;
 mod pace;
 mod seats;
 mod steps;
@@ -12,5 +13,6 @@ mod words;
 mod work;
 
 pub use bench::Bench;
+pub use duty::{Duty, come_back};
 pub use pace::{Gate, OpenGate};
 pub use seats::{DispatchSeat, WorkSeat};

@@ -55,7 +55,7 @@ impl Bench {
 
     /// Starts a thread of the scope for each seat, which works until the bench is stopped. Where one can't be started, those before it
     /// work on: they too end when the bench is stopped.
-    pub fn start_all<'s, E, R: Threads + Wait + Sync, G: Gate + Sync>(
+    pub(crate) fn start_all<'s, E, R: Threads + Wait + Sync, G: Gate + Sync>(
         &'s self,
         rt: &'s R,
         scope: &Scope<'s, E>,

@@ -6,13 +6,14 @@ use message::{Block, Msg, Reply};
 use parcel::{Job, Tree, run};
 use std::alloc::Global;
 use std::hint::spin_loop;
+use std::marker::Model;
 use std::process::Abort;
 use std::sync::Wait;
 use std::sync::atomic::{AtomicBool, AtomicU64, Ordering};
 use std::test::Fail;
 use std::thread;
 use std::thread::Threads;
-use workers::{Bench, DispatchSeat, Gate, OpenGate};
+use workers::{Bench, DispatchSeat, Duty, Gate, OpenGate};
 
 /// One volume of two files of four blocks, in two stripes that hold two blocks each.
 const SMALL: [u16; 8] = [1, 1, 2, 1, 2, 4, 2, 4];
@@ -146,6 +147,65 @@ fn one_worker_answers_one_job(rt: HostRuntime) -> Result<(), Fail> {
             Ok(offered? && started && collected)
         },
     )?;
+    expect(&rt, fine);
+    Ok(())
+}
+
+// A job that is offered at place 0 and comes back from there.
+#[derive(Drop)]
+struct RoundTrip<'c> {
+    bench: &'c Bench,
+    desk: DispatchSeat,
+    alloc: Global,
+}
+
+impl<'c> Model for RoundTrip<'c> {
+    ghost use Rattle.std.specs.Prelude.{◌≡◌, ◌<◌};
+    ghost use Rattle.workers.specs.Desk.{Desk};
+
+    ghost Value = { Desk };
+
+    ghost view = { λ s. s.desk };
+
+    ghost invariant = { λ s. (s.desk.bench ≡ s.bench.now) × (0 < s.bench.now.slots) };
+}
+
+impl<'c> Duty<Result<Option<(u64, Reply)>, Fail>> for RoundTrip<'c> {
+    ghost can_begin = { λ s. Unit {0} };
+
+    ghost gives = { λ old new end. Unit {0} };
+
+    fn fulfil<T: Wait, G: Gate>(&mut self, rt: &T, gate: &G) -> Result<Option<(u64, Reply)>, Fail> {
+        let _ = rt;
+        let _ = gate;
+        if offer(self.bench, &mut self.desk, self.alloc, 0, 11)? {
+            Ok(collect(self.bench, &mut self.desk, 0))
+        } else {
+            Ok(None)
+        }
+    }
+
+    fn release(&mut self) {
+        self.bench.stop(&mut self.desk);
+    }
+}
+
+// Where it isn't released this doesn't end.
+#[test]
+fn a_duty_is_done_beside_a_worker(rt: HostRuntime) -> Result<(), Fail> {
+    let alloc = rt.alloc();
+    let alone = reply_alone(alloc, 11)?;
+    let (bench, desk, seats) = Bench::open(alloc, 2, 1)?;
+    let mut trip = RoundTrip {
+        bench: &bench,
+        desk,
+        alloc,
+    };
+    let came = bench.with_workers(&rt, &OpenGate, seats, &mut trip)??;
+    let fine = match (came, alone) {
+        (Some((ticket, reply)), Some(alone)) => ticket == 11 && reply == alone,
+        _ => false,
+    };
     expect(&rt, fine);
     Ok(())
 }

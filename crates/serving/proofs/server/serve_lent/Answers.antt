@@ -4,7 +4,7 @@ use Rattle.std.specs.Prelude.{OnOk}
 use Rattle.serving.specs.Serve.{HasEmptyLog}
 use Rattle.serving.specs.Session.{IsUnderWayFrom, SessionView}
 use Rattle.serving.specs.Telling.{Start}
-use Rattle.serving.proofs.Closing.{first_at, has_workers, not_drained, promises_from}
+use Rattle.serving.proofs.Closing.{emptied_at_end, ends_or_declines, first_at, has_workers, not_drained, promises_from}
 use Rattle.serving.proofs.server.serve_lent.Goals as goal
 
 pub invariant_of-session : goal.invariant_of-session
@@ -24,12 +24,14 @@ returns-clause-run g c =
       input = g.R.Read.remaining c.args.call.reader.now;
       before = g.L.Teller.told c.args.call.teller;
     } in
-    let now = c.with_workers-ended.new.duty in
+    let now = c.with_workers.new.duty in
     let view = c.session.view_is in
     let way = subst (λ (p : SessionView). IsUnderWayFrom g.D.Disk.keeps g.L.Teller.start p) view c.session.invariant.0 in
     let behind = ap (λ (l : _). g.R.Read.remaining l.reader.now) c.into_inner-reader.ensures ∙ ap (λ (p : SessionView). p.behind) view in
+    let ends = ends_or_declines now (g.D.Disk.keeps → HasEmptyLog now.core) _ c.with_workers.result c.with_workers.ensures.gives
+    _ c.with_workers.ensures.undone c.ended_so-ended.result c.ended_so-ended.ensures in
     let all = promises_from g.D.Disk.keeps g.L.Teller.start s _ now c.requires.can_begin.is way refl
-    (ap (λ (l : _). g.R.Read.remaining l.reader.now) c.new-lines.ensures.source) refl c.with_workers-ended.result c.with_workers-ended.ensures.0
+    (ap (λ (l : _). g.R.Read.remaining l.reader.now) c.new-lines.ensures.source) refl c.ended_so-ended.result ends
     _ _ _ (ap (λ (p : SessionView). p.core) view) behind (ap (λ (p : SessionView). p.told) view) in
     all.run c.stands-2.ensures.no_doubt c.stands-2.ensures.now
 
@@ -41,19 +43,27 @@ returns-clause-ends g c =
       input = g.R.Read.remaining c.args.call.reader.now;
       before = g.L.Teller.told c.args.call.teller;
     } in
-    let now = c.with_workers-ended.new.duty in
+    let now = c.with_workers.new.duty in
     let view = c.session.view_is in
     let way = subst (λ (p : SessionView). IsUnderWayFrom g.D.Disk.keeps g.L.Teller.start p) view c.session.invariant.0 in
     let behind = ap (λ (l : _). g.R.Read.remaining l.reader.now) c.into_inner-reader.ensures ∙ ap (λ (p : SessionView). p.behind) view in
+    let ends = ends_or_declines now (g.D.Disk.keeps → HasEmptyLog now.core) _ c.with_workers.result c.with_workers.ensures.gives
+    _ c.with_workers.ensures.undone c.ended_so-ended.result c.ended_so-ended.ensures in
     let all = promises_from g.D.Disk.keeps g.L.Teller.start s _ now c.requires.can_begin.is way refl
-    (ap (λ (l : _). g.R.Read.remaining l.reader.now) c.new-lines.ensures.source) refl c.with_workers-ended.result c.with_workers-ended.ensures.0
+    (ap (λ (l : _). g.R.Read.remaining l.reader.now) c.new-lines.ensures.source) refl c.ended_so-ended.result ends
     _ _ _ (ap (λ (p : SessionView). p.core) view) behind (ap (λ (p : SessionView). p.told) view) in
     all.ends
 
 pub returns-clause-emptied : goal.returns-clause-emptied
 returns-clause-emptied g c =
-    subst (λ (p : SessionView). OnOk c.with_workers-ended.result (g.D.Disk.keeps → HasEmptyLog p.core)) (sym c.session.view_is)
-    c.with_workers-ended.ensures.1
+    let now = c.with_workers.new.duty in
+    subst (λ (p : SessionView). OnOk c.ended_so-ended.result (g.D.Disk.keeps → HasEmptyLog p.core)) (sym c.session.view_is)
+    (emptied_at_end now (g.D.Disk.keeps → HasEmptyLog now.core) _ c.with_workers.result c.with_workers.ensures.gives
+    c.ended_so-ended.result c.ended_so-ended.ensures)
 
 pub returns-clause-workers : goal.returns-clause-workers
-returns-clause-workers g c = has_workers _ _ c.with_workers-ended.result c.with_workers-ended.ensures.0
+returns-clause-workers g c =
+    let now = c.with_workers.new.duty in
+    let ends = ends_or_declines now (g.D.Disk.keeps → HasEmptyLog now.core) _ c.with_workers.result c.with_workers.ensures.gives
+    _ c.with_workers.ensures.undone c.ended_so-ended.result c.ended_so-ended.ensures in
+    has_workers _ _ c.ended_so-ended.result ends

@@ -3,7 +3,7 @@ use Rattle.std.proofs.Common.{◌≡◌, Err, Ok, Some, sym, ◌∙◌}
 use Rattle.std.specs.Prelude.{slice_set}
 use Rattle.serving.proofs.Sending.{nothing_there, offered}
 use Rattle.workers.specs.Rule.{lent_at}
-use Rattle.serving.proofs.crew.lend.Goals as goal
+use Rattle.serving.proofs.turn.lend.Goals as goal
 
 pub unreachable-requires : goal.unreachable-requires
 unreachable-requires c =
