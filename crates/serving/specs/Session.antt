@@ -158,7 +158,7 @@ EndsBy p (Err faults.Device) =
 EndsBy p (Err faults.Write) = IsHome p.desk.lent × (p.core.logged ≡ []) × (p.core.failed ≡ false → p.core.ran ≡ [])
 EndsBy p (Err _) = ⊥
 
--- what is reported where a worker could not be started, or of what came of the call then
+-- what is reported: what came of the call, or want of memory where a worker could not be started
 abbrev pub reported : {F : Type 0} → Result (Result (Unit {0}) ServeFault) F → Result (Unit {0}) ServeFault
 reported (Ok result) = result
 reported (Err f) = Err faults.OutOfMemory

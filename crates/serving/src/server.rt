@@ -89,7 +89,7 @@ fn take_room(alloc: Global, slots: usize, workers: usize) -> Result<Room, AllocE
     })
 }
 
-// What a server reports where its threads were started or not, and what came of it then.
+// What a server reports: what came of the call, or that there was no memory, where a thread could not be started.
 fn ended_so(ended: Result<Result<(), ServeFault>, AllocError>) -> Result<(), ServeFault>
     ensures { result ≡ reported ended }
 {

@@ -1,6 +1,6 @@
 //! Whom a server tells its lines, and what it tells: nothing but what a crash of the device can't take back.
 
-ghost use Rattle.std.specs.Prelude.{◌≡◌, ◌+◌, ◌++◌, [], false, length, true, IfOk, IsFalse, IsTrue, OnOk};
+ghost use Rattle.std.specs.Prelude.{◌≡◌, ◌+◌, [], false, length, true, IfOk, IsFalse, IsTrue, OnOk};
 ghost use Rattle.message.specs.Waiting.{FitsReply};
 ghost use Rattle.scheduler.specs.Kept.{world_of};
 ghost use Rattle.line_row.specs.Rows.{comes_next};

@@ -1,7 +1,7 @@
 //! One turn of a session: messages go out, and what came back is logged in one go and answered; where nothing else can be done,
 //! it waits or begins a consistency point.
 
-ghost use Rattle.std.specs.Prelude.{◌≡◌, ◌<◌, ◌≤◌, ◌-◌, ◌↔◌, IfOk, IsTrue, OnErr, OnOk, Some, [], false, is_none, length, position, slice_set, true};
+ghost use Rattle.std.specs.Prelude.{◌≡◌, ◌<◌, ◌≤◌, ◌-◌, ◌↔◌, IsTrue, OnErr, OnOk, Some, [], false, is_none, length, position, slice_set, true};
 ghost use Rattle.scheduler.specs.Kept.{world_of};
 ghost use Rattle.serving.specs.Lending.{GoesTo, IsEndOfSending, IsHome};
 ghost use Rattle.serving.specs.Session.{IsAsBefore, Moves};
@@ -29,8 +29,8 @@ const PATIENCE: usize = 16384;
 /// How often they are looked at until other threads may go first, if they wait for a processor.
 const LOOKS: usize = 32;
 
-/// What has come back in one turn, and what kept messages from going out. A wrong count makes a longer or a shorter batch, which
-/// no contract forbids.
+/// What has come back in one turn, and what kept messages from going out. Gathering ends since the count falls; one that begins elsewhere
+/// makes a longer or a shorter batch, which no contract forbids.
 #[derive(Clone, Copy)]
 struct Batch {
     /// How many more messages may come back before what ran is logged.
