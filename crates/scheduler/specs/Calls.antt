@@ -2,7 +2,7 @@
 use Rattle.std.specs.Prelude.{◌≡◌, ℕ, ◌+◌, Bool, true, false, List, take, length, Option, Some, None, Result, Ok, Err}
 use Rattle.affinity.specs.declared.geometry.Geometry.{Geometry}
 use Rattle.legal_runs.specs.Eligible.{next_eligible}
-use Rattle.legal_runs.specs.Events.{Hand, IsAllowed, batch, fails, fewer, grant, is_ended, log, no_grant, piece_refusal}
+use Rattle.legal_runs.specs.Events.{Hand, IsAllowed, arrive, batch, fails, fewer, grant, is_ended, log, no_grant, piece_refusal}
 use Rattle.legal_runs.specs.World.{Entry, World}
 use Rattle.legal_runs.specs.declared.outcomes.ArriveRefusal.{ArriveRefusal}
 use Rattle.legal_runs.specs.declared.outcomes.CoreFault.{CoreFault}
@@ -12,8 +12,10 @@ use Rattle.legal_runs.specs.declared.outcomes.Outcome.TheVariants as outcomes
 use Rattle.legal_runs.specs.declared.outcomes.PointRefusal.{PointRefusal}
 use Rattle.legal_runs.specs.declared.outcomes.PointRefusal.TheVariants as points
 use Rattle.legal_runs.specs.declared.outcomes.Step.{Step}
+use Rattle.message.specs.declared.Msg.{Msg}
 use Rattle.message.specs.declared.Reply.{Reply}
 use Rattle.scheduler.specs.Jobs.{IsJobOf}
+use Rattle.scheduler.specs.Kept.{CoreView, world_of}
 use Rattle.scheduler.specs.declared.granted.Granted.{Granted}
 use Rattle.scheduler.specs.declared.granted.Granted.TheVariants as granted
 use Rattle.parcel.specs.Run.{JobView}
@@ -106,3 +108,13 @@ log_outcome (Err why) = outcomes.LogFault why
 abbrev pub step_outcome : {T : Type 0} → (T → Outcome) → Result T PointRefusal → Outcome
 step_outcome made (Ok x) = made x
 step_outcome made (Err why) = outcomes.PointRefused why
+
+-- ---- messages that arrive by their lines
+
+-- The message of a line has arrived as an event of its own, if there is one: with a ticket, or refused. Where there is none, nothing has
+-- changed.
+abbrev pub ArrivesByLine : CoreView → CoreView → Option Msg → Result (Option ℕ) ArriveRefusal → Type 0
+ArrivesByLine old new None r = (r ≡ Ok None) × (new ≡ old)
+ArrivesByLine old new (Some m) (Ok None) = ⊥
+ArrivesByLine old new (Some m) (Ok (Some ticket)) = (arrive_outcome (Ok ticket), world_of new) ≡ arrive old.geometry (world_of old) m
+ArrivesByLine old new (Some m) (Err why) = (arrive_outcome (Err why), world_of new) ≡ arrive old.geometry (world_of old) m

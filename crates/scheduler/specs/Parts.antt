@@ -1,5 +1,5 @@
 -- What a core keeps true of its parts between calls. No clause of a public function cites this module.
-use Rattle.std.specs.Prelude.{◌≡◌, ◌+◌, ℕ, Bool, true, false, List, [], ◌++◌, ◌||◌, map, length, Some}
+use Rattle.std.specs.Prelude.{◌≡◌, ◌+◌, ℕ, Bool, true, false, List, [], ◌||◌, map, length, Some}
 use Rattle.std.specs.List.{AllByRecursion, list_any}
 use Rattle.affinity.specs.Interval.{IsAffinityOf}
 use Rattle.affinity.specs.Path.{Path, begins}

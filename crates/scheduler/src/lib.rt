@@ -4,6 +4,7 @@
 //! What each call does is stated over the worlds and events of `legal_runs`.
 #![tactic(auto)]
 
+mod arrival;
 mod granted;
 mod history;
 mod kernel;

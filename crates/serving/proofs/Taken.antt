@@ -1,22 +1,66 @@
 -- Lines that are taken of the input, each with its message.
 use Rattle.std.proofs.Common.{◌≡◌, ℕ, true, false, Bool, List, [], ◌∷◌, ◌++◌, Option, Some, None, sym, refl, subst}
-use Rattle.std.specs.Prelude.{IfSome, ◌&&◌}
+use Rattle.std.specs.Prelude.{IfSome, Result, Ok, Err, ◌&&◌}
 use Rattle.std.specs.Io.KnownBytes.{IsAtEnd}
+use Rattle.legal_runs.specs.Events.{arrive}
+use Rattle.legal_runs.specs.declared.outcomes.ArriveRefusal.{ArriveRefusal}
+use Rattle.legal_runs.specs.declared.outcomes.ArriveRefusal.TheVariants as arrivals
+use Rattle.machine.proofs.Events.{arrive_step}
 use Rattle.machine.specs.Machine.{MachineView}
+use Rattle.machine.specs.declared.hands.Hand.{Hand}
 use Rattle.message.specs.Grammar.{message_of}
 use Rattle.message.specs.Reader.{GivesLine, IsAtEndOf, IsClosed, PassesLine}
 use Rattle.message.specs.declared.Msg.{Msg}
 use Rattle.plain.proofs.Taking.{takes_line, takes_long_line}
+use Rattle.scheduler.specs.Calls.{ArrivesByLine, arrive_outcome}
+use Rattle.scheduler.specs.Kept.{CoreView, StandsNow, world_of}
 use Rattle.serving.specs.Going.{Goes}
-use Rattle.serving.specs.Lines.{Line, NoMessage}
-use Rattle.serving.specs.Reads.{IsTaken}
+use Rattle.serving.specs.Lines.{Line, NoMessage, OutOfRange, Unanswered}
+use Rattle.serving.specs.Reads.{IsRefusedLine, IsTaken}
 use Rattle.serving.specs.Runs.{Holds, IsQuiet}
-use Rattle.serving.proofs.Arriving.{serves_taken}
+use Rattle.serving.proofs.Arriving.{ArrivesSo, arrives_so, serves_taken, ticket_is_next}
 use Rattle.serving.proofs.Starting.{stays}
 
 -- A line that is no message takes no ticket.
 pub takes_none : (keeps : Type 0) (m : MachineView) → Holds m → IsTaken keeps m m None NoMessage
 takes_none keeps m h = record { holds = h; passes = stays keeps m; is_known = tt }
+
+-- ---- a line that has come to the core
+
+module _ (keeps : Type 0) (old new : CoreView) (none : old.failed ≡ false → old.doubt ≡ []) (stands : keeps → StandsNow old)
+    (geometry : new.geometry ≡ old.geometry) (same : new.medium ≡ old.medium) (hands : List Hand) (h : Holds (record { core = old; hands = hands })) where
+  abbrev was : MachineView
+  was = record { core = old; hands = hands }
+
+  abbrev now : MachineView
+  now = record { core = new; hands = hands }
+
+  -- It is taken, and this is known of it; or its message is refused.
+  abbrev pub ComesSo : Option Msg → Result (Option ℕ) ArriveRefusal → Type 0
+  ComesSo o (Ok (Some ticket)) = IsTaken keeps was now o (Unanswered ticket)
+  ComesSo o (Ok None) = IsTaken keeps was now o NoMessage
+  ComesSo o (Err arrivals.Range) = IsTaken keeps was now o OutOfRange
+  ComesSo o (Err why) = (m : Msg) × (o ≡ Some m) × IsRefusedLine keeps was now m why
+
+  so : (m : Msg) (r : Result ℕ ArriveRefusal) → (arrive_outcome r, world_of new) ≡ arrive old.geometry (world_of old) m
+      → ArrivesSo keeps old new m hands h r
+  so m r e = arrives_so keeps old new m hands h r (arrive_step keeps old new none stands geometry same m r e) e
+
+  pub comes_so : (o : Option Msg) (r : Result (Option ℕ) ArriveRefusal) → ArrivesByLine old new o r → ComesSo o r
+  comes_so None r e =
+      subst (ComesSo None) (sym e.0)
+      (subst (λ (x : CoreView). IsTaken keeps was (record { core = x; hands = hands }) None NoMessage) (sym e.1) (takes_none keeps was h))
+  comes_so (Some m) (Ok None) e = absurd e
+  comes_so (Some m) (Ok (Some ticket)) e = so m (Ok ticket) e
+  comes_so (Some m) (Err arrivals.Range) e = so m (Err arrivals.Range) e
+  comes_so (Some m) (Err arrivals.Full) e = (m, refl, so m (Err arrivals.Full) e)
+  comes_so (Some m) (Err arrivals.Exhausted) e = (m, refl, so m (Err arrivals.Exhausted) e)
+  comes_so (Some m) (Err arrivals.Failed) e = (m, refl, so m (Err arrivals.Failed) e)
+
+-- The ticket of its message is the core's next.
+pub next_of_line : (old new : CoreView) (o : Option Msg) (ticket : ℕ) → ArrivesByLine old new o (Ok (Some ticket)) → ticket ≡ old.next
+next_of_line old new None ticket e = absurd (let other : ◌≡◌ {A = Result (Option ℕ) ArriveRefusal} (Ok (Some ticket)) (Ok None) = e.0 in cc)
+next_of_line old new (Some m) ticket e = ticket_is_next old.geometry (world_of old) (world_of new) m ticket e
 
 -- Where nothing happens, nothing arrives or is answered.
 pub still : (keeps : Type 0) (m : MachineView) → Holds m → IsQuiet keeps m m
@@ -65,7 +109,3 @@ has_told_end false none_held e = e
 pub none_left : (left : Option (List ℕ)) → IfSome left (λ bs. bs ≡ []) → IsAtEnd left
 none_left None none = tt
 none_left (Some bs) none = none
-
-pub no_message : {A : Type 0} → (o : Option A) → ((m : A) → o ≡ Some m → ⊥) → o ≡ None
-no_message None not = refl
-no_message (Some m) not = absurd (not m refl)

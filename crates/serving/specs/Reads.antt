@@ -24,13 +24,15 @@ pub record IsRefusedLine (keeps : Type 0) (old new : MachineView) (m : Msg) (why
   pub refused : (arrive old.core.geometry (world_of old.core) m).0 ≡ ArriveRefused why
   pub not_range : why ≢ arrivals.Range
 
--- A line of this message, or of none, is taken, and is the last of the new row; or its message is refused, and the row is the same.
-abbrev pub TakesLine : Type 0 → MachineView → List Line → MachineView → List Line → Option Msg → Result (Unit {0}) ArriveRefusal → Type 0
-TakesLine keeps old row new new_row m (Ok _) = (known : Line) × IsTaken keeps old new m known × (new_row ≡ row ++ known ∷ [])
-TakesLine keeps old row new new_row m (Err why) =
-    (refused : Msg) × (m ≡ Some refused) × IsRefusedLine keeps old new refused why × (new_row ≡ row)
-
 -- why no more is read where a message is refused so
 abbrev pub stop_of : ArriveRefusal → Stop
 stop_of arrivals.Exhausted = stops.Exhausted
 stop_of _ = stops.Failed
+
+-- A line of this message, or of none, is taken, and is the last of the new row; or its message is refused, so that no more is read, and
+-- the row is the same.
+abbrev pub TakesLine : Type 0 → MachineView → List Line → MachineView → List Line → Option Msg → Result (Unit {0}) Stop → Type 0
+TakesLine keeps old row new new_row m (Ok _) = (known : Line) × IsTaken keeps old new m known × (new_row ≡ row ++ known ∷ [])
+TakesLine keeps old row new new_row m (Err stop) =
+    (refused : Msg) × (why : ArriveRefusal) × (m ≡ Some refused) × IsRefusedLine keeps old new refused why × (stop ≡ stop_of why)
+    × (new_row ≡ row)

@@ -15,8 +15,8 @@ use Rattle.serving.proofs.Taken.{at_end, has_told_end, none_left, still, takes_n
 use Rattle.serving.proofs.Under.{follows, has_slot, holds_of, knows_of, on_line, on_long_line, on_stop}
 use Rattle.serving.proofs.session.Session.read_next.Goals as goal
 
-pub take_line-requires-clause-order : goal.take_line-requires-clause-order
-take_line-requires-clause-order g c =
+pub take-requires-clause-order : goal.take-requires-clause-order
+take-requires-clause-order g c =
     follows g.D.Disk.keeps _ _ (ap (λ (p : SessionView). p.stop) c.self.view_is ∙ c.requires.reads) c.self.invariant.0
 
 pub invariant_of-self : goal.invariant_of-self
@@ -44,7 +44,7 @@ invariant_of-self-in-Ok g c =
     let knows = c.next_line.ensures.at_end (knows_of g.D.Disk.keeps _ _ u) in
     let left = unread rest f.lines in
     let took = c.in-Ok.ensures.takes (map lent_hand f.desk.lent) (holds_of g.D.Disk.keeps _ _ u) in (
-      on_line g.D.Disk.keeps _ c.take_line.new.core c.take_line.new.row (unread rest n) (is_drained n) (has_ended n) (rest (source n)) none c.in-Ok.ensures.slots knows
+      on_line g.D.Disk.keeps _ c.take.new.core c.take.new.row (unread rest n) (is_drained n) (has_ended n) (rest (source n)) none c.in-Ok.ensures.slots knows
           took.0 took.2 going
           (subst (λ (x : Found). Closes (Ok x) left (is_drained n)) c.in-Ok-Line.field-0-is c.in-Ok-Line.ensures.closes)
           _ c.line.result.now u took.1
@@ -53,8 +53,8 @@ invariant_of-self-in-Ok g c =
       c.self.invariant.1,
     )
 
-pub invariant_of-self-in-Err-take_line : goal.invariant_of-self-in-Err-take_line
-invariant_of-self-in-Err-take_line g c =
+pub invariant_of-self-in-Err-take : goal.invariant_of-self-in-Err-take
+invariant_of-self-in-Err-take g c =
     let f = c.self.inside in
     let n = c.next_line.new.self in
     let rest = g.R.Read.remaining in
@@ -63,15 +63,14 @@ invariant_of-self-in-Err-take_line g c =
     let going = sym c.if-is_drained.ensures.value in
     let knows = c.next_line.ensures.at_end (knows_of g.D.Disk.keeps _ _ u) in
     let left = unread rest f.lines in
-    let why = c.in-Err-take_line.why in
-    let took = c.in-Err-take_line.ensures.takes (map lent_hand f.desk.lent) (holds_of g.D.Disk.keeps _ _ u) in
+    let took = c.in-Err-take.ensures.takes (map lent_hand f.desk.lent) (holds_of g.D.Disk.keeps _ _ u) in
     let room = subst (λ (p : SessionView). length p.row.lines < p.row.slots) (sym c.self.view_is) c.requires.room in
     let found = subst (λ (l : List ℕ). IfSome left (λ bs. GivesLine l bs (unread rest n))) (sym c.line.ensures)
     (subst (λ (x : Found). Finds (Ok x) left (line_of n) (unread rest n)) c.in-Ok-Line.field-0-is c.in-Ok-Line.ensures.found) in
     subst (λ (stop : Stop). IsUnderWayFrom g.D.Disk.keeps g.L.Teller.start (record {
-      core = c.take_line.new.core;
+      core = c.take.new.core;
       desk = f.desk;
-      row = c.take_line.new.row;
+      row = c.take.new.row;
       out = f.out;
       told = g.L.Teller.told f.teller;
       broken = f.broken;
@@ -80,10 +79,10 @@ invariant_of-self-in-Err-take_line g c =
       drained = is_drained n;
       ended = has_ended n;
       behind = rest (source n);
-    }) × (f.desk.bench ≡ f.bench.now)) (sym c.stop_for.ensures) (
-      on_stop g.D.Disk.keeps _ c.take_line.new.core c.take_line.new.row (unread rest n) (is_drained n) (has_ended n) (rest (source n)) none c.in-Err-take_line.ensures.slots knows
-          _ (stop_of why) u took.2.quiet took.3
-          (stops_at_refusal g.D.Disk.keeps _ _ left (unread rest n) (rest (source n)) (is_drained f.lines) c.line.result.now took.0 why took.1 found took.2
+    }) × (f.desk.bench ≡ f.bench.now)) (sym took.4) (
+      on_stop g.D.Disk.keeps _ c.take.new.core c.take.new.row (unread rest n) (is_drained n) (has_ended n) (rest (source n)) none c.in-Err-take.ensures.slots knows
+          _ (stop_of took.1) u took.3.quiet took.5
+          (stops_at_refusal g.D.Disk.keeps _ _ left (unread rest n) (rest (source n)) (is_drained f.lines) c.line.result.now took.0 took.1 took.2 found took.3
           (has_slot g.D.Disk.keeps _ _ took.0 none u room)),
       c.self.invariant.1,
     )
@@ -148,8 +147,8 @@ returns-in-Ok-clause-longer g c is =
     let took = c.in-Ok.ensures.takes (map lent_hand f.desk.lent) (holds_of g.D.Disk.keeps _ _ c.self.invariant.0) in
     ap length took.2 ∙ length-append f.row.lines (took.0 ∷ []) ∙ ap (λ (p : SessionView). length p.row.lines + 1) c.self.view_is
 
-pub returns-in-Err-take_line-clause-slots : goal.returns-in-Err-take_line-clause-slots
-returns-in-Err-take_line-clause-slots g c = c.in-Err-take_line.ensures.slots ∙ ap (λ (p : SessionView). p.row.slots) c.self.view_is
+pub returns-in-Err-take-clause-slots : goal.returns-in-Err-take-clause-slots
+returns-in-Err-take-clause-slots g c = c.in-Err-take.ensures.slots ∙ ap (λ (p : SessionView). p.row.slots) c.self.view_is
 
 pub returns-in-Ok-TooLong-clause-slots : goal.returns-in-Ok-TooLong-clause-slots
 returns-in-Ok-TooLong-clause-slots g c = c.push.ensures.slots ∙ ap (λ (p : SessionView). p.row.slots) c.self.view_is

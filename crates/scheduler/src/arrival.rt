@@ -1,0 +1,80 @@
+//! Messages that arrive by the lines that spell them.
+
+ghost use Rattle.std.specs.Prelude.{◌≡◌, Some, false};
+ghost use Rattle.message.specs.Grammar.{message_of};
+ghost use Rattle.message.specs.Heads.{asking, has_data};
+ghost use Rattle.scheduler.specs.Calls.{ArrivesByLine};
+
+use crate::Core;
+use affinity::Kind;
+use disk::Disk;
+use legal_runs::ArriveRefusal;
+use message::{Block, Head, Msg, head_of_line, parse_line, read_block};
+
+/// The message of a kind without data and its numbers. It is made where it lies: no room for a block is moved.
+fn asked(kind: Kind, numbers: [u16; 4]) -> Msg
+    requires { has_data kind ≡ false }
+    ensures { result ≡ asking kind numbers }
+{
+    let [a, v, f, b] = numbers;
+    match kind {
+        Kind::MakeVol => Msg::MakeVol(a, v),
+        Kind::DropVol => Msg::DropVol(a, v),
+        Kind::Create => Msg::Create(a, v, f),
+        Kind::Delete => Msg::Delete(a, v, f),
+        Kind::Seal => Msg::Seal(a, v),
+        Kind::Unseal => Msg::Unseal(a, v),
+        Kind::Punch => Msg::Punch(a, v, f, b),
+        Kind::Read => Msg::Read(a, v, f, b),
+        Kind::List => Msg::List(a, v),
+        Kind::Usage => Msg::Usage(a, v),
+        Kind::Summary => Msg::Summary,
+        Kind::Label => Msg::Label(a, v),
+        Kind::Write | Kind::SetLabel => unreachable!(),
+    }
+}
+
+impl<D: Disk> Core<D> {
+    /// Takes a message in that a line has spelled.
+    fn arrive_spelled(&mut self, m: &Msg) -> Result<Option<u64>, ArriveRefusal>
+        ensures arrives { ArrivesByLine self.old self.new (Some m.now) result }
+        ensures geometry { self.new.geometry ≡ self.old.geometry }
+        ensures untouched { self.new.medium ≡ self.old.medium }
+    {
+        match self.arrive(m) {
+            Ok(ticket) => Ok(Some(ticket)),
+            Err(why) => Err(why),
+        }
+    }
+
+    /// Takes in the message that a line spells, the line given without its newline, and gives it the next ticket, as `arrive` does.
+    /// `None` where the line is no message: then nothing has changed. The message is made where it lies, and a block is decoded there: no
+    /// room for one is moved.
+    pub fn arrive_line(&mut self, line: &[u8]) -> Result<Option<u64>, ArriveRefusal>
+        ensures arrives { ArrivesByLine self.old self.new (message_of line.now) result }
+        ensures geometry { self.new.geometry ≡ self.old.geometry }
+        ensures untouched { self.new.medium ≡ self.old.medium }
+    {
+        match head_of_line(line) {
+            Head::NoMessage => Ok(None),
+            Head::Asks(kind, numbers) => {
+                let message = asked(kind, numbers);
+                self.arrive_spelled(&message)
+            }
+            Head::Writes(numbers, digits) => {
+                let mut content = Block([0; 512]);
+                let is_block = read_block(digits, &mut content).is_some();
+                if !is_block {
+                    return Ok(None);
+                }
+                let [a, v, f, b] = numbers;
+                let message = Msg::Write(a, v, f, b, content);
+                self.arrive_spelled(&message)
+            }
+            Head::SetsLabel => match parse_line(line) {
+                Some(message) => self.arrive_spelled(&message),
+                None => Ok(None),
+            },
+        }
+    }
+}
