@@ -56,8 +56,9 @@ impl<'c, R: Read, D: Disk, L: Teller<D>> Session<'c, R, D, L> {
         if self.row.len() == 0 { self.stop } else { None }
     }
 
-    /// Sends all that waits, and makes the last consistency point at the end of the input. The device works then: nothing is left to
-    /// log, and a log of nothing tells whether it has failed.
+    /// Sends all that waits, and makes the last consistency point at the end of the input, after the one in progress: nothing waits or is
+    /// held then, and the log is empty behind it. The device works then: nothing is left to log, and a log of nothing tells whether it has
+    /// failed.
     fn finish(&mut self, stop: Stop) -> Result<(), Halt>
         requires row { self.old.row.lines ≡ [] }
         ensures moves { Moves self.old self.new result }
@@ -68,9 +69,14 @@ impl<'c, R: Read, D: Disk, L: Teller<D>> Session<'c, R, D, L> {
         self.log_what_ran()?;
         self.send()?;
         match stop {
-            Stop::End => self.make_last_point(),
-            Stop::Fault | Stop::Exhausted | Stop::Failed => Ok(()),
+            Stop::End => {}
+            Stop::Fault | Stop::Exhausted | Stop::Failed => return Ok(()),
         }
+        self.finish_point()?;
+        let Err(_) = self.core.point() else {
+            return Ok(());
+        };
+        Err(Halt::Device)
     }
 
     /// Reads lines and answers them, until no more is read and all that was is answered in the output: why no more is read.

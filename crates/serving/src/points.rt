@@ -1,10 +1,9 @@
-//! Consistency points of a session: when one is due, the one in progress, which is carried to its end, and the last one.
+//! Consistency points of a session: when one is due, the one that begins then, and the one in progress, which is carried to its end.
 
 ghost use Rattle.std.specs.Prelude.{◌≡◌, ◌≢◌, ◌+◌, ℕ, false, [], None, Some, IfOk, MatchBool, OnOk};
 ghost use Rattle.legal_runs.specs.World.{held};
 ghost use Rattle.legal_runs.specs.declared.outcomes.PointRefusal.TheVariants as refusals;
 ghost use Rattle.scheduler.specs.Kept.{world_of};
-ghost use Rattle.serving.specs.Serve.{HasEmptyLog};
 ghost use Rattle.serving.specs.Session.{Moves, steps_left};
 
 use crate::session::{Halt, Session};
@@ -83,7 +82,7 @@ impl<'c, R: Read, D: Disk, L: Teller<D>> Session<'c, R, D, L> {
     }
 
     /// Carries the consistency point in progress to its end, if there is one.
-    fn finish_point(&mut self) -> Result<(), Halt>
+    pub(crate) fn finish_point(&mut self) -> Result<(), Halt>
         ensures moves { Moves self.old self.new result }
         ensures same { (self.new.row ≡ self.old.row) × (self.new.out ≡ self.old.out) }
         ensures ended { OnOk result (self.new.core.left ≡ None) }
@@ -105,22 +104,6 @@ impl<'c, R: Read, D: Disk, L: Teller<D>> Session<'c, R, D, L> {
         if tells_of_held(why) {
             return Ok(());
         }
-        Err(Halt::Device)
-    }
-
-    /// Makes the last consistency point, where each line is answered in the output, after the one in progress: nothing waits or is held
-    /// then, and the log is empty behind it.
-    pub(crate) fn make_last_point(&mut self) -> Result<(), Halt>
-        requires row { self.old.row.lines ≡ [] }
-        ensures moves { Moves self.old self.new result }
-        ensures same { (self.new.row ≡ self.old.row) × (self.new.out ≡ self.old.out) }
-        ensures works { OnOk result (self.new.core.failed ≡ false) }
-        ensures emptied { OnOk result (D.keeps → HasEmptyLog self.new.core) }
-    {
-        self.finish_point()?;
-        let Err(_) = self.core.point() else {
-            return Ok(());
-        };
         Err(Halt::Device)
     }
 }
