@@ -54,7 +54,6 @@ pub struct ServeError<D: Disk> {
 
 // What a server takes before it reads: room for what is read, for the lines that are not answered and for the answers that wait, and a
 // bench with its seats. Nothing lies there yet.
-#[derive(Drop)]
 struct Room {
     input: Vec<u8>,
     row: LineRow,
@@ -138,14 +137,21 @@ fn serve_lent<
         reader,
         teller,
     } = call;
+    let Room {
+        input,
+        row,
+        out,
+        bench,
+        desk,
+        seats,
+    } = room;
     core.stands();
-    let bench = room.bench;
-    let lines = LineReader::new(LentReader { reader, of }, room.input);
+    let lines = LineReader::new(LentReader { reader, of }, input);
     let mut session = Session {
         core,
-        desk: room.desk,
-        row: room.row,
-        out: room.out,
+        desk,
+        row,
+        out,
         course: Course::new(every),
         lines,
         stop: None,
@@ -153,14 +159,8 @@ fn serve_lent<
         broken: false,
         bench: &bench,
     };
-    let (rt, gate) = with;
-    let ended = ended_so(bench.with_workers(rt, gate, room.seats, &mut session));
-    let Session {
-        core,
-        lines,
-        teller,
-        ..
-    } = session;
+    let ended = ended_so(bench.with_workers(with.0, with.1, seats, &mut session));
+    let (core, lines, teller) = session.close();
     core.stands();
     let LentReader { reader, of: _ } = lines.into_inner();
     let call = Call {
@@ -182,13 +182,7 @@ fn serve_lent<
 /// The core, as it is then, and a fault. `ServeFault::NoWorkers` where there are none, and `ServeFault::OutOfMemory` where there
 /// is no memory or a thread can't be started: nothing was read or told. Then `ServeFault::Read`, `ServeFault::Exhausted`,
 /// `ServeFault::Device` and `ServeFault::Write`, as they say.
-pub fn serve_to<
-    T: Threads + Wait + Sync,
-    R: Read,
-    L: Teller<D> + Drop,
-    D: Disk + Drop,
-    G: Gate + Sync,
->(
+pub fn serve_to<T: Threads + Wait + Sync, R: Read, L: Teller<D>, D: Disk + Drop, G: Gate + Sync>(
     alloc: Global,
     rt: &T,
     core: Core<D>,
@@ -268,7 +262,6 @@ impl Beginning for Brand {
 }
 
 // A writer that is lent, and is told lines. Its type names the loan, so that no other writer can be put in its place.
-#[derive(Drop)]
 struct Output<'w, W, B: Beginning> {
     w: &'w mut W,
     of: PhantomData<B>,

@@ -1,8 +1,8 @@
 -- Where it begins; and what it promises, since the core at the end is as it always is.
 use Rattle.std.proofs.Common.{ap, refl, sym, subst, ◌∙◌}
 use Rattle.std.specs.Prelude.{OnOk}
+use Rattle.scheduler.specs.Kept.{CoreView}
 use Rattle.serving.specs.Serve.{HasEmptyLog}
-use Rattle.serving.specs.Session.{IsUnderWayFrom, SessionView}
 use Rattle.serving.specs.Telling.{Start}
 use Rattle.serving.proofs.Closing.{emptied_at_end, ends_or_declines, first_at, has_workers, not_drained, promises_from}
 use Rattle.serving.proofs.server.serve_lent.Goals as goal
@@ -25,14 +25,13 @@ returns-clause-run g c =
       before = g.L.Teller.told c.args.call.teller;
     } in
     let now = c.with_workers.new.duty in
-    let view = c.session.view_is in
-    let way = subst (λ (p : SessionView). IsUnderWayFrom g.D.Disk.keeps g.L.Teller.start p) view c.session.invariant.0 in
-    let behind = ap (λ (l : _). g.R.Read.remaining l.reader.now) c.into_inner-reader.ensures ∙ ap (λ (p : SessionView). p.behind) view in
+    let left = c.close-core.ensures in
+    let behind = ap (λ (l : _). g.R.Read.remaining l.reader.now) c.into_inner-reader.ensures ∙ left.behind in
     let ends = ends_or_declines now (g.D.Disk.keeps → HasEmptyLog now.core) _ c.with_workers.result c.with_workers.ensures.gives
     _ c.with_workers.ensures.undone c.ended_so-ended.result c.ended_so-ended.ensures in
-    let all = promises_from g.D.Disk.keeps g.L.Teller.start s _ now c.requires.can_begin.is way refl
+    let all = promises_from g.D.Disk.keeps g.L.Teller.start s _ now c.requires.can_begin.is left.under_way refl
     (ap (λ (l : _). g.R.Read.remaining l.reader.now) c.new-lines.ensures.source) refl c.ended_so-ended.result ends
-    _ _ _ (ap (λ (p : SessionView). p.core) view) behind (ap (λ (p : SessionView). p.told) view) in
+    _ _ _ left.core behind left.told in
     all.run c.stands-2.ensures.no_doubt c.stands-2.ensures.now
 
 pub returns-clause-ends : goal.returns-clause-ends
@@ -44,20 +43,19 @@ returns-clause-ends g c =
       before = g.L.Teller.told c.args.call.teller;
     } in
     let now = c.with_workers.new.duty in
-    let view = c.session.view_is in
-    let way = subst (λ (p : SessionView). IsUnderWayFrom g.D.Disk.keeps g.L.Teller.start p) view c.session.invariant.0 in
-    let behind = ap (λ (l : _). g.R.Read.remaining l.reader.now) c.into_inner-reader.ensures ∙ ap (λ (p : SessionView). p.behind) view in
+    let left = c.close-core.ensures in
+    let behind = ap (λ (l : _). g.R.Read.remaining l.reader.now) c.into_inner-reader.ensures ∙ left.behind in
     let ends = ends_or_declines now (g.D.Disk.keeps → HasEmptyLog now.core) _ c.with_workers.result c.with_workers.ensures.gives
     _ c.with_workers.ensures.undone c.ended_so-ended.result c.ended_so-ended.ensures in
-    let all = promises_from g.D.Disk.keeps g.L.Teller.start s _ now c.requires.can_begin.is way refl
+    let all = promises_from g.D.Disk.keeps g.L.Teller.start s _ now c.requires.can_begin.is left.under_way refl
     (ap (λ (l : _). g.R.Read.remaining l.reader.now) c.new-lines.ensures.source) refl c.ended_so-ended.result ends
-    _ _ _ (ap (λ (p : SessionView). p.core) view) behind (ap (λ (p : SessionView). p.told) view) in
+    _ _ _ left.core behind left.told in
     all.ends
 
 pub returns-clause-emptied : goal.returns-clause-emptied
 returns-clause-emptied g c =
     let now = c.with_workers.new.duty in
-    subst (λ (p : SessionView). OnOk c.ended_so-ended.result (g.D.Disk.keeps → HasEmptyLog p.core)) (sym c.session.view_is)
+    subst (λ (k : CoreView). OnOk c.ended_so-ended.result (g.D.Disk.keeps → HasEmptyLog k)) (sym c.close-core.ensures.core)
     (emptied_at_end now (g.D.Disk.keeps → HasEmptyLog now.core) _ c.with_workers.result c.with_workers.ensures.gives
     c.ended_so-ended.result c.ended_so-ended.ensures)
 
