@@ -1,29 +1,29 @@
--- ---- for the crates above: stretches of a run, and what is known of lines
-pub mod Chain
-pub mod Tickets
-pub mod Stretches
-pub mod Returning
-pub mod Sending
-pub mod Answering
-pub mod Starting
-pub mod Arriving
-pub mod Pointing
-pub mod Places
-pub mod Taken
-pub mod Following
-pub mod Serial
-pub mod Counting
-pub mod Inside
-pub mod Slots
-pub mod Served
-pub mod Said
-pub mod Advancing
-pub mod Stopping
-pub mod Under
-pub mod Promises
-pub mod Closing
+-- ---- for the crates above: what was told, and what a device holds of it
 pub mod Told
 pub mod Holding
-pub mod Silence
 -- ---- this crate's own
+mod Chain
+mod Tickets
+mod Stretches
+mod Returning
+mod Sending
+mod Answering
+mod Starting
+mod Arriving
+mod Pointing
+mod Places
+mod Taken
+mod Following
+mod Serial
+mod Counting
+mod Inside
+mod Slots
+mod Served
+mod Said
+mod Advancing
+mod Stopping
+mod Under
+mod Promises
+mod Closing
+mod Silence
 mod Examples
