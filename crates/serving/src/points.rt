@@ -40,9 +40,9 @@ impl Course {
         self.since = 0;
     }
 
-    /// Whether one is due by the number of records.
-    fn is_due(&self) -> bool {
-        self.every != 0 && self.since >= self.every
+    /// Whether one is due by the number of records, where so many pieces of the one in progress are left. None is while one is.
+    pub(crate) fn is_due(&self, left: Option<usize>) -> bool {
+        left.is_none() && self.every != 0 && self.since >= self.every
     }
 }
 
@@ -53,11 +53,6 @@ fn tells_of_held(why: PointRefusal) -> bool
 }
 
 impl<'c, R: Read, D: Disk, L: Teller<D>> Session<'c, R, D, L> {
-    /// Whether a consistency point is due by the number of records. None is while one is in progress.
-    pub(crate) fn point_is_due(&self) -> bool {
-        self.core.left().is_none() && self.course.is_due()
-    }
-
     /// Takes the consistency point in progress a step on, if there is one: to its next piece or, where all are written, to its end.
     /// Whether there was one.
     pub(crate) fn move_point_on(&mut self) -> Result<bool, Halt>

@@ -48,14 +48,14 @@ fn take<D: Disk>(core: &mut Core<D>, row: &mut LineRow, line: &[u8]) -> Result<(
     }
 }
 
-impl<'c, R: Read, D: Disk, L: Teller<D>> Session<'c, R, D, L> {
-    /// Whether a further line may be read: the session has not stopped, and there is room for the line in the row.
-    fn may_read(&self) -> bool
-        ensures { IsTrue result ↔ ((self.now.stop ≡ None) × (length self.now.row.lines < self.now.row.slots)) }
-    {
-        self.stop.is_none() && self.row.has_room()
-    }
+/// Whether a further line may be read: nothing has stopped it, and there is room for the line in the row.
+fn may_read(stop: Option<Stop>, row: &LineRow) -> bool
+    ensures { IsTrue result ↔ ((stop ≡ None) × (length row.now.lines < row.now.slots)) }
+{
+    stop.is_none() && row.has_room()
+}
 
+impl<'c, R: Read, D: Disk, L: Teller<D>> Session<'c, R, D, L> {
     /// Reads the next line, for which there is room, if there is one: whether more may be read then. Else the session has stopped.
     fn read_next(&mut self) -> bool
         requires reads { self.old.stop ≡ None }
@@ -98,8 +98,11 @@ impl<'c, R: Read, D: Disk, L: Teller<D>> Session<'c, R, D, L> {
     pub(crate) fn read_more(&mut self, may_wait: bool) -> bool
         ensures whole { self.new.broken ≡ self.old.broken }
     {
-        let mut read = may_wait && self.may_read() && self.read_next();
-        while self.may_read() && self.lines.holds_line() && self.read_next() {
+        let mut read = false;
+        while may_read(self.stop, &self.row)
+            && ((may_wait && !read) || self.lines.holds_line())
+            && self.read_next()
+        {
             read = true;
         }
         read

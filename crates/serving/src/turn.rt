@@ -156,7 +156,7 @@ impl<'c, R: Read, D: Disk, L: Teller<D>> Session<'c, R, D, L> {
     fn send_out(&mut self) -> Result<bool, Halt>
         ensures moves { Moves self.old self.new result }
     {
-        if self.point_is_due() {
+        if self.course.is_due(self.core.left()) {
             return Ok(false);
         }
         match self.send_all() {
@@ -191,14 +191,13 @@ impl<'c, R: Read, D: Disk, L: Teller<D>> Session<'c, R, D, L> {
         ensures less { IsTrue result → batch.new.left < batch.old.left }
     {
         let mut came = false;
-        for k in 0..self.desk.places() {
-            if batch.is_full() {
-                return came;
-            }
+        let mut k = 0;
+        while k < self.desk.places() && !batch.is_full() {
             if let Some(changed) = self.take_back(k) {
                 batch.add(changed);
                 came = true;
             }
+            k += 1;
         }
         came
     }
@@ -256,25 +255,17 @@ impl<'c, R: Read, D: Disk, L: Teller<D>> Session<'c, R, D, L> {
         }
     }
 
-    /// Answers all that is logged, takes the consistency point in progress a step on behind each answer, and lets the lines that are next
-    /// in order wait to be told.
-    fn answer_and_say<W: Gated>(&mut self, rt: &W) -> Result<(), Halt>
-        ensures moves { Moves self.old self.new result }
-    {
-        while self.answer_first(rt) {
-            self.move_point_on()?;
-        }
-        self.say_what_is_next()
-    }
-
-    /// Lets messages go out, takes back what comes, logs it in one go, answers it and writes the lines that are next in order. A
-    /// consistency point in progress goes on by one step behind each answer.
+    /// Lets messages go out, takes back what comes, logs it in one go, answers it, and lets the lines that are next in order wait to be
+    /// told. A consistency point in progress goes on by one step behind each answer.
     fn work_off<W: Gated>(&mut self, rt: &W) -> Result<Batch, Halt>
         ensures moves { Moves self.old self.new result }
     {
         let batch = self.gather()?;
         self.log_what_ran()?;
-        self.answer_and_say(rt)?;
+        while self.answer_first(rt) {
+            self.move_point_on()?;
+        }
+        self.say_what_is_next()?;
         Ok(batch)
     }
 
@@ -284,17 +275,15 @@ impl<'c, R: Read, D: Disk, L: Teller<D>> Session<'c, R, D, L> {
         ensures moves { Moves self.old self.new result }
     {
         self.send()?;
-        let one_comes = self.desk.any_lent();
-        if one_comes {
+        if self.desk.any_lent() {
             self.bench.wait(rt, &mut self.desk);
             return Ok(false);
         }
-        let is_due = self.point_is_due();
-        if !lacks_room && !is_due {
-            return Ok(true);
+        if lacks_room || self.course.is_due(self.core.left()) {
+            self.begin_point()?;
+            return Ok(false);
         }
-        self.begin_point()?;
-        Ok(false)
+        Ok(true)
     }
 
     /// Does what can be done: whether nothing is left to do but to read. Where lines were read just before, it doesn't wait.
@@ -302,11 +291,7 @@ impl<'c, R: Read, D: Disk, L: Teller<D>> Session<'c, R, D, L> {
         ensures moves { Moves self.old self.new result }
     {
         let batch = self.work_off(rt)?;
-        if read || batch.has_come() {
-            return Ok(false);
-        }
-        let pointed = self.move_point_on()?;
-        if pointed {
+        if read || batch.has_come() || self.move_point_on()? {
             return Ok(false);
         }
         self.rest(rt, batch.lacks_room)

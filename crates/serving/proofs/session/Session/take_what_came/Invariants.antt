@@ -1,4 +1,5 @@
-use Rattle.std.proofs.Common.{◌≡◌, ◌<◌, ◌≤◌, length}
+-- Where the session and the batch are; and at how many places it has not looked.
+use Rattle.std.proofs.Common.{◌≡◌, ◌<◌, ◌≤◌, ◌-◌, length}
 use Rattle.std.specs.Prelude.{IsTrue}
 use Rattle.serving.specs.Session.{IsAsBefore}
 use Rattle.serving.proofs.session.Session.take_what_came.Given as goal
@@ -11,3 +12,6 @@ invariant-loop-k g l = record {
   left : l.batch.left ≤ l.initial.batch.left;
   less : IsTrue l.came → l.batch.left < l.initial.batch.left;
 }
+
+abbrev pub decreases-loop-k : goal.decreases-loop-k
+decreases-loop-k g l = length l.self.desk.lent - l.k

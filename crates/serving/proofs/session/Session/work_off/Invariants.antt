@@ -1,7 +1,7 @@
 -- The messages so far were answered; and how many are still logged.
 use Rattle.std.proofs.Common.{length}
 use Rattle.serving.specs.Session.{IsAsBefore}
-use Rattle.serving.proofs.session.Session.answer_and_say.Given as goal
+use Rattle.serving.proofs.session.Session.work_off.Given as goal
 
 abbrev pub invariant-loop-self : goal.invariant-loop-self
 invariant-loop-self g l = IsAsBefore l.initial.self l.self
