@@ -35,7 +35,7 @@ fn asked(kind: Kind, numbers: [u16; 4]) -> Msg
 }
 
 impl<D: Disk> Core<D> {
-    /// Takes a message in that a line has spelled.
+    /// Takes in a message that a line has spelled.
     fn arrive_spelled(&mut self, m: &Msg) -> Result<Option<u64>, ArriveRefusal>
         ensures arrives { ArrivesByLine self.old self.new (Some m.now) result }
         ensures geometry { self.new.geometry ≡ self.old.geometry }

@@ -46,7 +46,7 @@ module _ (keeps : Type 0) (old new : CoreView) (none : old.failed ≡ false → 
       → ArrivesSo keeps old new m hands h r
   so m r e = arrives_so keeps old new m hands h r (arrive_step keeps old new none stands geometry same m r e) e
 
-  pub comes_so : (o : Option Msg) (r : Result (Option ℕ) ArriveRefusal) → ArrivesByLine old new o r → ComesSo o r
+  comes_so : (o : Option Msg) (r : Result (Option ℕ) ArriveRefusal) → ArrivesByLine old new o r → ComesSo o r
   comes_so None r e =
       subst (ComesSo None) (sym e.0)
       (subst (λ (x : CoreView). IsTaken keeps was (record { core = x; hands = hands }) None NoMessage) (sym e.1) (takes_none keeps was h))
@@ -56,6 +56,9 @@ module _ (keeps : Type 0) (old new : CoreView) (none : old.failed ≡ false → 
   comes_so (Some m) (Err arrivals.Full) e = (m, refl, so m (Err arrivals.Full) e)
   comes_so (Some m) (Err arrivals.Exhausted) e = (m, refl, so m (Err arrivals.Exhausted) e)
   comes_so (Some m) (Err arrivals.Failed) e = (m, refl, so m (Err arrivals.Failed) e)
+
+  pub comes_as : (o : Option Msg) (r s : Result (Option ℕ) ArriveRefusal) → ArrivesByLine old new o r → r ≡ s → ComesSo o s
+  comes_as o r s e is = subst (ComesSo o) is (comes_so o r e)
 
 -- The ticket of its message is the core's next.
 pub next_of_line : (old new : CoreView) (o : Option Msg) (ticket : ℕ) → ArrivesByLine old new o (Ok (Some ticket)) → ticket ≡ old.next

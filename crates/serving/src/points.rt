@@ -40,12 +40,13 @@ impl Course {
         self.since = 0;
     }
 
-    /// Whether one is due by the number of records, where so many pieces of the one in progress are left. None is while one is.
+    /// Whether one is due by the number of records. None is while one is in progress, of which so many pieces are left.
     pub(crate) fn is_due(&self, left: Option<usize>) -> bool {
         left.is_none() && self.every != 0 && self.since >= self.every
     }
 }
 
+/// Whether a consistency point was refused since a message is held.
 fn tells_of_held(why: PointRefusal) -> bool
     ensures { MatchBool result (why ≡ refusals.Held) (why ≢ refusals.Held) }
 {
