@@ -1,6 +1,6 @@
 //! The row of the lines that were read and are not answered in the output, oldest first.
 
-ghost use Rattle.std.specs.Prelude.{◌≡◌, ◌<◌, ◌≤◌, ◌+◌, ◌↔◌, ◌++◌, ◌∷◌, [], IfOk, IsTrue, MatchOption, ℕ, drop, length, map, take};
+ghost use Rattle.std.specs.Prelude.{◌≡◌, ◌<◌, ◌≤◌, ◌+◌, ◌↔◌, ◌++◌, ◌∷◌, [], IfOk, IsTrue, MatchBool, MatchOption, ℕ, drop, length, map, take};
 ghost use Rattle.std.specs.VecDeque.{deque_len};
 ghost use Rattle.message.specs.Waiting.{FitsReply};
 ghost use Rattle.line_row.specs.Rows.{Line, answer_one, AreFrom, AreConsecutive, AreLeft, IsOf, comes_next, next_text, text, with_tickets};
@@ -168,7 +168,7 @@ impl LineRow {
     }
 
     /// Whether the oldest line is answered, so that it is the next one of the output.
-    pub fn comes_next(&self) -> bool
+    fn comes_next(&self) -> bool
         ensures { result ≡ comes_next self.now.lines }
     {
         match self.front() {
@@ -197,7 +197,7 @@ impl LineRow {
     }
 
     /// Lets go of the oldest line, if there is one.
-    pub fn pop(&mut self)
+    fn pop(&mut self)
         ensures lines { self.new.lines ≡ drop 1 self.old.lines }
         ensures slots { self.new.slots ≡ self.old.slots }
     {
@@ -217,13 +217,21 @@ impl LineRow {
         }
     }
 
-    /// Adds what the oldest line is answered to the lines that wait to be told, if there is one and it is answered.
-    pub fn say_front(&self, out: &mut ReplyBuffer)
+    /// Adds what the oldest line is answered to the lines that wait to be told, and lets go of it, if it is answered: whether it is.
+    pub fn say_front(&mut self, out: &mut ReplyBuffer) -> bool
         requires { FitsReply out.old }
-        ensures { out.new ≡ out.old ++ next_text self.now.lines }
+        ensures next { result ≡ comes_next self.old.lines }
+        ensures said { MatchBool result (out.new ≡ out.old ++ next_text self.old.lines) (out.new ≡ out.old) }
+        ensures left { MatchBool result (self.new.lines ≡ drop 1 self.old.lines) (self.new ≡ self.old) }
+        ensures slots { self.new.slots ≡ self.old.slots }
     {
+        if !self.comes_next() {
+            return false;
+        }
         if let Some(line) = self.front() {
             say(line, out);
         }
+        self.pop();
+        true
     }
 }

@@ -1,6 +1,6 @@
 -- A session stays under way: one lemma for each kind of step, and what being under way tells.
 use Rattle.std.proofs.Common.{◌≡◌, ◌≢◌, ◌≤◌, ◌<◌, ℕ, Bool, true, false, List, [], ◌∷◌, ◌++◌, Option, Some, None, refl, ap, sym, ◌∙◌, subst, length, map, drop, append_assoc, append-nil, arith}
-use Rattle.std.specs.Prelude.{IfSome, IsTrue}
+use Rattle.std.specs.Prelude.{IfSome, IsTrue, MatchBool}
 use Rattle.std.specs.Io.KnownBytes.{Appends, IsAtEnd}
 use Rattle.affinity.specs.declared.geometry.Geometry.{Geometry}
 use Rattle.std.proofs.lemmas.Bool.{true≢false}
@@ -192,7 +192,7 @@ module _ (keeps : Type 0) where
       }
 
   -- The oldest line of the row waits to be told.
-  pub on_say : (o : Option Start) (p : SessionView) (row : RowView) (out : List ℕ) → IsUnderWayFrom keeps o p
+  on_say : (o : Option Start) (p : SessionView) (row : RowView) (out : List ℕ) → IsUnderWayFrom keeps o p
       → row.lines ≡ drop 1 p.row.lines → comes_next p.row.lines ≡ true → out ≡ p.out ++ next_text p.row.lines → row.slots ≡ p.row.slots
       → IsUnderWayFrom keeps o (record p { row = row; out = out })
   on_say None p row out u is next added slots = absurd u
@@ -217,6 +217,16 @@ module _ (keeps : Type 0) where
                   (ap (λ (l : List Line). h.waiting ++ l) f.were ∙ sym (append_assoc h.waiting one row.lines)) h.goes;
             }) p.stop u.reads;
       }
+
+  -- So it does where it is answered, and else nothing moves.
+  pub on_say_front : (o : Option Start) (p : SessionView) (row : RowView) (out : List ℕ) (said : Bool) → IsUnderWayFrom keeps o p
+      → said ≡ comes_next p.row.lines → MatchBool said (out ≡ p.out ++ next_text p.row.lines) (out ≡ p.out)
+      → MatchBool said (row.lines ≡ drop 1 p.row.lines) (row ≡ p.row) → row.slots ≡ p.row.slots
+      → IsUnderWayFrom keeps o (record p { row = row; out = out })
+  on_say_front o p row out true u next added left slots = on_say o p row out u left (sym next) added slots
+  on_say_front o p row out false u next added left slots =
+      subst (λ (r : RowView). IsUnderWayFrom keeps o (record p { row = r; out = out })) (sym left)
+      (subst (λ (l : List ℕ). IsUnderWayFrom keeps o (record p { out = l })) (sym added) u)
 
   -- All that waits is told.
   pub on_tell : (o : Option Start) (p : SessionView) (out : List ℕ) (told : Option (List ℕ)) → IsUnderWayFrom keeps o p

@@ -16,8 +16,7 @@ use Rattle.serving.specs.Lines.{AreAnswered, Line, text}
 use Rattle.line_row.specs.Rows.{RowView, comes_next}
 use Rattle.serving.specs.Runs.{Holds, with_lent}
 use Rattle.serving.specs.Telling.{Start, start_machine}
-use Rattle.serving.specs.declared.session.Halt.{Halt}
-use Rattle.serving.specs.declared.session.Halt.TheVariants as halts
+use Rattle.serving.specs.declared.session.Halted.{Halted}
 use Rattle.serving.specs.declared.session.Stop.{Stop}
 use Rattle.serving.specs.declared.session.Stop.TheVariants as stops
 use Rattle.serving.specs.declared.server.ServeFault.{ServeFault}
@@ -115,16 +114,14 @@ pub record CanBegin (start : Option Start) (core : CoreView) (places : ℕ) (inp
 abbrev pub IsAsBefore : SessionView → SessionView → Type 0
 IsAsBefore old new = (new.stop ≡ old.stop) × (new.broken ≡ old.broken)
 
--- No line was read, and this has halted it, if anything has.
-abbrev pub Moves : {A : Type 0} → SessionView → SessionView → Result A Halt → Type 0
-Moves old new (Ok _) = IsAsBefore old new
-Moves old new (Err halts.Device) = IsAsBefore old new × (new.core.failed ≡ true)
-Moves old new (Err halts.Write) = new.stop ≡ old.stop
+-- The output has failed, or else the device.
+abbrev pub HasHalted : SessionView → Type 0
+HasHalted p = p.broken ≡ false → p.core.failed ≡ true
 
--- What has halted it: the device has failed; or the output, of which nothing is known then.
-abbrev pub HaltsBy : Halt → SessionView → Type 0
-HaltsBy halts.Device p = (p.core.failed ≡ true) × (p.broken ≡ false)
-HaltsBy halts.Write p = Unit {0}
+-- No line was read. At `Ok` the output has not failed, if it had not before.
+abbrev pub Moves : {A : Type 0} → SessionView → SessionView → Result A Halted → Type 0
+Moves old new (Ok _) = IsAsBefore old new
+Moves old new (Err _) = (new.stop ≡ old.stop) × HasHalted new
 
 -- how many steps a consistency point takes to its end, by how many of its pieces are left
 abbrev pub steps_left : Option ℕ → ℕ

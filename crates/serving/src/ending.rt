@@ -3,12 +3,12 @@
 
 ghost use Rattle.std.specs.Prelude.{◌≡◌, Err, IfOk, IfSome, MatchResult, OnOk, Some, [], false};
 ghost use Rattle.serving.specs.Serve.{HasEmptyLog};
-ghost use Rattle.serving.specs.Session.{EndsBy, HaltsBy, IsServed, Moves, end_of};
+ghost use Rattle.serving.specs.Session.{EndsBy, HasHalted, IsServed, Moves, end_of};
 ghost use Rattle.serving.specs.declared.session.Stop.TheVariants as stops;
 
 use crate::gated::Gated;
 use crate::server::ServeFault;
-use crate::session::{Halt, Session, Stop};
+use crate::session::{Halted, Session, Stop};
 use crate::telling::Teller;
 use disk::Disk;
 use std::io::Read;
@@ -28,24 +28,18 @@ fn reported_for(stop: Stop) -> Result<(), ServeFault>
 }
 
 impl<'c, R: Read, D: Disk, L: Teller<D>> Session<'c, R, D, L> {
-    /// Ends where something has failed: jobs that are out come back. Where it is the device, nothing more is logged, and the lines next
-    /// in order are still written; where it is the output, what ran is logged and answered. Why the server ends then.
-    fn end_early<W: Gated>(&mut self, rt: &W, why: Halt) -> ServeFault
-        requires halted { HaltsBy why self.old }
+    /// Ends where something has failed: jobs that are out come back. What ran is logged, unless the device has failed; all that is
+    /// logged is answered; and the lines next in order are still written, unless the output has failed. Why the server ends then.
+    fn end_early<W: Gated>(&mut self, rt: &W) -> ServeFault
+        requires halted { HasHalted self.old }
         ensures { EndsBy self.new (Err result) }
     {
         self.come_home(rt);
-        match why {
-            Halt::Device => match self.tell_the_rest(rt) {
-                Ok(()) => ServeFault::Device,
-                Err(_) => ServeFault::Write,
-            },
-            Halt::Write => {
-                // A fault of the device changes nothing any more.
-                let _logged = self.log_what_ran();
-                self.answer_what_is_logged(rt);
-                ServeFault::Write
-            }
+        // A device that has failed logs nothing, and one that fails now changes nothing any more.
+        let _logged = self.log_what_ran();
+        match self.tell_the_rest(rt) {
+            Ok(()) => ServeFault::Device,
+            Err(_) => ServeFault::Write,
         }
     }
 
@@ -59,10 +53,10 @@ impl<'c, R: Read, D: Disk, L: Teller<D>> Session<'c, R, D, L> {
     /// Sends all that waits, and makes the last consistency point at the end of the input, after the one in progress: nothing waits or is
     /// held then, and the log is empty behind it. The device works then: nothing is left to log, and a log of nothing tells whether it has
     /// failed.
-    fn finish(&mut self, stop: Stop) -> Result<(), Halt>
+    fn finish(&mut self, stop: Stop) -> Result<(), Halted>
         requires row { self.old.row.lines ≡ [] }
         ensures moves { Moves self.old self.new result }
-        ensures all { OnOk result ((self.new.row.lines ≡ []) × (self.new.out ≡ [])) }
+        ensures all { OnOk result ((self.new.row.lines ≡ []) × (self.new.out ≡ []) × (self.new.broken ≡ false)) }
         ensures works { OnOk result (self.new.core.failed ≡ false) }
         ensures emptied { OnOk result (stop ≡ stops.End → D.keeps → HasEmptyLog self.new.core) }
     {
@@ -72,17 +66,16 @@ impl<'c, R: Read, D: Disk, L: Teller<D>> Session<'c, R, D, L> {
             Stop::End => {}
             Stop::Fault | Stop::Exhausted | Stop::Failed => return Ok(()),
         }
-        self.finish_point()?;
+        while self.move_point_on()? {}
         let Err(_) = self.core.point() else {
             return Ok(());
         };
-        Err(Halt::Device)
+        Err(Halted)
     }
 
     /// Reads lines and answers them, until no more is read and all that was is answered in the output: why no more is read.
-    fn serve_lines<W: Gated>(&mut self, rt: &W) -> Result<Stop, Halt>
-        requires whole { self.old.broken ≡ false }
-        ensures served { MatchResult result (λ stop. (self.new.stop ≡ Some stop) × IsServed self.new) (λ why. HaltsBy why self.new) }
+    fn serve_lines<W: Gated>(&mut self, rt: &W) -> Result<Stop, Halted>
+        ensures served { MatchResult result (λ stop. (self.new.stop ≡ Some stop) × IsServed self.new) (λ _. HasHalted self.new) }
         ensures emptied { IfOk result (λ stop. stop ≡ stops.End → D.keeps → HasEmptyLog self.new.core) }
     {
         let mut stuck = false;
@@ -119,7 +112,7 @@ impl<'c, R: Read, D: Disk, L: Teller<D>> Duty<Result<(), ServeFault>> for Sessio
                 let _ = &self.core;
                 reported_for(stop)
             }
-            Err(why) => Err(self.end_early(rt, why)),
+            Err(_) => Err(self.end_early(rt)),
         }
     }
 

@@ -6,7 +6,7 @@ ghost use Rattle.legal_runs.specs.declared.outcomes.PointRefusal.TheVariants as 
 ghost use Rattle.scheduler.specs.Kept.{world_of};
 ghost use Rattle.serving.specs.Session.{Moves, steps_left};
 
-use crate::session::{Halt, Session};
+use crate::session::{Halted, Session};
 use crate::telling::Teller;
 use disk::Disk;
 use legal_runs::PointRefusal;
@@ -56,7 +56,7 @@ fn tells_of_held(why: PointRefusal) -> bool
 impl<'c, R: Read, D: Disk, L: Teller<D>> Session<'c, R, D, L> {
     /// Takes the consistency point in progress a step on, if there is one: to its next piece or, where all are written, to its end.
     /// Whether there was one.
-    pub(crate) fn move_point_on(&mut self) -> Result<bool, Halt>
+    pub(crate) fn move_point_on(&mut self) -> Result<bool, Halted>
         ensures moves { Moves self.old self.new result }
         ensures same { (self.new.row ≡ self.old.row) × (self.new.out ≡ self.old.out) × (self.new.core.logged ≡ self.old.core.logged) }
         ensures step { IfOk result (λ moved. MatchBool moved (steps_left self.new.core.left + 1 ≡ steps_left self.old.core.left)
@@ -68,31 +68,21 @@ impl<'c, R: Read, D: Disk, L: Teller<D>> Session<'c, R, D, L> {
         if left == 0 {
             return match self.core.flip() {
                 Ok(()) => Ok(true),
-                Err(_) => Err(Halt::Device),
+                Err(_) => Err(Halted),
             };
         }
         match self.core.piece() {
             Ok(_) => Ok(true),
-            Err(_) => Err(Halt::Device),
+            Err(_) => Err(Halted),
         }
     }
 
-    /// Carries the consistency point in progress to its end, if there is one.
-    pub(crate) fn finish_point(&mut self) -> Result<(), Halt>
-        ensures moves { Moves self.old self.new result }
-        ensures same { (self.new.row ≡ self.old.row) × (self.new.out ≡ self.old.out) }
-        ensures ended { OnOk result (self.new.core.left ≡ None) }
-    {
-        while self.move_point_on()? {}
-        Ok(())
-    }
-
-    /// Begins the next consistency point, after the one in progress: it begins unless a message is held.
-    pub(crate) fn begin_point(&mut self) -> Result<(), Halt>
+    /// Begins a consistency point, where none is in progress: it begins unless a message is held.
+    pub(crate) fn begin_point(&mut self) -> Result<(), Halted>
+        requires none { self.old.core.left ≡ None }
         ensures moves { Moves self.old self.new result }
         ensures begun { OnOk result (held (world_of self.new.core) ≡ [] → (n : ℕ) × (self.new.core.left ≡ Some n)) }
     {
-        self.finish_point()?;
         let Err(why) = self.core.cut() else {
             self.course.begin();
             return Ok(());
@@ -100,6 +90,6 @@ impl<'c, R: Read, D: Disk, L: Teller<D>> Session<'c, R, D, L> {
         if tells_of_held(why) {
             return Ok(());
         }
-        Err(Halt::Device)
+        Err(Halted)
     }
 }

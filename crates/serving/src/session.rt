@@ -28,14 +28,9 @@ pub(crate) enum Stop {
     Failed,
 }
 
-/// Why a session ends before it has answered what it has read.
+/// A session ends before it has answered what it has read: the device has failed, or lines could not be told, as the session says.
 #[derive(Clone, Copy)]
-pub(crate) enum Halt {
-    /// The device has failed.
-    Device,
-    /// The lines could not be told.
-    Write,
-}
+pub(crate) struct Halted;
 
 /// What a server has while it serves.
 pub(crate) struct Session<'c, R: Read, D: Disk, L: Teller<D>> {

@@ -7,7 +7,7 @@ ghost use Rattle.line_row.specs.Rows.{comes_next};
 ghost use Rattle.serving.specs.Session.{IsAsBefore, Moves};
 
 use crate::gated::Gated;
-use crate::session::{Halt, Session};
+use crate::session::{Halted, Session};
 use disk::Disk;
 use message::WriteFault;
 use scheduler::Core;
@@ -57,23 +57,15 @@ impl<'c, R: Read, D: Disk, L: Teller<D>> Session<'c, R, D, L> {
         true
     }
 
-    /// Answers all that is logged.
-    pub(crate) fn answer_what_is_logged<W: Gated>(&mut self, rt: &W)
-        ensures as_before { IsAsBefore self.old self.new }
-        ensures desk { self.new.desk ≡ self.old.desk }
-        ensures world { world_of self.new.core ≡ record (world_of self.old.core) { logged = [] } }
-    {
-        while self.answer_first(rt) {}
-    }
-
     /// Tells all that waits, unless it could not tell something before.
-    pub(crate) fn send(&mut self) -> Result<(), Halt>
+    pub(crate) fn send(&mut self) -> Result<(), Halted>
         ensures moves { Moves self.old self.new result }
         ensures same { (self.new.core ≡ self.old.core) × (self.new.row ≡ self.old.row) × (self.new.desk ≡ self.old.desk) }
         ensures none_waits { OnOk result (self.new.out ≡ []) }
+        ensures whole { OnOk result (self.new.broken ≡ false) }
     {
         if self.broken {
-            return Err(Halt::Write);
+            return Err(Halted);
         }
         if self.out.is_empty() {
             return Ok(());
@@ -86,13 +78,13 @@ impl<'c, R: Read, D: Disk, L: Teller<D>> Session<'c, R, D, L> {
             }
             Err(_) => {
                 self.broken = true;
-                Err(Halt::Write)
+                Err(Halted)
             }
         }
     }
 
     /// Tells all that waits where the longest answer has no room behind it.
-    fn make_room(&mut self) -> Result<(), Halt>
+    fn make_room(&mut self) -> Result<(), Halted>
         ensures moves { Moves self.old self.new result }
         ensures same { (self.new.core ≡ self.old.core) × (self.new.row ≡ self.old.row) × (self.new.desk ≡ self.old.desk) }
         ensures room { OnOk result (FitsReply self.new.out) }
@@ -105,23 +97,19 @@ impl<'c, R: Read, D: Disk, L: Teller<D>> Session<'c, R, D, L> {
     }
 
     /// Lets the oldest line of the row wait to be told, if it is answered: whether it is. It leaves the row then.
-    fn say_first(&mut self) -> Result<bool, Halt>
+    fn say_first(&mut self) -> Result<bool, Halted>
         ensures moves { Moves self.old self.new result }
         ensures same { (self.new.core ≡ self.old.core) × (self.new.desk ≡ self.old.desk) }
         ensures fewer { IfOk result (λ said. IsTrue said → length self.new.row.lines + 1 ≡ length self.old.row.lines) }
         ensures last { IfOk result (λ said. IsFalse said → comes_next self.new.row.lines ≡ false) }
     {
-        if !self.row.comes_next() {
-            return Ok(false);
-        }
         self.make_room()?;
-        self.row.say_front(&mut self.out);
-        self.row.pop();
-        Ok(true)
+        let said = self.row.say_front(&mut self.out);
+        Ok(said)
     }
 
     /// Lets the lines at the front of the row wait to be told, up to the first that is not answered.
-    pub(crate) fn say_what_is_next(&mut self) -> Result<(), Halt>
+    pub(crate) fn say_what_is_next(&mut self) -> Result<(), Halted>
         ensures moves { Moves self.old self.new result }
         ensures same { (self.new.core ≡ self.old.core) × (self.new.desk ≡ self.old.desk) }
         ensures last { OnOk result (comes_next self.new.row.lines ≡ false) }
@@ -131,14 +119,15 @@ impl<'c, R: Read, D: Disk, L: Teller<D>> Session<'c, R, D, L> {
     }
 
     /// Answers all that is logged, and tells the lines that are next in order.
-    pub(crate) fn tell_the_rest<W: Gated>(&mut self, rt: &W) -> Result<(), Halt>
+    pub(crate) fn tell_the_rest<W: Gated>(&mut self, rt: &W) -> Result<(), Halted>
         ensures moves { Moves self.old self.new result }
         ensures desk { self.new.desk ≡ self.old.desk }
         ensures world { world_of self.new.core ≡ record (world_of self.old.core) { logged = [] } }
         ensures none_waits { OnOk result (self.new.out ≡ []) }
+        ensures whole { OnOk result (self.new.broken ≡ false) }
         ensures last { OnOk result (comes_next self.new.row.lines ≡ false) }
     {
-        self.answer_what_is_logged(rt);
+        while self.answer_first(rt) {}
         self.say_what_is_next()?;
         self.send()
     }

@@ -1,13 +1,13 @@
 //! One turn of a session: messages go out, and what came back is logged in one go and answered; where nothing else can be done,
 //! it waits or begins a consistency point.
 
-ghost use Rattle.std.specs.Prelude.{◌≡◌, ◌<◌, ◌≤◌, ◌-◌, ◌↔◌, IsTrue, OnErr, OnOk, Some, [], false, is_none, length, position, slice_set, true};
+ghost use Rattle.std.specs.Prelude.{◌≡◌, ◌<◌, ◌≤◌, ◌-◌, ◌↔◌, IsTrue, OnErr, OnOk, Some, [], None, false, is_none, length, position, slice_set, true};
 ghost use Rattle.scheduler.specs.Kept.{world_of};
 ghost use Rattle.serving.specs.Lending.{GoesTo, IsEndOfSending, IsHome};
 ghost use Rattle.serving.specs.Session.{IsAsBefore, Moves};
 
 use crate::gated::Gated;
-use crate::session::{Halt, Session};
+use crate::session::{Halted, Session};
 use crate::telling::Teller;
 use disk::Disk;
 use message::Reply;
@@ -153,7 +153,7 @@ impl<'c, R: Read, D: Disk, L: Teller<D>> Session<'c, R, D, L> {
 
     /// Lets messages go out, unless a consistency point is due by the number of records: whether one lacks room in the log
     /// alone.
-    fn send_out(&mut self) -> Result<bool, Halt>
+    fn send_out(&mut self) -> Result<bool, Halted>
         ensures moves { Moves self.old self.new result }
     {
         if self.course.is_due(self.core.left()) {
@@ -163,7 +163,7 @@ impl<'c, R: Read, D: Disk, L: Teller<D>> Session<'c, R, D, L> {
             Sent::Job => Ok(false),
             Sent::NoneEligible => Ok(false),
             Sent::NoRoom => Ok(true),
-            Sent::Failed => Err(Halt::Device),
+            Sent::Failed => Err(Halted),
         }
     }
 
@@ -221,7 +221,7 @@ impl<'c, R: Read, D: Disk, L: Teller<D>> Session<'c, R, D, L> {
 
     /// Lets messages go out and takes back what comes of them, until the batch is worth a write of the log, nothing is lent any more,
     /// or nothing came back in a while. Where something came, further messages go out, so that jobs run meanwhile. It waits for nobody.
-    fn gather(&mut self) -> Result<Batch, Halt>
+    fn gather(&mut self) -> Result<Batch, Halted>
         ensures moves { Moves self.old self.new result }
     {
         let lacks_room = self.send_out()?;
@@ -241,23 +241,23 @@ impl<'c, R: Read, D: Disk, L: Teller<D>> Session<'c, R, D, L> {
     }
 
     /// Logs all that ran, in one go. Where nothing ran, it tells no more than whether the device works.
-    pub(crate) fn log_what_ran(&mut self) -> Result<(), Halt>
+    pub(crate) fn log_what_ran(&mut self) -> Result<(), Halted>
         ensures moves { Moves self.old self.new result }
         ensures same { (self.new.row ≡ self.old.row) × (self.new.out ≡ self.old.out) × (self.new.desk ≡ self.old.desk) }
-        ensures works { OnOk result (self.new.core.failed ≡ false) }
+        ensures works { OnOk result ((self.old.core.failed ≡ false) × (self.new.core.failed ≡ false)) }
         ensures logged { OnOk result (self.new.core.ran ≡ []) }
         ensures failed { OnErr result (self.new.core.failed ≡ true) }
     {
         let count = self.core.slots();
         match self.core.log(count) {
             Ok(_) => Ok(()),
-            Err(_) => Err(Halt::Device),
+            Err(_) => Err(Halted),
         }
     }
 
     /// Lets messages go out, takes back what comes, logs it in one go, answers it, and lets the lines that are next in order wait to be
     /// told. A consistency point in progress goes on by one step behind each answer.
-    fn work_off<W: Gated>(&mut self, rt: &W) -> Result<Batch, Halt>
+    fn work_off<W: Gated>(&mut self, rt: &W) -> Result<Batch, Halted>
         ensures moves { Moves self.old self.new result }
     {
         let batch = self.gather()?;
@@ -269,9 +269,10 @@ impl<'c, R: Read, D: Disk, L: Teller<D>> Session<'c, R, D, L> {
         Ok(batch)
     }
 
-    /// Sends what waits, and waits for a result where one is to come, or begins a consistency point where one is due or a
-    /// message lacks room. Else nothing is to be done: whether it is so.
-    fn rest<W: Gated>(&mut self, rt: &W, lacks_room: bool) -> Result<bool, Halt>
+    /// Where no consistency point is in progress: sends what waits, and waits for a result where one is to come, or begins a point where
+    /// one is due or a message lacks room. Else nothing is to be done: whether it is so.
+    fn rest<W: Gated>(&mut self, rt: &W, lacks_room: bool) -> Result<bool, Halted>
+        requires none { self.old.core.left ≡ None }
         ensures moves { Moves self.old self.new result }
     {
         self.send()?;
@@ -287,7 +288,7 @@ impl<'c, R: Read, D: Disk, L: Teller<D>> Session<'c, R, D, L> {
     }
 
     /// Does what can be done: whether nothing is left to do but to read. Where lines were read just before, it doesn't wait.
-    pub(crate) fn advance<W: Gated>(&mut self, rt: &W, read: bool) -> Result<bool, Halt>
+    pub(crate) fn advance<W: Gated>(&mut self, rt: &W, read: bool) -> Result<bool, Halted>
         ensures moves { Moves self.old self.new result }
     {
         let batch = self.work_off(rt)?;

@@ -26,18 +26,15 @@ invariant_of-self-in_default g c =
 
 pub returns-clause-moves : goal.returns-clause-moves
 returns-clause-moves g c =
-    let finished = c.in_ok-finish_point.ensures in
-    let left = ap (λ (p : SessionView). p.core.left) c.self.view_is ∙ finished.ended in (
-      (ap (λ (p : SessionView). p.stop) c.self.view_is ∙ finished.moves.0, ap (λ (p : SessionView). p.broken) c.self.view_is ∙ finished.moves.1),
-      begins_or_fails (world_of c.self.inside.core) left (world_of c.cut.new.self) (Unit {0}) c.in-Err.why c.if-tells_of_held.ensures c.in-Err.ensures.world,
+    let left = ap (λ (p : SessionView). p.core.left) c.self.view_is ∙ c.requires.none in (
+      ap (λ (p : SessionView). p.stop) c.self.view_is,
+      λ _. begins_or_fails (world_of c.self.inside.core) left (world_of c.cut.new.self) (Unit {0}) c.in-Err.why c.if-tells_of_held.ensures c.in-Err.ensures.world,
     )
 
 pub returns-in_default-clause-moves : goal.returns-in_default-clause-moves
 returns-in_default-clause-moves g c =
-    let finished = c.in_ok-finish_point.ensures in
-    (ap (λ (p : SessionView). p.stop) c.self.view_is ∙ finished.moves.0, ap (λ (p : SessionView). p.broken) c.self.view_is ∙ finished.moves.1)
+    (ap (λ (p : SessionView). p.stop) c.self.view_is, ap (λ (p : SessionView). p.broken) c.self.view_is)
 
 pub returns-then-tells_of_held-clause-moves : goal.returns-then-tells_of_held-clause-moves
 returns-then-tells_of_held-clause-moves g c =
-    let finished = c.in_ok-finish_point.ensures in
-    (ap (λ (p : SessionView). p.stop) c.self.view_is ∙ finished.moves.0, ap (λ (p : SessionView). p.broken) c.self.view_is ∙ finished.moves.1)
+    (ap (λ (p : SessionView). p.stop) c.self.view_is, ap (λ (p : SessionView). p.broken) c.self.view_is)

@@ -1,12 +1,13 @@
 -- It stays under way, and the row is empty still where the last point is made, which fails only where the device does.
-use Rattle.std.proofs.Common.{◌≡◌, ap, refl, ◌∙◌}
+use Rattle.std.proofs.Common.{◌≡◌, ◌+◌, Bool, None, ap, refl, subst, ◌∙◌}
+use Rattle.std.specs.Prelude.{MatchBool}
 use Rattle.line_row.specs.Rows.{RowView}
 use Rattle.scheduler.proofs.Called.{point_called}
 use Rattle.scheduler.specs.Kept.{world_of}
 use Rattle.serving.proofs.Stretches.{point_is_quiet}
 use Rattle.serving.proofs.Pointing.{point_fails}
 use Rattle.serving.proofs.Under.{holds_of, idle_of, on_machine}
-use Rattle.serving.specs.Session.{SessionView}
+use Rattle.serving.specs.Session.{SessionView, steps_left}
 use Rattle.serving.proofs.session.Session.finish.Goals as goal
 
 pub invariant_of-self : goal.invariant_of-self
@@ -27,17 +28,16 @@ invariant_of-self-2 g c =
 
 pub returns-clause-moves : goal.returns-clause-moves
 returns-clause-moves g c =
-    let finished = c.in_ok-finish_point.ensures in
-    let row = ap (λ (r : RowView). r.lines) (c.in_ok-send.ensures.same.1 ∙ c.in_ok-log_what_ran.ensures.same.0) ∙ c.requires.row in
-    let now = ap (λ (p : SessionView). p.row.lines) c.self.view_is ∙ ap (λ (r : RowView). r.lines) finished.same.0 ∙ row in
-    let idle = idle_of g.D.Disk.keeps _ _ c.self.invariant.0 now in
-    let left = ap (λ (p : SessionView). p.core.left) c.self.view_is ∙ finished.ended in
-    let logged = c.in_ok-log_what_ran.ensures.moves in
-    let sent = c.in_ok-send.ensures.moves in (
-      (
-        ap (λ (p : SessionView). p.stop) c.self.view_is ∙ finished.moves.0 ∙ sent.0 ∙ logged.0,
-        ap (λ (p : SessionView). p.broken) c.self.view_is ∙ finished.moves.1 ∙ sent.1 ∙ logged.1,
-      ),
-      point_fails (world_of c.self.inside.core) left idle.none_held (world_of c.point.new.self)
+    let loop = c.loop.invariant in
+    let moved = c.in_ok-move_point_on.ensures in
+    let sent = c.in_ok-send.ensures in
+    let logged = c.in_ok-log_what_ran.ensures in
+    let row = ap (λ (r : RowView). r.lines) (moved.same.0 ∙ loop.same.0 ∙ sent.same.1 ∙ logged.same.0) ∙ c.requires.row in
+    let idle = idle_of g.D.Disk.keeps _ _ c.self.invariant.0 (ap (λ (p : SessionView). p.row.lines) c.self.view_is ∙ row) in
+    let left = ap (λ (p : SessionView). p.core.left) c.self.view_is
+    ∙ subst (λ (b : Bool). MatchBool b (steps_left c.move_point_on.new.self.core.left + 1 ≡ steps_left c.loop.self.core.left)
+    (c.move_point_on.new.self.core.left ≡ None)) c.if-branch.false moved.step in (
+      ap (λ (p : SessionView). p.stop) c.self.view_is ∙ moved.moves.0 ∙ loop.as_before.0 ∙ sent.moves.0 ∙ logged.moves.0,
+      λ _. point_fails (world_of c.self.inside.core) left idle.none_held (world_of c.point.new.self)
           (world_of c.point.new.self ≡ record (world_of c.self.inside.core) { room = c.self.inside.core.geometry.half }) c.in-Err.field-0 c.in-Err.ensures.world,
     )

@@ -10,12 +10,9 @@ returns-in-Some-ended-clause-served g c =
         row = done.all.0;
         sent = done.all.1;
         works = done.works;
-        whole = done.moves.1 ∙ c.read_more-read.ensures.whole ∙ c.loop.invariant;
+        whole = done.all.2;
       },
     )
 
 pub returns-in-Some-ended-clause-emptied : goal.returns-in-Some-ended-clause-emptied
 returns-in-Some-ended-clause-emptied g c = c.in_ok-finish.ensures.emptied
-
-pub loop-preserved : goal.loop-preserved
-loop-preserved g c = c.in_ok-stuck.ensures.moves.1 ∙ c.read_more-read.ensures.whole ∙ c.loop.invariant

@@ -1,7 +1,7 @@
 -- Nothing but the point has moved; and how many steps it still takes.
 use Rattle.std.proofs.Common.{◌≡◌}
 use Rattle.serving.specs.Session.{IsAsBefore, steps_left}
-use Rattle.serving.proofs.session.Session.finish_point.Given as goal
+use Rattle.serving.proofs.session.Session.finish.Given as goal
 
 abbrev pub invariant-loop : goal.invariant-loop
 invariant-loop g l = record {

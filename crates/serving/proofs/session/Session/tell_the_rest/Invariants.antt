@@ -2,7 +2,7 @@
 use Rattle.std.proofs.Common.{◌≡◌, length}
 use Rattle.scheduler.specs.Kept.{world_of}
 use Rattle.serving.specs.Session.{IsAsBefore}
-use Rattle.serving.proofs.session.Session.answer_what_is_logged.Given as goal
+use Rattle.serving.proofs.session.Session.tell_the_rest.Given as goal
 
 abbrev pub invariant-loop : goal.invariant-loop
 invariant-loop g l = record {
