@@ -118,7 +118,7 @@ IsAsBefore old new = (new.stop ≡ old.stop) × (new.broken ≡ old.broken)
 abbrev pub HasHalted : SessionView → Type 0
 HasHalted p = p.broken ≡ false → p.core.failed ≡ true
 
--- No line was read. At `Ok` the output has not failed, if it had not before.
+-- No line was read. At `Ok` the output has failed only if it had before; at `Err` the session has halted.
 abbrev pub Moves : {A : Type 0} → SessionView → SessionView → Result A Halted → Type 0
 Moves old new (Ok _) = IsAsBefore old new
 Moves old new (Err _) = (new.stop ≡ old.stop) × HasHalted new
