@@ -1,6 +1,6 @@
 -- A session that reads no more, and what it promises in the end.
 use Rattle.std.proofs.Common.{◌≡◌, ◌≢◌, ℕ, zero, suc, ◌≤◌, ◌-◌, ◌^◌, ◌++◌, Bool, true, false, List, [], Option, Some, None, refl, ap, sym, ◌∙◌, subst, length, map, replicate, append-nil}
-use Rattle.std.specs.Prelude.{Result, Ok, Err, IfOk, IfSome, OnErr, OnOk, ◌&&◌}
+use Rattle.std.specs.Prelude.{Result, Ok, Err, IfOk, IfSome, MatchResult, OnErr, OnOk, ◌&&◌}
 use Rattle.message.specs.Waiting.{so_far}
 use Rattle.std.proofs.lemmas.Bool.{true≢false}
 use Rattle.std.proofs.lemmas.List.{length-replicate}
@@ -260,6 +260,22 @@ refuses_none workers some (Err faults.Write) h = some
 refuses_none workers some (Err faults.Device) h = some
 refuses_none workers some (Err faults.OutOfMemory) h = some
 refuses_none workers some (Err faults.Exhausted) h = some
+
+-- What holds of the core and of what is reported holds of what is handed back.
+pub handed_back : {E : Type 0} (core_of : E → CoreView) (fault_of : E → ServeFault) (core : CoreView) (end : Result (Unit {0}) ServeFault)
+    (r : Result CoreView E) → MatchResult r (λ after. (after ≡ core) × (end ≡ Ok tt)) (λ e. (core_of e ≡ core) × (end ≡ Err (fault_of e)))
+    → (P : CoreView → Result (Unit {0}) ServeFault → Type 0) → P core end
+    → MatchResult r (λ after. P after (Ok tt)) (λ e. P (core_of e) (Err (fault_of e)))
+handed_back core_of fault_of core end (Ok after) back P h = subst (λ (x : Result (Unit {0}) ServeFault). P after x) back.1
+    (subst (λ (k : CoreView). P k end) (sym back.0) h)
+handed_back core_of fault_of core end (Err e) back P h = subst (λ (x : Result (Unit {0}) ServeFault). P (core_of e) x) back.1
+    (subst (λ (k : CoreView). P k end) (sym back.0) h)
+
+pub emptied_back : {E : Type 0} (core_of : E → CoreView) (fault_of : E → ServeFault) (core : CoreView) (end : Result (Unit {0}) ServeFault)
+    (r : Result CoreView E) → MatchResult r (λ after. (after ≡ core) × (end ≡ Ok tt)) (λ e. (core_of e ≡ core) × (end ≡ Err (fault_of e)))
+    → (P : CoreView → Type 0) → OnOk end (P core) → IfOk r P
+emptied_back core_of fault_of core end (Ok after) back P h = subst P (sym back.0) (subst (λ (x : Result (Unit {0}) ServeFault). OnOk x (P core)) back.1 h)
+emptied_back core_of fault_of core end (Err e) back P h = tt
 
 -- ---- where it begins
 

@@ -1,12 +1,15 @@
 -- Steps of a consistency point: what is left of it, and that they fail only where the device does.
-use Rattle.std.proofs.Common.{◌≡◌, ◌≢◌, ℕ, ◌-◌, true, false, List, [], length, Option, Some, None, Result, Ok, Err, refl, ap, sym, ◌∙◌}
-use Rattle.std.specs.Prelude.{Bool, if◌then◌else◌, is_some, nat_lt, OnOk}
+use Rattle.std.proofs.Common.{◌≡◌, ◌≢◌, ℕ, ◌-◌, true, false, List, [], length, Option, Some, None, Result, Ok, Err, refl, ap, sym, subst, ◌∙◌}
+use Rattle.std.specs.Prelude.{Bool, if◌then◌else◌, is_some, nat_lt, MatchResult, OnErr, OnOk}
+use Rattle.std.proofs.lemmas.Bool.{true≢false}
 use Rattle.std.proofs.lemmas.Option.{none-some}
 use Rattle.legal_runs.specs.Events.{fewer, point_refusal}
 use Rattle.legal_runs.specs.World.{Entry, World, held}
 use Rattle.legal_runs.specs.declared.outcomes.PointRefusal.{PointRefusal}
 use Rattle.legal_runs.specs.declared.outcomes.PointRefusal.TheVariants as points
 use Rattle.scheduler.specs.Calls.{IsPieceStep, IsPointStep}
+use Rattle.serving.specs.Session.{BeginsOrWaits}
+use Rattle.serving.specs.declared.session.Halted.{Halted}
 
 -- ---- why a step is refused
 
@@ -29,6 +32,16 @@ refused_so old new why made points.Running h failed = ap (λ (w : World). w.fail
 refused_so old new why made points.NotRunning h failed = ap (λ (w : World). w.failed) h.1 ∙ failed h.0
 refused_so old new why made points.Unfinished h failed = ap (λ (w : World). w.failed) h.1 ∙ failed h.0
 
+-- ---- what a session makes of an answer of the core
+
+pub halts_so : (answer : Result (Unit {0}) PointRefusal) (result : Result (Unit {0}) Halted) (same whole failed : Type 0)
+    → MatchResult answer (λ x. result ≡ Ok x) (λ _. OnOk result ⊥) → same → OnErr answer failed
+    → MatchResult result (λ _. same) (λ _. whole → failed)
+halts_so (Ok x) (Ok y) same whole failed is h f = h
+halts_so (Ok x) (Err y) same whole failed is h f = let o : ◌≡◌ {A = Result (Unit {0}) Halted} (Err y) (Ok x) = is in cc
+halts_so (Err e) (Ok x) same whole failed is h f = absurd is
+halts_so (Err e) (Err y) same whole failed is h f = λ _. f
+
 -- ---- where a point is to begin and none is in progress
 
 module _ (old : World) (left : old.left ≡ None) where
@@ -46,9 +59,10 @@ module _ (old : World) (left : old.left ≡ None) where
     none_rests = ap (λ (l : List Entry). if_held (nat_lt 0 (length l))) (sym none_held) ∙ no_other
 
     -- Where none is held, only by the device.
-    pub point_fails : (new : World) (made : Type 0) (refusal : PointRefusal) → IsPointStep old new (point_refusal old) made (Err refusal)
-        → new.failed ≡ true
-    point_fails new made refusal h = refused_so old new (point_refusal old) made refusal h
+    pub point_fails : (new : World) (made : Type 0) (r : Result (Unit {0}) PointRefusal) → IsPointStep old new (point_refusal old) made r
+        → OnErr r (new.failed ≡ true)
+    point_fails new made (Ok x) h = tt
+    point_fails new made (Err refusal) h = refused_so old new (point_refusal old) made refusal h
         (λ e. failed_so old.failed rest refusal e (λ d. absurd (none-some refusal (none_rests ∙ d))))
 
   abbrev why_of : Option PointRefusal → PointRefusal
@@ -60,10 +74,34 @@ module _ (old : World) (left : old.left ≡ None) where
   held_alone false refusal e = absurd (none-some refusal e)
 
   -- Where it is refused for another reason than that one is held, it is by the device.
-  pub begins_or_fails : (new : World) (made : Type 0) (refusal : PointRefusal) → refusal ≢ points.Held
+  begins_or_fails : (new : World) (made : Type 0) (refusal : PointRefusal) → refusal ≢ points.Held
       → IsPointStep old new (point_refusal old) made (Err refusal) → new.failed ≡ true
   begins_or_fails new made refusal not_held h = refused_so old new (point_refusal old) made refusal h
       (λ e. failed_so old.failed rest refusal e (λ d. absurd (not_held (held_alone (nat_lt 0 (length (held old))) refusal (no_other ∙ d)))))
+
+  abbrev is_held : Option PointRefusal → Bool
+  is_held (Some points.Held) = true
+  is_held o = false
+
+  none_waits : held old ≡ [] → (b : Bool) → (if b then Some points.Failed else rest) ≡ Some points.Held → ⊥
+  none_waits none_held true e = true≢false (sym (ap is_held e))
+  none_waits none_held false e = none-some points.Held (none_rests none_held ∙ e)
+
+  -- So a session halts only where the device has failed, and else it has begun, where none is held.
+  pub halts : (new : World) (made same whole : Type 0) (cut : Result (Unit {0}) PointRefusal) (result : Result (Unit {0}) Halted)
+      → IsPointStep old new (point_refusal old) made cut → BeginsOrWaits cut result → same
+      → MatchResult result (λ _. same) (λ _. whole → new.failed ≡ true)
+  halts new made same whole cut (Ok x) h b s = s
+  halts new made same whole (Ok x) (Err y) h b s = absurd b
+  halts new made same whole (Err why) (Err y) h b s = λ _. begins_or_fails new made why b h
+
+  pub begins : (new : World) (made begun : Type 0) → (made → begun) → (cut : Result (Unit {0}) PointRefusal) (result : Result (Unit {0}) Halted)
+      → IsPointStep old new (point_refusal old) made cut → BeginsOrWaits cut result → OnOk result (held new ≡ [] → begun)
+  begins new made begun so cut (Err y) h b = tt
+  begins new made begun so (Ok x) (Ok y) h b = λ _. so h.1
+  begins new made begun so (Err why) (Ok y) h b = λ none_held.
+      let k = subst (λ (r : PointRefusal). IsPointStep old new (point_refusal old) made (Err r)) b h in
+      absurd (none_waits (ap held (sym k.1) ∙ none_held) old.failed k.0)
 
 -- ---- a point at once
 

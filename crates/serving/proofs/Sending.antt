@@ -1,11 +1,13 @@
 -- What goes out to the bench: the eligible message with the least ticket, to the first place where nothing is lent.
-use Rattle.std.proofs.Common.{◌≡◌, ℕ, ◌+◌, Bool, true, false, List, [], ◌∷◌, Option, Some, None, refl, sym, ◌∙◌, subst, map, set}
+use Rattle.std.proofs.Common.{◌≡◌, ℕ, ◌+◌, Bool, true, false, List, [], ◌∷◌, Option, Some, None, refl, ap, sym, ◌∙◌, subst, length, map, set}
 use Rattle.std.specs.Prelude.{MatchOption, if◌then◌else◌, is_none, nat_lt, not, position}
 use Rattle.std.specs.List.{position_or_len}
 use Rattle.std.proofs.lemmas.List.{length-map}
 use Rattle.std.proofs.lemmas.List.Quantifiers.{position-Some}
 use Rattle.std.proofs.lemmas.Bool.{true≢false}
+use Rattle.affinity.specs.declared.geometry.Geometry.{Geometry}
 use Rattle.legal_runs.specs.Events.{is_empty}
+use Rattle.legal_runs.specs.World.{World}
 use Rattle.legal_runs.specs.declared.outcomes.Outcome.{Outcome}
 use Rattle.legal_runs.specs.declared.outcomes.Outcome.TheVariants as outcomes
 use Rattle.legal_runs.specs.declared.outcomes.Step.TheVariants as steps
@@ -17,10 +19,14 @@ use Rattle.machine.specs.declared.hands.Hand.{Hand}
 use Rattle.machine.specs.declared.hands.Hand.TheVariants as has
 use Rattle.message.specs.declared.Reply.{Reply}
 use Rattle.parcel.specs.Run.{JobView}
-use Rattle.scheduler.specs.Calls.{IsGrantOf, IsNoGrant}
+use Rattle.scheduler.specs.Calls.{IsGrantOf, IsGranted, IsNoGrant}
 use Rattle.scheduler.specs.Kept.{CoreView, StandsNow, world_of}
+use Rattle.scheduler.specs.declared.granted.Granted.{Granted}
+use Rattle.scheduler.specs.declared.granted.Granted.TheVariants as granted
+use Rattle.serving.specs.Lending.{GoesTo, Lends}
 use Rattle.serving.specs.Runs.{Holds, IsQuiet, Passes, lent_hand, with_lent}
-use Rattle.serving.proofs.Returning.{hands-set}
+use Rattle.serving.specs.declared.turn.Sent.{Sent}
+use Rattle.serving.proofs.Returning.{hands-set, set-length}
 use Rattle.serving.proofs.Stretches.{step_passes}
 use Rattle.workers.specs.Rule.{lent_at}
 
@@ -77,18 +83,43 @@ module _ (keeps : Type 0) (old new : CoreView) (lent : List (Option JobView)) (n
         passes = subst (λ (l : List (ℕ × Reply)). Passes keeps was now [] l) none_told (step_passes keeps was now steps.Grant outcome step);
       }
 
-  pub goes_out : (job : JobView) → IsGrantOf old.geometry (world_of old) (world_of new) job
+  goes_out : (job : JobView) → IsGrantOf old.geometry (world_of old) (world_of new) job
       → IsQuiet keeps (with_lent old lent) (with_lent new (set lent k (Some job)))
   goes_out job g = subst (λ (l : List Hand). IsQuiet keeps (with_lent old lent) (record { core = new; hands = l })) (sym (hands-set lent k (Some job)))
       (quiet (set hands k (has.Job job)) (outcomes.Granted k job.ticket) refl
       (grant_holds keeps old new hands none stands geometry same k least job g h (position_within hands k least))
       (grant_step keeps old new hands none stands geometry same k least job g))
 
-  pub none_goes : (why : Outcome) → answers why ≡ [] → IsNoGrant old.geometry (world_of old) (world_of new) why
+  none_goes : (why : Outcome) → answers why ≡ [] → IsNoGrant old.geometry (world_of old) (world_of new) why
       → IsQuiet keeps (with_lent old lent) (with_lent new lent)
   none_goes why none_told g = quiet hands why none_told (still_holds keeps old new hands none stands geometry same h g.same)
       (no_grant_step keeps old new hands none stands geometry same k why least g)
 
-  pub none_goes_any_more : old.failed ≡ true → world_of new ≡ world_of old → IsQuiet keeps (with_lent old lent) (with_lent new lent)
+  none_goes_any_more : old.failed ≡ true → world_of new ≡ world_of old → IsQuiet keeps (with_lent old lent) (with_lent new lent)
   none_goes_any_more failed still = quiet hands outcomes.Failed refl (still_holds keeps old new hands none stands geometry same h still)
       (failed_step keeps old new hands none stands geometry same k least failed still)
+
+  -- Whatever was granted, and lent if it is a job.
+  pub sends : (r : Granted) (after : List (Option JobView)) (what : Sent) → IsGranted old.geometry (world_of old) (world_of new) r
+      → Lends k lent r after what → IsQuiet keeps (with_lent old lent) (with_lent new after)
+  sends (granted.Job job) after what g l = subst (λ (x : List (Option JobView)). IsQuiet keeps (with_lent old lent) (with_lent new x)) (sym l.1) (goes_out job g)
+  sends granted.NoneEligible after what g l =
+      subst (λ (x : List (Option JobView)). IsQuiet keeps (with_lent old lent) (with_lent new x)) (sym l.1) (none_goes outcomes.NoneEligible refl g)
+  sends granted.NoRoom after what g l =
+      subst (λ (x : List (Option JobView)). IsQuiet keeps (with_lent old lent) (with_lent new x)) (sym l.1) (none_goes outcomes.NoRoom refl g)
+  sends granted.Failed after what g l =
+      subst (λ (x : List (Option JobView)). IsQuiet keeps (with_lent old lent) (with_lent new x)) (sym l.1) (none_goes_any_more g.0 g.1)
+
+-- what is lent then, and what is told of it
+module _ (k : ℕ) (lent after : List (Option JobView)) (what : Sent) where
+  pub as_many : (r : Granted) → Lends k lent r after what → length after ≡ length lent
+  as_many (granted.Job job) l = ap (λ (x : List (Option JobView)). length x) l.1 ∙ set-length lent k (Some job)
+  as_many granted.NoneEligible l = ap (λ (x : List (Option JobView)). length x) l.1
+  as_many granted.NoRoom l = ap (λ (x : List (Option JobView)). length x) l.1
+  as_many granted.Failed l = ap (λ (x : List (Option JobView)). length x) l.1
+
+  pub goes_to : (g : Geometry) (old new : World) (r : Granted) → IsGranted g old new r → Lends k lent r after what → GoesTo g k old lent new after what
+  goes_to g old new (granted.Job job) is l = subst (GoesTo g k old lent new after) (sym l.0) (job, is, l.1)
+  goes_to g old new granted.NoneEligible is l = subst (GoesTo g k old lent new after) (sym l.0) (is, l.1)
+  goes_to g old new granted.NoRoom is l = subst (GoesTo g k old lent new after) (sym l.0) (is, l.1)
+  goes_to g old new granted.Failed is l = subst (GoesTo g k old lent new after) (sym l.0) (is.0, is.1, l.1)

@@ -5,8 +5,17 @@ use Rattle.legal_runs.specs.World.{World}
 use Rattle.legal_runs.specs.declared.outcomes.Outcome.TheVariants as outcomes
 use Rattle.parcel.specs.Run.{JobView}
 use Rattle.scheduler.specs.Calls.{IsGrantOf, IsNoGrant}
+use Rattle.scheduler.specs.declared.granted.Granted.{Granted}
+use Rattle.scheduler.specs.declared.granted.Granted.TheVariants as granted
 use Rattle.serving.specs.declared.turn.Sent.{Sent}
 use Rattle.serving.specs.declared.turn.Sent.TheVariants as sent
+
+-- What was granted is lent at place k, if it is a job; and this tells it.
+abbrev pub Lends : ℕ → List (Option JobView) → Granted → List (Option JobView) → Sent → Type 0
+Lends k lent (granted.Job job) new_lent what = (what ≡ sent.Job) × (new_lent ≡ slice_set lent k (Some job))
+Lends k lent granted.NoneEligible new_lent what = (what ≡ sent.NoneEligible) × (new_lent ≡ lent)
+Lends k lent granted.NoRoom new_lent what = (what ≡ sent.NoRoom) × (new_lent ≡ lent)
+Lends k lent granted.Failed new_lent what = (what ≡ sent.Failed) × (new_lent ≡ lent)
 
 -- A message went out of this world as a job, which is lent at place k. Or none did, for this reason, and nothing has changed.
 abbrev pub GoesTo : Geometry → ℕ → World → List (Option JobView) → World → List (Option JobView) → Sent → Type 0

@@ -1,8 +1,10 @@
 -- Where a session is, that it is under way since its start, and how a call moves it.
-use Rattle.std.specs.Prelude.{◌≡◌, ◌+◌, ◌≤◌, ◌-◌, ◌^◌, ℕ, Bool, true, false, List, [], ◌++◌, length, map, Option, Some, None, IfSome, IsTrue, Result, Ok, Err}
+use Rattle.std.specs.Prelude.{◌≡◌, ◌≢◌, ◌+◌, ◌≤◌, ◌-◌, ◌^◌, ℕ, Bool, true, false, List, [], ◌++◌, length, map, Option, Some, None, IfSome, IsTrue, MatchResult, OnErr, Result, Ok, Err}
 use Rattle.std.specs.Io.KnownBytes.{IsAtEnd}
 use Rattle.affinity.specs.declared.geometry.Geometry.{Geometry}
 use Rattle.legal_runs.specs.Laws.{IsIdle}
+use Rattle.legal_runs.specs.declared.outcomes.PointRefusal.{PointRefusal}
+use Rattle.legal_runs.specs.declared.outcomes.PointRefusal.TheVariants as refusals
 use Rattle.machine.specs.Machine.{MachineView}
 use Rattle.message.specs.Grammar.{message_of}
 use Rattle.message.specs.Messages.{is_in_range}
@@ -120,8 +122,12 @@ HasHalted p = p.broken ≡ false → p.core.failed ≡ true
 
 -- No line was read. At `Ok` the output has failed only if it had before; at `Err` the session has halted.
 abbrev pub Moves : {A : Type 0} → SessionView → SessionView → Result A Halted → Type 0
-Moves old new (Ok _) = IsAsBefore old new
-Moves old new (Err _) = (new.stop ≡ old.stop) × HasHalted new
+Moves old new result = (new.stop ≡ old.stop) × MatchResult result (λ _. new.broken ≡ old.broken) (λ _. HasHalted new)
+
+-- Where a consistency point was to begin, and was answered so: it has begun, or waits for a message that is held; or the session halts.
+abbrev pub BeginsOrWaits : Result (Unit {0}) PointRefusal → Result (Unit {0}) Halted → Type 0
+BeginsOrWaits (Ok _) result = OnErr result ⊥
+BeginsOrWaits (Err why) result = MatchResult result (λ _. why ≡ refusals.Held) (λ _. why ≢ refusals.Held)
 
 -- how many steps a consistency point takes to its end, by how many of its pieces are left
 abbrev pub steps_left : Option ℕ → ℕ

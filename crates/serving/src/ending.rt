@@ -8,7 +8,7 @@ ghost use Rattle.serving.specs.declared.session.Stop.TheVariants as stops;
 
 use crate::gated::Gated;
 use crate::server::ServeFault;
-use crate::session::{Halted, Session, Stop};
+use crate::session::{Halted, Session, Stop, or_halt};
 use crate::telling::Teller;
 use disk::Disk;
 use std::io::Read;
@@ -67,10 +67,7 @@ impl<'c, R: Read, D: Disk, L: Teller<D>> Session<'c, R, D, L> {
             Stop::Fault | Stop::Exhausted | Stop::Failed => return Ok(()),
         }
         while self.move_point_on()? {}
-        let Err(_) = self.core.point() else {
-            return Ok(());
-        };
-        Err(Halted)
+        or_halt(self.core.point())
     }
 
     /// Reads lines and answers them, until no more is read and all that was is answered in the output: why no more is read.

@@ -1,10 +1,9 @@
 //! Consistency points of a session: when one is due, the one that begins then, and the one in progress, which is carried to its end.
 
-ghost use Rattle.std.specs.Prelude.{◌≡◌, ◌≢◌, ◌+◌, ℕ, false, [], None, Some, IfOk, MatchBool, OnOk};
+ghost use Rattle.std.specs.Prelude.{◌≡◌, ◌+◌, ℕ, false, [], None, Some, IfOk, MatchBool, OnOk};
 ghost use Rattle.legal_runs.specs.World.{held};
-ghost use Rattle.legal_runs.specs.declared.outcomes.PointRefusal.TheVariants as refusals;
 ghost use Rattle.scheduler.specs.Kept.{world_of};
-ghost use Rattle.serving.specs.Session.{Moves, steps_left};
+ghost use Rattle.serving.specs.Session.{BeginsOrWaits, Moves, steps_left};
 
 use crate::session::{Halted, Session};
 use crate::telling::Teller;
@@ -35,22 +34,25 @@ impl Course {
         }
     }
 
-    /// A consistency point has begun.
-    fn begin(&mut self) {
-        self.since = 0;
+    /// A consistency point was to begin, and the core has answered so. It has begun, or will where no message is held any more; else the
+    /// device has failed.
+    fn begin(&mut self, cut: Result<(), PointRefusal>) -> Result<(), Halted>
+        ensures { BeginsOrWaits cut result }
+    {
+        match cut {
+            Ok(()) => {
+                self.since = 0;
+                Ok(())
+            }
+            Err(PointRefusal::Held) => Ok(()),
+            Err(_) => Err(Halted),
+        }
     }
 
     /// Whether one is due by the number of records. None is while one is in progress, of which so many pieces are left.
     pub(crate) fn is_due(&self, left: Option<usize>) -> bool {
         left.is_none() && self.every != 0 && self.since >= self.every
     }
-}
-
-/// Whether a consistency point was refused since a message is held.
-fn tells_of_held(why: PointRefusal) -> bool
-    ensures { MatchBool result (why ≡ refusals.Held) (why ≢ refusals.Held) }
-{
-    matches!(why, PointRefusal::Held)
 }
 
 impl<'c, R: Read, D: Disk, L: Teller<D>> Session<'c, R, D, L> {
@@ -83,13 +85,7 @@ impl<'c, R: Read, D: Disk, L: Teller<D>> Session<'c, R, D, L> {
         ensures moves { Moves self.old self.new result }
         ensures begun { OnOk result (held (world_of self.new.core) ≡ [] → (n : ℕ) × (self.new.core.left ≡ Some n)) }
     {
-        let Err(why) = self.core.cut() else {
-            self.course.begin();
-            return Ok(());
-        };
-        if tells_of_held(why) {
-            return Ok(());
-        }
-        Err(Halted)
+        let cut = self.core.cut();
+        self.course.begin(cut)
     }
 }

@@ -1,11 +1,11 @@
 //! The whole call of a server: its memory, its workers and its end.
 
-ghost use Rattle.std.specs.Prelude.{◌≡◌, ◌≤◌, All, false, [], None, Ok, Err, IfOk, MatchResult, OnOk, Some, replicate, vec_len};
+ghost use Rattle.std.specs.Prelude.{◌≡◌, ◌≢◌, ◌≤◌, All, false, [], None, Ok, Err, IfOk, MatchResult, Some, replicate, vec_len};
 ghost use Rattle.legal_runs.specs.Laws.{IsIdle};
 ghost use Rattle.scheduler.specs.Kept.{world_of};
 ghost use Rattle.serving.specs.Ends.{EndsSo};
 ghost use Rattle.serving.specs.Runs.{with_lent};
-ghost use Rattle.serving.specs.Serve.{HasEmptyLog, HasRunSo, HasWorkers, RefusesNone};
+ghost use Rattle.serving.specs.Serve.{HasEmptyLog, HasRunSo, RefusesNone};
 ghost use Rattle.serving.specs.Session.{CanBegin, reported};
 
 use crate::points::Course;
@@ -88,24 +88,31 @@ fn take_room(alloc: Global, slots: usize, workers: usize) -> Result<Room, AllocE
     })
 }
 
-// What a server reports: what came of the call, or that there was no memory, where a thread could not be started.
-fn ended_so(ended: Result<Result<(), ServeFault>, AllocError>) -> Result<(), ServeFault>
-    ensures { result ≡ reported ended }
+// What a server hands back: its core, and why it ended before the end of its input, if it did, or could not begin as a thread could not
+// be started.
+fn hand_back<D: Disk>(
+    core: Core<D>,
+    ended: Result<Result<(), ServeFault>, AllocError>,
+) -> Result<Core<D>, ServeError<D>>
+    ensures { MatchResult result (λ after. (after ≡ core) × (reported ended ≡ Ok tt))
+        (λ e. (e.core ≡ core) × (reported ended ≡ Err e.fault)) }
 {
-    match ended {
-        Ok(ended) => ended,
-        Err(_) => Err(ServeFault::OutOfMemory),
-    }
+    let fault = match ended {
+        Ok(Ok(())) => return Ok(core),
+        Ok(Err(fault)) => fault,
+        Err(_) => ServeFault::OutOfMemory,
+    };
+    Err(ServeError { core, fault })
 }
 
-// What the call of a server is given, and gives back: its core, its reader, which is lent, and whom it tells.
+// With what a server begins: its core, its reader, which is lent, and whom it tells.
 struct Call<'a, R, L, D: Disk> {
     core: Core<D>,
     reader: &'a mut R,
     teller: L,
 }
 
-// Serves the lines of a reader that is lent.
+// Serves the lines of a reader that is lent. It hands back the reader and whom it told, too.
 fn serve_lent<
     'a,
     'c,
@@ -121,16 +128,24 @@ fn serve_lent<
     room: Room,
     every: u64,
     of: PhantomData<N>,
-) -> (Call<'a, R, L, D>, Result<(), ServeFault>)
+) -> (Result<Core<D>, ServeError<D>>, &'a mut R, L)
     requires reader { call.reader.ghost_name ≡ N.name }
     requires can_begin { CanBegin L.start call.core room.bench.slots (R.remaining call.reader.now) (L.told call.teller) room.row }
-    ensures same { result.0.reader.ghost_name ≡ call.entry.reader.ghost_name }
-    ensures run { HasRunSo D.keeps (with_lent call.entry.core (replicate room.bench.slots None)) result.0.core
-        (R.remaining call.entry.reader.now) (L.told call.entry.teller) (L.told result.0.teller) result.1 }
-    ensures ends { EndsSo call.entry.core result.0.core (R.remaining call.entry.reader.now) (R.remaining result.0.reader.now)
-        (L.told call.entry.teller) (L.told result.0.teller) result.1 }
-    ensures emptied { OnOk result.1 (D.keeps → HasEmptyLog result.0.core) }
-    ensures workers { HasWorkers result.1 }
+    requires workers { room.bench.slots ≢ 0 }
+    ensures same { result.1.ghost_name ≡ call.entry.reader.ghost_name }
+    ensures run { MatchResult result.0
+        (λ after. HasRunSo D.keeps (with_lent call.entry.core (replicate room.bench.slots None)) after
+        (R.remaining call.entry.reader.now) (L.told call.entry.teller) (L.told result.2) (Ok tt))
+        (λ e. HasRunSo D.keeps (with_lent call.entry.core (replicate room.bench.slots None)) e.core
+        (R.remaining call.entry.reader.now) (L.told call.entry.teller) (L.told result.2) (Err e.fault)) }
+    ensures ends { MatchResult result.0
+        (λ after. EndsSo call.entry.core after (R.remaining call.entry.reader.now) (R.remaining result.1.now)
+        (L.told call.entry.teller) (L.told result.2) (Ok tt))
+        (λ e. EndsSo call.entry.core e.core (R.remaining call.entry.reader.now) (R.remaining result.1.now)
+        (L.told call.entry.teller) (L.told result.2) (Err e.fault)) }
+    ensures no_workers { MatchResult result.0 (λ _. RefusesNone room.bench.slots (Ok tt))
+        (λ e. RefusesNone room.bench.slots (Err e.fault)) }
+    ensures emptied { IfOk result.0 (λ after. D.keeps → HasEmptyLog after) }
 {
     let Call {
         core,
@@ -159,16 +174,11 @@ fn serve_lent<
         broken: false,
         bench: &bench,
     };
-    let ended = ended_so(bench.with_workers(with.0, with.1, seats, &mut session));
+    let ended = bench.with_workers(with.0, with.1, seats, &mut session);
     let (core, lines, teller) = session.close();
     core.stands();
     let LentReader { reader, of: _ } = lines.into_inner();
-    let call = Call {
-        core,
-        reader,
-        teller,
-    };
-    (call, ended)
+    (hand_back(core, ended), reader, teller)
 }
 
 /// Answers each line that a reader has left with one line, which it tells, while so many workers, each a thread of its own, run
@@ -221,23 +231,15 @@ pub fn serve_to<T: Threads + Wait + Sync, R: Read, L: Teller<D>, D: Disk + Drop,
         reader: r,
         teller,
     };
-    let (call, ended) = serve_lent::<T, R, L, D, G, Brand>(
+    let (ended, reader, teller) = serve_lent::<T, R, L, D, G, Brand>(
         (rt, gate),
         call,
         room,
         every,
         PhantomData,
     );
-    let Call {
-        core,
-        reader,
-        teller,
-    } = call;
     come_back(reader);
-    match ended {
-        Ok(()) => (Ok(core), teller),
-        Err(fault) => (Err(ServeError { core, fault }), teller),
-    }
+    (ended, teller)
 }
 
 /// Where the call of a server for a writer began, and the loan of the writer.
@@ -274,10 +276,7 @@ impl<'w, D: Disk, W: Write, B: Beginning> Teller<D> for Output<'w, W, B> {
     ghost told = { λ o. W.contents o.w.now };
 
     fn tell(&mut self, lines: &[u8], _core: &Core<D>) -> Result<(), WriteFault> {
-        if self.w.write_all(lines).is_err() {
-            return Err(WriteFault);
-        }
-        if self.w.flush().is_err() {
+        if self.w.write_all(lines).is_err() || self.w.flush().is_err() {
             return Err(WriteFault);
         }
         Ok(())

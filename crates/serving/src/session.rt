@@ -1,7 +1,7 @@
 //! A session: the core, the dispatcher's seat, the lines that were read, and the answers that wait, with the input of the call and
 //! whom it tells. It is under way: from the start of the call a legal run has led to where it is.
 
-ghost use Rattle.std.specs.Prelude.{◌≡◌};
+ghost use Rattle.std.specs.Prelude.{◌≡◌, MatchResult, OnOk, Ok};
 ghost use Rattle.message.specs.Reader.{source};
 ghost use Rattle.serving.specs.Session.{IsUnderWayFrom};
 
@@ -31,6 +31,16 @@ pub(crate) enum Stop {
 /// A session ends before it has answered what it has read: the device has failed, or lines could not be told, as the session says.
 #[derive(Clone, Copy)]
 pub(crate) struct Halted;
+
+/// What the core has answered, where a refusal means that the device has failed.
+pub(crate) fn or_halt<T, E: Copy>(answer: Result<T, E>) -> Result<T, Halted>
+    ensures { MatchResult answer (λ x. result ≡ Ok x) (λ _. OnOk result ⊥) }
+{
+    match answer {
+        Ok(made) => Ok(made),
+        Err(_) => Err(Halted),
+    }
+}
 
 /// What a server has while it serves.
 pub(crate) struct Session<'c, R: Read, D: Disk, L: Teller<D>> {

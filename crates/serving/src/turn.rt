@@ -1,17 +1,16 @@
 //! One turn of a session: messages go out, and what came back is logged in one go and answered; where nothing else can be done,
 //! it waits or begins a consistency point.
 
-ghost use Rattle.std.specs.Prelude.{◌≡◌, ◌<◌, ◌≤◌, ◌-◌, ◌↔◌, IsTrue, OnErr, OnOk, Some, [], None, false, is_none, length, position, slice_set, true};
+ghost use Rattle.std.specs.Prelude.{◌≡◌, ◌<◌, ◌≤◌, ◌-◌, ◌↔◌, IsTrue, OnErr, OnOk, Some, [], None, false, is_none, length, position, true};
 ghost use Rattle.scheduler.specs.Kept.{world_of};
-ghost use Rattle.serving.specs.Lending.{GoesTo, IsEndOfSending, IsHome};
+ghost use Rattle.serving.specs.Lending.{GoesTo, IsEndOfSending, IsHome, Lends};
 ghost use Rattle.serving.specs.Session.{IsAsBefore, Moves};
 
 use crate::gated::Gated;
-use crate::session::{Halted, Session};
+use crate::session::{Halted, Session, or_halt};
 use crate::telling::Teller;
 use disk::Disk;
 use message::Reply;
-use parcel::Job;
 use scheduler::Granted;
 use std::hint::spin_loop;
 use std::io::Read;
@@ -90,19 +89,24 @@ enum Sent {
     Failed,
 }
 
-/// Lends a job to the workers at place k of a bench, the first where nothing is lent. It is inlined, so that the job isn't moved once
-/// more.
+/// Lends what was granted to the workers at place k of a bench, the first where nothing is lent, if it is a job. It is inlined, so that
+/// the job isn't moved once more.
 #[inline(always)]
-fn lend(bench: &Bench, desk: &mut DispatchSeat, k: usize, job: Job)
+fn lend(bench: &Bench, desk: &mut DispatchSeat, k: usize, granted: Granted) -> Sent
     requires bench { desk.old.bench ≡ bench.now }
     requires place { k < bench.now.slots }
     requires first { position is_none desk.old.lent ≡ Some k }
     ensures bench { desk.new.bench ≡ desk.old.bench }
-    ensures lent { desk.new.lent ≡ slice_set desk.old.lent k (Some job) }
+    ensures lends { Lends k desk.old.lent granted desk.new.lent result }
 {
-    match bench.offer(desk, k, job) {
-        Ok(()) => {}
-        Err(_) => unreachable!(),
+    match granted {
+        Granted::Job(job) => match bench.offer(desk, k, job) {
+            Ok(()) => Sent::Job,
+            Err(_) => unreachable!(),
+        },
+        Granted::NoneEligible => Sent::NoneEligible,
+        Granted::NoRoom => Sent::NoRoom,
+        Granted::Failed => Sent::Failed,
     }
 }
 
@@ -125,15 +129,8 @@ impl<'c, R: Read, D: Disk, L: Teller<D>> Session<'c, R, D, L> {
             (world_of self.new.core) self.new.desk.lent result }
     {
         self.core.stands();
-        match self.core.grant() {
-            Granted::Job(job) => {
-                lend(self.bench, &mut self.desk, k, job);
-                Sent::Job
-            }
-            Granted::NoneEligible => Sent::NoneEligible,
-            Granted::NoRoom => Sent::NoRoom,
-            Granted::Failed => Sent::Failed,
-        }
+        let granted = self.core.grant();
+        lend(self.bench, &mut self.desk, k, granted)
     }
 
     /// Lets eligible messages go out, the one with the least ticket first, until something is lent at each place or none goes any
@@ -152,19 +149,11 @@ impl<'c, R: Read, D: Disk, L: Teller<D>> Session<'c, R, D, L> {
     }
 
     /// Lets messages go out, unless a consistency point is due by the number of records: whether one lacks room in the log
-    /// alone.
-    fn send_out(&mut self) -> Result<bool, Halted>
-        ensures moves { Moves self.old self.new result }
+    /// alone. None goes out where the device has failed, as the next log tells.
+    fn send_out(&mut self) -> bool
+        ensures as_before { IsAsBefore self.old self.new }
     {
-        if self.course.is_due(self.core.left()) {
-            return Ok(false);
-        }
-        match self.send_all() {
-            Sent::Job => Ok(false),
-            Sent::NoneEligible => Ok(false),
-            Sent::NoRoom => Ok(true),
-            Sent::Failed => Err(Halted),
-        }
+        !self.course.is_due(self.core.left()) && matches!(self.send_all(), Sent::NoRoom)
     }
 
     /// Takes back what came of the job at place k, if it is there: whether it changed something.
@@ -221,27 +210,26 @@ impl<'c, R: Read, D: Disk, L: Teller<D>> Session<'c, R, D, L> {
 
     /// Lets messages go out and takes back what comes of them, until the batch is worth a write of the log, nothing is lent any more,
     /// or nothing came back in a while. Where something came, further messages go out, so that jobs run meanwhile. It waits for nobody.
-    fn gather(&mut self) -> Result<Batch, Halted>
-        ensures moves { Moves self.old self.new result }
+    fn gather(&mut self) -> Batch
+        ensures as_before { IsAsBefore self.old self.new }
     {
-        let lacks_room = self.send_out()?;
+        let lacks_room = self.send_out();
         let mut batch = Batch::new(lacks_room);
         let mut looks = 0;
         while looks < PATIENCE && !batch.is_ripe() && self.desk.any_lent() {
             if self.take_what_came(&mut batch) {
-                let lacks_room = self.send_out()?;
-                batch.lacks_room = lacks_room;
+                batch.lacks_room = self.send_out();
                 looks = 0;
             } else {
                 looks += 1;
                 pause(looks);
             }
         }
-        Ok(batch)
+        batch
     }
 
     /// Logs all that ran, in one go. Where nothing ran, it tells no more than whether the device works.
-    pub(crate) fn log_what_ran(&mut self) -> Result<(), Halted>
+    pub(crate) fn log_what_ran(&mut self) -> Result<usize, Halted>
         ensures moves { Moves self.old self.new result }
         ensures same { (self.new.row ≡ self.old.row) × (self.new.out ≡ self.old.out) × (self.new.desk ≡ self.old.desk) }
         ensures works { OnOk result ((self.old.core.failed ≡ false) × (self.new.core.failed ≡ false)) }
@@ -249,10 +237,7 @@ impl<'c, R: Read, D: Disk, L: Teller<D>> Session<'c, R, D, L> {
         ensures failed { OnErr result (self.new.core.failed ≡ true) }
     {
         let count = self.core.slots();
-        match self.core.log(count) {
-            Ok(_) => Ok(()),
-            Err(_) => Err(Halted),
-        }
+        or_halt(self.core.log(count))
     }
 
     /// Lets messages go out, takes back what comes, logs it in one go, answers it, and lets the lines that are next in order wait to be
@@ -260,7 +245,7 @@ impl<'c, R: Read, D: Disk, L: Teller<D>> Session<'c, R, D, L> {
     fn work_off<W: Gated>(&mut self, rt: &W) -> Result<Batch, Halted>
         ensures moves { Moves self.old self.new result }
     {
-        let batch = self.gather()?;
+        let batch = self.gather();
         self.log_what_ran()?;
         while self.answer_first(rt) {
             self.move_point_on()?;

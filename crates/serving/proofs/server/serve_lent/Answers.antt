@@ -1,10 +1,14 @@
 -- Where it begins; and what it promises, since the core at the end is as it always is.
-use Rattle.std.proofs.Common.{ap, refl, sym, subst, ◌∙◌}
-use Rattle.std.specs.Prelude.{OnOk}
+use Rattle.std.proofs.Common.{None, ap, refl, replicate, sym, subst, ◌∙◌}
+use Rattle.std.specs.Prelude.{OnOk, Result}
 use Rattle.scheduler.specs.Kept.{CoreView}
-use Rattle.serving.specs.Serve.{HasEmptyLog}
+use Rattle.serving.specs.Ends.{EndsSo}
+use Rattle.serving.specs.Runs.{with_lent}
+use Rattle.serving.specs.Serve.{HasEmptyLog, HasRunSo, RefusesNone}
+use Rattle.serving.specs.Session.{reported}
 use Rattle.serving.specs.Telling.{Start}
-use Rattle.serving.proofs.Closing.{emptied_at_end, ends_or_declines, first_at, has_workers, not_drained, promises_from}
+use Rattle.serving.specs.declared.server.ServeFault.{ServeFault}
+use Rattle.serving.proofs.Closing.{emptied_at_end, emptied_back, ends_or_declines, first_at, handed_back, has_workers, not_drained, promises_from, refuses_none}
 use Rattle.serving.proofs.server.serve_lent.Goals as goal
 
 pub invariant_of-session : goal.invariant_of-session
@@ -24,15 +28,18 @@ returns-clause-run g c =
       input = g.R.Read.remaining c.args.call.reader.now;
       before = g.L.Teller.told c.args.call.teller;
     } in
-    let now = c.with_workers.new.duty in
+    let now = c.with_workers-ended.new.duty in
     let left = c.close-core.ensures in
     let behind = ap (λ (l : _). g.R.Read.remaining l.reader.now) c.into_inner-reader.ensures ∙ left.behind in
-    let ends = ends_or_declines now (g.D.Disk.keeps → HasEmptyLog now.core) _ c.with_workers.result c.with_workers.ensures.gives
-    _ c.with_workers.ensures.undone c.ended_so-ended.result c.ended_so-ended.ensures in
+    let gives = c.with_workers-ended.ensures in
+    let end = reported c.with_workers-ended.result in
+    let ends = ends_or_declines now (g.D.Disk.keeps → HasEmptyLog now.core) _ c.with_workers-ended.result gives.gives _ gives.undone end refl in
     let all = promises_from g.D.Disk.keeps g.L.Teller.start s _ now c.requires.can_begin.is left.under_way refl
-    (ap (λ (l : _). g.R.Read.remaining l.reader.now) c.new-lines.ensures.source) refl c.ended_so-ended.result ends
-    _ _ _ left.core behind left.told in
-    all.run c.stands-2.ensures.no_doubt c.stands-2.ensures.now
+    (ap (λ (l : _). g.R.Read.remaining l.reader.now) c.new-lines.ensures.source) refl end ends _ _ _ left.core behind left.told in
+    handed_back (λ (e : _). e.core) (λ (e : _). e.fault) _ end _ c.hand_back.ensures
+    (λ (k : CoreView) (r : Result (Unit {0}) ServeFault). HasRunSo g.D.Disk.keeps (with_lent c.args.call.core (replicate c.args.room.bench.slots None)) k
+    (g.R.Read.remaining c.args.call.reader.now) (g.L.Teller.told c.args.call.teller) (g.L.Teller.told c.close-core.result.2) r)
+    (all.run c.stands-2.ensures.no_doubt c.stands-2.ensures.now)
 
 pub returns-clause-ends : goal.returns-clause-ends
 returns-clause-ends g c =
@@ -42,26 +49,32 @@ returns-clause-ends g c =
       input = g.R.Read.remaining c.args.call.reader.now;
       before = g.L.Teller.told c.args.call.teller;
     } in
-    let now = c.with_workers.new.duty in
+    let now = c.with_workers-ended.new.duty in
     let left = c.close-core.ensures in
     let behind = ap (λ (l : _). g.R.Read.remaining l.reader.now) c.into_inner-reader.ensures ∙ left.behind in
-    let ends = ends_or_declines now (g.D.Disk.keeps → HasEmptyLog now.core) _ c.with_workers.result c.with_workers.ensures.gives
-    _ c.with_workers.ensures.undone c.ended_so-ended.result c.ended_so-ended.ensures in
+    let gives = c.with_workers-ended.ensures in
+    let end = reported c.with_workers-ended.result in
+    let ends = ends_or_declines now (g.D.Disk.keeps → HasEmptyLog now.core) _ c.with_workers-ended.result gives.gives _ gives.undone end refl in
     let all = promises_from g.D.Disk.keeps g.L.Teller.start s _ now c.requires.can_begin.is left.under_way refl
-    (ap (λ (l : _). g.R.Read.remaining l.reader.now) c.new-lines.ensures.source) refl c.ended_so-ended.result ends
-    _ _ _ left.core behind left.told in
+    (ap (λ (l : _). g.R.Read.remaining l.reader.now) c.new-lines.ensures.source) refl end ends _ _ _ left.core behind left.told in
+    handed_back (λ (e : _). e.core) (λ (e : _). e.fault) _ end _ c.hand_back.ensures
+    (λ (k : CoreView) (r : Result (Unit {0}) ServeFault). EndsSo c.args.call.core k (g.R.Read.remaining c.args.call.reader.now)
+    (g.R.Read.remaining c.into_inner-reader.result.reader.now) (g.L.Teller.told c.args.call.teller) (g.L.Teller.told c.close-core.result.2) r)
     all.ends
 
 pub returns-clause-emptied : goal.returns-clause-emptied
 returns-clause-emptied g c =
-    let now = c.with_workers.new.duty in
-    subst (λ (k : CoreView). OnOk c.ended_so-ended.result (g.D.Disk.keeps → HasEmptyLog k)) (sym c.close-core.ensures.core)
-    (emptied_at_end now (g.D.Disk.keeps → HasEmptyLog now.core) _ c.with_workers.result c.with_workers.ensures.gives
-    c.ended_so-ended.result c.ended_so-ended.ensures)
+    let now = c.with_workers-ended.new.duty in
+    emptied_back (λ (e : _). e.core) (λ (e : _). e.fault) _ _ _ c.hand_back.ensures (λ (k : CoreView). g.D.Disk.keeps → HasEmptyLog k)
+    (subst (λ (k : CoreView). OnOk (reported c.with_workers-ended.result) (g.D.Disk.keeps → HasEmptyLog k)) (sym c.close-core.ensures.core)
+    (emptied_at_end now (g.D.Disk.keeps → HasEmptyLog now.core) _ c.with_workers-ended.result c.with_workers-ended.ensures.gives _ refl))
 
-pub returns-clause-workers : goal.returns-clause-workers
-returns-clause-workers g c =
-    let now = c.with_workers.new.duty in
-    let ends = ends_or_declines now (g.D.Disk.keeps → HasEmptyLog now.core) _ c.with_workers.result c.with_workers.ensures.gives
-    _ c.with_workers.ensures.undone c.ended_so-ended.result c.ended_so-ended.ensures in
-    has_workers _ _ c.ended_so-ended.result ends
+pub returns-clause-no_workers : goal.returns-clause-no_workers
+returns-clause-no_workers g c =
+    let now = c.with_workers-ended.new.duty in
+    let gives = c.with_workers-ended.ensures in
+    let end = reported c.with_workers-ended.result in
+    let ends = ends_or_declines now (g.D.Disk.keeps → HasEmptyLog now.core) _ c.with_workers-ended.result gives.gives _ gives.undone end refl in
+    handed_back (λ (e : _). e.core) (λ (e : _). e.fault) _ end _ c.hand_back.ensures
+    (λ (k : CoreView) (r : Result (Unit {0}) ServeFault). RefusesNone c.args.room.bench.slots r)
+    (refuses_none c.args.room.bench.slots c.requires.workers end (has_workers _ _ end ends))

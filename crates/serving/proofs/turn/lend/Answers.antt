@@ -1,6 +1,9 @@
 -- Nothing is lent at the first place where nothing is.
-use Rattle.std.proofs.Common.{◌≡◌, Err, Ok, Some, sym, ◌∙◌}
+use Rattle.std.proofs.Common.{◌≡◌, Err, Ok, Some, refl, subst, sym, ◌∙◌}
 use Rattle.std.specs.Prelude.{slice_set}
+use Rattle.scheduler.specs.declared.granted.Granted.{Granted}
+use Rattle.serving.specs.Lending.{Lends}
+use Rattle.serving.specs.declared.turn.Sent.TheVariants as sent
 use Rattle.serving.proofs.Sending.{nothing_there, offered}
 use Rattle.workers.specs.Rule.{lent_at}
 use Rattle.serving.proofs.turn.lend.Goals as goal
@@ -9,16 +12,16 @@ pub unreachable-requires : goal.unreachable-requires
 unreachable-requires c =
     let lent = c.args.desk.now.lent in
     let taken = offered (lent_at lent c.args.k)
-    ((c.offer.result ≡ Ok tt) × (c.offer.new.seat.lent ≡ slice_set lent c.args.k (Some c.args.job)))
-    (λ _. (c.offer.result ≡ Err c.args.job) × (c.offer.new.seat ≡ c.args.desk.now))
+    ((c.offer.result ≡ Ok tt) × (c.offer.new.seat.lent ≡ slice_set lent c.args.k (Some c.in-Job.job)))
+    (λ _. (c.offer.result ≡ Err c.in-Job.job) × (c.offer.new.seat ≡ c.args.desk.now))
     (nothing_there lent c.args.k c.requires.first) c.offer.ensures.answer in
     cc (sym taken.0 ∙ c.in-Err.is)
 
-pub returns-clause-lent : goal.returns-clause-lent
-returns-clause-lent c =
+pub returns-in-Ok-clause-lends : goal.returns-in-Ok-clause-lends
+returns-in-Ok-clause-lends c =
     let lent = c.args.desk.now.lent in
     let taken = offered (lent_at lent c.args.k)
-    ((c.offer.result ≡ Ok tt) × (c.offer.new.seat.lent ≡ slice_set lent c.args.k (Some c.args.job)))
-    (λ _. (c.offer.result ≡ Err c.args.job) × (c.offer.new.seat ≡ c.args.desk.now))
+    ((c.offer.result ≡ Ok tt) × (c.offer.new.seat.lent ≡ slice_set lent c.args.k (Some c.in-Job.job)))
+    (λ _. (c.offer.result ≡ Err c.in-Job.job) × (c.offer.new.seat ≡ c.args.desk.now))
     (nothing_there lent c.args.k c.requires.first) c.offer.ensures.answer in
-    taken.1
+    subst (λ (r : Granted). Lends c.args.k lent r c.offer.new.seat.lent sent.Job) (sym c.in-Job.is) (refl, taken.1)

@@ -5,21 +5,13 @@ use Rattle.line_row.specs.Rows.{RowView}
 use Rattle.scheduler.proofs.Called.{point_called}
 use Rattle.scheduler.specs.Kept.{world_of}
 use Rattle.serving.proofs.Stretches.{point_is_quiet}
-use Rattle.serving.proofs.Pointing.{point_fails}
+use Rattle.serving.proofs.Pointing.{halts_so, point_fails}
 use Rattle.serving.proofs.Under.{holds_of, idle_of, on_machine}
 use Rattle.serving.specs.Session.{SessionView, steps_left}
 use Rattle.serving.proofs.session.Session.finish.Goals as goal
 
 pub invariant_of-self : goal.invariant_of-self
 invariant_of-self g c =
-    let old = c.self.inside.core in
-    let new = c.point.new.self in
-    let quiet = point_is_quiet g.D.Disk.keeps old new c.point.ensures.geometry c.point.ensures.any_moment c.point.result
-    (point_called old.geometry (world_of old) (world_of new) c.point.result c.point.ensures.world) c.point.ensures.counts in
-    (on_machine g.D.Disk.keeps _ _ _ _ c.self.invariant.0 (quiet _ (holds_of g.D.Disk.keeps _ _ c.self.invariant.0)) refl refl, c.self.invariant.1)
-
-pub invariant_of-self-2 : goal.invariant_of-self-2
-invariant_of-self-2 g c =
     let old = c.self.inside.core in
     let new = c.point.new.self in
     let quiet = point_is_quiet g.D.Disk.keeps old new c.point.ensures.geometry c.point.ensures.any_moment c.point.result
@@ -36,8 +28,10 @@ returns-clause-moves g c =
     let idle = idle_of g.D.Disk.keeps _ _ c.self.invariant.0 (ap (λ (p : SessionView). p.row.lines) c.self.view_is ∙ row) in
     let left = ap (λ (p : SessionView). p.core.left) c.self.view_is
     ∙ subst (λ (b : Bool). MatchBool b (steps_left c.move_point_on.new.self.core.left + 1 ≡ steps_left c.loop.self.core.left)
-    (c.move_point_on.new.self.core.left ≡ None)) c.if-branch.false moved.step in (
+    (c.move_point_on.new.self.core.left ≡ None)) c.if-branch.false moved.step in
+    let broken = ap (λ (p : SessionView). p.broken) c.self.view_is ∙ moved.moves.1 ∙ loop.as_before.1 ∙ sent.moves.1 ∙ logged.moves.1 in (
       ap (λ (p : SessionView). p.stop) c.self.view_is ∙ moved.moves.0 ∙ loop.as_before.0 ∙ sent.moves.0 ∙ logged.moves.0,
-      λ _. point_fails (world_of c.self.inside.core) left idle.none_held (world_of c.point.new.self)
-          (world_of c.point.new.self ≡ record (world_of c.self.inside.core) { room = c.self.inside.core.geometry.half }) c.in-Err.field-0 c.in-Err.ensures.world,
+      halts_so c.point.result c.or_halt.result _ _ _ c.or_halt.ensures broken
+          (point_fails (world_of c.self.inside.core) left idle.none_held (world_of c.point.new.self)
+          (world_of c.point.new.self ≡ record (world_of c.self.inside.core) { room = c.self.inside.core.geometry.half }) c.point.result c.point.ensures.world),
     )
