@@ -21,10 +21,11 @@ use Rattle.serving.specs.Going.{Goes}
 use Rattle.serving.specs.Lending.{IsHome}
 use Rattle.serving.specs.Lines.{Line}
 use Rattle.line_row.specs.Rows.{RowView, comes_next}
-use Rattle.serving.specs.Serve.{HasWorkers, PromisesAll, RefusesNone}
+use Rattle.serving.specs.Serve.{HasEmptyLog, HasWorkers, PromisesAll, RefusesNone}
 use Rattle.serving.specs.Runs.{Holds, lent_hand, with_lent}
-use Rattle.serving.specs.Session.{EndsBy, EndsOrDeclines, HasGone, HasStopped, CanBegin, IsServed, IsUnderWay, IsUnderWayFrom, SessionView, ReadsOrStops, machine, known_unless, end_of, reported}
+use Rattle.serving.specs.Session.{EndsBy, EndsOrDeclines, HasFinished, HasGone, HasHalted, HasStopped, CanBegin, IsServed, IsUnderWay, IsUnderWayFrom, SessionView, ReadsOrStops, machine, known_unless, end_of, reported}
 use Rattle.serving.specs.Telling.{Start, start_machine}
+use Rattle.serving.specs.declared.session.Halted.{Halted}
 use Rattle.serving.specs.declared.session.Stop.{Stop}
 use Rattle.serving.specs.declared.session.Stop.TheVariants as stops
 use Rattle.serving.specs.declared.server.ServeFault.{ServeFault}
@@ -200,16 +201,38 @@ ended_for keeps (Some s) p u served stops.Fault is = (served, is)
 ended_for keeps (Some s) p u served stops.Exhausted is = (served, is)
 ended_for keeps (Some s) p u served stops.Failed is = absurd (true≢false (sym (stopped keeps s p u stops.Failed is).why ∙ served.works))
 
-pub ends_for : (keeps : Type 0) (o : Option Start) (p q : SessionView) → IsUnderWayFrom keeps o p → p ≡ q → IsServed q → (stop : Stop)
-    → q.stop ≡ Some stop → EndsBy q (end_of stop)
-ends_for keeps o p q u same served stop is =
-    ended_for keeps o q (subst (λ (x : SessionView). IsUnderWayFrom keeps o x) same u) served stop is
-
-pub empties_for : (stop : Stop) (P : Type 0) → (stop ≡ stops.End → P) → OnOk (end_of stop) P
+empties_for : (stop : Stop) (P : Type 0) → (stop ≡ stops.End → P) → OnOk (end_of stop) P
 empties_for stops.End P emptied = emptied refl
 empties_for stops.Fault P emptied = tt
 empties_for stops.Exhausted P emptied = tt
 empties_for stops.Failed P emptied = tt
+
+-- It has finished, or it has halted.
+pub finished : (keeps : Type 0) (p : SessionView) (stop : Stop) (r : Result (Unit {0}) Halted) (same : Type 0) → p.stop ≡ Some stop
+    → OnOk r ((p.row.lines ≡ []) × (p.out ≡ []) × (p.broken ≡ false)) → OnOk r (p.core.failed ≡ false)
+    → OnOk r (stop ≡ stops.End → keeps → HasEmptyLog p.core) → MatchResult r (λ _. same) (λ _. HasHalted p)
+    → MatchResult r (λ _. (x : Stop) × HasFinished keeps p x) (λ _. HasHalted p)
+finished keeps p stop (Ok x) same is all works emptied moves = (
+  stop,
+  record {
+    is = is;
+    served = record { row = all.0; sent = all.1; works = works; whole = all.2 };
+    emptied = emptied;
+  },
+)
+finished keeps p stop (Err h) same is all works emptied moves = moves
+
+so_if : {A : Type 0} (o : Option A) (x : A) (P : A → Type 0) → o ≡ Some x → IfSome o P → P x
+so_if o x P is h = subst (λ (o : Option _). IfSome o P) is h
+
+-- Where it has finished, it ends as is reported for the reason why no more was read.
+pub ends_finished : (keeps : Type 0) (o : Option Start) (p : SessionView) → IsUnderWayFrom keeps o p → (stop : Stop) → HasFinished keeps p stop
+    → (result : Result (Unit {0}) ServeFault) → IfSome p.stop (λ why. result ≡ end_of why)
+    → EndsBy p result × OnOk result (keeps → HasEmptyLog p.core)
+ends_finished keeps o p u stop f result reported =
+    let is = so_if p.stop stop (λ (why : Stop). result ≡ end_of why) f.is reported in
+    subst (λ (r : Result (Unit {0}) ServeFault). EndsBy p r × OnOk r (keeps → HasEmptyLog p.core)) (sym is)
+    (ended_for keeps o p u f.served stop f.is, empties_for stop (keeps → HasEmptyLog p.core) f.emptied)
 
 -- By what is reported of a call for which all workers were started, or one wasn't.
 reported_so : (old p : SessionView) (F : Type 0) (r : Result (Result (Unit {0}) ServeFault) F) → IfOk r (λ end. EndsBy p end) → OnErr r (p ≡ old)
@@ -331,7 +354,7 @@ module _ (keeps : Type 0) (s : Start) (desk : Desk) (row : RowView) (out : List 
 
 -- A call that may begin is under way.
 pub first_at : (keeps : Type 0) (o : Option Start) (core : CoreView) (desk : Desk) (row : RowView) (out : List ℕ) (left input told : Option (List ℕ))
-    (drained ended : Bool) (behind : Option (List ℕ)) (places : ℕ) → CanBegin o core places input told row → (core.failed ≡ false → core.doubt ≡ [])
+    (drained ended : Bool) (behind : Option (List ℕ)) (places : ℕ) → CanBegin o core places input told row
     → out ≡ [] → left ≡ input → drained ≡ false → ended ≡ false → desk.bench.slots ≡ places → desk.lent ≡ replicate places None
     → IsUnderWayFrom keeps o (record {
       core = core;
@@ -346,7 +369,7 @@ pub first_at : (keeps : Type 0) (o : Option Start) (core : CoreView) (desk : Des
       ended = ended;
       behind = behind;
     })
-first_at keeps o core desk row out left input told drained ended behind places r none none_waits all begun not_ended slots lent =
+first_at keeps o core desk row out left input told drained ended behind places r none_waits all begun not_ended slots lent =
     let s : Start = record { core = core; places = places; input = input; before = told } in
     begins_at keeps o s _ r.is
-    (first keeps s desk row out left drained ended behind r.idle (none r.works) r.none r.fits none_waits all begun not_ended slots lent)
+    (first keeps s desk row out left drained ended behind r.idle r.sure r.none r.fits none_waits all begun not_ended slots lent)

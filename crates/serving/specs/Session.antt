@@ -17,6 +17,7 @@ use Rattle.serving.specs.Lending.{IsHome}
 use Rattle.serving.specs.Lines.{AreAnswered, Line, text}
 use Rattle.line_row.specs.Rows.{RowView, comes_next}
 use Rattle.serving.specs.Runs.{Holds, with_lent}
+use Rattle.serving.specs.Serve.{HasEmptyLog}
 use Rattle.serving.specs.Telling.{Start, start_machine}
 use Rattle.serving.specs.declared.session.Halted.{Halted}
 use Rattle.serving.specs.declared.session.Stop.{Stop}
@@ -102,11 +103,13 @@ abbrev pub IsUnderWayFrom : Type 0 → Option Start → SessionView → Type 0
 IsUnderWayFrom keeps None p = ⊥
 IsUnderWayFrom keeps (Some s) p = IsUnderWay keeps s p
 
--- A call may begin at this start: nothing is in the core, which works, and the row is empty and has no more places than it has slots.
+-- A call may begin at this start: nothing is in the core or in doubt, it works, and the row is empty and has no more places than it has
+-- slots.
 pub record CanBegin (start : Option Start) (core : CoreView) (places : ℕ) (input told : Option (List ℕ)) (row : RowView) : Type 0 where
   pub is : start ≡ Some (record { core = core; places = places; input = input; before = told })
   pub idle : IsIdle (world_of core)
   pub works : core.failed ≡ false
+  pub sure : core.doubt ≡ []
   pub none : row.lines ≡ []
   pub fits : row.slots ≤ core.slots
 
@@ -142,6 +145,12 @@ pub record IsServed (p : SessionView) : Type 0 where
   pub sent : p.out ≡ []
   pub works : p.core.failed ≡ false
   pub whole : p.broken ≡ false
+
+-- So it is, since no more was read for this reason; and at the end of the input no record of the log is in force.
+pub record HasFinished (keeps : Type 0) (p : SessionView) (stop : Stop) : Type 0 where
+  pub is : p.stop ≡ Some stop
+  pub served : IsServed p
+  pub emptied : stop ≡ stops.End → keeps → HasEmptyLog p.core
 
 -- what is reported where no more was read for this reason, and all that was is answered
 abbrev pub end_of : Stop → Result (Unit {0}) ServeFault

@@ -1,9 +1,10 @@
 //! The loop of a session: lines are read and worked off, until no more is read and each is answered. Where the device or the output
 //! has failed, jobs that are out come back, and what can still be done is done.
 
-ghost use Rattle.std.specs.Prelude.{◌≡◌, Err, IfOk, IfSome, MatchResult, OnOk, Some, [], false};
+ghost use Rattle.std.specs.Prelude.{◌≡◌, Err, IfSome, MatchResult, None, OnOk, Some, [], false};
 ghost use Rattle.serving.specs.Serve.{HasEmptyLog};
-ghost use Rattle.serving.specs.Session.{EndsBy, HasHalted, IsServed, Moves, end_of};
+ghost use Rattle.serving.specs.Session.{EndsBy, HasFinished, HasHalted, Moves, end_of};
+ghost use Rattle.serving.specs.declared.session.Stop.{Stop};
 ghost use Rattle.serving.specs.declared.session.Stop.TheVariants as stops;
 
 use crate::gated::Gated;
@@ -15,15 +16,15 @@ use std::io::Read;
 use std::sync::Wait;
 use workers::{Duty, Gate};
 
-/// What a server reports where no more was read for this reason.
-fn reported_for(stop: Stop) -> Result<(), ServeFault>
-    ensures { result ≡ end_of stop }
+/// What a server reports where no more was read for this reason; nothing, if there is none.
+fn reported_for(stop: Option<Stop>) -> Result<(), ServeFault>
+    ensures { IfSome stop (λ why. result ≡ end_of why) }
 {
     match stop {
-        Stop::End => Ok(()),
-        Stop::Fault => Err(ServeFault::Read),
-        Stop::Exhausted => Err(ServeFault::Exhausted),
-        Stop::Failed => Err(ServeFault::Device),
+        Some(Stop::End) | None => Ok(()),
+        Some(Stop::Fault) => Err(ServeFault::Read),
+        Some(Stop::Exhausted) => Err(ServeFault::Exhausted),
+        Some(Stop::Failed) => Err(ServeFault::Device),
     }
 }
 
@@ -43,18 +44,22 @@ impl<'c, R: Read, D: Disk, L: Teller<D>> Session<'c, R, D, L> {
         }
     }
 
-    /// Why no more is read, where that is so and each line that was read is answered in the output.
+    /// Why no more is read, where that is so, each line that was read is answered in the output, and no consistency point is in progress.
     fn ended(&self) -> Option<Stop>
-        ensures { IfSome result (λ stop. (self.now.stop ≡ Some stop) × (self.now.row.lines ≡ [])) }
+        ensures { IfSome result (λ stop. (self.now.stop ≡ Some stop) × (self.now.row.lines ≡ []) × (self.now.core.left ≡ None)) }
     {
-        if self.row.len() == 0 { self.stop } else { None }
+        if self.row.len() == 0 && self.core.left().is_none() {
+            self.stop
+        } else {
+            None
+        }
     }
 
-    /// Sends all that waits, and makes the last consistency point at the end of the input, after the one in progress: nothing waits or is
-    /// held then, and the log is empty behind it. The device works then: nothing is left to log, and a log of nothing tells whether it has
-    /// failed.
+    /// Sends all that waits, and makes the last consistency point at the end of the input: nothing waits or is held then, and the log is
+    /// empty behind it. The device works then: nothing is left to log, and a log of nothing tells whether it has failed.
     fn finish(&mut self, stop: Stop) -> Result<(), Halted>
         requires row { self.old.row.lines ≡ [] }
+        requires none { self.old.core.left ≡ None }
         ensures moves { Moves self.old self.new result }
         ensures all { OnOk result ((self.new.row.lines ≡ []) × (self.new.out ≡ []) × (self.new.broken ≡ false)) }
         ensures works { OnOk result (self.new.core.failed ≡ false) }
@@ -63,25 +68,21 @@ impl<'c, R: Read, D: Disk, L: Teller<D>> Session<'c, R, D, L> {
         self.log_what_ran()?;
         self.send()?;
         match stop {
-            Stop::End => {}
-            Stop::Fault | Stop::Exhausted | Stop::Failed => return Ok(()),
+            Stop::End => or_halt(self.core.point()),
+            Stop::Fault | Stop::Exhausted | Stop::Failed => Ok(()),
         }
-        while self.move_point_on()? {}
-        or_halt(self.core.point())
     }
 
-    /// Reads lines and answers them, until no more is read and all that was is answered in the output: why no more is read.
-    fn serve_lines<W: Gated>(&mut self, rt: &W) -> Result<Stop, Halted>
-        ensures served { MatchResult result (λ stop. (self.new.stop ≡ Some stop) × IsServed self.new) (λ _. HasHalted self.new) }
-        ensures emptied { IfOk result (λ stop. stop ≡ stops.End → D.keeps → HasEmptyLog self.new.core) }
+    /// Reads lines and answers them, until no more is read and all that was is answered in the output.
+    fn serve_lines<W: Gated>(&mut self, rt: &W) -> Result<(), Halted>
+        ensures served { MatchResult result (λ _. (stop : Stop) × HasFinished D.keeps self.new stop) (λ _. HasHalted self.new) }
     {
         let mut stuck = false;
         for _ in rt.forever() {
             let read = self.read_more(stuck);
             let ended = self.ended();
             if let Some(stop) = ended {
-                self.finish(stop)?;
-                return Ok(stop);
+                return self.finish(stop);
             }
             stuck = self.advance(rt, read)?;
         }
@@ -104,11 +105,7 @@ impl<'c, R: Read, D: Disk, L: Teller<D>> Duty<Result<(), ServeFault>> for Sessio
     fn fulfil<T: Wait, G: Gate>(&mut self, rt: &T, gate: &G) -> Result<(), ServeFault> {
         let rt = &(rt, gate);
         match self.serve_lines(rt) {
-            Ok(stop) => {
-                // This look does nothing but open the session's invariant to the proof: a device that works is no reason to stop.
-                let _ = &self.core;
-                reported_for(stop)
-            }
+            Ok(()) => reported_for(self.stop),
             Err(_) => Err(self.end_early(rt)),
         }
     }

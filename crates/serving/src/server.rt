@@ -2,7 +2,7 @@
 
 ghost use Rattle.std.specs.Prelude.{◌≡◌, ◌≢◌, ◌≤◌, All, false, [], None, Ok, Err, IfOk, MatchResult, Some, replicate, vec_len};
 ghost use Rattle.legal_runs.specs.Laws.{IsIdle};
-ghost use Rattle.scheduler.specs.Kept.{world_of};
+ghost use Rattle.scheduler.specs.Kept.{StandsNow, world_of};
 ghost use Rattle.serving.specs.Ends.{EndsSo};
 ghost use Rattle.serving.specs.Runs.{with_lent};
 ghost use Rattle.serving.specs.Serve.{HasEmptyLog, HasRunSo, RefusesNone};
@@ -52,12 +52,13 @@ pub struct ServeError<D: Disk> {
     pub fault: ServeFault,
 }
 
-// What a server takes before it reads: room for what is read, for the lines that are not answered and for the answers that wait, and a
-// bench with its seats. Nothing lies there yet.
+// What a server has before it reads: room for what is read, for the lines that are not answered and for the answers that wait, when
+// consistency points are due, and a bench with its seats. Nothing lies there yet.
 struct Room {
     input: Vec<u8>,
     row: LineRow,
     out: ReplyBuffer,
+    course: Course,
     bench: Bench,
     desk: DispatchSeat,
     seats: Vec<WorkSeat>,
@@ -68,8 +69,9 @@ struct Room {
     ghost none_lent: { desk.lent ≡ replicate bench.slots None },
 }
 
-// Takes the memory for lines of which `slots` are read and not answered at once, and lays a bench with a place for each worker.
-fn take_room(alloc: Global, slots: usize, workers: usize) -> Result<Room, AllocError>
+// Takes the memory for lines of which `slots` are read and not answered at once, with a point after `every` records, and lays a bench with
+// a place for each worker.
+fn take_room(alloc: Global, slots: usize, workers: usize, every: u64) -> Result<Room, AllocError>
     requires { workers ≤ 64 }
     ensures row { IfOk result (λ room. room.row.slots ≡ slots) }
     ensures places { IfOk result (λ room. room.bench.slots ≡ workers) }
@@ -82,34 +84,31 @@ fn take_room(alloc: Global, slots: usize, workers: usize) -> Result<Room, AllocE
         input,
         row,
         out,
+        course: Course::new(every),
         bench,
         desk,
         seats,
     })
 }
 
-// What a server hands back: its core, and why it ended before the end of its input, if it did, or could not begin as a thread could not
-// be started.
+// What a server hands back: its core, which is as it always is, and why it ended before the end of its input, if it did, or could not
+// begin as a thread could not be started.
 fn hand_back<D: Disk>(
     core: Core<D>,
     ended: Result<Result<(), ServeFault>, AllocError>,
 ) -> Result<Core<D>, ServeError<D>>
-    ensures { MatchResult result (λ after. (after ≡ core) × (reported ended ≡ Ok tt))
+    ensures ended { MatchResult result (λ after. (after ≡ core) × (reported ended ≡ Ok tt))
         (λ e. (e.core ≡ core) × (reported ended ≡ Err e.fault)) }
+    ensures no_doubt { core.failed ≡ false → core.doubt ≡ [] }
+    ensures stands { D.keeps → StandsNow core }
 {
+    core.stands();
     let fault = match ended {
         Ok(Ok(())) => return Ok(core),
         Ok(Err(fault)) => fault,
         Err(_) => ServeFault::OutOfMemory,
     };
     Err(ServeError { core, fault })
-}
-
-// With what a server begins: its core, its reader, which is lent, and whom it tells.
-struct Call<'a, R, L, D: Disk> {
-    core: Core<D>,
-    reader: &'a mut R,
-    teller: L,
 }
 
 // Serves the lines of a reader that is lent. It hands back the reader and whom it told, too.
@@ -124,59 +123,64 @@ fn serve_lent<
     N: Loan,
 >(
     with: (&'c T, &'c G),
-    call: Call<'a, R, L, D>,
+    core: Core<D>,
+    reader: &'a mut R,
+    teller: L,
     room: Room,
-    every: u64,
-    of: PhantomData<N>,
 ) -> (Result<Core<D>, ServeError<D>>, &'a mut R, L)
-    requires reader { call.reader.ghost_name ≡ N.name }
-    requires can_begin { CanBegin L.start call.core room.bench.slots (R.remaining call.reader.now) (L.told call.teller) room.row }
+    requires reader { reader.ghost_name ≡ N.name }
+    requires can_begin { CanBegin L.start core room.bench.slots (R.remaining reader.now) (L.told teller) room.row }
     requires workers { room.bench.slots ≢ 0 }
-    ensures same { result.1.ghost_name ≡ call.entry.reader.ghost_name }
+    ensures same { result.1.ghost_name ≡ reader.entry.ghost_name }
     ensures run { MatchResult result.0
-        (λ after. HasRunSo D.keeps (with_lent call.entry.core (replicate room.bench.slots None)) after
-        (R.remaining call.entry.reader.now) (L.told call.entry.teller) (L.told result.2) (Ok tt))
-        (λ e. HasRunSo D.keeps (with_lent call.entry.core (replicate room.bench.slots None)) e.core
-        (R.remaining call.entry.reader.now) (L.told call.entry.teller) (L.told result.2) (Err e.fault)) }
+        (λ after. HasRunSo D.keeps (with_lent core (replicate room.bench.slots None)) after
+        (R.remaining reader.entry.now) (L.told teller) (L.told result.2) (Ok tt))
+        (λ e. HasRunSo D.keeps (with_lent core (replicate room.bench.slots None)) e.core
+        (R.remaining reader.entry.now) (L.told teller) (L.told result.2) (Err e.fault)) }
     ensures ends { MatchResult result.0
-        (λ after. EndsSo call.entry.core after (R.remaining call.entry.reader.now) (R.remaining result.1.now)
-        (L.told call.entry.teller) (L.told result.2) (Ok tt))
-        (λ e. EndsSo call.entry.core e.core (R.remaining call.entry.reader.now) (R.remaining result.1.now)
-        (L.told call.entry.teller) (L.told result.2) (Err e.fault)) }
+        (λ after. EndsSo core after (R.remaining reader.entry.now) (R.remaining result.1.now)
+        (L.told teller) (L.told result.2) (Ok tt))
+        (λ e. EndsSo core e.core (R.remaining reader.entry.now) (R.remaining result.1.now)
+        (L.told teller) (L.told result.2) (Err e.fault)) }
     ensures no_workers { MatchResult result.0 (λ _. RefusesNone room.bench.slots (Ok tt))
         (λ e. RefusesNone room.bench.slots (Err e.fault)) }
     ensures emptied { IfOk result.0 (λ after. D.keeps → HasEmptyLog after) }
 {
-    let Call {
-        core,
-        reader,
-        teller,
-    } = call;
     let Room {
         input,
         row,
         out,
+        course,
         bench,
         desk,
         seats,
     } = room;
-    core.stands();
-    let lines = LineReader::new(LentReader { reader, of }, input);
+    let of = PhantomData::<N>;
     let mut session = Session {
         core,
         desk,
         row,
         out,
-        course: Course::new(every),
-        lines,
+        course,
+        lines: LineReader::new(LentReader { reader, of }, input),
         stop: None,
         teller,
         broken: false,
         bench: &bench,
     };
     let ended = bench.with_workers(with.0, with.1, seats, &mut session);
-    let (core, lines, teller) = session.close();
-    core.stands();
+    let Session {
+        core,
+        desk: _,
+        row: _,
+        out: _,
+        course: _,
+        lines,
+        stop: _,
+        teller,
+        broken: _,
+        bench: _,
+    } = session;
     let LentReader { reader, of: _ } = lines.into_inner();
     (hand_back(core, ended), reader, teller)
 }
@@ -222,21 +226,16 @@ pub fn serve_to<T: Threads + Wait + Sync, R: Read, L: Teller<D>, D: Disk + Drop,
         let fault = ServeFault::NoWorkers;
         return (Err(ServeError { core, fault }), teller);
     }
-    let Ok(room) = take_room(alloc, core.slots(), workers) else {
+    let Ok(room) = take_room(alloc, core.slots(), workers, every) else {
         let fault = ServeFault::OutOfMemory;
         return (Err(ServeError { core, fault }), teller);
     };
-    let call = Call {
-        core,
-        reader: r,
-        teller,
-    };
     let (ended, reader, teller) = serve_lent::<T, R, L, D, G, Brand>(
         (rt, gate),
-        call,
+        core,
+        r,
+        teller,
         room,
-        every,
-        PhantomData,
     );
     come_back(reader);
     (ended, teller)

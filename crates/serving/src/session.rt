@@ -2,8 +2,6 @@
 //! whom it tells. It is under way: from the start of the call a legal run has led to where it is.
 
 ghost use Rattle.std.specs.Prelude.{◌≡◌, MatchResult, OnOk, Ok};
-ghost use Rattle.message.specs.Reader.{source};
-ghost use Rattle.serving.specs.Session.{IsUnderWayFrom};
 
 use crate::points::Course;
 use crate::telling::Teller;
@@ -100,28 +98,4 @@ impl<'c, R: Read, D: Disk, L: Teller<D>> Model for Session<'c, R, D, L> {
       ended = has_ended s.lines;
       behind = R.remaining (source s.lines);
     }) × (s.desk.bench ≡ s.bench.now) };
-}
-
-impl<'c, R: Read, D: Disk, L: Teller<D>> Session<'c, R, D, L> {
-    /// What it leaves where the call has ended: its core, its input and whom it told.
-    pub(crate) fn close(self) -> (Core<D>, LineReader<R>, L)
-        ensures under_way { IsUnderWayFrom D.keeps L.start self.entry }
-        ensures core { result.0 ≡ self.entry.core }
-        ensures behind { R.remaining (source result.1) ≡ self.entry.behind }
-        ensures told { L.told result.2 ≡ self.entry.told }
-    {
-        let Session {
-            core,
-            desk: _,
-            row: _,
-            out: _,
-            course: _,
-            lines,
-            stop: _,
-            teller,
-            broken: _,
-            bench: _,
-        } = self;
-        (core, lines, teller)
-    }
 }

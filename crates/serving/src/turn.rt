@@ -232,6 +232,7 @@ impl<'c, R: Read, D: Disk, L: Teller<D>> Session<'c, R, D, L> {
     pub(crate) fn log_what_ran(&mut self) -> Result<usize, Halted>
         ensures moves { Moves self.old self.new result }
         ensures same { (self.new.row ≡ self.old.row) × (self.new.out ≡ self.old.out) × (self.new.desk ≡ self.old.desk) }
+        ensures left { self.new.core.left ≡ self.old.core.left }
         ensures works { OnOk result ((self.old.core.failed ≡ false) × (self.new.core.failed ≡ false)) }
         ensures logged { OnOk result (self.new.core.ran ≡ []) }
         ensures failed { OnErr result (self.new.core.failed ≡ true) }
@@ -240,18 +241,16 @@ impl<'c, R: Read, D: Disk, L: Teller<D>> Session<'c, R, D, L> {
         or_halt(self.core.log(count))
     }
 
-    /// Lets messages go out, takes back what comes, logs it in one go, answers it, and lets the lines that are next in order wait to be
-    /// told. A consistency point in progress goes on by one step behind each answer.
-    fn work_off<W: Gated>(&mut self, rt: &W) -> Result<Batch, Halted>
+    /// Logs what ran in one go, answers it, and lets the lines that are next in order wait to be told. A consistency point in progress
+    /// goes on by one step behind each answer.
+    fn work_off<W: Gated>(&mut self, rt: &W) -> Result<(), Halted>
         ensures moves { Moves self.old self.new result }
     {
-        let batch = self.gather();
         self.log_what_ran()?;
         while self.answer_first(rt) {
             self.move_point_on()?;
         }
-        self.say_what_is_next()?;
-        Ok(batch)
+        self.say_what_is_next()
     }
 
     /// Where no consistency point is in progress: sends what waits, and waits for a result where one is to come, or begins a point where
@@ -276,7 +275,8 @@ impl<'c, R: Read, D: Disk, L: Teller<D>> Session<'c, R, D, L> {
     pub(crate) fn advance<W: Gated>(&mut self, rt: &W, read: bool) -> Result<bool, Halted>
         ensures moves { Moves self.old self.new result }
     {
-        let batch = self.work_off(rt)?;
+        let batch = self.gather();
+        self.work_off(rt)?;
         if read || batch.has_come() || self.move_point_on()? {
             return Ok(false);
         }

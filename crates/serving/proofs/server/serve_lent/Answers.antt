@@ -5,7 +5,7 @@ use Rattle.scheduler.specs.Kept.{CoreView}
 use Rattle.serving.specs.Ends.{EndsSo}
 use Rattle.serving.specs.Runs.{with_lent}
 use Rattle.serving.specs.Serve.{HasEmptyLog, HasRunSo, RefusesNone}
-use Rattle.serving.specs.Session.{reported}
+use Rattle.serving.specs.Session.{IsUnderWayFrom, SessionView, reported}
 use Rattle.serving.specs.Telling.{Start}
 use Rattle.serving.specs.declared.server.ServeFault.{ServeFault}
 use Rattle.serving.proofs.Closing.{emptied_at_end, emptied_back, ends_or_declines, first_at, handed_back, has_workers, not_drained, promises_from, refuses_none}
@@ -14,8 +14,8 @@ use Rattle.serving.proofs.server.serve_lent.Goals as goal
 pub invariant_of-session : goal.invariant_of-session
 invariant_of-session g c =
     let room = c.args.room in
-    let lines = c.new-lines.ensures in (
-      first_at g.D.Disk.keeps g.L.Teller.start _ _ _ _ _ _ _ _ _ _ _ c.requires.can_begin c.stands.ensures.no_doubt room.none_waits
+    let lines = c.new.ensures in (
+      first_at g.D.Disk.keeps g.L.Teller.start _ _ _ _ _ _ _ _ _ _ _ c.requires.can_begin room.none_waits
           lines.unread (not_drained _ _ lines.open) lines.open (ap (λ (b : _). b.slots) room.at_bench.0) room.none_lent,
       room.at_bench.0,
     )
@@ -23,50 +23,52 @@ invariant_of-session g c =
 pub returns-clause-run : goal.returns-clause-run
 returns-clause-run g c =
     let s : Start = record {
-      core = c.args.call.core;
+      core = c.args.core;
       places = c.args.room.bench.slots;
-      input = g.R.Read.remaining c.args.call.reader.now;
-      before = g.L.Teller.told c.args.call.teller;
+      input = g.R.Read.remaining c.args.reader.now;
+      before = g.L.Teller.told c.args.teller;
     } in
     let now = c.with_workers-ended.new.duty in
-    let left = c.close-core.ensures in
-    let behind = ap (λ (l : _). g.R.Read.remaining l.reader.now) c.into_inner-reader.ensures ∙ left.behind in
+    let behind = ap (λ (l : _). g.R.Read.remaining l.reader.now) c.into_inner-reader.ensures ∙ ap (λ (p : SessionView). p.behind) c.session.view_is in
+    let under_way = subst (IsUnderWayFrom g.D.Disk.keeps g.L.Teller.start) c.session.view_is c.session.invariant.0 in
     let gives = c.with_workers-ended.ensures in
     let end = reported c.with_workers-ended.result in
     let ends = ends_or_declines now (g.D.Disk.keeps → HasEmptyLog now.core) _ c.with_workers-ended.result gives.gives _ gives.undone end refl in
-    let all = promises_from g.D.Disk.keeps g.L.Teller.start s _ now c.requires.can_begin.is left.under_way refl
-    (ap (λ (l : _). g.R.Read.remaining l.reader.now) c.new-lines.ensures.source) refl end ends _ _ _ left.core behind left.told in
-    handed_back (λ (e : _). e.core) (λ (e : _). e.fault) _ end _ c.hand_back.ensures
-    (λ (k : CoreView) (r : Result (Unit {0}) ServeFault). HasRunSo g.D.Disk.keeps (with_lent c.args.call.core (replicate c.args.room.bench.slots None)) k
-    (g.R.Read.remaining c.args.call.reader.now) (g.L.Teller.told c.args.call.teller) (g.L.Teller.told c.close-core.result.2) r)
-    (all.run c.stands-2.ensures.no_doubt c.stands-2.ensures.now)
+    let all = promises_from g.D.Disk.keeps g.L.Teller.start s _ now c.requires.can_begin.is under_way refl
+    (ap (λ (l : _). g.R.Read.remaining l.reader.now) c.new.ensures.source) refl end ends _ _ _
+    (ap (λ (p : SessionView). p.core) c.session.view_is) behind (ap (λ (p : SessionView). p.told) c.session.view_is) in
+    handed_back (λ (e : _). e.core) (λ (e : _). e.fault) _ end _ c.hand_back.ensures.ended
+    (λ (k : CoreView) (r : Result (Unit {0}) ServeFault). HasRunSo g.D.Disk.keeps (with_lent c.args.core (replicate c.args.room.bench.slots None)) k
+    (g.R.Read.remaining c.args.reader.now) (g.L.Teller.told c.args.teller) (g.L.Teller.told c.session.inside.teller) r)
+    (all.run c.hand_back.ensures.no_doubt c.hand_back.ensures.stands)
 
 pub returns-clause-ends : goal.returns-clause-ends
 returns-clause-ends g c =
     let s : Start = record {
-      core = c.args.call.core;
+      core = c.args.core;
       places = c.args.room.bench.slots;
-      input = g.R.Read.remaining c.args.call.reader.now;
-      before = g.L.Teller.told c.args.call.teller;
+      input = g.R.Read.remaining c.args.reader.now;
+      before = g.L.Teller.told c.args.teller;
     } in
     let now = c.with_workers-ended.new.duty in
-    let left = c.close-core.ensures in
-    let behind = ap (λ (l : _). g.R.Read.remaining l.reader.now) c.into_inner-reader.ensures ∙ left.behind in
+    let behind = ap (λ (l : _). g.R.Read.remaining l.reader.now) c.into_inner-reader.ensures ∙ ap (λ (p : SessionView). p.behind) c.session.view_is in
+    let under_way = subst (IsUnderWayFrom g.D.Disk.keeps g.L.Teller.start) c.session.view_is c.session.invariant.0 in
     let gives = c.with_workers-ended.ensures in
     let end = reported c.with_workers-ended.result in
     let ends = ends_or_declines now (g.D.Disk.keeps → HasEmptyLog now.core) _ c.with_workers-ended.result gives.gives _ gives.undone end refl in
-    let all = promises_from g.D.Disk.keeps g.L.Teller.start s _ now c.requires.can_begin.is left.under_way refl
-    (ap (λ (l : _). g.R.Read.remaining l.reader.now) c.new-lines.ensures.source) refl end ends _ _ _ left.core behind left.told in
-    handed_back (λ (e : _). e.core) (λ (e : _). e.fault) _ end _ c.hand_back.ensures
-    (λ (k : CoreView) (r : Result (Unit {0}) ServeFault). EndsSo c.args.call.core k (g.R.Read.remaining c.args.call.reader.now)
-    (g.R.Read.remaining c.into_inner-reader.result.reader.now) (g.L.Teller.told c.args.call.teller) (g.L.Teller.told c.close-core.result.2) r)
+    let all = promises_from g.D.Disk.keeps g.L.Teller.start s _ now c.requires.can_begin.is under_way refl
+    (ap (λ (l : _). g.R.Read.remaining l.reader.now) c.new.ensures.source) refl end ends _ _ _
+    (ap (λ (p : SessionView). p.core) c.session.view_is) behind (ap (λ (p : SessionView). p.told) c.session.view_is) in
+    handed_back (λ (e : _). e.core) (λ (e : _). e.fault) _ end _ c.hand_back.ensures.ended
+    (λ (k : CoreView) (r : Result (Unit {0}) ServeFault). EndsSo c.args.core k (g.R.Read.remaining c.args.reader.now)
+    (g.R.Read.remaining c.into_inner-reader.result.reader.now) (g.L.Teller.told c.args.teller) (g.L.Teller.told c.session.inside.teller) r)
     all.ends
 
 pub returns-clause-emptied : goal.returns-clause-emptied
 returns-clause-emptied g c =
     let now = c.with_workers-ended.new.duty in
-    emptied_back (λ (e : _). e.core) (λ (e : _). e.fault) _ _ _ c.hand_back.ensures (λ (k : CoreView). g.D.Disk.keeps → HasEmptyLog k)
-    (subst (λ (k : CoreView). OnOk (reported c.with_workers-ended.result) (g.D.Disk.keeps → HasEmptyLog k)) (sym c.close-core.ensures.core)
+    emptied_back (λ (e : _). e.core) (λ (e : _). e.fault) _ _ _ c.hand_back.ensures.ended (λ (k : CoreView). g.D.Disk.keeps → HasEmptyLog k)
+    (subst (λ (k : CoreView). OnOk (reported c.with_workers-ended.result) (g.D.Disk.keeps → HasEmptyLog k)) (sym (ap (λ (p : SessionView). p.core) c.session.view_is))
     (emptied_at_end now (g.D.Disk.keeps → HasEmptyLog now.core) _ c.with_workers-ended.result c.with_workers-ended.ensures.gives _ refl))
 
 pub returns-clause-no_workers : goal.returns-clause-no_workers
@@ -75,6 +77,6 @@ returns-clause-no_workers g c =
     let gives = c.with_workers-ended.ensures in
     let end = reported c.with_workers-ended.result in
     let ends = ends_or_declines now (g.D.Disk.keeps → HasEmptyLog now.core) _ c.with_workers-ended.result gives.gives _ gives.undone end refl in
-    handed_back (λ (e : _). e.core) (λ (e : _). e.fault) _ end _ c.hand_back.ensures
+    handed_back (λ (e : _). e.core) (λ (e : _). e.fault) _ end _ c.hand_back.ensures.ended
     (λ (k : CoreView) (r : Result (Unit {0}) ServeFault). RefusesNone c.args.room.bench.slots r)
     (refuses_none c.args.room.bench.slots c.requires.workers end (has_workers _ _ end ends))

@@ -1,5 +1,5 @@
 -- It stays under way, and halts only where the device does.
-use Rattle.std.proofs.Common.{◌≡◌, ◌≤◌, ℕ, Some, ap, refl, ◌∙◌}
+use Rattle.std.proofs.Common.{◌≡◌, ℕ, Some, ap, false, refl, ◌∙◌}
 use Rattle.legal_runs.specs.World.{World}
 use Rattle.scheduler.proofs.Called.{cut_called}
 use Rattle.scheduler.specs.Kept.{world_of}
@@ -19,14 +19,20 @@ invariant_of-self g c =
 
 pub returns-clause-moves : goal.returns-clause-moves
 returns-clause-moves g c =
+    let old = c.self.inside.core in
+    let new = c.cut-cut.new.self in
     let left = ap (λ (p : SessionView). p.core.left) c.self.view_is ∙ c.requires.none in (
       ap (λ (p : SessionView). p.stop) c.self.view_is,
-      halts (world_of c.self.inside.core) left (world_of c.cut-cut.new.self) _ _ _ c.cut-cut.result c.begin.result c.cut-cut.ensures.world c.begin.ensures
-          (ap (λ (p : SessionView). p.broken) c.self.view_is),
+      halts (world_of old) left (world_of new) _
+          (c.self.inside.broken ≡ c.args.self.now.broken) (c.self.inside.broken ≡ false) c.cut-cut.result c.begin.result c.cut-cut.ensures.world
+          c.begin.ensures (ap (λ (p : SessionView). p.broken) c.self.view_is),
     )
 
 pub returns-clause-begun : goal.returns-clause-begun
 returns-clause-begun g c =
+    let old = c.self.inside.core in
+    let new = c.cut-cut.new.self in
     let left = ap (λ (p : SessionView). p.core.left) c.self.view_is ∙ c.requires.none in
-    begins (world_of c.self.inside.core) left (world_of c.cut-cut.new.self) _ ((n : ℕ) × (c.cut-cut.new.self.left ≡ Some n))
-    (λ m. (m.0, ap (λ (w : World). w.left) m.2)) c.cut-cut.result c.begin.result c.cut-cut.ensures.world c.begin.ensures
+    begins (world_of old) left (world_of new) _
+    ((n : ℕ) × (new.left ≡ Some n)) (λ m. (m.0, ap (λ (w : World). w.left) m.2)) c.cut-cut.result c.begin.result c.cut-cut.ensures.world
+    c.begin.ensures

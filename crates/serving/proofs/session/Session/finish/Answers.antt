@@ -1,13 +1,12 @@
 -- It stays under way, and the row is empty still where the last point is made, which fails only where the device does.
-use Rattle.std.proofs.Common.{◌≡◌, ◌+◌, Bool, None, ap, refl, subst, ◌∙◌}
-use Rattle.std.specs.Prelude.{MatchBool}
+use Rattle.std.proofs.Common.{◌≡◌, ap, refl, ◌∙◌}
 use Rattle.line_row.specs.Rows.{RowView}
 use Rattle.scheduler.proofs.Called.{point_called}
-use Rattle.scheduler.specs.Kept.{world_of}
+use Rattle.scheduler.specs.Kept.{CoreView, world_of}
 use Rattle.serving.proofs.Stretches.{point_is_quiet}
 use Rattle.serving.proofs.Pointing.{halts_so, point_fails}
 use Rattle.serving.proofs.Under.{holds_of, idle_of, on_machine}
-use Rattle.serving.specs.Session.{SessionView, steps_left}
+use Rattle.serving.specs.Session.{SessionView}
 use Rattle.serving.proofs.session.Session.finish.Goals as goal
 
 pub invariant_of-self : goal.invariant_of-self
@@ -18,19 +17,15 @@ invariant_of-self g c =
     (point_called old.geometry (world_of old) (world_of new) c.point.result c.point.ensures.world) c.point.ensures.counts in
     (on_machine g.D.Disk.keeps _ _ _ _ c.self.invariant.0 (quiet _ (holds_of g.D.Disk.keeps _ _ c.self.invariant.0)) refl refl, c.self.invariant.1)
 
-pub returns-clause-moves : goal.returns-clause-moves
-returns-clause-moves g c =
-    let loop = c.loop.invariant in
-    let moved = c.in_ok-move_point_on.ensures in
+pub returns-in-End-clause-moves : goal.returns-in-End-clause-moves
+returns-in-End-clause-moves g c =
     let sent = c.in_ok-send.ensures in
     let logged = c.in_ok-log_what_ran.ensures in
-    let row = ap (λ (r : RowView). r.lines) (moved.same.0 ∙ loop.same.0 ∙ sent.same.1 ∙ logged.same.0) ∙ c.requires.row in
+    let row = ap (λ (r : RowView). r.lines) (sent.same.1 ∙ logged.same.0) ∙ c.requires.row in
     let idle = idle_of g.D.Disk.keeps _ _ c.self.invariant.0 (ap (λ (p : SessionView). p.row.lines) c.self.view_is ∙ row) in
-    let left = ap (λ (p : SessionView). p.core.left) c.self.view_is
-    ∙ subst (λ (b : Bool). MatchBool b (steps_left c.move_point_on.new.self.core.left + 1 ≡ steps_left c.loop.self.core.left)
-    (c.move_point_on.new.self.core.left ≡ None)) c.if-branch.false moved.step in
-    let broken = ap (λ (p : SessionView). p.broken) c.self.view_is ∙ moved.moves.1 ∙ loop.as_before.1 ∙ sent.moves.1 ∙ logged.moves.1 in (
-      ap (λ (p : SessionView). p.stop) c.self.view_is ∙ moved.moves.0 ∙ loop.as_before.0 ∙ sent.moves.0 ∙ logged.moves.0,
+    let left = ap (λ (p : SessionView). p.core.left) c.self.view_is ∙ ap (λ (k : CoreView). k.left) sent.same.0 ∙ logged.left ∙ c.requires.none in
+    let broken = ap (λ (p : SessionView). p.broken) c.self.view_is ∙ sent.moves.1 ∙ logged.moves.1 in (
+      ap (λ (p : SessionView). p.stop) c.self.view_is ∙ sent.moves.0 ∙ logged.moves.0,
       halts_so c.point.result c.or_halt.result _ _ _ c.or_halt.ensures broken
           (point_fails (world_of c.self.inside.core) left idle.none_held (world_of c.point.new.self)
           (world_of c.point.new.self ≡ record (world_of c.self.inside.core) { room = c.self.inside.core.geometry.half }) c.point.result c.point.ensures.world),

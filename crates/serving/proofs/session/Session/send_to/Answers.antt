@@ -1,5 +1,5 @@
 -- The lemmas on what goes out; and the session stays under way.
-use Rattle.std.proofs.Common.{◌<◌, ℕ, None, ap, sym, subst, ◌∙◌}
+use Rattle.std.proofs.Common.{◌<◌, ℕ, None, ap, subst, ◌∙◌}
 use Rattle.std.specs.Prelude.{is_none, position}
 use Rattle.std.proofs.lemmas.List.Quantifiers.{position-Some}
 use Rattle.atomic_table.specs.Seated.{TableId}
