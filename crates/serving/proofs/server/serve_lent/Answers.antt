@@ -20,8 +20,8 @@ invariant_of-session g c =
       room.at_bench.0,
     )
 
-pub returns-clause-run : goal.returns-clause-run
-returns-clause-run g c =
+pub returns : goal.returns
+returns g c =
     let s : Start = record {
       core = c.args.core;
       places = c.args.room.bench.slots;
@@ -29,54 +29,28 @@ returns-clause-run g c =
       before = g.L.Teller.told c.args.teller;
     } in
     let now = c.with_workers-ended.new.duty in
+    let last = c.session.inside in
+    let core = ap (λ (p : SessionView). p.core) c.session.view_is in
     let behind = ap (λ (l : _). g.R.Read.remaining l.reader.now) c.into_inner-reader.ensures ∙ ap (λ (p : SessionView). p.behind) c.session.view_is in
     let under_way = subst (IsUnderWayFrom g.D.Disk.keeps g.L.Teller.start) c.session.view_is c.session.invariant.0 in
     let gives = c.with_workers-ended.ensures in
     let end = reported c.with_workers-ended.result in
     let ends = ends_or_declines now (g.D.Disk.keeps → HasEmptyLog now.core) _ c.with_workers-ended.result gives.gives _ gives.undone end refl in
     let all = promises_from g.D.Disk.keeps g.L.Teller.start s _ now c.requires.can_begin.is under_way refl
-    (ap (λ (l : _). g.R.Read.remaining l.reader.now) c.new.ensures.source) refl end ends _ _ _
-    (ap (λ (p : SessionView). p.core) c.session.view_is) behind (ap (λ (p : SessionView). p.told) c.session.view_is) in
-    handed_back (λ (e : _). e.core) (λ (e : _). e.fault) _ end _ c.hand_back.ensures.ended
-    (λ (k : CoreView) (r : Result (Unit {0}) ServeFault). HasRunSo g.D.Disk.keeps (with_lent c.args.core (replicate c.args.room.bench.slots None)) k
-    (g.R.Read.remaining c.args.reader.now) (g.L.Teller.told c.args.teller) (g.L.Teller.told c.session.inside.teller) r)
-    (all.run c.hand_back.ensures.no_doubt c.hand_back.ensures.stands)
-
-pub returns-clause-ends : goal.returns-clause-ends
-returns-clause-ends g c =
-    let s : Start = record {
-      core = c.args.core;
-      places = c.args.room.bench.slots;
-      input = g.R.Read.remaining c.args.reader.now;
-      before = g.L.Teller.told c.args.teller;
-    } in
-    let now = c.with_workers-ended.new.duty in
-    let behind = ap (λ (l : _). g.R.Read.remaining l.reader.now) c.into_inner-reader.ensures ∙ ap (λ (p : SessionView). p.behind) c.session.view_is in
-    let under_way = subst (IsUnderWayFrom g.D.Disk.keeps g.L.Teller.start) c.session.view_is c.session.invariant.0 in
-    let gives = c.with_workers-ended.ensures in
-    let end = reported c.with_workers-ended.result in
-    let ends = ends_or_declines now (g.D.Disk.keeps → HasEmptyLog now.core) _ c.with_workers-ended.result gives.gives _ gives.undone end refl in
-    let all = promises_from g.D.Disk.keeps g.L.Teller.start s _ now c.requires.can_begin.is under_way refl
-    (ap (λ (l : _). g.R.Read.remaining l.reader.now) c.new.ensures.source) refl end ends _ _ _
-    (ap (λ (p : SessionView). p.core) c.session.view_is) behind (ap (λ (p : SessionView). p.told) c.session.view_is) in
-    handed_back (λ (e : _). e.core) (λ (e : _). e.fault) _ end _ c.hand_back.ensures.ended
-    (λ (k : CoreView) (r : Result (Unit {0}) ServeFault). EndsSo c.args.core k (g.R.Read.remaining c.args.reader.now)
-    (g.R.Read.remaining c.into_inner-reader.result.reader.now) (g.L.Teller.told c.args.teller) (g.L.Teller.told c.session.inside.teller) r)
-    all.ends
-
-pub returns-clause-emptied : goal.returns-clause-emptied
-returns-clause-emptied g c =
-    let now = c.with_workers-ended.new.duty in
-    emptied_back (λ (e : _). e.core) (λ (e : _). e.fault) _ _ _ c.hand_back.ensures.ended (λ (k : CoreView). g.D.Disk.keeps → HasEmptyLog k)
-    (subst (λ (k : CoreView). OnOk (reported c.with_workers-ended.result) (g.D.Disk.keeps → HasEmptyLog k)) (sym (ap (λ (p : SessionView). p.core) c.session.view_is))
-    (emptied_at_end now (g.D.Disk.keeps → HasEmptyLog now.core) _ c.with_workers-ended.result c.with_workers-ended.ensures.gives _ refl))
-
-pub returns-clause-no_workers : goal.returns-clause-no_workers
-returns-clause-no_workers g c =
-    let now = c.with_workers-ended.new.duty in
-    let gives = c.with_workers-ended.ensures in
-    let end = reported c.with_workers-ended.result in
-    let ends = ends_or_declines now (g.D.Disk.keeps → HasEmptyLog now.core) _ c.with_workers-ended.result gives.gives _ gives.undone end refl in
-    handed_back (λ (e : _). e.core) (λ (e : _). e.fault) _ end _ c.hand_back.ensures.ended
-    (λ (k : CoreView) (r : Result (Unit {0}) ServeFault). RefusesNone c.args.room.bench.slots r)
-    (refuses_none c.args.room.bench.slots c.requires.workers end (has_workers _ _ end ends))
+    (ap (λ (l : _). g.R.Read.remaining l.reader.now) c.new.ensures.source) refl end ends _ _ _ core behind (ap (λ (p : SessionView). p.told) c.session.view_is) in
+    record {
+      same = c.into_inner-reader.result.same ∙ sym c.requires.reader;
+      run = handed_back (λ (e : _). e.core) (λ (e : _). e.fault) _ end _ c.hand_back.ensures.ended
+          (λ (k : CoreView) (r : Result (Unit {0}) ServeFault). HasRunSo g.D.Disk.keeps (with_lent c.args.core (replicate c.args.room.bench.slots None)) k
+          (g.R.Read.remaining c.args.reader.now) (g.L.Teller.told c.args.teller) (g.L.Teller.told last.teller) r)
+          (all.run c.hand_back.ensures.no_doubt c.hand_back.ensures.stands);
+      ends = handed_back (λ (e : _). e.core) (λ (e : _). e.fault) _ end _ c.hand_back.ensures.ended
+          (λ (k : CoreView) (r : Result (Unit {0}) ServeFault). EndsSo c.args.core k (g.R.Read.remaining c.args.reader.now)
+          (g.R.Read.remaining c.into_inner-reader.result.reader.now) (g.L.Teller.told c.args.teller) (g.L.Teller.told last.teller) r) all.ends;
+      no_workers = handed_back (λ (e : _). e.core) (λ (e : _). e.fault) _ end _ c.hand_back.ensures.ended
+          (λ (k : CoreView) (r : Result (Unit {0}) ServeFault). RefusesNone c.args.room.bench.slots r)
+          (refuses_none c.args.room.bench.slots c.requires.workers end (has_workers _ _ end ends));
+      emptied = emptied_back (λ (e : _). e.core) (λ (e : _). e.fault) _ _ _ c.hand_back.ensures.ended (λ (k : CoreView). g.D.Disk.keeps → HasEmptyLog k)
+          (subst (λ (k : CoreView). OnOk end (g.D.Disk.keeps → HasEmptyLog k)) (sym core)
+          (emptied_at_end now (g.D.Disk.keeps → HasEmptyLog now.core) _ c.with_workers-ended.result gives.gives _ refl));
+    }
