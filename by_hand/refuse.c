@@ -1,13 +1,16 @@
 /* Stands between a program and the GNU C library. It refuses one request for memory, or one and all behind
  * it, or one for a thread, or fails one read of standard input or one write of standard output. The
  * environment says which, counted from 1: REFUSE_ONE, REFUSE_FROM, REFUSE_THREAD, FAIL_READ, FAIL_WRITE. Once
- * it has happened it makes the file that HAPPENED names. */
+ * it has happened it makes the file that HAPPENED names. Where a program writes the lines FROM_HERE and TO_HERE
+ * to standard output, it puts two numbers into the file that COUNTED names: of the requests for memory before
+ * the first line, and of those between the two. */
 #define _GNU_SOURCE
 #include <dlfcn.h>
 #include <errno.h>
 #include <fcntl.h>
 #include <pthread.h>
 #include <stdlib.h>
+#include <string.h>
 #include <unistd.h>
 #include <sys/syscall.h>
 
@@ -16,6 +19,9 @@ extern void *__libc_realloc(void *, size_t);
 
 /* The status of a run that writes to standard output after a write of it has failed. */
 #define WROTE_AGAIN 99
+
+#define FROM_HERE "no memory from here\n"
+#define TO_HERE "no memory to here\n"
 
 struct turn {
     const char *name;
@@ -28,6 +34,34 @@ static struct turn thread_turn = {"REFUSE_THREAD", -1, 0};
 static struct turn read_turn = {"FAIL_READ", -1, 0};
 static struct turn write_turn = {"FAIL_WRITE", -1, 0};
 
+/* Makes the file that the environment names so, with these bytes. */
+static void note(const char *name, const void *bytes, size_t size) {
+    const char *path = getenv(name);
+    if (path) {
+        long file = syscall(SYS_openat, AT_FDCWD, path, O_WRONLY | O_CREAT | O_CLOEXEC, 0600);
+        if (file >= 0) {
+            syscall(SYS_write, file, bytes, size);
+            syscall(SYS_close, file);
+        }
+    }
+}
+
+/* Requests for memory so far, and those that came before the line FROM_HERE. */
+static long asked, asked_before;
+
+static int is_line(const void *from, size_t size, const char *line) {
+    return size == strlen(line) && !memcmp(from, line, size);
+}
+
+static void look_for_marks(const void *from, size_t size) {
+    if (is_line(from, size, FROM_HERE))
+        asked_before = asked;
+    if (is_line(from, size, TO_HERE)) {
+        long counts[] = {asked_before, asked - asked_before};
+        note("COUNTED", counts, sizeof counts);
+    }
+}
+
 static int is_due(struct turn *turn) {
     if (turn->wanted < 0) {
         const char *given = getenv(turn->name);
@@ -35,12 +69,7 @@ static int is_due(struct turn *turn) {
     }
     if (++turn->so_far != turn->wanted)
         return 0;
-    const char *happened = getenv("HAPPENED");
-    if (happened) {
-        long file = syscall(SYS_openat, AT_FDCWD, happened, O_WRONLY | O_CREAT | O_CLOEXEC, 0600);
-        if (file >= 0)
-            syscall(SYS_close, file);
-    }
+    note("HAPPENED", NULL, 0);
     return 1;
 }
 
@@ -49,6 +78,7 @@ static int is_behind(const struct turn *turn) {
 }
 
 static int is_refused(void) {
+    asked++;
     int one = is_due(&refused_one);
     return is_due(&refused_from) || is_behind(&refused_from) || one;
 }
@@ -88,6 +118,7 @@ ssize_t read(int file, void *to, size_t size) {
 
 ssize_t write(int file, const void *from, size_t size) {
     if (file == 1) {
+        look_for_marks(from, size);
         if (is_due(&write_turn)) {
             errno = ENOSPC;
             return -1;

@@ -108,6 +108,7 @@ def try_busy(folder):
     child = subprocess.Popen([path, "60"])
     time.sleep(0.2)
     check("serve of a file that is busy", problem_of(run(["serve", path], MADE), 1, b"", DEVICE_FAULT))
+    check("show of it, which only reads", problem_of(run(["show", path]), 1, b"", b"waffd: not formatted\n"))
     child.kill()
     child.wait()
     check("serve of a file that is no device", problem_of(run(["serve", path], MADE), 1, b"", b"waffd: not formatted\n"))

@@ -56,30 +56,47 @@ fn numbers_of_a_message_are_tested(rt: HostRuntime) -> Result<(), Fail> {
     Ok(())
 }
 
-fn checks_related(rt: &impl Abort, a: Affinity, b: Affinity, want: bool) {
-    assert!(rt;
-        related(a, b) == want && related(b, a) == want,
-        "{a:?} {b:?}"
-    );
+/// A message at each affinity of a small server: serial, aggregate, volume, volume logical, both stripes, label.
+const EACH_AFFINITY: [(Kind, [u16; 4]); 7] = [
+    (Kind::Summary, [0, 0, 0, 0]),
+    (Kind::MakeVol, [0, 0, 0, 0]),
+    (Kind::Seal, [0, 0, 0, 0]),
+    (Kind::Create, [0, 0, 0, 0]),
+    (Kind::Write, [0, 0, 0, 0]),
+    (Kind::Write, [0, 0, 0, 1]),
+    (Kind::SetLabel, [0, 0, 0, 0]),
+];
+
+/// Which of them are related, in the same order: all but a stripe to the other one, and the label to both stripes and to
+/// volume logical.
+const ARE_RELATED: [[bool; 7]; 7] = [
+    [true, true, true, true, true, true, true],
+    [true, true, true, true, true, true, true],
+    [true, true, true, true, true, true, true],
+    [true, true, true, true, true, true, false],
+    [true, true, true, true, true, false, false],
+    [true, true, true, true, false, true, false],
+    [true, true, true, false, false, false, true],
+];
+
+/// Whether one of them is related so to each.
+fn checks_related(rt: &impl Abort, g: &Geometry, message: (Kind, [u16; 4]), row: &[bool]) {
+    let found = place_of(g, message.0, message.1);
+    for ((kind, numbers), want) in EACH_AFFINITY.iter().zip(row) {
+        let other = place_of(g, *kind, *numbers);
+        let is_related = found.zip(other).map(|(a, b)| related(a, b));
+        assert!(rt; is_related == Some(*want), "{found:?} {other:?}");
+    }
 }
 
 #[test]
-fn label_runs_beside_blocks(rt: HostRuntime) -> Result<(), Fail> {
+fn each_stripe_is_related_to_all_but_the_other_one_and_the_label(
+    rt: HostRuntime,
+) -> Result<(), Fail> {
     let g = Geometry::new(SMALL)?;
-    let serial = Affinity::at(&g, Place::Serial);
-    let volume = Affinity::at(&g, Place::Volume(0, 0));
-    let logical = Affinity::at(&g, Place::Logical(0, 0));
-    let first = Affinity::at(&g, Place::Stripe(0, 0, 0));
-    let second = Affinity::at(&g, Place::Stripe(0, 0, 1));
-    let label = Affinity::at(&g, Place::Label(0, 0));
-    checks_related(&rt, label, logical, false);
-    checks_related(&rt, label, first, false);
-    checks_related(&rt, label, second, false);
-    checks_related(&rt, first, second, false);
-    checks_related(&rt, label, volume, true);
-    checks_related(&rt, label, serial, true);
-    checks_related(&rt, first, logical, true);
-    checks_related(&rt, label, label, true);
+    for (message, row) in EACH_AFFINITY.iter().zip(ARE_RELATED.iter()) {
+        checks_related(&rt, &g, *message, row);
+    }
     Ok(())
 }
 

@@ -246,8 +246,7 @@ impl<T> Arena<T> {
         if !self.holds(i) {
             return None;
         }
-        self.links.unlink(i); // it may be inside a chain
-        self.links.prepend(FREE, i);
+        self.links.move_first(FREE, i); // it may be inside a chain
         self.free += 1;
         self.values[i].take()
     }

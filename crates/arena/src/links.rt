@@ -128,6 +128,7 @@ impl Links {
     pub(crate) fn unlink(&mut self, slot: usize)
         requires { slot < self.old.slots }
         ensures lists { self.new ≡ record self.old { lists = map (without slot) self.old.lists } }
+        ensures alone { times slot (concat self.new.lists) ≡ 0 }
         ensures sound { IsWellLinked self.new }
     {
         let before = self.previous[slot];
@@ -154,8 +155,20 @@ impl Links {
         self.previous[end] = slot;
     }
 
+    /// Makes a slot the first of a list, wherever it was.
+    pub(crate) fn move_first(&mut self, list: usize, slot: usize)
+        requires slot_is_there { slot < self.old.slots }
+        requires list_is_there { list < length self.old.lists }
+        ensures lists { let others = record self.old { lists = map (without slot) self.old.lists } in
+            self.new ≡ record others { lists = slice_set others.lists list (slot ∷ list_at others list) } }
+        ensures sound { IsWellLinked self.new }
+    {
+        self.unlink(slot);
+        self.prepend(list, slot);
+    }
+
     /// Makes a slot that is on no list the first of a list.
-    pub(crate) fn prepend(&mut self, list: usize, slot: usize)
+    fn prepend(&mut self, list: usize, slot: usize)
         requires slot_is_there { slot < self.old.slots }
         requires list_is_there { list < length self.old.lists }
         requires alone { times slot (concat self.old.lists) ≡ 0 }

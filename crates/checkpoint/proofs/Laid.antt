@@ -8,11 +8,12 @@ use Rattle.affinity.specs.declared.geometry.Geometry.{Geometry}
 use Rattle.checkpoint.specs.Formatting.{Has, IsHeaded, IsLaid, IsShut}
 use Rattle.checkpoint.specs.Header.{header_of, is_header}
 use Rattle.checkpoint.specs.Recovery.{holds, means}
+use Rattle.checkpoint.specs.Version.{named_version}
 use Rattle.checkpoint.proofs.Blank.{empty_spelled}
 use Rattle.disk.specs.Device.{SameOutside, overlaid}
 use Rattle.disk.proofs.Outside.{same_before, same_behind}
 use Rattle.disk.proofs.Overlays.{overlaid_outside, length-overlaid, range-overlaid}
-use Rattle.image.specs.Image.{image_of, read}
+use Rattle.image.specs.Image.{image_of, read, version_in}
 use Rattle.image.proofs.Reading.{read_again}
 use Rattle.oplog.specs.Front.{chain, front, gates, open_gates, rows}
 use Rattle.oplog.specs.Layout.{Layout, slice, layout_of, part_bytes, part_at, device_size, half, half_size, header, image, image_size}
@@ -101,6 +102,11 @@ holds_empty g c long headed is_open =
     ∙ ap (λ (bytes : List ℕ). run (means g) (read g bytes) (in_force l 0 c)) (image_there g c laid)
     ∙ ap (λ (x : Option State). run (means g) x (in_force l 0 c)) (read_again g empty (empty_is_state g))
     ∙ ap (λ (rs : List (List ℕ)). run (means g) (Some empty) rs) (in_force_none g c laid)
+
+-- Its image, which is named, has version 2.
+pub version_empty : (g : Geometry) (c : List ℕ) → IsLaid g c → named_version g c ≡ 2
+version_empty g c laid =
+    ap (λ (n : ℕ). version_in (part_bytes (layout_of g) (image n) c)) (names_0 g c laid) ∙ ap (λ (bytes : List ℕ). version_in bytes) (image_there g c laid)
 
 -- ---- changes of it
 

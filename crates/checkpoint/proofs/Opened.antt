@@ -4,7 +4,8 @@ use Rattle.affinity.specs.declared.geometry.Geometry.{Geometry}
 use Rattle.checkpoint.specs.Formatting.{FormatLeaves, IsHeaded, IsLaid, IsShut, IsShutNow}
 use Rattle.checkpoint.specs.Header.{header_of}
 use Rattle.checkpoint.specs.Recovery.{holds}
-use Rattle.checkpoint.proofs.Laid.{headed, headed_kept, holds_empty, torn_open}
+use Rattle.checkpoint.specs.Version.{named_version}
+use Rattle.checkpoint.proofs.Laid.{headed, headed_kept, holds_empty, torn_open, version_empty}
 use Rattle.checkpoint.proofs.Shut.{shut_unformatted, still_shut}
 use Rattle.disk.specs.Device.{Medium, Leaves, SameOutside}
 use Rattle.disk.specs.Moments.{LeavesOnly}
@@ -41,6 +42,11 @@ module _ (g : Geometry) (w0 w1 : Medium) (bytes : List ℕ) (are : bytes ≡ dro
         let same = subst (λ (l : List ℕ). SameOutside 0 1 w1.now l) (sym last.now) (overlaid_outside w1.now 0 (1 ∷ [])) in
         holds_empty g w2.now (omega (arith, whole, size, same.size)) (headed_kept g w1.now w2.now same has)
         (ap (λ (l : List ℕ). get_or l 0 0) last.now ∙ item-overlaid w1.now 0 1 0 [] (omega (arith, whole, size)))
+
+    pub version : (w2 : Medium) → Stored 0 (1 ∷ []) w1 w2 → named_version g w2.now ≡ 2
+    version w2 last =
+        let same = subst (λ (l : List ℕ). SameOutside 0 1 w1.now l) (sym last.now) (overlaid_outside w1.now 0 (1 ∷ [])) in
+        version_empty g w2.now (headed_kept g w1.now w2.now same has).laid
 
 -- ---- the three steps of `format`
 

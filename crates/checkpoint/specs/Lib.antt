@@ -4,3 +4,4 @@ pub mod Refusals
 pub mod Formatting
 pub mod Loading
 pub mod Shown
+pub mod Version

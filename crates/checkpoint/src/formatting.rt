@@ -2,14 +2,16 @@
 //!
 //! The gate of its header is shut first and opened last, each with a sync of its own before and after it. So a crash
 //! leaves the old device, or one whose gate is shut, or the whole new one.
-ghost use Rattle.std.specs.Prelude.{◌≡◌, ◌⊎◌, ◌↔◌, ◌+◌, ◌-◌, ◌<◌, ◌≤◌, Some, length, replicate, OnOk, IfOk, IfErr, MatchResult, IsErrOf};
+ghost use Rattle.std.specs.Prelude.{◌≡◌, ◌≢◌, ◌⊎◌, ◌↔◌, ◌+◌, ◌-◌, ◌<◌, ◌≤◌, Some, length, replicate, OnOk, IfOk, IfErr, MatchResult, IsErrOf, IsFalse, IsTrue};
 ghost use Rattle.affinity.specs.declared.geometry.Geometry.{Geometry};
 ghost use Rattle.checkpoint.specs.Formatting.{FormatLeaves, IsLaid, IsShut, IsShutNow};
 ghost use Rattle.checkpoint.specs.Recovery.{holds};
+ghost use Rattle.checkpoint.specs.Version.{named_version};
 ghost use Rattle.disk.specs.Device.{IsDeviceCall, IsSynced, Leaves, SameOutside, overlaid};
 ghost use Rattle.disk.specs.Moments.{LeavesOnly};
+ghost use Rattle.oplog.specs.Beyond.{KeepsBeyond};
 ghost use Rattle.oplog.specs.Changes.{ChangesOnly};
-ghost use Rattle.oplog.specs.Layout.{device_size, layout_of};
+ghost use Rattle.oplog.specs.Layout.{Layout, device_size, layout_of};
 ghost use Rattle.plain.specs.State.{empty};
 
 use crate::header::{OPEN, header_of};
@@ -56,6 +58,14 @@ fn write_zeros<D: Disk>(disk: &mut D, zeros: &[u8], at: u64, count: usize) -> Re
     Ok(())
 }
 
+/// Whether this is the gate byte of a formatted device.
+fn is_open(gate: u8) -> bool
+    ensures open { IsTrue result → gate ≡ 1 }
+    ensures shut { IsFalse result → gate ≢ 1 }
+{
+    gate == OPEN
+}
+
 /// Shuts the gate of the header where it is open. Any other first byte stays, since a torn write of
 /// it might open the gate of a device that was shut.
 fn shut_gate<D: Disk>(disk: &mut D) -> Result<(), DiskFault>
@@ -64,13 +74,14 @@ fn shut_gate<D: Disk>(disk: &mut D) -> Result<(), DiskFault>
         (λ c. Leaves (D.medium disk.old) c ⊎ IsShut (length (D.medium disk.old).now) c) }
     ensures shut { OnOk result (D.keeps →
         IsShutNow (length (D.medium disk.old).now) (D.medium disk.new)) }
+    ensures beyond { D.keeps → (l : Layout) → KeepsBeyond l (D.medium disk.old) (D.medium disk.new) }
     ensures inside { IsErrOf result DiskFault.OutOfRange → ⊥ }
     ensures call { IsDeviceCall result (D.medium disk.old) (D.medium disk.new) }
 {
     disk.sync()?;
     let mut gate = [0u8];
     disk.read_at(0, &mut gate)?;
-    if gate[0] == OPEN {
+    if is_open(gate[0]) {
         store(disk, 0, &[0])?;
     }
     Ok(())
@@ -104,6 +115,8 @@ fn open_gate<D: Disk>(disk: &mut D, g: &Geometry) -> Result<(), DiskFault>
     ensures any_moment { D.keeps → LeavesOnly (D.medium disk.old) (D.medium disk.new)
         (λ c. IsShut (length (D.medium disk.old).now) c ⊎ (holds g.now c ≡ Some empty)) }
     ensures stands { OnOk result (D.keeps → holds g.now (D.medium disk.new).now ≡ Some empty) }
+    ensures version { OnOk result (D.keeps → named_version g.now (D.medium disk.new).now ≡ 2) }
+    ensures beyond { D.keeps → KeepsBeyond (layout_of g.now) (D.medium disk.old) (D.medium disk.new) }
     ensures synced { OnOk result (D.keeps → IsSynced (D.medium disk.new)) }
     ensures inside { IsErrOf result DiskFault.OutOfRange → ⊥ }
     ensures call { IsDeviceCall result (D.medium disk.old) (D.medium disk.new) }
@@ -122,6 +135,8 @@ fn format_on<D: Disk>(disk: &mut D, zeros: &[u8], g: &Geometry) -> Result<(), Di
     ensures any_moment { D.keeps → LeavesOnly (D.medium disk.old) (D.medium disk.new)
         (FormatLeaves g.now (D.medium disk.old)) }
     ensures stands { OnOk result (D.keeps → holds g.now (D.medium disk.new).now ≡ Some empty) }
+    ensures version { OnOk result (D.keeps → named_version g.now (D.medium disk.new).now ≡ 2) }
+    ensures beyond { D.keeps → KeepsBeyond (layout_of g.now) (D.medium disk.old) (D.medium disk.new) }
     ensures synced { OnOk result (D.keeps → IsSynced (D.medium disk.new)) }
     ensures inside { IsErrOf result DiskFault.OutOfRange → ⊥ }
     ensures call { IsDeviceCall result (D.medium disk.old) (D.medium disk.new) }
@@ -139,6 +154,12 @@ fn format_on<D: Disk>(disk: &mut D, zeros: &[u8], g: &Geometry) -> Result<(), Di
 /// no memory: then no call of the device was made. `Device` exactly where the device failed.
 pub fn format<D: Disk>(alloc: Global, d: D, g: Geometry) -> Result<D, FormatError<D>>
     ensures stands { IfOk result (λ r. D.keeps → holds g (D.medium r).now ≡ Some empty) }
+    ensures version { IfOk result (λ r. D.keeps → named_version g (D.medium r).now ≡ 2) }
+
+    // What a longer device has behind its parts stays, also in what a crash leaves.
+    ensures beyond { D.keeps → MatchResult result
+        (λ r. KeepsBeyond (layout_of g) (D.medium d) (D.medium r))
+        (λ e. KeepsBeyond (layout_of g) (D.medium d) (D.medium e.disk)) }
     ensures synced { IfOk result (λ r. D.keeps → IsSynced (D.medium r)) }
     ensures any_moment { D.keeps → MatchResult result
         (λ r. LeavesOnly (D.medium d) (D.medium r) (FormatLeaves g (D.medium d)))

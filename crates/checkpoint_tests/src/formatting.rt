@@ -50,9 +50,13 @@ fn clear(bytes: &mut [u8], from: usize, to: usize) {
     }
 }
 
-/// The bytes of the small device: zeros, one with a volume in its log, or that one with its gate shut.
+/// The bytes of the small device: zeros, one with a volume in its log, or that one with its gate shut. What a longer device
+/// has behind its parts isn't zero.
 fn old_bytes(alloc: Global, len: usize, which: usize) -> Result<Vec<u8>, AllocError> {
     let mut bytes = vec![in alloc; 0u8; len]?;
+    for at in LEN..len {
+        put(&mut bytes, at, 9);
+    }
     if which > 0 {
         begin(&mut bytes, &HEADER);
         put(&mut bytes, 192, 1);
@@ -80,9 +84,9 @@ pub(crate) fn new_bytes(alloc: Global, len: usize, which: usize) -> Result<Vec<u
 #[test]
 fn an_empty_device_is_made(rt: HostRuntime) -> Result<(), Fail> {
     let g = Geometry::new(SMALL)?;
-    for which in 0..3 {
-        let disk = MemDisk::of_bytes(rt.alloc(), old_bytes(rt.alloc(), LEN, which)?)?;
-        let want = new_bytes(rt.alloc(), LEN, which)?;
+    for (len, which) in [(LEN, 0), (LEN, 1), (LEN, 2), (LEN + 600, 0), (LEN + 600, 1)] {
+        let disk = MemDisk::of_bytes(rt.alloc(), old_bytes(rt.alloc(), len, which)?)?;
+        let want = new_bytes(rt.alloc(), len, which)?;
         match format(rt.alloc(), disk, g) {
             Ok(disk) => holds(&rt, disk.bytes() == want.as_slice()),
             Err(_) => holds(&rt, false),

@@ -55,9 +55,14 @@ fn expect_fault(
     changes: &[(usize, u8)],
     fault: OpenFault,
 ) -> Result<(), Fail> {
-    match inspect(alloc, device(alloc, changes)?) {
+    let device = device(alloc, changes)?;
+    let bytes = device.bytes().to_vec(alloc)?;
+    match inspect(alloc, device) {
         Ok(_) => holds(rt, false),
-        Err(e) => holds(rt, e.fault == fault),
+        Err(e) => {
+            holds(rt, e.fault == fault);
+            holds(rt, e.disk.bytes() == bytes.as_slice());
+        }
     }
     Ok(())
 }
@@ -138,7 +143,9 @@ fn images_are_refused(rt: HostRuntime) -> Result<(), Fail> {
     expect_fault(&rt, alloc, &[(64, 1)], OpenFault::BadVersion)?;
     expect_fault(&rt, alloc, &[(4424, 0)], OpenFault::BadVersion)?;
     expect_fault(&rt, alloc, &[(4424, 3)], OpenFault::BadVersion)?;
+    expect_fault(&rt, alloc, &[(4424, 9)], OpenFault::BadVersion)?;
     expect_fault(&rt, alloc, &[(4425, 1)], OpenFault::BadVersion)?;
+    expect_fault(&rt, alloc, &[(4488, 2)], OpenFault::BadPiece(0))?;
     expect_fault(&rt, alloc, &[(4552, 1)], OpenFault::BadPiece(1))?;
     expect_fault(&rt, alloc, &[(5592, 2)], OpenFault::BadPiece(2))?;
     let label = [(4424, 1), (4488, 1), (4504, 1)];
@@ -149,6 +156,7 @@ fn images_are_refused(rt: HostRuntime) -> Result<(), Fail> {
 fn logs_are_refused(rt: HostRuntime) -> Result<(), Fail> {
     let alloc = rt.alloc();
     expect_fault(&rt, alloc, &[(128, 1), (2276, 1)], OpenFault::BadChain)?;
+    expect_fault(&rt, alloc, &[(192, 1)], OpenFault::BadRecord(0, 0))?;
     expect_fault(
         &rt,
         alloc,

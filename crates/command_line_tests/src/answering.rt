@@ -189,6 +189,13 @@ fn long_lines_are_one_line(rt: HostRuntime) -> Result<(), Fail> {
     expect_long(&rt, 3000)
 }
 
+#[test]
+fn a_million_bytes_without_a_newline_are_one_line(rt: HostRuntime) -> Result<(), Fail> {
+    let input = vec![in rt.alloc(); b'a'; 1_000_000]?;
+    let ended = call(&rt, PLAIN, input.as_slice())?;
+    expect("long line", &ended, 0, "error line\n", "")
+}
+
 /// That this reader's input ends so.
 fn expect_from<T: System, R: Read>(
     rt: &T,

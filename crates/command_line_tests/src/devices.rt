@@ -20,7 +20,8 @@ const HEADER: [u8; 24] = [
 ];
 
 /// What `show` prints of a device that was just made.
-const MADE: &str = "geometry 1 1 2 1 2 4 2 4\narea 0\nrecords 0\nsummary 0 0 0\nimage 2\n";
+pub(crate) const MADE: &str =
+    "geometry 1 1 2 1 2 4 2 4\narea 0\nrecords 0\nsummary 0 0 0\nimage 2\n";
 
 const DEVICE_FAULT: &str = "waffd: device fault\n";
 
@@ -76,7 +77,7 @@ pub(crate) fn expect_call<T: System>(
 }
 
 /// That the device in this file is made, with these bytes.
-fn expect_made<T: System>(rt: &T, path: &str) -> Result<(), Fail> {
+pub(crate) fn expect_made<T: System>(rt: &T, path: &str) -> Result<(), Fail> {
     expect_call(rt, "format", path, SMALL, 0, "formatted 8840\n", "")?;
     expect_file(rt, path, made_bytes(rt.alloc(), LEN)?.as_slice())
 }
@@ -144,16 +145,25 @@ fn a_device_may_be_longer_and_not_shorter(rt: HostRuntime) -> Result<(), Fail> {
     Ok(())
 }
 
+/// Bytes that are set in the small device that was just made.
+pub(crate) type Changes<'a> = &'a [(usize, u8)];
+
+/// The bytes of the small device, just made, with these set.
+pub(crate) fn changed_bytes(alloc: Global, changes: Changes<'_>) -> Result<Vec<u8>, AllocError> {
+    let mut bytes = made_bytes(alloc, LEN)?;
+    for (at, byte) in changes {
+        put(&mut bytes, *at, *byte);
+    }
+    Ok(bytes)
+}
+
 /// Bytes that are set in a device that was just made, and how `show` then ends.
-type Row<'a> = (&'a [(usize, u8)], u8, &'a str, &'a str);
+type Row<'a> = (Changes<'a>, u8, &'a str, &'a str);
 
 /// That this is printed of the small device with these bytes set.
 fn expect_changed<T: System>(rt: &T, path: &str, row: &Row<'_>) -> Result<(), Fail> {
     let (changes, status, output, faults) = *row;
-    let mut bytes = made_bytes(rt.alloc(), LEN)?;
-    for (at, byte) in changes {
-        put(&mut bytes, *at, *byte);
-    }
+    let bytes = changed_bytes(rt.alloc(), changes)?;
     fs::write(rt, path, bytes.as_slice())?;
     expect_shown(rt, path, status, output, faults)
 }
@@ -167,25 +177,57 @@ fn expect_rows<T: System>(rt: &T, path: &str, rows: &[Row<'_>]) -> Result<(), Fa
     Ok(())
 }
 
-const REFUSED: [Row<'static>; 8] = [
-    (&[(0, 0)], 1, "", "waffd: not formatted\n"),
-    (&[(8, 5)], 1, "", "waffd: bad geometry\n"),
-    (&[(4424, 9)], 1, "", "waffd: bad version\n"),
-    (&[(4488, 2)], 1, "", "waffd: bad piece 0\n"),
-    (&[(5592, 2)], 1, "", "waffd: bad piece 2\n"),
-    (&[(192, 1)], 1, "", "waffd: bad record 0 0\n"),
-    (&[(128, 1), (2276, 1)], 1, "", "waffd: bad chain\n"),
-    (&[(128, 1), (2340, 1)], 1, "", "waffd: bad record 1 0\n"),
+/// Damage to a device that was just made, and what is told of it.
+pub(crate) type Damage<'a> = (Changes<'a>, &'a str);
+
+/// What `show` and `serve` refuse alike.
+pub(crate) const DAMAGED: [Damage<'static>; 18] = [
+    (&[(0, 0)], "waffd: not formatted\n"),
+    (&[(1, 0)], "waffd: not formatted\n"),
+    (&[(8, 5)], "waffd: bad geometry\n"),
+    (&[(24, 1)], "waffd: bad geometry\n"),
+    (&[(64, 1)], "waffd: bad version\n"),
+    (&[(4424, 0)], "waffd: bad version\n"),
+    (&[(4424, 3)], "waffd: bad version\n"),
+    (&[(4424, 9)], "waffd: bad version\n"),
+    (&[(4425, 1)], "waffd: bad version\n"),
+    (&[(4488, 2)], "waffd: bad piece 0\n"),
+    // An image of the first version has no labels.
+    (&[(4424, 1), (4488, 1), (4504, 1)], "waffd: bad piece 0\n"),
+    (&[(4552, 1)], "waffd: bad piece 1\n"),
+    (&[(5592, 2)], "waffd: bad piece 2\n"),
+    (&[(192, 1)], "waffd: bad record 0 0\n"),
+    (&[(192, 1), (196, 9)], "waffd: bad record 0 0\n"),
+    (&[(192, 1), (196, 2)], "waffd: bad record 0 0\n"),
+    (
+        &[(192, 1), (193, 1), (196, 1), (716, 1)],
+        "waffd: bad record 0 1\n",
+    ),
+    (&[(128, 1), (2276, 1)], "waffd: bad chain\n"),
 ];
+
+/// Behind a point that was cut short a record that is none: `serve` finishes the point before it tells so.
+const BAD_BEHIND: [Row<'static>; 1] = [(&[(128, 1), (2340, 1)], 1, "", "waffd: bad record 1 0\n")];
+
+/// That `show` tells this of each of these devices.
+fn expect_damage<T: System>(rt: &T, path: &str, rows: &[Damage<'_>]) -> Result<(), Fail> {
+    for (changes, faults) in rows {
+        expect_changed(rt, path, &(changes, 1, "", faults))?;
+    }
+    Ok(())
+}
 
 #[test]
 fn each_refusal_has_its_text(rt: HostRuntime) -> Result<(), Fail> {
-    expect_rows(&rt, new_path(&rt, "refused")?.as_str(), &REFUSED)
+    let path = new_path(&rt, "refused")?;
+    expect_damage(&rt, path.as_str(), &DAMAGED)?;
+    expect_rows(&rt, path.as_str(), &BAD_BEHIND)
 }
 
-/// An older image; a volume in the log, by its gate and its record; and area 1 named, whose image has a volume with file
-/// 0, of which block 0 is there.
-const SHOWN: [Row<'static>; 3] = [
+/// A root byte that names no area 1; an older image; a volume in the log, by its gate and its record; and area 1 named, whose
+/// image has a volume with file 0, of which block 0 is there.
+const SHOWN: [Row<'static>; 4] = [
+    (&[(64, 7)], 0, MADE, ""),
     (
         &[(4424, 1)],
         0,
@@ -247,23 +289,40 @@ fn what_the_system_refuses_is_a_device_fault(rt: HostRuntime) -> Result<(), Fail
     expect_device_faults(&rt, &UNOPENED)
 }
 
-/// That neither command takes a file that may only be read. The administrator may write such a file.
-fn expect_kept<T: System>(rt: &T, path: &str) -> Result<(), Fail> {
+/// That the device in this file, which may only be read, is shown, and that the other commands leave it. The administrator may write
+/// such a file.
+fn expect_only_shown<T: System>(rt: &T, path: &str) -> Result<(), Fail> {
+    expect_shown(rt, path, 0, MADE, "")?;
     if OpenOptions::new().write(true).open(rt, path).is_ok() {
         return Ok(());
     }
-    expect_shown(rt, path, 1, "", DEVICE_FAULT)?;
+    expect_call(rt, "serve", path, "", 1, "", DEVICE_FAULT)?;
     expect_call(rt, "format", path, SMALL, 1, "", DEVICE_FAULT)?;
-    expect_file(rt, path, b"kept")
+    expect_shown(rt, path, 0, MADE, "")
 }
 
 #[test]
-fn a_read_only_file_is_a_device_fault(rt: HostRuntime) -> Result<(), Fail> {
+fn a_device_that_may_only_be_read_is_shown(rt: HostRuntime) -> Result<(), Fail> {
     let path = new_path(&rt, "read_only")?;
-    fs::write(&rt, path.as_str(), b"kept".as_slice())?;
+    expect_made(&rt, path.as_str())?;
     fs::set_permissions(&rt, path.as_str(), Permissions::from_mode(0o444))?;
-    expect_kept(&rt, path.as_str())?;
+    expect_only_shown(&rt, path.as_str())?;
     fs::remove_file(&rt, path.as_str())?;
+    Ok(())
+}
+
+/// The program that runs, which the system lets nobody write, and a file that it refuses to sync: `show` reads both.
+const READ_ALONE: [(&str, &str); 3] = [
+    ("waffd show /proc/self/exe", "waffd: not formatted\n"),
+    ("waffd serve /proc/self/exe", DEVICE_FAULT),
+    ("waffd show /proc/version", TOO_SHORT),
+];
+
+#[test]
+fn what_is_shown_is_neither_written_nor_synced(rt: HostRuntime) -> Result<(), Fail> {
+    for (words, faults) in READ_ALONE {
+        expect_end(&rt, words, 1, "", faults)?;
+    }
     Ok(())
 }
 

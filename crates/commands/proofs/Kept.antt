@@ -8,7 +8,6 @@ use Rattle.legal_runs.specs.Runs.{went}
 use Rattle.machine.specs.Machine.{machine_of}
 use Rattle.machine.specs.Stages.{events_of}
 use Rattle.plain.specs.Serial.{fold}
-use Rattle.scheduler.specs.Kept.{IsJustOpened, CoreView}
 use Rattle.serving.proofs.Told.{holds_all, written_are_kept}
 use Rattle.serving.specs.Ends.{HasServed, settled_in}
 use Rattle.serving.specs.Lines.{asked, text, ticketed}
@@ -18,7 +17,7 @@ use Rattle.serving.specs.declared.server.ServeFault.TheVariants as faults
 use Rattle.commands.proofs.OnDevice.{is_idle}
 use Rattle.commands.specs.Faults.{as_told}
 use Rattle.commands.specs.Kept.{HoldsWhatWasTold, KeepsWhatWasTold, UnlessUntold}
-use Rattle.commands.specs.Serving.{HasServedBy, StoodFor, machine_at_start}
+use Rattle.commands.specs.Serving.{HasServedBy, machine_at_start}
 use Rattle.commands.specs.declared.faults.Fault.{Fault}
 use Rattle.commands.specs.declared.faults.Fault.TheVariants as ends
 use Rattle.commands.specs.declared.service.Service.{Service}

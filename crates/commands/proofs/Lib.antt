@@ -1,4 +1,5 @@
 pub mod Telling
 pub mod OnDevice
 pub mod Kept
+pub mod Promise
 mod Examples

@@ -1,5 +1,5 @@
 -- What a service on a device has done, from what its server promises.
-use Rattle.std.proofs.Common.{◌≡◌, ◌≢◌, ◌≤◌, ◌∙◌, ℕ, List, [], ◌∷◌, Option, Some, false, refl, sym, ap, subst, take, arith}
+use Rattle.std.proofs.Common.{◌≡◌, ◌∙◌, ℕ, List, [], Option, Some, false, refl, sym, ap, subst, take, arith}
 use Rattle.std.specs.Prelude.{Result, Ok, Err, OnOk}
 use Rattle.std.proofs.lemmas.List.{take_all}
 use Rattle.affinity.specs.declared.geometry.Geometry.{Geometry}
@@ -11,7 +11,6 @@ use Rattle.journal.specs.Opening.{OpeningLeaves}
 use Rattle.legal_runs.specs.Laws.{IsIdle}
 use Rattle.machine.specs.Stages.{Stage}
 use Rattle.plain.specs.Serial.{fold}
-use Rattle.plain.specs.State.{State}
 use Rattle.message.specs.declared.Msg.{Msg}
 use Rattle.scheduler.specs.Kept.{IsJustOpened, CoreView, StandsNow, world_of}
 use Rattle.serving.specs.Ends.{EndsSo, HasRunLines, settled_in}

@@ -3,3 +3,4 @@ pub mod Lines
 pub mod Ends
 pub mod Serving
 pub mod Kept
+pub mod Promise

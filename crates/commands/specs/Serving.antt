@@ -1,14 +1,17 @@
 -- What it is to serve a device: what was written when the service ends, what the device stands for then, and what a crash meanwhile leaves.
-use Rattle.std.specs.Prelude.{◌≡◌, ◌≢◌, ◌⊎◌, ◌≤◌, ℕ, List, [], ◌∷◌, length, take, replicate, Option, Some, None, Result, Ok, Err}
+use Rattle.std.specs.Prelude.{◌≡◌, ◌≢◌, ◌⊎◌, ◌↔◌, ◌+◌, ◌≤◌, ℕ, List, [], ◌∷◌, length, take, replicate, Option, Some, None, Result, Ok, Err}
 use Rattle.std.specs.Io.KnownBytes.{IsAtEnd}
 use Rattle.affinity.specs.declared.geometry.Geometry.{Geometry}
 use Rattle.checkpoint.specs.Header.{HasHeader}
 use Rattle.checkpoint.specs.Recovery.{holds}
 use Rattle.checkpoint.specs.Refusals.{IsRefused}
+use Rattle.checkpoint.specs.declared.fault.OpenFault.TheVariants as open_faults
 use Rattle.disk.specs.Device.{Leaves, Medium}
+use Rattle.disk.specs.Memory.{Memory, after_crash}
 use Rattle.disk.specs.Moments.{moment}
 use Rattle.disk.specs.RealFile.{FileKeeps}
 use Rattle.disk.specs.declared.fault.FileFault.{FileFault}
+use Rattle.disk.specs.declared.torn.Torn.{Torn}
 use Rattle.journal.specs.Opening.{IsRefusedUnwritten, OpeningLeaves}
 use Rattle.legal_runs.specs.Lives.{Ran}
 use Rattle.machine.specs.Lives.{IsRunLife}
@@ -72,7 +75,7 @@ HasServedNothing keeps old new input left before written = (w : Went keeps old n
 -- just the lines before one whose message is in range.
 -- A failed device: the first lines of the serial server's output. A failed write: it is open what was written.
 -- No workers, or no memory: nothing was served. A device that can't be opened: nothing was read or written, and it is refused for
--- what it is.
+-- what it is, or it failed, exactly if it did.
 abbrev pub EndsOnDevice : Type 0 → Service → Medium → Medium → Result (Unit {0}) Fault → Option (List ℕ) → Option (List ℕ) → Option (List ℕ)
     → Option (List ℕ) → Type 0
 EndsOnDevice keeps s old new (Ok _) input left before written = (s.workers ≢ 0)
@@ -93,6 +96,7 @@ EndsOnDevice keeps s old new (Err OutOfMemory) input left before written = (s.wo
     × HasServedNothing keeps old new input left before written
 EndsOnDevice keeps s old new (Err (Open fault)) input left before written =
     (keeps → IsRefused old.now fault × IsRefusedUnwritten old fault new) × (left ≡ input) × (written ≡ before)
+    × ((fault ≡ open_faults.Device) ↔ (new.faults ≡ old.faults + 1))
 EndsOnDevice keeps s old new (Err _) input left before written = ⊥
 
 -- ---- the run behind it
@@ -149,6 +153,18 @@ abbrev pub HasLived : Type 0 → Service → Medium → Medium → Result (Unit 
 HasLived keeps s old new (Err (Open fault)) input left before written = keeps → OpeningLeaves old new
 HasLived keeps s old new end input left before written =
     (ended : Result (Unit {0}) ServeFault) × (end ≡ as_told ended) × HasServedBy keeps s old new ended input left before written
+
+-- ---- a device in memory that is crashed
+
+-- The service had the one device, in memory, and came to this end. The other is what a crash of this kind makes of it as the service left
+-- it.
+pub record HasServedUntilCrash (s : Service) (old : Medium) (torn : Torn) (crashed : Memory) (end : Result (Unit {0}) Fault)
+    (input left before written : Option (List ℕ)) : Type 0 where
+  pub ended : Memory
+  pub ends : EndsOnDevice (Unit {0}) s old ended.medium end input left before written
+  pub lived : HasLived (Unit {0}) s old ended.medium end input left before written
+  pub crash : crashed ≡ after_crash torn ended
+  pub leaves : Leaves ended.medium crashed.medium.now
 
 -- ---- a device in a file
 

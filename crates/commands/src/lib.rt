@@ -3,6 +3,7 @@
 //! Nothing here knows the words of a call: a command takes what it works on as values.
 #![tactic(auto)]
 
+mod again;
 mod answering;
 mod faults;
 mod formatting;
@@ -13,6 +14,7 @@ mod service;
 mod showing;
 mod stopping;
 
+pub use again::serve_again;
 pub use answering::answer_input;
 pub use faults::Fault;
 pub use formatting::format_device;

@@ -7,6 +7,7 @@ ghost use Rattle.serving.specs.Runs.{with_lent};
 ghost use Rattle.serving.specs.Serve.{HasEmptyLog, HasRunSo, RefusesNone};
 ghost use Rattle.commands.specs.Faults.{as_told};
 ghost use Rattle.commands.specs.Kept.{KeepsWhatWasTold};
+ghost use Rattle.commands.specs.Promise.{LeavesRecovered};
 ghost use Rattle.commands.specs.Serving.{EndsInFile, EndsOnDevice, HasLived};
 
 use crate::faults::Fault;
@@ -51,7 +52,7 @@ fn serve_core<T: Threads + Wait + Sync, R: Read, W: Write, D: Disk + Drop>(
 {
     let workers = usize::from(service.workers);
     let every = u64::from(service.every);
-    match serve(alloc, rt, core, r, w, workers, every, &OpenGate) {
+    match serve(rt, alloc, core, r, w, workers, every, &OpenGate) {
         Ok(core) => (core, Ok(())),
         Err(ServeError { core, fault }) => (core, Err(fault)),
     }
@@ -72,6 +73,8 @@ pub fn serve_on<T: Threads + Wait + Sync, R: Read, W: Write, D: Disk + Drop>(
     ensures lived { HasLived D.keeps service (D.medium disk) (D.medium result.0) result.1 (R.remaining r.old) (R.remaining r.new)
         (W.contents w.old) (W.contents w.new) }
     ensures kept { KeepsWhatWasTold D.keeps (D.medium disk) (D.medium result.0) result.1 (R.remaining r.old)
+        (W.contents w.old) (W.contents w.new) }
+    ensures recovers { LeavesRecovered D.keeps (D.medium disk) (D.medium result.0) result.1 (R.remaining r.old)
         (W.contents w.old) (W.contents w.new) }
 {
     let core = match Core::open(alloc, disk, usize::from(service.slots)) {

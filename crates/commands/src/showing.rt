@@ -59,7 +59,7 @@ fn show<D: Disk + Drop, W: Write>(alloc: Global, disk: D, w: &mut W) -> Result<(
     write_lines(&lines, w)
 }
 
-/// Prints on `w` what the device in the file of this path holds, and leaves it as it is. At a fault but
+/// Prints on `w` what the device in the file of this path holds. The file is only read, and not synced. At a fault but
 /// that of a write nothing is printed.
 pub fn show_device<T: Files<File = File>, W: Write>(
     rt: &T,
@@ -69,6 +69,6 @@ pub fn show_device<T: Files<File = File>, W: Write>(
 ) -> Result<(), Fault>
     ensures { EndsShowing result (W.contents w.old) (W.contents w.new) }
 {
-    let disk = FileDisk::open(rt, path)?;
+    let disk = FileDisk::open_read_only(rt, path)?;
     show(alloc, disk, w)
 }

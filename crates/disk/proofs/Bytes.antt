@@ -1,7 +1,7 @@
 -- Lists of bytes stay so by parts, and when they are written over.
-use Rattle.std.proofs.Common.{ℕ, zero, suc, ◌<◌, List, [], ◌∷◌, length, take, drop, replicate, get_or, arith}
+use Rattle.std.proofs.Common.{ℕ, zero, suc, ◌<◌, List, [], ◌∷◌, length, take, drop, get_or}
 use Rattle.std.specs.List.{AllByRecursion}
-use Rattle.std.proofs.lemmas.List.Elements.{All-cons, All-head, All-tail, All-take, All-drop, All-get_or, All-from_get_or, All-replicate, recursion_from_All}
+use Rattle.std.proofs.lemmas.List.Elements.{All-cons, All-head, All-tail, All-take, All-drop, All-get_or, All-from_get_or, recursion_from_All}
 use Rattle.disk.specs.Device.{AreBytes, overlaid}
 
 -- a range of them

@@ -69,6 +69,10 @@ moments m = record { now = m.now; loose = m.loose } ∷ m.past
 abbrev pub begun : List ℕ → Medium
 begun bytes = record { now = bytes; loose = replicate (length bytes) false; past = []; faults = 0 }
 
+-- a device that was found with these bytes, none of which counts as synced
+abbrev pub found : List ℕ → Medium
+found bytes = record { now = bytes; loose = replicate (length bytes) true; past = []; faults = 0 }
+
 -- after a write
 abbrev pub written : ℕ → List ℕ → Medium → Medium
 written at bytes m = record { now = overlaid m.now at bytes; loose = marked m.loose at (length bytes); past = moments m; faults = m.faults }

@@ -1,8 +1,8 @@
 -- What the calls of a device make of its shadow. No public clause cites this module.
 use Rattle.std.specs.Prelude.{ℕ, ◌+◌, List, length, replicate}
 use Rattle.disk.specs.declared.shadow.Call.{Call}
-use Rattle.disk.specs.declared.shadow.Call.TheVariants.{Begun, Wrote, Lost, Synced, Failed, Zeroed}
-use Rattle.disk.specs.Device.{Medium, moments, marked, begun, written, synced, failed}
+use Rattle.disk.specs.declared.shadow.Call.TheVariants.{Begun, Wrote, Lost, Synced, Failed, Zeroed, Found}
+use Rattle.disk.specs.Device.{Medium, moments, marked, begun, found, written, synced, failed}
 
 -- a write that failed and that a read sees nothing of
 abbrev pub lost : ℕ → ℕ → Medium → Medium
@@ -16,3 +16,4 @@ medium_after (Lost at) bytes m = lost at (length bytes) m
 medium_after Synced bytes m = synced m
 medium_after Failed bytes m = failed m
 medium_after (Zeroed size) bytes m = begun (replicate size 0)
+medium_after (Found size) bytes m = found (replicate size 0)

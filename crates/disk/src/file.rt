@@ -1,7 +1,7 @@
 //! A file of the system as a device.
 ghost use Rattle.std.specs.Prelude.{◌≡◌, ◌<◌, ◌^◌, length, IfOk, replicate};
 ghost use Rattle.std.specs.IoError.{error_kind};
-ghost use Rattle.disk.specs.Device.{AreBytes, begun};
+ghost use Rattle.disk.specs.Device.{AreBytes, begun, found};
 
 use crate::ranges::start_of;
 use crate::shadow::{Call, Shadow};
@@ -69,6 +69,23 @@ impl FileDisk {
         file.sync_data()?;
         let size = file.metadata()?.len();
         Ok(FileDisk::of_file(file, size))
+    }
+
+    /// Opens a file that is there for reading alone, at the length that it has. It is not synced, so none of its bytes counts as
+    /// synced. Each write of it answers `Device`, as the system refuses it. `OutOfMemory` where the system has no memory for it, and
+    /// `Device` where it refuses for anything else, or the path names something other than a file.
+    pub fn open_read_only<R: Files<File = File>>(rt: &R, path: &str) -> Result<FileDisk, FileFault>
+        ensures { IfOk result (λ d. file_medium d ≡ found (file_medium d).now) }
+    {
+        // The system also opens a folder to be read, and may wait where it opens a pipe.
+        if !rt.metadata(path)?.is_file() {
+            return Err(FileFault::Device);
+        }
+        let file = OpenOptions::new().read(true).open(rt, path)?;
+        let size = file.metadata()?.len();
+        let mut shadow = Shadow::new();
+        shadow.note(&Call::Found(size), &[]);
+        Ok(FileDisk { file, size, shadow })
     }
 
     /// What contracts see of the bytes are zeros, whatever the file holds: see `FileKeeps`.

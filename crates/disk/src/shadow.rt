@@ -20,6 +20,8 @@ pub(crate) enum Call {
     Failed,
     /// It was made, with this number of zeros.
     Zeroed(u64),
+    /// It was found, with this number of bytes.
+    Found(u64),
 }
 
 /// It has no bytes, and its calls do nothing when they run. Nothing in itself ties `medium` to a device: each

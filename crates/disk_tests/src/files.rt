@@ -38,6 +38,10 @@ impl Place {
         FileDisk::open(rt, self.path.as_str())
     }
 
+    fn open_read_only(&self, rt: &HostRuntime) -> Result<FileDisk, FileFault> {
+        FileDisk::open_read_only(rt, self.path.as_str())
+    }
+
     /// The bytes of the file.
     fn read(&self, rt: &HostRuntime) -> Result<Vec<u8>, Fail> {
         Ok(fs::read(rt, self.path.as_str())?)
@@ -123,6 +127,10 @@ fn what_the_system_refuses_is_a_fault(rt: HostRuntime) -> Result<(), Fail> {
     is_fault(&rt, place.open(&rt));
     is_fault(&rt, FileDisk::open(&rt, below.as_str()));
     is_fault(&rt, FileDisk::open(&rt, place.folder.as_str()));
+    is_fault(&rt, place.open_read_only(&rt));
+    is_fault(&rt, FileDisk::open_read_only(&rt, below.as_str()));
+    is_fault(&rt, FileDisk::open_read_only(&rt, place.folder.as_str()));
+    is_fault(&rt, FileDisk::open_read_only(&rt, "/dev/null"));
     is_fault(&rt, FileDisk::create(&rt, below.as_str(), 4));
     is_fault(&rt, FileDisk::create(&rt, place.folder.as_str(), 4));
     // No file is that long.
@@ -156,6 +164,40 @@ fn a_file_that_is_not_synced_is_a_fault(rt: HostRuntime) {
     let path = "/dev/null";
     holds(&rt, may_write(&rt, path));
     is_fault(&rt, FileDisk::open(&rt, path));
+}
+
+/// Calls of a device that was opened for reading alone.
+const READ_ONLY_CALLS: [Call; 4] = [
+    Call::Read(0, 4),
+    Call::Write(1, b"x"),
+    Call::Read(3, 1),
+    Call::Write(3, b"xy"),
+];
+
+/// Also the administrator, whom no permission keeps from writing, writes nothing.
+#[test]
+fn a_file_opened_for_reading_takes_no_write(rt: HostRuntime) -> Result<(), Fail> {
+    let place = Place::new(&rt, "for_reading")?;
+    place.write(&rt, b"kept")?;
+    fs::set_permissions(&rt, place.path.as_str(), Permissions::from_mode(0o444))?;
+    let mut disk = place.open_read_only(&rt)?;
+    holds(&rt, disk.len() == 4);
+    let wanted = [FINE, FAULT, FINE, OUTSIDE];
+    expect(&rt, rt.alloc(), &mut disk, &READ_ONLY_CALLS, &wanted)?;
+    let mut part = [0; 3];
+    disk.read_at(1, &mut part)?;
+    same(&rt, &part, b"ept");
+    same(&rt, &place.read(&rt)?, b"kept");
+    drop(disk);
+    place.remove(&rt)
+}
+
+/// The system refuses to sync this file, and here also to write it.
+#[test]
+fn a_file_opened_for_reading_is_not_synced(rt: HostRuntime) {
+    let path = "/proc/version";
+    is_fault(&rt, FileDisk::open(&rt, path));
+    holds(&rt, FileDisk::open_read_only(&rt, path).is_ok());
 }
 
 #[test]

@@ -163,6 +163,11 @@ impl<D: Disk> Server<D> {
         self.journal.failed()
     }
 
+    /// How often the device was called since it was opened.
+    pub fn counts(&self) -> Counts {
+        self.journal.disk().counts()
+    }
+
     /// The reply lines to these questions.
     pub fn told(&mut self, alloc: Global, questions: &Questions) -> Result<Vec<u8>, AllocError> {
         told(alloc, &mut self.tree, questions)

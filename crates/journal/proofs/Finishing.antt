@@ -93,5 +93,6 @@ module _ (log : Log) (bytes : List ℕ) (w0 : Medium) (is_area : log.named < 2) 
           stands = flip_by_area (means log.geometry) (layout_of log.geometry) (other n) (other n) x w1 w2 flipped (shut_current (layout_of log.geometry) (other n) w1.now no_chain) other_stands;
           front = (half_same (layout_of log.geometry) (other n) w1.now w2.now (flipped.same.same.others (half (other n)) (λ is. omega (arith, is)))).0 ∙ half_kept.0;
           named = flipped.named;
+          reads = ap (λ (l : List ℕ). read log.geometry l) (flipped.same.same.others (image (other n)) (λ is. omega (arith, is)) ∙ imaged.is) ∙ unfinished.reads;
           calm = flipped.calm;
         }

@@ -1,7 +1,10 @@
 -- What the end of a cut asks of a journal, and what the journal keeps after it.
 use Rattle.std.proofs.Common.{◌≡◌, ℕ, Bool, List, length, Option, Some, None, is_some, sym, ◌∙◌, ap, subst, arith}
 use Rattle.checkpoint.specs.Recovery.{holds}
+use Rattle.checkpoint.specs.Version.{named_version}
 use Rattle.disk.specs.Device.{AreBytes, Medium}
+use Rattle.disk.proofs.Leaves.{itself}
+use Rattle.image.specs.Image.{version_in}
 use Rattle.image.specs.Pieces.{piece_count}
 use Rattle.journal.specs.Keeping.{IsFresh, IsCutState, IsSoundJournal}
 use Rattle.journal.specs.Steps.{IsFlipped, IsStanding, IsWritten, named_now}
@@ -59,6 +62,13 @@ module _ (log : Log) (frozen : List ℕ) (named others due : List Bool) (left : 
             (subst (λ (l : List ℕ). IsFresh log.geometry (holds log.geometry w0.now) named l) (sym (flipped.images log.named is_area)) sound.named_fresh));
         by_cut = tt;
       }
+
+  pub flip_version : (w1 : Medium) → AreBytes w1.now → IsWritten log frozen w0 → IsSoundJournal log frozen named others due left w0 → IsFlipped log w0 w1
+      → named_version log.geometry w1.now ≡ 2
+  flip_version w1 are' written sound flipped =
+      let sound' = subst (λ (l : Option ℕ). IsSoundJournal log frozen named others due l w0) none_left sound in
+      ap (λ (n : ℕ). version_in (image_in log.geometry n w1)) (flipped.at.stands w1.now (itself w1.now w1.loose are')).named
+      ∙ ap version_in (flipped.images (other log.named) (omega arith) ∙ written.is) ∙ sound'.by_cut.version
 
 -- the same of rows that were exchanged
 pub flip_kept : (log new : Log) (frozen : List ℕ) (named others due named' others' : List Bool) (left : Option ℕ) (w0 w1 : Medium) → left ≡ Some 0 → new ≡ named_now log → named' ≡ others → others' ≡ named → AreBytes w0.now → AreBytes w1.now → IsCutState log due left → IsWritten log frozen w0

@@ -9,6 +9,7 @@ use Rattle.checkpoint.specs.Header.{HasHeader, header_of, is_header}
 use Rattle.checkpoint.specs.Loading.{IsFaultOfBytes, NamedHolds, records_fault}
 use Rattle.checkpoint.specs.Recovery.{holds, means}
 use Rattle.checkpoint.specs.Refusals.{IsRefused, refused}
+use Rattle.checkpoint.specs.Version.{named_version}
 use Rattle.checkpoint.proofs.Replays.{same_bytes}
 use Rattle.checkpoint.proofs.Refusing.{alone_ran, alone_sound, both_ran, both_sound, not_refused, other_refused, records_refused, stands_for}
 use Rattle.disk.specs.Device.{AreBytes, IsSynced, Medium, moments}
@@ -25,7 +26,7 @@ use Rattle.journal.specs.Parts.{AreLoaded, AreUnloaded, IsMade, IsMadeOf, KeepsR
 use Rattle.journal.specs.Steps.{IsAlone, IsPointed, IsUnfinished, pointed, run_on}
 use Rattle.journal.specs.Stretches.{AreAllMarked}
 use Rattle.journal.proofs.Logging.{settled_of}
-use Rattle.journal.proofs.Saving.{opened_sound}
+use Rattle.journal.proofs.Saving.{opened_sound, pointed_version}
 use Rattle.journal.proofs.Standing.{holds_now, shut_current}
 use Rattle.oplog.specs.Front.{chain, front}
 use Rattle.oplog.specs.Layout.{layout_of, device_size, header, image_size, other, part_bytes}
@@ -170,6 +171,7 @@ opened p old m j made is whole same =
       fine = ap (λ (g : Geometry). refused g old.now) made.geometry ∙ is.fine;
       was = ap (λ (g : Geometry). holds g old.now) made.geometry ∙ is.was;
       is = is.is;
+      version = is.version;
       sound = settled_of p.halves p.frozen.items p.named_marks.items p.other_marks.items p.due.items None false m is.sound;
       emptied = is.emptied;
       marks = made.marks;
@@ -187,6 +189,9 @@ made_of p log old w2 w3 frozen are head fine was is_log geometry items spelled w
       fine = fine;
       was = was;
       is = ap (λ (g : Geometry). holds g w3.now) same ∙ holds_now log.geometry (other log.named) (other log.named) (holds log.geometry w2.now) w3 are made.at.stands ∙ held;
+      version =
+          ap (λ (g : Geometry). named_version g w3.now) same
+          ∙ pointed_version log frozen w2 w3 (state_in p.tree) are (spelled ∙ ap (λ (g : Geometry). image_of 2 g (state_in p.tree)) geometry) made;
       emptied = subst (λ (g : Geometry). in_force (layout_of g) (named_area (layout_of g) w3.now) w3.now ≡ []) (sym same) made.emptied;
       sound =
           subst (λ (l : List ℕ). IsSoundJournal p.halves l p.named_marks.items p.other_marks.items p.due.items None w3) (sym items)

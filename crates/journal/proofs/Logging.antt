@@ -105,7 +105,7 @@ settled_of log frozen named others due left failed m sound = record {
 -- how many records there are is no fact of a cut
 cut_used : (log : Log) (used : ℕ) (frozen : List ℕ) (due : List Bool) (left : Option ℕ) (m : Medium) → IsCutOr log frozen due left m → IsCutOr (record log { used = used }) frozen due left m
 cut_used log used frozen due None m cut = tt
-cut_used log used frozen due (Some k) m cut = record { behind = cut.behind; written = cut.written }
+cut_used log used frozen due (Some k) m cut = record { behind = cut.behind; written = cut.written; version = cut.version }
 
 coming_used : (log : Log) (used : ℕ) (frozen : List ℕ) (left : Option ℕ) (m : Medium) → coming (record log { used = used }) frozen left m ≡ coming log frozen left m
 coming_used log used frozen None m = refl
@@ -176,6 +176,7 @@ module _ (log : Log) (frozen : List ℕ) (named others due : List Bool) (left : 
           ∙ run-append (means log.geometry) (read log.geometry frozen) (front (layout_of log.geometry) (other log.named) w0.now) (records_of ms)
           ∙ ap (λ (o : Option State). run_on log.geometry o (records_of ms)) cut.behind ∙ leads ∙ sym log_settled;
       written = subst (λ (l : List ℕ). AgreeUnmarked log.geometry due l frozen) (sym (images (other log.named) (omega arith))) cut.written;
+      version = cut.version;
     }
 
     pub log_sound : (named' others' : List Bool) → IsCutState log due left → MarksTouched log.geometry ms named named' → MarksTouched log.geometry ms others others'

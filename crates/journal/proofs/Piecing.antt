@@ -9,6 +9,7 @@ use Rattle.disk.specs.Moments.{LeavesOnly}
 use Rattle.disk.proofs.Leaves.{itself}
 use Rattle.disk.proofs.Moments.{leaves_now}
 use Rattle.image.specs.Image.{read}
+use Rattle.journal.specs.Images.{PatchesAt, PatchesOne}
 use Rattle.journal.specs.Keeping.{IsFresh, IsCutState, IsSoundJournal}
 use Rattle.journal.specs.Marks.{count_marked}
 use Rattle.journal.specs.Steps.{IsStanding, run_on}
@@ -21,6 +22,7 @@ use Rattle.journal.proofs.Rows.{count_cleared}
 use Rattle.journal.proofs.Standing.{half_same, holds_moments, holds_now}
 use Rattle.oplog.specs.Changes.{ChangesOnly, IsReady, IsSameBut}
 use Rattle.oplog.specs.Crash.{StandsBy}
+use Rattle.oplog.specs.Stands.{named_area}
 use Rattle.oplog.specs.Layout.{layout_of, half, image, other}
 use Rattle.oplog.specs.Log.{Log}
 use Rattle.oplog.proofs.AfterCrash.{image_by_area}
@@ -39,6 +41,11 @@ piece_left log due (Some l) n count some placed few marked is =
 pub piece_counted : (log : Log) (due : List Bool) (left : Option ℕ) (n fewer : ℕ) → is_some left ≡ true → IsCutState log due left → n < length due → get_or due n false ≡ true → fewer ≡ unwrap_or left 0 - 1 → fewer ≡ count_marked (set due n false)
 piece_counted log due None n fewer some placed few marked is = absurd (true≢false (sym some))
 piece_counted log due (Some l) n fewer some placed few marked is = let one = count_cleared due n few marked in omega (arith, one, is, placed.1)
+
+-- where none is due, none is left
+pub none_due : (log : Log) (due : List Bool) (left : Option ℕ) → is_some left ≡ true → IsCutState log due left → count_marked due ≡ 0 → left ≡ Some 0
+none_due log due None some placed none = absurd (true≢false (sym some))
+none_due log due (Some l) some placed none = ap (λ (k : ℕ). Some k) (sym placed.1 ∙ none)
 
 pub piece_some : (log : Log) (due : List Bool) (left : Option ℕ) (n : ℕ) → IsCutState log due left → n < length due → get_or due n false ≡ true → left ≡ Some 0 → ⊥
 piece_some log due left n placed few marked none =
@@ -107,8 +114,15 @@ module _ (log : Log) (frozen : List ℕ) (named others due : List Bool) (left : 
                 (λ (here : i ≡ n). ap (λ (j : ℕ). stretch_in log.geometry (image_in log.geometry (other log.named) w1) j) here ∙ pieced.is.is ∙ sym (ap (λ (j : ℕ). stretch_in log.geometry frozen j) here))
                 (λ (elsewhere : i ≢ n). pieced.is.others i few' elsewhere ∙ sound'.by_cut.written i few' (sym (get_or-set_other due n i false true elsewhere) ∙ unmarked))
                 (cases_eq i n);
+            version = sound'.by_cut.version;
           };
         }
+
+-- what it changes, in the words of contracts
+pub patches_one : (g : Geometry) (n k : ℕ) (bytes : List ℕ) (w0 w1 : Medium) → named_area (layout_of g) w0.now ≡ n → IsPieced g (other n) k bytes w0 w1
+    → PatchesOne g w0.now w1.now
+patches_one g n k bytes w0 w1 named pieced =
+    subst (λ (m : ℕ). PatchesAt g (other m) w0.now w1.now) (sym named) (record { piece = k; same = pieced.same; others = pieced.is.others })
 
 pub some_left : (o : Option ℕ) → is_some o ≡ true → (l : ℕ) × (o ≡ Some l)
 some_left None some = absurd (true≢false (sym some))

@@ -2,7 +2,7 @@
 use Rattle.std.proofs.Common.{◌≡◌, ℕ, zero, suc, ◌+◌, ◌*◌, ◌<◌, ◌≤◌, ⊎_elim, refl, sym, ◌∙◌, ap, subst, arith}
 use Rattle.std.proofs.lemmas.Bool.{cases_lt}
 use Rattle.affinity.specs.declared.geometry.Geometry.{Geometry}
-use Rattle.image.specs.Pieces.{pieces_of_volume, piece_at, piece_count}
+use Rattle.image.specs.Pieces.{part_of, pieces_of_volume, piece_at, piece_count, piece_part_size}
 use Rattle.image.proofs.Joining.{whole_image}
 use Rattle.journal.specs.Stretches.{stretch_at, stretch_size}
 use Rattle.oplog.specs.Layout.{image_size}
@@ -13,6 +13,15 @@ stretch_next g zero = omega arith
 stretch_next g (suc n) = omega arith
 
 -- the same where the next number is told by a sum
+part_some : (g : Geometry) (p : ℕ) → 0 < piece_part_size g p
+part_some g zero = omega arith
+part_some g (suc s) = let some : 1 ≤ g.quota = g.quota_range.0 in omega (arith, some)
+
+-- It has some bytes.
+pub stretch_some : (g : Geometry) (n : ℕ) → 0 < stretch_size g n
+stretch_some g zero = omega arith
+stretch_some g (suc n) = part_some g (part_of g (suc n))
+
 pub stretch_after : (g : Geometry) (n : ℕ) → stretch_at g (n + 1) ≡ stretch_at g n + stretch_size g n
 stretch_after g n = let next : n + 1 ≡ suc n = omega arith in ap (stretch_at g) next ∙ stretch_next g n
 

@@ -5,7 +5,9 @@ use Rattle.std.proofs.Math.Seq.{take-add}
 use Rattle.affinity.specs.declared.geometry.Geometry.{Geometry}
 use Rattle.checkpoint.specs.Recovery.{holds}
 use Rattle.disk.specs.Device.{AreBytes, Medium}
-use Rattle.image.specs.Image.{image_head, image_of, read}
+use Rattle.checkpoint.specs.Version.{named_version}
+use Rattle.disk.proofs.Leaves.{itself}
+use Rattle.image.specs.Image.{image_head, image_of, read, version_in}
 use Rattle.image.specs.Pieces.{joined_below, piece_count, piece_of, piece_size}
 use Rattle.image.proofs.Cuts.{piece_again}
 use Rattle.image.proofs.Measures.{state_is_measured}
@@ -128,8 +130,16 @@ module _ (log : Log) (frozen frozen' : List ℕ) (named others due : List Bool) 
             written =
                 subst (λ (row : List Bool). AgreeUnmarked log.geometry row (image_in log.geometry (other log.named) w1) frozen') (sym same_marks)
                 (subst (λ (l : List ℕ). AgreeUnmarked log.geometry others l frozen') (sym (begun.images (other log.named) (omega arith))) agrees);
+            version = ap version_in spelled;
           };
         }
+
+-- The image of a point is named, and has version 2.
+pub pointed_version : (log : Log) (bytes : List ℕ) (w0 w1 : Medium) (y : State) → AreBytes w1.now → bytes ≡ image_of 2 log.geometry y → IsPointed log bytes w0 w1
+    → named_version log.geometry w1.now ≡ 2
+pointed_version log bytes w0 w1 y are spelled made =
+    ap (λ (n : ℕ). version_in (image_in log.geometry n w1)) (made.at.stands w1.now (itself w1.now w1.loose are)).named
+    ∙ ap version_in (made.is ∙ spelled)
 
 -- ---- of a device that is opened
 

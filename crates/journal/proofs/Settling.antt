@@ -14,9 +14,11 @@ use Rattle.disk.specs.Device.{AreBytes, IsSynced, Leaves, MayLeave, Medium, Mome
 use Rattle.disk.specs.Moments.{LeavesOnly, left_since}
 use Rattle.disk.proofs.Leaves.{calm_left, itself}
 use Rattle.disk.proofs.Moments.{leaves_now, same, started, then, weaker}
-use Rattle.journal.specs.Opening.{IsRefusedBehind, IsRefusedUnwritten, IsUnwritten, OpeningLeaves, StandsAs}
+use Rattle.image.specs.Image.{read}
+use Rattle.journal.specs.Opening.{area_state, IsRefusedBehind, IsRefusedUnwritten, IsUnwritten, OpeningLeaves, StandsAs}
 use Rattle.journal.specs.Parts.{IsBad, IsRefusedAlike}
 use Rattle.journal.specs.Steps.{IsAlone, IsFinished, IsStanding, StandsStill, finished_now}
+use Rattle.journal.specs.Stretches.{image_in}
 use Rattle.oplog.specs.Layout.{device_size, layout_of, other}
 use Rattle.oplog.specs.Log.{Log}
 use Rattle.oplog.specs.Stands.{named_area}
@@ -122,11 +124,33 @@ all_unwritten (BadPiece n) w0 w1 is own = is
 all_unwritten BadChain w0 w1 is own = is
 all_unwritten (BadRecord h i) w0 w1 is own = λ g head. ((λ named. is), (λ behind. absurd (behind (own g))))
 
+-- what was refused behind, seen from before
+pub behind_from : (g : Geometry) (h i : ℕ) (w0 w1 w2 : Medium) → w1.now ≡ w0.now → IsRefusedBehind g h i w1 w2 → IsRefusedBehind g h i w0 w2
+behind_from g h i w0 w1 w2 now b = record {
+  named = b.named;
+  image = b.image ∙ ap (λ (c : List ℕ). area_state g (named_area (layout_of g) c) c) now;
+  calm = b.calm;
+  header = b.header;
+  refused = b.refused;
+}
+
+-- what is bad, seen from before
+pub bad_from : (g : Geometry) (h : ℕ) (e : OpenFault) (w0 w1 w2 : Medium) → w1.now ≡ w0.now → IsBad g h w1 w2 e → IsBad g h w0 w2 e
+bad_from g h Device w0 w1 w2 now bad = tt
+bad_from g h (BadRecord k i) w0 w1 w2 now bad = (bad.0, behind_from g k i w0 w1 w2 now bad.1)
+bad_from g h TooShort w0 w1 w2 now bad = bad
+bad_from g h NotFormatted w0 w1 w2 now bad = bad
+bad_from g h BadGeometry w0 w1 w2 now bad = bad
+bad_from g h OutOfMemory w0 w1 w2 now bad = bad
+bad_from g h BadVersion w0 w1 w2 now bad = bad
+bad_from g h (BadPiece n) w0 w1 w2 now bad = bad
+bad_from g h BadChain w0 w1 w2 now bad = bad
+
 -- a bad record of the other half
-pub bad_behind : (e : OpenFault) (n : ℕ) (w0 w1 : Medium) (g : Geometry) → n < 2 → n ≡ named_area (layout_of g) w0.now → HasHeader g w0.now → IsBad g (other n) w1 e → IsRefusedUnwritten w0 e w1
+pub bad_behind : (e : OpenFault) (n : ℕ) (w0 w1 : Medium) (g : Geometry) → n < 2 → n ≡ named_area (layout_of g) w0.now → HasHeader g w0.now → IsBad g (other n) w0 w1 e → IsRefusedUnwritten w0 e w1
 bad_behind Device n w0 w1 g is_area named head bad = tt
 bad_behind (BadRecord h i) n w0 w1 g is_area named head bad =
-    λ k head'. ((λ here. absurd (omega (arith, is_area, bad.0, here, named))), (λ behind. subst (λ (x : Geometry). IsRefusedBehind x h i w1) (same_geometry g k (sym head ∙ head')) bad.1))
+    λ k head'. ((λ here. absurd (omega (arith, is_area, bad.0, here, named))), (λ behind. subst (λ (x : Geometry). IsRefusedBehind x h i w0 w1) (same_geometry g k (sym head ∙ head')) bad.1))
 bad_behind TooShort n w0 w1 g is_area named head bad = absurd bad
 bad_behind NotFormatted n w0 w1 g is_area named head bad = absurd bad
 bad_behind BadGeometry n w0 w1 g is_area named head bad = absurd bad
@@ -134,6 +158,18 @@ bad_behind OutOfMemory n w0 w1 g is_area named head bad = absurd bad
 bad_behind BadVersion n w0 w1 g is_area named head bad = absurd bad
 bad_behind (BadPiece k) n w0 w1 g is_area named head bad = absurd bad
 bad_behind BadChain n w0 w1 g is_area named head bad = absurd bad
+
+-- nothing is loose then
+pub bad_synced : (g : Geometry) (h : ℕ) (e : OpenFault) (w0 w1 : Medium) → e ≢ Device → IsBad g h w0 w1 e → IsSynced w1
+bad_synced g h Device w0 w1 other bad = absurd (other refl)
+bad_synced g h (BadRecord k i) w0 w1 other bad = bad.1.calm
+bad_synced g h TooShort w0 w1 other bad = absurd bad
+bad_synced g h NotFormatted w0 w1 other bad = absurd bad
+bad_synced g h BadGeometry w0 w1 other bad = absurd bad
+bad_synced g h OutOfMemory w0 w1 other bad = absurd bad
+bad_synced g h BadVersion w0 w1 other bad = absurd bad
+bad_synced g h (BadPiece n) w0 w1 other bad = absurd bad
+bad_synced g h BadChain w0 w1 other bad = absurd bad
 
 -- seen from before the device was only read, or synced
 pub unwritten_from : (e : OpenFault) (w0 w1 w2 : Medium) → w1.now ≡ w0.now → (IsUnwritten w1 w2 → IsUnwritten w0 w2) → IsRefusedUnwritten w1 e w2 → IsRefusedUnwritten w0 e w2
@@ -148,7 +184,7 @@ unwritten_from BadChain w0 w1 w2 now from is = from is
 unwritten_from (BadRecord h i) w0 w1 w2 now from is =
     λ g head.
     let at_first = is g (subst (λ (c : List ℕ). HasHeader g c) (sym now) head) in
-    let names = ap (λ (c : List ℕ). named_area (layout_of g) c) now in ((λ here. from (at_first.0 (here ∙ sym names))), (λ behind. at_first.1 (λ here. behind (here ∙ names))))
+    let names = ap (λ (c : List ℕ). named_area (layout_of g) c) now in ((λ here. from (at_first.0 (here ∙ sym names))), (λ behind. behind_from g h i w0 w1 w2 now (at_first.1 (λ here. behind (here ∙ names)))))
 
 pub unwritten_then : (w0 w1 w2 : Medium) → AreBytes w0.now → IsSynced w1 → w1.now ≡ w0.now → LeavesOnly w0 w1 (Leaves w0) → IsUnwritten w1 w2 → IsUnwritten w0 w2
 unwritten_then w0 w1 w2 are calm now first is = record {
@@ -207,24 +243,25 @@ if_err (Err e) P Q gives held = gives e held
 -- A record that can't be run is one of the half whose records are run, once the cut before it is finished: its area is named,
 -- and the device is refused for it as it was.
 pub bad_half : (g : Geometry) (h : ℕ) (o : Option ℕ) (w0 w2 : Medium) (e : OpenFault) → e ≢ OutOfMemory → IsFaultOfBytes (fault_or_later (BadRecord h) o None) e → HasHeader g w0.now → IsRefused w0.now e → IsRefusedAlike g w0.now w2.now
-    → named_area (layout_of g) w2.now ≡ h → IsSynced w2 → IsBad g h w2 e
-bad_half g h o w0 w2 Device some is head why alike named calm = tt
-bad_half g h o w0 w2 OutOfMemory some is head why alike named calm = absurd (some refl)
-bad_half g h o w0 w2 NotFormatted some is head why alike named calm = absurd is
-bad_half g h o w0 w2 BadGeometry some is head why alike named calm = absurd is
-bad_half g h None w0 w2 TooShort some is head why alike named calm = cc
-bad_half g h (Some i) w0 w2 TooShort some is head why alike named calm = cc
-bad_half g h None w0 w2 BadVersion some is head why alike named calm = cc
-bad_half g h (Some i) w0 w2 BadVersion some is head why alike named calm = cc
-bad_half g h None w0 w2 (BadPiece n) some is head why alike named calm = cc
-bad_half g h (Some i) w0 w2 (BadPiece n) some is head why alike named calm = cc
-bad_half g h None w0 w2 BadChain some is head why alike named calm = cc
-bad_half g h (Some i) w0 w2 BadChain some is head why alike named calm = cc
-bad_half g h o w0 w2 (BadRecord k j) some is head why alike named calm =
+    → named_area (layout_of g) w2.now ≡ h → read g (image_in g h w2) ≡ area_state g (named_area (layout_of g) w0.now) w0.now → IsSynced w2 → IsBad g h w0 w2 e
+bad_half g h o w0 w2 Device some is head why alike named image calm = tt
+bad_half g h o w0 w2 OutOfMemory some is head why alike named image calm = absurd (some refl)
+bad_half g h o w0 w2 NotFormatted some is head why alike named image calm = absurd is
+bad_half g h o w0 w2 BadGeometry some is head why alike named image calm = absurd is
+bad_half g h None w0 w2 TooShort some is head why alike named image calm = cc
+bad_half g h (Some i) w0 w2 TooShort some is head why alike named image calm = cc
+bad_half g h None w0 w2 BadVersion some is head why alike named image calm = cc
+bad_half g h (Some i) w0 w2 BadVersion some is head why alike named image calm = cc
+bad_half g h None w0 w2 (BadPiece n) some is head why alike named image calm = cc
+bad_half g h (Some i) w0 w2 (BadPiece n) some is head why alike named image calm = cc
+bad_half g h None w0 w2 BadChain some is head why alike named image calm = cc
+bad_half g h (Some i) w0 w2 BadChain some is head why alike named image calm = cc
+bad_half g h o w0 w2 (BadRecord k j) some is head why alike named image calm =
     let own : k ≡ h = records_half h o (BadRecord k j) is in (
       own,
       record {
         named = named ∙ sym own;
+        image = ap (λ (n : ℕ). read g (image_in g n w2)) own ∙ image;
         calm = calm;
         header = alike.header;
         refused = alike.refused ∙ ap (λ (x : Geometry). refused x w0.now) (same_geometry g why.geometry (sym head ∙ why.header)) ∙ why.is;

@@ -3,7 +3,7 @@ use Rattle.std.specs.Prelude.{◌≡◌, ◌<◌, ◌-◌, ℕ, Bool, true, fals
 use Rattle.affinity.specs.declared.geometry.Geometry.{Geometry}
 use Rattle.checkpoint.specs.Recovery.{holds}
 use Rattle.disk.specs.Device.{Leaves, Medium}
-use Rattle.image.specs.Image.{read}
+use Rattle.image.specs.Image.{read, version_in}
 use Rattle.journal.specs.Journal.{JournalView, records_in}
 use Rattle.journal.specs.Marks.{count_marked}
 use Rattle.journal.specs.Steps.{IsStanding, run_on}
@@ -27,11 +27,12 @@ abbrev pub AreClearBefore : ℕ → List Bool → Type 0
 AreClearBefore n marks = (i : ℕ) → i < n → get_or marks i false ≡ false
 
 -- A cut is in progress: its image, with the records of the other half behind it, leads to what the device stands for, and
--- each of its stretches that isn't due is on the device.
+-- each of its stretches that isn't due is on the device. Its image is one of version 2.
 pub record IsCut (log : Log) (frozen : List ℕ) (due : List Bool) (m : Medium) : Type 0 where
   pub behind : run_on log.geometry (read log.geometry frozen) (front (layout_of log.geometry) (other log.named) m.now)
       ≡ holds log.geometry m.now
   pub written : AgreeUnmarked log.geometry due (image_in log.geometry (other log.named) m) frozen
+  pub version : version_in frozen ≡ 2
 
 abbrev pub IsCutOr : Log → List ℕ → List Bool → Option ℕ → Medium → Type 0
 IsCutOr log frozen due None m = Unit {0}

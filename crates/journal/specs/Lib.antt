@@ -5,3 +5,4 @@ pub mod Steps
 pub mod Keeping
 pub mod Opening
 pub mod Parts
+pub mod Images

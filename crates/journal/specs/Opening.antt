@@ -1,26 +1,30 @@
 -- What it is to open a device: which state is opened, what a crash leaves meanwhile, and what a refusal leaves.
-use Rattle.std.specs.Prelude.{◌≡◌, ◌≢◌, ◌⊎◌, ℕ, List, [], Some, None}
+use Rattle.std.specs.Prelude.{◌≡◌, ◌≢◌, ◌⊎◌, ℕ, List, [], Option, Some, None}
 use Rattle.affinity.specs.declared.geometry.Geometry.{Geometry}
 use Rattle.checkpoint.specs.declared.fault.OpenFault.{OpenFault}
 use Rattle.checkpoint.specs.declared.fault.OpenFault.TheVariants.{Device, BadRecord}
 use Rattle.checkpoint.specs.Header.{HasHeader}
-use Rattle.checkpoint.specs.Recovery.{holds}
+use Rattle.checkpoint.specs.Recovery.{holds, means}
 use Rattle.checkpoint.specs.Refusals.{IsDevice, refused}
+use Rattle.checkpoint.specs.Version.{named_version}
 use Rattle.disk.specs.Device.{Medium, Leaves, IsSynced}
 use Rattle.disk.specs.Moments.{LeavesOnly}
 use Rattle.journal.specs.Journal.{JournalView, IsSettled, records, settled}
 use Rattle.journal.specs.Marks.{opened_marks}
-use Rattle.oplog.specs.Layout.{layout_of}
-use Rattle.oplog.specs.Stands.{named_area}
+use Rattle.image.specs.Image.{read}
+use Rattle.oplog.specs.Front.{front}
+use Rattle.oplog.specs.Layout.{image, layout_of, part_bytes}
+use Rattle.oplog.specs.Stands.{named_area, run}
 use Rattle.plain.specs.State.{State, IsState}
 
 -- A device was opened: it isn't refused, and the journal holds the state for which it stood, with no record in force, now
--- and in whatever a crash leaves now. The named image is that of this state; of the other one nothing is known.
+-- and in whatever a crash leaves now. The named image is that of this state, in version 2; of the other one nothing is known.
 pub record IsOpened (old : Medium) (j : JournalView) (x : State) : Type 0 where
   pub header : HasHeader j.geometry old.now
   pub fine : refused j.geometry old.now ≡ None
   pub was : holds j.geometry old.now ≡ Some x
   pub is : settled j ≡ Some x
+  pub version : named_version j.geometry j.medium.now ≡ 2
   pub sound : IsSettled j
   pub emptied : records j ≡ []
   pub marks : j.marks ≡ opened_marks j.geometry
@@ -57,10 +61,16 @@ pub record IsUnwritten (old new : Medium) : Type 0 where
   pub now : new.now ≡ old.now
   pub later : LeavesOnly old new (Leaves old)
 
+-- the state of area n of a device with these bytes by itself: its image, with the records of its half run on it
+abbrev pub area_state : Geometry → ℕ → List ℕ → Option State
+area_state g n c = run (means g) (read g (part_bytes (layout_of g) (image n) c)) (front (layout_of g) n c)
+
 -- A cut in progress was finished, and record i of the half that was behind the named one is bad: the area of that half is
--- named now, nothing is loose, and the device is refused for this record still.
-pub record IsRefusedBehind (g : Geometry) (h i : ℕ) (new : Medium) : Type 0 where
+-- named now, its image is that of the state which the area named before had by itself, nothing is loose, and the device is refused
+-- for this record still.
+pub record IsRefusedBehind (g : Geometry) (h i : ℕ) (old new : Medium) : Type 0 where
   pub named : named_area (layout_of g) new.now ≡ h
+  pub image : read g (part_bytes (layout_of g) (image h) new.now) ≡ area_state g (named_area (layout_of g) old.now) old.now
   pub calm : IsSynced new
   pub header : HasHeader g new.now
   pub refused : refused g new.now ≡ Some (BadRecord h i)
@@ -71,5 +81,5 @@ abbrev pub IsRefusedUnwritten : Medium → OpenFault → Medium → Type 0
 IsRefusedUnwritten old Device new = Unit {0}
 IsRefusedUnwritten old (BadRecord h i) new =
     (g : Geometry) → HasHeader g old.now
-    → (h ≡ named_area (layout_of g) old.now → IsUnwritten old new) × (h ≢ named_area (layout_of g) old.now → IsRefusedBehind g h i new)
+    → (h ≡ named_area (layout_of g) old.now → IsUnwritten old new) × (h ≢ named_area (layout_of g) old.now → IsRefusedBehind g h i old new)
 IsRefusedUnwritten old fault new = IsUnwritten old new

@@ -6,6 +6,7 @@ use Rattle.checkpoint.specs.declared.fault.OpenFault.TheVariants.{Device, BadRec
 use Rattle.checkpoint.specs.Header.{HasHeader}
 use Rattle.checkpoint.specs.Recovery.{holds}
 use Rattle.checkpoint.specs.Refusals.{refused}
+use Rattle.checkpoint.specs.Version.{named_version}
 use Rattle.disk.specs.Device.{Medium}
 use Rattle.image.specs.Pieces.{piece_count}
 use Rattle.journal.specs.declared.opening.Parts.{Parts}
@@ -21,10 +22,10 @@ use Rattle.parcel.specs.Tree.{IsWholeTree, state_in}
 use Rattle.plain.specs.State.{empty}
 
 -- The device failed; or a record of this half is bad, which was behind the named one, and the cut was finished.
-abbrev pub IsBad : Geometry → ℕ → Medium → OpenFault → Type 0
-IsBad g half m Device = Unit {0}
-IsBad g half m (BadRecord h i) = (h ≡ half) × IsRefusedBehind g h i m
-IsBad g half m fault = ⊥
+abbrev pub IsBad : Geometry → ℕ → Medium → Medium → OpenFault → Type 0
+IsBad g half old new Device = Unit {0}
+IsBad g half old new (BadRecord h i) = (h ≡ half) × IsRefusedBehind g h i old new
+IsBad g half old new fault = ⊥
 
 -- These bytes have the header of this geometry, and are refused for the same fault as those before, if they were.
 pub record IsRefusedAlike (g : Geometry) (before c : List ℕ) : Type 0 where
@@ -86,5 +87,6 @@ pub record IsMadeOf (c : List ℕ) (p : Parts) (m : Medium) : Type 0 where
   pub fine : refused p.tree.geometry c ≡ None
   pub was : holds p.tree.geometry c ≡ Some (state_in p.tree)
   pub is : holds p.halves.geometry m.now ≡ Some (state_in p.tree)
+  pub version : named_version p.halves.geometry m.now ≡ 2
   pub emptied : in_force (layout_of p.halves.geometry) (named_area (layout_of p.halves.geometry) m.now) m.now ≡ []
   pub sound : IsSoundJournal p.halves p.frozen.items p.named_marks.items p.other_marks.items p.due.items None m

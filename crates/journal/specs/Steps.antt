@@ -84,9 +84,12 @@ pub record IsUnfinished (log : Log) (bytes : List ℕ) (m : Medium) : Type 0 whe
   pub reads : read log.geometry bytes
       ≡ run_on log.geometry (read log.geometry (image_in log.geometry log.named m)) (front (layout_of log.geometry) log.named m.now)
 
--- The other area is named and stands for the same by itself, and nothing is loose. Its half has the records that it had.
+-- The other area is named and stands for the same by itself, and nothing is loose. Its half has the records that it had, and its image is
+-- that of what the area named before held by itself.
 pub record IsFinished (log : Log) (old new : Medium) : Type 0 where
   pub stands : IsStanding log.geometry (other log.named) (other log.named) (holds log.geometry old.now) new
+  pub reads : read log.geometry (image_in log.geometry (other log.named) new)
+      ≡ run_on log.geometry (read log.geometry (image_in log.geometry log.named old)) (front (layout_of log.geometry) log.named old.now)
   pub front : front (layout_of log.geometry) (other log.named) new.now ≡ front (layout_of log.geometry) (other log.named) old.now
   pub named : named_area (layout_of log.geometry) new.now ≡ other log.named
   pub calm : IsSynced new

@@ -1,10 +1,15 @@
 //! The journal of a server: what was carried out, on a device that a crash may tear at any moment.
-ghost use Rattle.std.specs.Prelude.{◌≡◌, ◌-◌, ◌≤◌, ◌++◌, ℕ, List, true, false, Some, None, [], length, is_some, option_map, OnOk, OnErr, IfOk};
+ghost use Rattle.std.specs.Prelude.{◌≡◌, ◌≢◌, ◌-◌, ◌*◌, ◌≤◌, ◌++◌, ℕ, List, true, false, Some, None, [], length, is_some, option_map, OnOk, OnErr, IfOk};
 ghost use Rattle.checkpoint.specs.Recovery.{holds};
+ghost use Rattle.checkpoint.specs.Version.{named_version};
 ghost use Rattle.disk.specs.Moments.{LeavesOnly};
 ghost use Rattle.image.specs.Pieces.{piece_count};
+ghost use Rattle.journal.specs.Images.{KeepsImages, PatchesOne};
 ghost use Rattle.journal.specs.Journal.{JournalView, AreCarriedOut, HoldsSome, IsSettled, after_call, records, settled};
 ghost use Rattle.journal.specs.Marks.{AreBothTouched, count_marked, cut_marks, flipped_marks, pointed_marks};
+ghost use Rattle.oplog.specs.Beyond.{KeepsBeyond};
+ghost use Rattle.oplog.specs.Costs.{Takes, batches};
+ghost use Rattle.oplog.specs.Layout.{layout_of};
 ghost use Rattle.oplog.specs.Log.{CountsLogFault, IsNotBad};
 ghost use Rattle.oplog.specs.Logged.{AreLogged, records_of};
 ghost use Rattle.parcel.specs.Tree.{IsWholeTree, state_in};
@@ -125,12 +130,14 @@ impl<D: Disk> Journal<D> {
         // the messages run on it.
         ensures any_moment { D.keeps → (x : State) → settled self.old ≡ Some x →
             LeavesOnly self.old.medium self.new.medium (HoldsSome self.old.geometry x messages.now) }
+        ensures beyond { D.keeps → KeepsBeyond (layout_of self.old.geometry) self.old.medium self.new.medium }
         ensures settled { OnOk result (D.keeps →
             settled self.new ≡ option_map (λ x. fold self.old.geometry x messages.now) (settled self.old)) }
         ensures records { OnOk result (D.keeps → records self.new ≡ records self.old ++ records_of messages.now) }
         ensures sound { OnOk result (D.keeps → IsSettled self.new) }
         ensures marked { OnOk result (AreBothTouched self.old.geometry messages.now self.old.marks self.new.marks) }
         ensures none { length messages.now ≡ 0 → self.new ≡ self.old }
+        ensures takes { D.keeps → Takes result (4 * batches (length messages.now)) self.old.medium self.new.medium }
         ensures after { self.new ≡ after_call result
             (record self.old { room = self.old.room - length messages.now; marks = self.new.marks; medium = self.new.medium })
             self.old }
@@ -158,9 +165,11 @@ impl<D: Disk> Journal<D> {
         // A crash at any moment of the call leaves a device that stands for what was settled.
         ensures any_moment { D.keeps → LeavesOnly self.old.medium self.new.medium
             (λ c. holds self.old.geometry c ≡ settled self.old) }
+        ensures beyond { D.keeps → KeepsBeyond (layout_of self.old.geometry) self.old.medium self.new.medium }
         ensures settled { OnOk result (D.keeps → settled self.new ≡ settled self.old) }
         ensures sound { OnOk result (D.keeps → IsSettled self.new) }
         ensures emptied { OnOk result (D.keeps → records self.new ≡ []) }
+        ensures version { OnOk result (D.keeps → named_version self.new.geometry self.new.medium.now ≡ 2) }
         ensures after { self.new ≡ after_call result
             (record self.old { room = self.old.geometry.half; marks = pointed_marks self.old.marks; medium = self.new.medium })
             self.old }
@@ -191,6 +200,7 @@ impl<D: Disk> Journal<D> {
         requires state { D.keeps → settled self.old ≡ Some (state_in tree.now) }
         ensures any_moment { D.keeps → LeavesOnly self.old.medium self.new.medium
             (λ c. holds self.old.geometry c ≡ settled self.old) }
+        ensures beyond { D.keeps → KeepsBeyond (layout_of self.old.geometry) self.old.medium self.new.medium }
         ensures settled { OnOk result (D.keeps → settled self.new ≡ settled self.old) }
         ensures sound { OnOk result (D.keeps → IsSettled self.new) }
         ensures records { OnOk result (D.keeps → records self.new ≡ records self.old) }
@@ -201,6 +211,8 @@ impl<D: Disk> Journal<D> {
           medium = self.new.medium;
         }) }
         ensures few { OnOk result (count_marked self.old.marks.others ≤ piece_count self.old.geometry) }
+        ensures images { OnOk result (D.keeps → KeepsImages self.old.geometry self.old.medium.now self.new.medium.now) }
+        ensures takes { D.keeps → Takes result 4 self.old.medium self.new.medium }
         ensures broken { OnErr result (self.new ≡ record self.old { failed = true; medium = self.new.medium }) }
         ensures not_bad { IsNotBad result }
         ensures counts { CountsLogFault result self.old.medium.faults self.new.medium.faults }
@@ -223,10 +235,16 @@ impl<D: Disk> Journal<D> {
         requires running { is_some self.old.left ≡ true }
         ensures any_moment { D.keeps → LeavesOnly self.old.medium self.new.medium
             (λ c. holds self.old.geometry c ≡ settled self.old) }
+        ensures beyond { D.keeps → KeepsBeyond (layout_of self.old.geometry) self.old.medium self.new.medium }
         ensures settled { OnOk result (D.keeps → settled self.new ≡ settled self.old) }
         ensures sound { OnOk result (D.keeps → IsSettled self.new) }
         ensures records { OnOk result (D.keeps → records self.new ≡ records self.old) }
         ensures left { IfOk result (λ n. option_map (λ l. l - 1) self.old.left ≡ Some n) }
+
+        // It writes one piece, in one write, unless none is left.
+        ensures one { OnOk result (self.old.left ≢ Some 0 → D.keeps →
+            PatchesOne self.old.geometry self.old.medium.now self.new.medium.now) }
+        ensures takes { self.old.left ≢ Some 0 → D.keeps → Takes result 1 self.old.medium self.new.medium }
         ensures none { self.old.left ≡ Some 0 → self.new ≡ self.old }
         ensures after { self.new ≡ after_call result
             (record self.old { left = option_map (λ l. l - 1) self.old.left; medium = self.new.medium }) self.old }
@@ -256,10 +274,16 @@ impl<D: Disk> Journal<D> {
         requires written { self.old.left ≡ Some 0 }
         ensures any_moment { D.keeps → LeavesOnly self.old.medium self.new.medium
             (λ c. holds self.old.geometry c ≡ settled self.old) }
+        ensures beyond { D.keeps → KeepsBeyond (layout_of self.old.geometry) self.old.medium self.new.medium }
         ensures settled { OnOk result (D.keeps → settled self.new ≡ settled self.old) }
         ensures sound { OnOk result (D.keeps → IsSettled self.new) }
         ensures records { OnOk result (D.keeps →
             (first : List (List ℕ)) × (records self.old ≡ first ++ records self.new)) }
+        ensures version { OnOk result (D.keeps → named_version self.new.geometry self.new.medium.now ≡ 2) }
+
+        // It writes no piece: all were written before.
+        ensures images { OnOk result (D.keeps → KeepsImages self.old.geometry self.old.medium.now self.new.medium.now) }
+        ensures takes { D.keeps → Takes result 3 self.old.medium self.new.medium }
         ensures after { self.new ≡ after_call result
             (record self.old { left = None; marks = flipped_marks self.old.marks; medium = self.new.medium }) self.old }
         ensures not_bad { IsNotBad result }

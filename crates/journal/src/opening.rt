@@ -1,5 +1,6 @@
 //! A journal is opened, over a device that a crash may have left.
-ghost use Rattle.std.specs.Prelude.{◌≡◌, ◌↔◌, ◌+◌, ◌*◌, ◌<◌, ◌≤◌, true, false, None, Some, length, IfErr, IfOk, MatchResult, OnOk};
+ghost use Rattle.std.specs.Prelude.{◌≡◌, ◌≢◌, ◌↔◌, ◌+◌, ◌*◌, ◌<◌, ◌≤◌, true, false, None, Some, length, IfErr, IfOk, MatchResult, OnOk};
+ghost use Rattle.affinity.specs.declared.geometry.Geometry.{Geometry};
 ghost use Rattle.checkpoint.specs.declared.fault.OpenFault.TheVariants.{Device, OutOfMemory};
 ghost use Rattle.checkpoint.specs.Header.{HasHeader};
 ghost use Rattle.checkpoint.specs.Loading.{IsOpeningCall, NamedHolds};
@@ -11,7 +12,8 @@ ghost use Rattle.image.specs.Image.{image_of};
 ghost use Rattle.journal.specs.Opening.{IsOpened, IsRefusedUnwritten, OpeningLeaves, StandsAs};
 ghost use Rattle.journal.specs.Parts.{AreLoaded, AreUnloaded, IsBad, IsMade, IsMadeOf, IsRefusedAlike, KeepsRoom};
 ghost use Rattle.journal.specs.Steps.{IsAlone, IsFinished, IsPointed, StandsStill, finished_now, pointed};
-ghost use Rattle.oplog.specs.Layout.{device_size, layout_of, other};
+ghost use Rattle.oplog.specs.Beyond.{KeepsBeyond};
+ghost use Rattle.oplog.specs.Layout.{Layout, device_size, layout_of, other};
 ghost use Rattle.oplog.specs.Log.{IsLogCall, IsNotBad};
 ghost use Rattle.parcel.specs.Tree.{IsWholeTree, state_in};
 
@@ -76,6 +78,7 @@ fn settle<D: Disk>(disk: &mut D) -> Result<(), OpenFault>
     ensures any_moment { D.keeps →
         LeavesOnly (D.medium disk.old) (D.medium disk.new) (Leaves (D.medium disk.old)) }
     ensures now { D.keeps → (D.medium disk.new).now ≡ (D.medium disk.old).now }
+    ensures beyond { D.keeps → (l : Layout) → KeepsBeyond l (D.medium disk.old) (D.medium disk.new) }
     ensures calm { OnOk result (D.keeps → IsSynced (D.medium disk.new)) }
     ensures device { IfErr result (λ e. e ≡ Device) }
     ensures call { IsOpeningCall result (D.medium disk.old) (D.medium disk.new) }
@@ -95,6 +98,7 @@ fn finish_cut<D: Disk>(parts: &mut Parts, disk: &mut D) -> Result<(), LogFault>
         NamedHolds parts.old.halves.geometry (D.medium disk.old).now parts.old.halves.named true (state_in parts.old.tree) }
     ensures any_moment { D.keeps →
         StandsStill parts.old.halves.geometry (D.medium disk.old) (D.medium disk.new) }
+    ensures beyond { D.keeps → KeepsBeyond (layout_of parts.old.halves.geometry) (D.medium disk.old) (D.medium disk.new) }
     ensures alike { D.keeps →
         LeavesOnly (D.medium disk.old) (D.medium disk.new) (IsRefusedAlike parts.old.halves.geometry (D.medium disk.old).now) }
     ensures finished { OnOk result (D.keeps →
@@ -118,6 +122,7 @@ fn replay_behind<D: Disk>(parts: &mut Parts, disk: &mut D) -> Result<(), OpenFau
         NamedHolds parts.old.halves.geometry (D.medium disk.old).now parts.old.halves.named true (state_in parts.old.tree) }
     ensures any_moment { D.keeps →
         StandsStill parts.old.halves.geometry (D.medium disk.old) (D.medium disk.new) }
+    ensures beyond { D.keeps → KeepsBeyond (layout_of parts.old.halves.geometry) (D.medium disk.old) (D.medium disk.new) }
     ensures alike { D.keeps →
         LeavesOnly (D.medium disk.old) (D.medium disk.new) (IsRefusedAlike parts.old.halves.geometry (D.medium disk.old).now) }
     ensures alone { OnOk result (D.keeps → IsAlone parts.new.halves (D.medium disk.new)) }
@@ -127,7 +132,7 @@ fn replay_behind<D: Disk>(parts: &mut Parts, disk: &mut D) -> Result<(), OpenFau
         refused parts.old.halves.geometry (D.medium disk.old).now ≡ None) }
     ensures refused { IfErr result (λ e. D.keeps → IsRefused (D.medium disk.old).now e) }
     ensures behind { IfErr result (λ e. D.keeps →
-        IsBad parts.old.halves.geometry (other parts.old.halves.named) (D.medium disk.new) e) }
+        IsBad parts.old.halves.geometry (other parts.old.halves.named) (D.medium disk.old) (D.medium disk.new) e) }
     ensures loaded { OnOk result (AreLoaded parts.new (D.medium disk.new)) }
     ensures geometry { OnOk result (parts.new.halves.geometry ≡ parts.old.halves.geometry) }
     ensures room { OnOk result (KeepsRoom parts.old parts.new) }
@@ -153,6 +158,7 @@ fn load_in_turn<D: Disk>(
     requires calm { D.keeps → IsSynced (D.medium disk.old) }
     ensures any_moment { D.keeps →
         StandsStill parts.old.tree.geometry (D.medium disk.old) (D.medium disk.new) }
+    ensures beyond { D.keeps → KeepsBeyond (layout_of parts.old.tree.geometry) (D.medium disk.old) (D.medium disk.new) }
     ensures alike { D.keeps →
         LeavesOnly (D.medium disk.old) (D.medium disk.new) (IsRefusedAlike parts.old.tree.geometry (D.medium disk.old).now) }
     ensures alone { OnOk result (D.keeps → IsAlone parts.new.halves (D.medium disk.new)) }
@@ -163,6 +169,7 @@ fn load_in_turn<D: Disk>(
     ensures refused { IfErr result (λ e. D.keeps → IsRefused (D.medium disk.old).now e) }
     ensures unwritten { IfErr result (λ e. D.keeps →
         IsRefusedUnwritten (D.medium disk.old) e (D.medium disk.new)) }
+    ensures synced { IfErr result (λ e. e ≢ Device → D.keeps → IsSynced (D.medium disk.new)) }
     ensures loaded { OnOk result (AreLoaded parts.new (D.medium disk.new)) }
     ensures geometry { OnOk result (parts.new.halves.geometry ≡ parts.old.tree.geometry) }
     ensures room { OnOk result (KeepsRoom parts.old parts.new) }
@@ -184,6 +191,7 @@ fn last_point<D: Disk>(parts: &mut Parts, disk: &mut D) -> Result<(), OpenFault>
         holds parts.old.halves.geometry (D.medium disk.old).now ≡ Some (state_in parts.old.tree) }
     ensures any_moment { D.keeps →
         StandsStill parts.old.halves.geometry (D.medium disk.old) (D.medium disk.new) }
+    ensures beyond { D.keeps → KeepsBeyond (layout_of parts.old.halves.geometry) (D.medium disk.old) (D.medium disk.new) }
     ensures pointed { OnOk result (D.keeps →
         IsPointed parts.old.halves parts.new.frozen.items (D.medium disk.old) (D.medium disk.new)) }
     ensures frozen { parts.new.frozen.items ≡ image_of 2 parts.old.tree.geometry (state_in parts.old.tree) }
@@ -203,6 +211,8 @@ fn open_settled<D: Disk>(alloc: Global, disk: &mut D) -> Result<Parts, OpenFault
     requires calm { D.keeps → IsSynced (D.medium disk.old) }
     ensures any_moment { D.keeps →
         LeavesOnly (D.medium disk.old) (D.medium disk.new) (StandsAs (D.medium disk.old).now) }
+    ensures beyond { D.keeps → (g : Geometry) → HasHeader g (D.medium disk.old).now
+        → KeepsBeyond (layout_of g) (D.medium disk.old) (D.medium disk.new) }
     ensures made_of { IfOk result (λ p. D.keeps →
         IsMadeOf (D.medium disk.old).now p (D.medium disk.new)) }
     ensures made { IfOk result (λ p. IsMade p (D.medium disk.new)) }
@@ -210,6 +220,7 @@ fn open_settled<D: Disk>(alloc: Global, disk: &mut D) -> Result<Parts, OpenFault
     ensures refused { IfErr result (λ e. D.keeps → IsRefused (D.medium disk.old).now e) }
     ensures unwritten { IfErr result (λ e. D.keeps →
         IsRefusedUnwritten (D.medium disk.old) e (D.medium disk.new)) }
+    ensures synced { IfErr result (λ e. e ≢ Device → D.keeps → IsSynced (D.medium disk.new)) }
     ensures memory { IfErr result (λ e. e ≡ OutOfMemory → D.keeps → IsDevice (D.medium disk.old).now) }
     ensures call { IsOpeningCall result (D.medium disk.old) (D.medium disk.new) }
 {
@@ -223,6 +234,8 @@ fn open_settled<D: Disk>(alloc: Global, disk: &mut D) -> Result<Parts, OpenFault
 /// Opens any device: the first sync makes last what is loose.
 fn open_on<D: Disk>(alloc: Global, disk: &mut D) -> Result<Parts, OpenFault>
     ensures any_moment { D.keeps → OpeningLeaves (D.medium disk.old) (D.medium disk.new) }
+    ensures beyond { D.keeps → (g : Geometry) → HasHeader g (D.medium disk.old).now
+        → KeepsBeyond (layout_of g) (D.medium disk.old) (D.medium disk.new) }
     ensures made_of { IfOk result (λ p. D.keeps →
         IsMadeOf (D.medium disk.old).now p (D.medium disk.new)) }
     ensures made { IfOk result (λ p. IsMade p (D.medium disk.new)) }
@@ -230,6 +243,7 @@ fn open_on<D: Disk>(alloc: Global, disk: &mut D) -> Result<Parts, OpenFault>
     ensures refused { IfErr result (λ e. D.keeps → IsRefused (D.medium disk.old).now e) }
     ensures unwritten { IfErr result (λ e. D.keeps →
         IsRefusedUnwritten (D.medium disk.old) e (D.medium disk.new)) }
+    ensures synced { IfErr result (λ e. e ≢ Device → D.keeps → IsSynced (D.medium disk.new)) }
     ensures memory { IfErr result (λ e. e ≡ OutOfMemory → D.keeps → IsDevice (D.medium disk.old).now) }
     ensures call { IsOpeningCall result (D.medium disk.old) (D.medium disk.new) }
 {
@@ -256,9 +270,17 @@ pub fn open<D: Disk>(alloc: Global, d: D) -> Result<(Journal<D>, Tree), OpenErro
     ensures any_moment { D.keeps → MatchResult result
         (λ r. OpeningLeaves (D.medium d) r.0.medium)
         (λ e. OpeningLeaves (D.medium d) (D.medium e.disk)) }
+
+    // What a longer device has behind its parts stays, also in what a crash leaves.
+    ensures beyond { D.keeps → (g : Geometry) → HasHeader g (D.medium d).now → MatchResult result
+        (λ r. KeepsBeyond (layout_of g) (D.medium d) r.0.medium)
+        (λ e. KeepsBeyond (layout_of g) (D.medium d) (D.medium e.disk)) }
     ensures refused { IfErr result (λ e. D.keeps → IsRefused (D.medium d).now e.fault) }
     ensures unwritten { IfErr result (λ e. D.keeps →
         IsRefusedUnwritten (D.medium d) e.fault (D.medium e.disk)) }
+
+    // The first sync comes before all else: only a fault of the device leaves something loose.
+    ensures synced { IfErr result (λ e. e.fault ≢ OpenFault.Device → D.keeps → IsSynced (D.medium e.disk)) }
     ensures memory { IfErr result (λ e. e.fault ≡ OpenFault.OutOfMemory →
         D.keeps → IsDevice (D.medium d).now) }
     ensures device { IfErr result (λ e. e.fault ≡ OpenFault.Device

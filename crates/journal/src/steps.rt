@@ -8,8 +8,10 @@ ghost use Rattle.image.specs.Pieces.{piece_count};
 ghost use Rattle.journal.specs.Parts.{IsRefusedAlike};
 ghost use Rattle.journal.specs.Steps.{IsAlone, IsBegun, IsFinished, IsFlipped, IsPointed, IsUnfinished, IsWritten, StandsStill, cut_now, finished_now, named_now, pointed};
 ghost use Rattle.journal.specs.Stretches.{AgreeUnmarked, AreAllMarked, image_in};
+ghost use Rattle.oplog.specs.Beyond.{KeepsBeyond};
 ghost use Rattle.oplog.specs.Calls.{HasParts};
-ghost use Rattle.oplog.specs.Layout.{image_size, other};
+ghost use Rattle.oplog.specs.Costs.{Takes};
+ghost use Rattle.oplog.specs.Layout.{image_size, layout_of, other};
 ghost use Rattle.oplog.specs.Log.{IsLogCall, IsNotBad};
 ghost use Rattle.plain.specs.State.{State};
 
@@ -37,6 +39,7 @@ pub(crate) fn point_on<D: Disk>(
         (image_in halves.old.geometry (other halves.old.named) (D.medium disk.old)) bytes.now }
     ensures any_moment { D.keeps →
         StandsStill halves.old.geometry (D.medium disk.old) (D.medium disk.new) }
+    ensures beyond { D.keeps → KeepsBeyond (layout_of halves.old.geometry) (D.medium disk.old) (D.medium disk.new) }
     ensures pointed { OnOk result (D.keeps →
         IsPointed halves.old bytes.now (D.medium disk.old) (D.medium disk.new)) }
     ensures log { OnOk result (halves.new ≡ pointed halves.old) }
@@ -63,8 +66,10 @@ pub(crate) fn cut_on<D: Disk>(halves: &mut Halves, disk: &mut D) -> Result<(), L
     requires alone { D.keeps → IsAlone halves.old (D.medium disk.old) }
     ensures any_moment { D.keeps →
         StandsStill halves.old.geometry (D.medium disk.old) (D.medium disk.new) }
+    ensures beyond { D.keeps → KeepsBeyond (layout_of halves.old.geometry) (D.medium disk.old) (D.medium disk.new) }
     ensures begun { OnOk result (D.keeps →
         IsBegun halves.old (D.medium disk.old) (D.medium disk.new)) }
+    ensures takes { D.keeps → Takes result 4 (D.medium disk.old) (D.medium disk.new) }
     ensures log { OnOk result (halves.new ≡ cut_now halves.old) }
     ensures geometry { halves.new.geometry ≡ halves.old.geometry }
     ensures used { OnErr result (halves.new.used ≡ halves.old.used) }
@@ -88,8 +93,10 @@ pub(crate) fn flip_on<D: Disk>(
     requires written { D.keeps → IsWritten halves.old bytes.now (D.medium disk.old) }
     ensures any_moment { D.keeps →
         StandsStill halves.old.geometry (D.medium disk.old) (D.medium disk.new) }
+    ensures beyond { D.keeps → KeepsBeyond (layout_of halves.old.geometry) (D.medium disk.old) (D.medium disk.new) }
     ensures flipped { OnOk result (D.keeps →
         IsFlipped halves.old (D.medium disk.old) (D.medium disk.new)) }
+    ensures takes { D.keeps → Takes result 3 (D.medium disk.old) (D.medium disk.new) }
     ensures log { OnOk result (halves.new ≡ named_now halves.old) }
     ensures geometry { halves.new.geometry ≡ halves.old.geometry }
     ensures used { OnErr result (halves.new.used ≡ halves.old.used) }
@@ -121,6 +128,7 @@ pub(crate) fn finish_on<D: Disk>(
     requires unfinished { D.keeps → IsUnfinished halves.old bytes.now (D.medium disk.old) }
     ensures any_moment { D.keeps →
         StandsStill halves.old.geometry (D.medium disk.old) (D.medium disk.new) }
+    ensures beyond { D.keeps → KeepsBeyond (layout_of halves.old.geometry) (D.medium disk.old) (D.medium disk.new) }
     ensures alike { D.keeps → (x : State) → read halves.old.geometry bytes.now ≡ Some x
         → NamedHolds halves.old.geometry (D.medium disk.old).now halves.old.named true x
         → LeavesOnly (D.medium disk.old) (D.medium disk.new) (IsRefusedAlike halves.old.geometry (D.medium disk.old).now) }

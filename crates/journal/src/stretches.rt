@@ -4,6 +4,7 @@ ghost use Rattle.disk.specs.Device.{IsDeviceCall, Syncs, overlaid};
 ghost use Rattle.image.specs.Pieces.{piece_count, piece_size};
 ghost use Rattle.journal.specs.Stretches.{AgreeUnmarked, Imaged, IsPatchedAt, image_in, stretch_size};
 ghost use Rattle.oplog.specs.Changes.{ChangesOnly, IsReady, IsSameBut};
+ghost use Rattle.oplog.specs.Costs.{Takes};
 ghost use Rattle.oplog.specs.Layout.{slice, layout_of, device_size, image, image_size};
 
 use affinity::Geometry;
@@ -46,6 +47,7 @@ fn write_run<D: Disk>(
     ensures same { D.keeps → IsSameBut (layout_of g.now) (image area) (D.medium disk.old).now (D.medium disk.new).now }
     ensures ready { D.keeps → (h k : ℕ) → h < 2 → IsReady (layout_of g.now) h k (D.medium disk.old)
         → IsReady (layout_of g.now) h k (D.medium disk.new) }
+    ensures takes { from < end → D.keeps → Takes result 1 (D.medium disk.old) (D.medium disk.new) }
     ensures inside { IsErrOf result DiskFault.OutOfRange → ⊥ }
     ensures call { IsDeviceCall result (D.medium disk.old) (D.medium disk.new) }
 {
@@ -58,6 +60,7 @@ fn write_run<D: Disk>(
 /// Makes last what was written of an image, before it is named: at `Ok` a crash leaves it.
 pub(crate) fn make_last<D: Disk>(disk: &mut D) -> Result<(), DiskFault>
     ensures syncs { D.keeps → Syncs result (D.medium disk.old) (D.medium disk.new) }
+    ensures takes { D.keeps → Takes result 1 (D.medium disk.old) (D.medium disk.new) }
     ensures inside { IsErrOf result DiskFault.OutOfRange → ⊥ }
     ensures call { IsDeviceCall result (D.medium disk.old) (D.medium disk.new) }
 {
@@ -121,6 +124,7 @@ pub(crate) fn write_stretch<D: Disk>(
     ensures same { D.keeps → IsSameBut (layout_of g.now) (image area) (D.medium disk.old).now (D.medium disk.new).now }
     ensures ready { D.keeps → (h k : ℕ) → h < 2 → IsReady (layout_of g.now) h k (D.medium disk.old)
         → IsReady (layout_of g.now) h k (D.medium disk.new) }
+    ensures takes { D.keeps → Takes result 1 (D.medium disk.old) (D.medium disk.new) }
     ensures inside { IsErrOf result DiskFault.OutOfRange → ⊥ }
     ensures call { IsDeviceCall result (D.medium disk.old) (D.medium disk.new) }
 {

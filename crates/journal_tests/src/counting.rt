@@ -43,20 +43,6 @@ const ACTS: [(Act, [u64; 3]); 18] = [
     (Act::End, [1, 2, 1]),
 ];
 
-/// The calls that opening a new device and the first m of the acts make.
-fn counts_of(alloc: Global, acts: usize) -> Result<Counts, Wrong> {
-    let Ok(mut server) = Server::open(alloc, device_with(alloc, SMALL, &[])?) else {
-        return Err(Wrong::Unfit);
-    };
-    for (act, _) in ACTS.iter().take(acts) {
-        let messages = messages_of(alloc, act.changes())?;
-        if server.act(act, messages.as_slice()).is_err() {
-            return Err(Wrong::Unfit);
-        }
-    }
-    Ok(server.into_device().1)
-}
-
 /// There are `reads` more reads, and `more` writes, syncs and bytes.
 fn are_more(rt: &impl Abort, before: &Counts, after: &Counts, reads: u64, more: [u64; 3]) {
     let [writes, syncs, written] = more;
@@ -68,11 +54,15 @@ fn are_more(rt: &impl Abort, before: &Counts, after: &Counts, reads: u64, more: 
 
 #[test]
 fn each_act_takes_few_calls(rt: HostRuntime) -> Result<(), Fail> {
-    let mut before = counts_of(rt.alloc(), 0)?;
-    for (number, (_, more)) in ACTS.iter().enumerate() {
-        let after = counts_of(rt.alloc(), number + 1)?;
-        are_more(&rt, &before, &after, 0, *more);
-        before = after;
+    let alloc = rt.alloc();
+    let Ok(mut server) = Server::open(alloc, device_with(alloc, SMALL, &[])?) else {
+        return Err(Wrong::Unfit.into());
+    };
+    for (act, more) in ACTS {
+        let before = server.counts();
+        let messages = messages_of(alloc, act.changes())?;
+        holds(&rt, server.act(&act, messages.as_slice()).is_ok());
+        are_more(&rt, &before, &server.counts(), 0, more);
     }
     Ok(())
 }
@@ -130,15 +120,14 @@ fn calls_of_opening(alloc: Global) -> Result<u64, Wrong> {
     }
 }
 
-/// Whether `count` messages are logged in one batch on a device that stops at the n-th call of that, and the device.
-fn logged_until(alloc: Global, count: usize, n: u64) -> Result<(bool, MemDisk), Wrong> {
+/// Whether these messages are logged by one call on a device that stops at the n-th call of that, and the device.
+fn logged_until(alloc: Global, messages: &[Msg], n: u64) -> Result<(bool, MemDisk), Wrong> {
     let mut device = device_with(alloc, LONG, &[])?;
     device.stop_at(calls_of_opening(alloc)?.saturating_add(n.max(1)));
     let Ok(mut server) = Server::open(alloc, device) else {
         return Err(Wrong::Unfit);
     };
-    let messages = seals(alloc, count)?;
-    let logged = server.log(messages.as_slice());
+    let logged = server.log(messages);
     if logged == Err(Halt::Unfit) || logged.is_err() != server.failed() {
         return Err(Wrong::Unfit);
     }
@@ -155,7 +144,8 @@ fn leaves(
     kind: usize,
     records: usize,
 ) -> Result<(), Wrong> {
-    let (_, device) = logged_until(alloc, count, n)?;
+    let (is_logged, device) = logged_until(alloc, seals(alloc, count)?.as_slice(), n)?;
+    holds(rt, !is_logged);
     let Ok((shown, _)) = inspect(alloc, device.crash(torn(alloc, kind)?)) else {
         return Err(Wrong::Unfit);
     };
@@ -171,13 +161,10 @@ fn leaves(
 
 #[test]
 fn a_batch_is_four_calls(rt: HostRuntime) -> Result<(), Fail> {
-    for (count, calls) in [(0, 0), (1, 4), (3, 4), (64, 4), (65, 8), (70, 8), (128, 8)] {
-        let (is_logged, _) = logged_until(rt.alloc(), count, calls + 1)?;
-        holds(&rt, is_logged);
-        if calls > 0 {
-            let (is_logged, _) = logged_until(rt.alloc(), count, calls)?;
-            holds(&rt, !is_logged);
-        }
+    let messages = messages_of(rt.alloc(), &["makevol 0 0", "seal 0 0", "unseal 0 0"])?;
+    for (stop, is_logged) in [(4, false), (5, true)] {
+        let (was_logged, _) = logged_until(rt.alloc(), messages.as_slice(), stop)?;
+        holds(&rt, was_logged == is_logged);
     }
     Ok(())
 }
@@ -197,6 +184,11 @@ const LEFT: [(u64, usize, usize); 8] = [
 
 #[test]
 fn a_long_log_is_two_batches(rt: HostRuntime) -> Result<(), Fail> {
+    let many = seals(rt.alloc(), 70)?;
+    let (is_logged, device) = logged_until(rt.alloc(), many.as_slice(), 9)?;
+    holds(&rt, is_logged);
+    let calls = calls_of_opening(rt.alloc())?;
+    counts(&rt, device.calls(), calls.saturating_add(8));
     for (n, old, new) in LEFT {
         leaves(&rt, rt.alloc(), 70, n, OLD, old)?;
         leaves(&rt, rt.alloc(), 70, n, NEW, new)?;

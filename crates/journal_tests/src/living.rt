@@ -103,3 +103,16 @@ fn an_interrupted_cut_of_version_1_survives(rt: HostRuntime) -> Result<(), Fail>
     let calls = OPENING + 4 + 4 + BATCH;
     Ok(survives(&rt, rt.alloc(), &INTERRUPTED, calls)?)
 }
+
+/// A device whose named image, of version 1, has a volume.
+const VERSION_1: Script = Script {
+    numbers: SMALL,
+    changes: &[(4424, 1), (4488, 1)],
+    before: &["makevol 0 0"],
+    acts: &[],
+};
+
+#[test]
+fn an_image_of_version_1_survives_its_opening(rt: HostRuntime) -> Result<(), Fail> {
+    Ok(survives(&rt, rt.alloc(), &VERSION_1, OPENING)?)
+}

@@ -4,8 +4,8 @@ use affinity::Geometry;
 use checkpoint::{OpenFault, inspect};
 use disk::MemDisk;
 use harness::{
-    Ended, OpenedDevice, Progress, Questions, Server, Trial, Wrong, device_with, expected, find,
-    sweep,
+    Act, Ended, KINDS, OpenedDevice, Progress, Questions, Server, Trial, Wrong, device_with,
+    expected, find, messages_of, sweep, torn,
 };
 use message::Reply;
 use std::alloc::Global;
@@ -162,6 +162,9 @@ fn is_opened(
         !server.failed() && server.left().is_none() && server.room() == 4,
     );
     let (device, _) = server.into_device();
+    let image = if area == 0 { 4424 } else { 6632 };
+    holds(rt, (device.bytes().get(64) == Some(&1)) == (area == 1));
+    holds(rt, device.bytes().get(image) == Some(&2));
     let Ok((shown, _)) = inspect(alloc, device) else {
         return Err(Wrong::Unfit);
     };
@@ -181,13 +184,22 @@ fn what_a_device_stands_for_is_opened(rt: HostRuntime) -> Result<(), Fail> {
     Ok(())
 }
 
-/// A cut was in progress, and the record after it is none.
-const BAD_BEHIND: [(usize, u8); 2] = [(128, 1), (2340, 1)];
+/// A cut was in progress, and the record after it is none. Then what the first bytes of the volume's piece are in image 1
+/// once it is refused: whether the volume is made, and of which files.
+const BAD_BEHIND: [(&[(usize, u8)], [u8; 2]); 2] = [
+    (&[(128, 1), (2340, 1)], [0, 0]),
+    // Image 0 has the volume, and the record of half 0 makes its file 1.
+    (
+        &[(4488, 1), (128, 1), (192, 1), (196, 3), (199, 1), (2340, 1)],
+        [1, 2],
+    ),
+];
 
-/// The opening of that device.
+/// The opening of such a device.
 #[derive(Drop)]
 struct Refusal {
     questions: Questions,
+    changes: &'static [(usize, u8)],
 }
 
 impl Trial for Refusal {
@@ -196,7 +208,7 @@ impl Trial for Refusal {
     }
 
     fn device(&self, alloc: Global) -> Result<MemDisk, Wrong> {
-        device_with(alloc, SMALL, &BAD_BEHIND)
+        device_with(alloc, SMALL, self.changes)
     }
 
     fn run(&self, alloc: Global, device: MemDisk) -> Result<Ended, Wrong> {
@@ -214,18 +226,31 @@ impl Trial for Refusal {
     }
 }
 
+/// It stays refused whatever call fails, and then area 1 is named, with what the cut froze.
+fn stays_refused(
+    rt: &impl Abort,
+    alloc: Global,
+    trial: &Refusal,
+    volume: [u8; 2],
+) -> Result<(), Wrong> {
+    sweep(alloc, trial)?;
+    let Ended { device, progress } = trial.run(alloc, trial.device(alloc)?)?;
+    let [made, files] = volume;
+    holds(rt, progress.is_whole);
+    holds(rt, device.bytes().get(64) == Some(&1));
+    holds(rt, device.bytes().get(6632) == Some(&2));
+    holds(rt, device.bytes().get(6632 + 64) == Some(&made));
+    holds(rt, device.bytes().get(6632 + 72) == Some(&files));
+    is_refused(rt, alloc, device, OpenFault::BadRecord(1, 0))
+}
+
 #[test]
 fn a_bad_record_behind_a_cut_stays_one(rt: HostRuntime) -> Result<(), Fail> {
-    let questions = Questions::new(rt.alloc(), &Geometry::new(SMALL)?)?;
-    let trial = Refusal { questions };
-    sweep(rt.alloc(), &trial)?;
-    let device = trial.device(rt.alloc())?;
-    let Ended { device, progress } = trial.run(rt.alloc(), device)?;
-    // The cut was ended: area 1 is named, whose half is no other's.
-    holds(&rt, progress.is_whole);
-    holds(&rt, device.bytes().get(64) == Some(&1));
-    holds(&rt, device.bytes().get(6632) == Some(&2));
-    is_refused(&rt, rt.alloc(), device, OpenFault::BadRecord(1, 0))?;
+    for (changes, volume) in BAD_BEHIND {
+        let questions = Questions::new(rt.alloc(), &Geometry::new(SMALL)?)?;
+        let trial = Refusal { questions, changes };
+        stays_refused(&rt, rt.alloc(), &trial, volume)?;
+    }
     Ok(())
 }
 
@@ -261,4 +286,45 @@ fn a_device_is_opened_at_the_next_try(rt: HostRuntime) -> Result<(), Fail> {
         }
         Err(e) => Err(e.fault.into()),
     }
+}
+
+/// How many bytes a longer device has behind its parts.
+const BEHIND: usize = 600;
+
+/// What is done on a longer device: each call of a journal.
+const ALL_CALLS: [Act; 7] = [
+    Act::Log(&["makevol 0 0"]),
+    Act::Point,
+    Act::Log(&["create 0 0 0", "write 0 0 0 0 61"]),
+    Act::Cut,
+    Act::Log(&["write 0 0 0 1 62"]),
+    Act::Piece,
+    Act::End,
+];
+
+/// The formatted device, and these bytes behind it.
+fn longer_device(alloc: Global) -> Result<MemDisk, Wrong> {
+    let device = device_with(alloc, SMALL, &[])?;
+    let mut bytes = device.bytes().to_vec(alloc)?;
+    bytes.extend_from_slice(&[9; BEHIND])?;
+    Ok(MemDisk::of_bytes(alloc, bytes)?)
+}
+
+/// What a longer device has behind its parts stays, whatever is done on it and however it is torn then.
+#[test]
+fn what_lies_behind_the_parts_stays(rt: HostRuntime) -> Result<(), Fail> {
+    let alloc = rt.alloc();
+    for kind in 0..KINDS {
+        let Ok(mut server) = Server::open(alloc, longer_device(alloc)?) else {
+            return Err(Wrong::Unfit.into());
+        };
+        for act in ALL_CALLS {
+            let messages = messages_of(alloc, act.changes())?;
+            holds(&rt, server.act(&act, messages.as_slice()).is_ok());
+        }
+        let (device, _) = server.into_device();
+        let device = device.crash(torn(alloc, kind)?);
+        holds(&rt, device.bytes().get(8840..) == Some(&[9; BEHIND]));
+    }
+    Ok(())
 }

@@ -177,7 +177,7 @@ fn a_torn_batch_leaves_its_beginning(rt: HostRuntime) -> Result<(), Fail> {
 }
 
 /// Cuts, and how many pieces are left after each act, where one is in progress.
-const PIECES: [(Act, Option<usize>); 20] = [
+const PIECES: [(Act, Option<usize>); 22] = [
     // Into area 0, of which nothing is known.
     (Act::Cut, Some(3)),
     (Act::Piece, Some(2)),
@@ -198,9 +198,11 @@ const PIECES: [(Act, Option<usize>); 20] = [
     // Nothing has changed, but area 1 lacks the file and its block.
     (Act::Cut, Some(2)),
     (Act::Piece, Some(1)),
+    (Act::Piece, Some(0)),
     (Act::End, None),
     // Area 0 lacks nothing.
     (Act::Cut, Some(0)),
+    (Act::Piece, Some(0)),
     (Act::End, None),
 ];
 
@@ -209,8 +211,12 @@ fn pieces_that_changed_are_left(rt: HostRuntime) -> Result<(), Fail> {
     let alloc = rt.alloc();
     let mut server = opened(alloc, device_with(alloc, SMALL, &[])?)?;
     for (act, left) in PIECES {
+        let (before, was_left) = (server.counts(), server.left());
         act_all(alloc, &mut server, &[act])?;
         holds(&rt, server.left() == left);
+        // With none left, a piece calls the device never.
+        let is_idle = was_left == Some(0) && left == Some(0);
+        holds(&rt, !is_idle || server.counts() == before);
     }
     let (device, _) = server.into_device();
     let (shown, device) = shown_of(alloc, device.crash(torn(alloc, OLD)?))?;

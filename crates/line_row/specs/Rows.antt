@@ -1,4 +1,4 @@
--- What is known of each line that was read and is not answered in the output; the row of them, how it is kept, and what is written of it.
+-- What is known of each line that was read and not said yet; the row of them, how it is kept, and what is said of it.
 use Rattle.std.specs.Prelude.{◌≡◌, ℕ, ◌+◌, ◌==◌, Bool, true, false, List, [], ◌∷◌, if◌then◌else◌, map}
 use Rattle.std.specs.List.{AllByRecursion}
 use Rattle.message.specs.Replies.{reply_line, no_message}

@@ -1,4 +1,4 @@
-//! The row of lines: what is known of each line that was read and is not answered in the output, in the order in which they were read.
+//! The row of lines: what is known of each line that was read and not said yet, in the order in which they were read.
 #![tactic(auto)]
 
 mod row;

@@ -1,4 +1,4 @@
-//! The row of the lines that were read and are not answered in the output, oldest first.
+//! The row of the lines that were read and not said yet, oldest first.
 
 ghost use Rattle.std.specs.Prelude.{◌≡◌, ◌<◌, ◌≤◌, ◌+◌, ◌↔◌, ◌++◌, ◌∷◌, [], IfOk, IsTrue, MatchBool, MatchOption, ℕ, drop, length, map, take};
 ghost use Rattle.std.specs.VecDeque.{deque_len};
@@ -35,8 +35,8 @@ enum LineKind {
     Ticketed,
 }
 
-/// The lines that were read and are not answered in the output, oldest first. A contract sees them, and how many there is
-/// room for. Once made it takes no memory.
+/// The lines that were read and not said yet, oldest first. A contract sees them, and how many there is room for. Once made it takes no
+/// memory.
 ///
 /// A line without a ticket is its kind alone. Those with tickets lie in a queue of their own. Their tickets go up by one, so that a
 /// ticket tells where its line lies.

@@ -298,6 +298,45 @@ fn steps_come_out_so(rt: HostRuntime) -> Result<(), Fail> {
     Ok(())
 }
 
+/// The last of these lives says on standard output where its first step comes and where its last one is over: in between no memory
+/// is asked for, which `by_hand/run calls` counts.
+fn takes_memory_before_its_steps_alone(
+    rt: &(impl Abort + Print),
+    alloc: Global,
+    lives: &Lives,
+) -> Result<(), Wrong> {
+    let mut device = device_with(alloc, lives.numbers, &[])?;
+    let Some((last, earlier)) = lives.lives.split_last() else {
+        return Err(Wrong::Unfit);
+    };
+    for life in earlier {
+        device = lived(rt, alloc, device, life)?;
+    }
+    let mut machine = machine_on(alloc, device, last.slots, last.hands)?;
+    holds(rt, rt.println("no memory from here").is_ok());
+    goes_so(rt, &mut machine, last.rows);
+    holds(rt, rt.println("no memory to here").is_ok());
+    Ok(())
+}
+
+#[test]
+fn a_full_log_and_its_point_take_no_memory(rt: HostRuntime) -> Result<(), Fail> {
+    takes_memory_before_its_steps_alone(&rt, rt.alloc(), &FULL_LOG)?;
+    Ok(())
+}
+
+#[test]
+fn two_writes_side_by_side_take_no_memory(rt: HostRuntime) -> Result<(), Fail> {
+    takes_memory_before_its_steps_alone(&rt, rt.alloc(), &SIDE_BY_SIDE)?;
+    Ok(())
+}
+
+#[test]
+fn a_point_in_pieces_takes_no_memory(rt: HostRuntime) -> Result<(), Fail> {
+    takes_memory_before_its_steps_alone(&rt, rt.alloc(), &IN_PIECES)?;
+    Ok(())
+}
+
 #[test]
 fn a_refusal_is_no_record(rt: HostRuntime) -> Result<(), Fail> {
     let device = left_by(&rt, rt.alloc(), &REFUSED)?;
@@ -315,7 +354,8 @@ fn a_query_leaves_the_device_alone(rt: HostRuntime) -> Result<(), Fail> {
 
 // ---- what a fault and a crash leave
 
-/// A change that runs, and the device fails where it is logged.
+/// A change that runs, and the device fails where it is logged. From then on nothing goes out, nothing is taken in and
+/// nothing is answered.
 const LOG_FAILS: Life = Life {
     slots: 2,
     hands: 1,
@@ -325,10 +365,19 @@ const LOG_FAILS: Life = Life {
         Does(Step::Run(0), Outcome::Ran),
         Does(Step::Back(0), Outcome::Back(0)),
         Does(Step::Log(1), Outcome::LogFault(CoreFault::Device)),
+        Does(Step::Grant, Outcome::Failed),
+        Arrives(
+            "create 0 0 0",
+            Outcome::ArriveRefused(ArriveRefusal::Failed),
+        ),
+        Does(Step::Answer, Outcome::Idle),
     ],
 };
 
-/// How many volumes there are once the device has failed so in a log, and a crash of this kind came, or none.
+/// How many rows come before that log.
+const BEFORE_THE_LOG: usize = 4;
+
+/// The device fails in that log by this fuse, and a crash of this kind comes, or none: what is opened again has so many volumes.
 fn leaves_volumes(
     rt: &impl Abort,
     alloc: Global,
@@ -336,7 +385,7 @@ fn leaves_volumes(
     crash: Option<usize>,
     volumes: u32,
 ) -> Result<(), Wrong> {
-    let mut device = left_with(rt, alloc, SMALL, &LOG_FAILS, 4, fuse)?;
+    let mut device = left_with(rt, alloc, SMALL, &LOG_FAILS, BEFORE_THE_LOG, fuse)?;
     if let Some(kind) = crash {
         device = device.crash(torn(alloc, kind)?);
     }
@@ -346,11 +395,21 @@ fn leaves_volumes(
     Ok(())
 }
 
+// A log writes the records, syncs them, writes their gates and syncs these.
+
 #[test]
-fn a_fault_of_a_log_leaves_a_beginning(rt: HostRuntime) -> Result<(), Fail> {
-    // Its third call writes the gate, and its fourth one syncs that.
+fn a_log_that_stops_at_its_gate_leaves_the_change_only_if_that_was_written(
+    rt: HostRuntime,
+) -> Result<(), Fail> {
     leaves_volumes(&rt, rt.alloc(), Fuse::StopAt(3), Some(OLD), 0)?;
     leaves_volumes(&rt, rt.alloc(), Fuse::StopAt(3), Some(NEW), 1)?;
+    Ok(())
+}
+
+#[test]
+fn a_log_in_which_one_call_fails_leaves_the_change_only_if_its_gate_was_written(
+    rt: HostRuntime,
+) -> Result<(), Fail> {
     leaves_volumes(&rt, rt.alloc(), Fuse::FailAt(2), None, 0)?;
     leaves_volumes(&rt, rt.alloc(), Fuse::FailAt(3), None, 0)?;
     leaves_volumes(&rt, rt.alloc(), Fuse::FailAt(4), None, 1)?;
@@ -512,9 +571,39 @@ const CHANGED_PIECES: Life = Life {
     ],
 };
 
+/// So many of these rows end with the end of a cut. Then this area is named, and has so many volumes, files and blocks.
+const NAMED: [(usize, usize, [u32; 3]); 5] = [
+    (5, 0, [0, 0, 0]),
+    (9, 1, [1, 0, 0]),
+    (15, 0, [1, 1, 1]),
+    (19, 1, [1, 1, 1]),
+    (22, 0, [1, 1, 1]),
+];
+
+/// The first m of these rows leave a device that is shown so.
+fn cuts_leave(
+    rt: &impl Abort,
+    alloc: Global,
+    first: usize,
+    area: usize,
+    summary: [u32; 3],
+) -> Result<(), Wrong> {
+    let beginning = Life {
+        slots: CHANGED_PIECES.slots,
+        hands: CHANGED_PIECES.hands,
+        rows: CHANGED_PIECES.rows.get(..first).unwrap_or(&[]),
+    };
+    let device = lived(rt, alloc, device_with(alloc, SMALL, &[])?, &beginning)?;
+    is_shown(rt, alloc, device, area, 0, summary)?;
+    Ok(())
+}
+
 #[test]
 fn cuts_write_what_has_changed(rt: HostRuntime) -> Result<(), Fail> {
     let alloc = rt.alloc();
+    for (first, area, summary) in NAMED {
+        cuts_leave(&rt, alloc, first, area, summary)?;
+    }
     let last_cut = calls_of(&rt, alloc, SMALL, &CHANGED_PIECES, 20)?;
     let no_piece = calls_of(&rt, alloc, SMALL, &CHANGED_PIECES, 21)?;
     holds(&rt, no_piece == last_cut);

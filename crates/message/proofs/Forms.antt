@@ -1,8 +1,12 @@
 -- The forms of messages, a word at a time.
 use Rattle.std.proofs.Common.{◌≡◌, ℕ, List, [], ◌∷◌, Option, Some, None, refl, ap, sym, ◌∙◌}
 use Rattle.std.specs.Option.{option_map}
+use Rattle.std.specs.Prelude.{IfSome}
 use Rattle.message.specs.declared.Block.{Block}
 use Rattle.message.specs.declared.Msg.{Msg}
+use Rattle.message.specs.declared.Msg.TheVariants.{SetLabel}
+use Rattle.message.specs.Messages.{kind}
+use Rattle.affinity.specs.declared.kinds.Kind.TheVariants as kinds
 use Rattle.message.specs.Lines.{words, number_in_word, block_in_word, label_in_word, bytes_in_word}
 use Rattle.message.proofs.Words.{only, only-words, words_some}
 use Rattle.message.proofs.Numbers.{number_no_space}
@@ -136,6 +140,20 @@ of_label-onward make (a ∷ []) = refl
 of_label-onward make (a ∷ v ∷ []) = dead (number_in_word a) (v ∷ []) (λ n. label_from_volume (make n)) (λ n. refl)
 of_label-onward make (a ∷ v ∷ d ∷ []) = live (number_in_word a) (v ∷ d ∷ []) _ (λ n. label_from_volume (make n)) (λ n. refl)
 of_label-onward make (a ∷ v ∷ d ∷ w ∷ ws) = dead (number_in_word a) (v ∷ d ∷ w ∷ ws) (λ n. label_from_volume (make n)) (λ n. refl)
+
+-- what is made of a value, if there is one
+made_of : {A : Type 0} (P : Msg → Type 0) (o : Option A) (f : A → Option Msg) → ((x : A) → IfSome (f x) P) → IfSome (o >>= f) P
+made_of P (Some x) f each = each x
+made_of P None f each = tt
+
+-- words behind `setlabel` say no other message
+pub label_sets : (ws : List (List ℕ)) → IfSome (of_label SetLabel ws) (λ m. kind m ≡ kinds.SetLabel)
+label_sets [] = tt
+label_sets (a ∷ []) = tt
+label_sets (a ∷ v ∷ []) = tt
+label_sets (a ∷ v ∷ d ∷ []) =
+    made_of _ (number_in_word a) _ (λ aggregate. made_of _ (number_in_word v) _ (λ volume. made_of _ (label_in_word d) _ (λ bytes. refl)))
+label_sets (a ∷ v ∷ d ∷ w ∷ ws) = tt
 
 -- ---- no words
 

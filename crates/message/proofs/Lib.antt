@@ -4,7 +4,6 @@ pub mod Numbers
 pub mod Blocks
 pub mod Digits
 pub mod DigitLoop
-pub mod DigitTexts
 pub mod Forms
 pub mod Keywords
 pub mod Zeros

@@ -1,9 +1,9 @@
 -- Which lines spell which messages.
-use Rattle.std.specs.Prelude.{◌≡◌, ℕ, ◌+◌, ◌*◌, ◌<◌, ◌≤◌, nat_lt, List, [], ◌∷◌, ◌++◌, length, map, codes, if◌then◌else◌, Option, Some, None}
+use Rattle.std.specs.Prelude.{◌≡◌, ℕ, ◌<◌, ◌≤◌, nat_lt, List, [], ◌∷◌, ◌++◌, length, map, codes, if◌then◌else◌, Option, Some, None, Ok}
 use Rattle.std.specs.List.{AllByRecursion, join_with_byte}
 use Rattle.std.specs.Str.{bytes_eq}
 use Rattle.std.specs.Fmt.{decimal}
-use Rattle.hex.specs.Hex.{hex_digit_value}
+use Rattle.hex.specs.Hex.{decode_of}
 use Rattle.affinity.specs.declared.kinds.Kind.{Kind}
 use Rattle.affinity.specs.declared.kinds.Kind.TheVariants as kinds
 use Rattle.message.specs.declared.Block.{Block}
@@ -135,16 +135,9 @@ message_of line = if nat_lt 1100 (length line) then None else of_words (words li
 
 -- ---- by the message: how its line is put together
 
--- two digits for each byte, in either case
-abbrev pub AreDigitsOf : List ℕ → List ℕ → Type 0
-AreDigitsOf [] [] = Unit {0}
-AreDigitsOf (high ∷ low ∷ digits) (byte ∷ bytes) =
-    (h : ℕ) × (l : ℕ) × (hex_digit_value high ≡ Some h) × (hex_digit_value low ≡ Some l) × (byte ≡ h * 16 + l) × AreDigitsOf digits bytes
-AreDigitsOf _ _ = ⊥
-
--- The digits say so many bytes: one at least, and zeros behind those that have digits.
+-- The hexadecimal digits say so many bytes: one at least, and zeros behind those that have digits.
 abbrev pub SaysBytes : ℕ → List ℕ → List ℕ → Type 0
-SaysBytes size digits whole = (bytes : List ℕ) × AreDigitsOf digits bytes × (1 ≤ length bytes) × (length bytes ≤ size)
+SaysBytes size digits whole = (bytes : List ℕ) × (decode_of digits ≡ Ok bytes) × (1 ≤ length bytes) × (length bytes ≤ size)
     × (whole ≡ padded size bytes)
 
 -- what stands behind the numbers of a message

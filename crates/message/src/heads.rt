@@ -27,7 +27,7 @@ pub enum Head<'a> {
     Asks(Kind, [u16; 4]),
     /// The line is a `write` with these numbers, if these bytes are the digits of a block.
     Writes([u16; 4], &'a [u8]),
-    /// The line begins as a `setlabel`: `parse_line` tells whether it is one.
+    /// The line begins as a `setlabel` and is no other message: `parse_line` tells whether it is one.
     SetsLabel,
 }
 

@@ -3,7 +3,6 @@
 
 mod carried;
 mod decoding;
-mod encoding;
 mod heads;
 mod kinds;
 mod lent_reader;

@@ -8,7 +8,6 @@ ghost use Rattle.message.specs.declared.Msg.TheVariants.{Write as write, SetLabe
 ghost use Rattle.message.specs.Lines.{words, number_in_word, bytes_in_word};
 ghost use Rattle.message.specs.Grammar.{message_of, Spells, first_number, of_kind, of_volume, of_file, of_block, of_data, of_label, kind_named};
 
-use crate::decoding::decode_to_slice;
 use crate::{Block, LONGEST_LINE, Msg};
 use affinity::Kind;
 use memchr::memchr;
@@ -274,6 +273,6 @@ fn bytes_in_word<const N: usize>(digits: &[u8]) -> Option<[u8; N]>
         return None;
     }
     let mut bytes = [0; N];
-    decode_to_slice(digits, &mut bytes[..size])?;
+    hex::decode_to_slice(digits, &mut bytes[..size]).ok()?;
     Some(bytes)
 }

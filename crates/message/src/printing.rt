@@ -4,7 +4,6 @@ ghost use Rattle.std.specs.Prelude.{◌≡◌, ◌<◌, ◌≤◌, ◌+◌, ◌*
 ghost use Rattle.message.specs.Replies.{Appends, at_least_one, no_message, reply_line, reply_text, shown, spaced, without_zeros, reason};
 ghost use Rattle.message.specs.declared.Reply.TheVariants.{Block as block_reply, Files as files_reply, Usage as usage_reply, Summary as summary_reply};
 
-use crate::encoding::encode_to_slice;
 use crate::{Block, Refusal, Reply};
 use itoa::Buffer;
 
@@ -204,7 +203,7 @@ fn append_shown(bytes: &[u8], out: &mut [u8; 1031], at: usize) -> usize
 {
     let bytes = &bytes[..shown_size(bytes)];
     let end = at + 2 * bytes.len();
-    encode_to_slice(bytes, &mut out[at..end]);
+    hex::encode_to_slice(bytes, &mut out[at..end]).unwrap();
     end
 }
 

@@ -1,6 +1,6 @@
 //! Messages as records of 520 bytes.
 
-ghost use Rattle.std.specs.Prelude.{◌≡◌, ◌↔◌, ◌++◌, true, Some, drop, replicate, IfSome, IsTrue, slice_index};
+ghost use Rattle.std.specs.Prelude.{◌≡◌, ◌↔◌, ◌++◌, true, Some, take, drop, replicate, IfSome, IsTrue, slice_index};
 ghost use Rattle.affinity.specs.declared.kinds.Kind.{Kind};
 ghost use Rattle.message.specs.Messages.{IsMessage, is_in_range};
 ghost use Rattle.message.specs.Records.{FitsRecord, assembled, data_of, message_in_fields, record_head, kind_number, kind_numbered, record_of};
@@ -31,11 +31,19 @@ pub fn decode(bytes: &[u8; 520], g: &Geometry) -> Option<Msg>
 {
     let m = message_in_fields(bytes)?;
     place_of(g, m.kind(), m.numbers())?;
-    if bytes[..8] == head_of(&m)[..] && has_data_of(bytes, &m) {
+    if has_head_of(bytes, &m) && has_data_of(bytes, &m) {
         Some(m)
     } else {
         None
     }
+}
+
+/// Whether the head is that of a message, its two zeros too.
+fn has_head_of(bytes: &[u8; 520], m: &Msg) -> bool
+    requires { FitsRecord m.now }
+    ensures { IsTrue result ↔ (take 8 bytes.now ≡ record_head m.now) }
+{
+    bytes[..8] == head_of(m)[..]
 }
 
 /// Whether what stands after the head is the data of a message that the fields say.

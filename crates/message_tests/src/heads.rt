@@ -46,6 +46,13 @@ fn is_none(rt: &impl Abort, line: &[u8]) {
     }
 }
 
+fn sets_a_label(rt: &impl Abort, line: &[u8]) {
+    match head_of_line(line) {
+        Head::SetsLabel => {}
+        _ => holds(rt, false),
+    }
+}
+
 // The block that the digits of a `write` say, where they say one.
 fn writes(rt: &impl Abort, line: &[u8], content: Option<Block>) {
     let Head::Writes(numbers, digits) = head_of_line(line) else {
@@ -64,6 +71,7 @@ fn tells_heads(rt: HostRuntime) {
     for line in NONE.iter() {
         is_none(&rt, line.as_bytes());
     }
+    sets_a_label(&rt, b"setlabel 1 2 6162");
     writes(&rt, b"write 1 2 3 4 6162", Some(block_of(b"ab")));
     writes(&rt, b"write 1 2 3 4 616", None);
     writes(&rt, b"write 1 2 3 4 6g", None);

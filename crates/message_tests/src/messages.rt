@@ -42,7 +42,7 @@ fn reads_messages(rt: HostRuntime) {
 }
 
 /// Lines that are no messages.
-const OTHER_LINES: [&str; 42] = [
+const OTHER_LINES: [&str; 43] = [
     "",
     " ",
     "read",
@@ -54,6 +54,7 @@ const OTHER_LINES: [&str; 42] = [
     "read  0 0 0 0",
     "read 0 0  0 0",
     "read\t0 0 0 0",
+    "read\t0\t0\t0\t0",
     "read 0 0 0 0\r",
     "READ 0 0 0 0",
     "Read 0 0 0 0",
@@ -91,6 +92,9 @@ const OTHER_LINES: [&str; 42] = [
 fn refuses_other_lines(rt: HostRuntime) {
     for line in OTHER_LINES.iter() {
         says(&rt, line.as_bytes(), None);
+    }
+    for byte in [0, 0xff] {
+        says(&rt, &[byte], None);
     }
 }
 

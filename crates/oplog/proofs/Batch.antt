@@ -106,10 +106,9 @@ module _ (g : Layout) (h k : ℕ) (more : List (List ℕ)) (is_half : h < 2) (si
         pub shut_all : drop (k + length more) (gates_in g.slots (part_bytes g (half h) c)) ≡ replicate (g.slots - (k + length more)) 0
         shut_all = now_shut g.slots k more sized room (part_bytes g (half h) w0.now) (part_bytes g (half h) w1.now) (part_bytes g (half h) c) ready.used ready.shut bodies_in stand gates_in_half open_in
 
-    pub second : (ones : List ℕ) → length ones ≡ length more → (c : List ℕ) → After w1 (SameOutside {X = ℕ} (part_at g (half h) + (64 + k)) (length ones)) c → Grew g h more w0 c
-    second ones few c after =
-        let same = subst (λ (m : ℕ). SameOutside (part_at g (half h) + (64 + k)) m after.old c) few after.change in
-        grew c (subst (λ (l : List ℕ). SameOutside (part_at g (half h) + (64 + k)) (length more) l c) (calm_left w1 after.old bodies.calm after.left) same)
+    pub second : (c : List ℕ) → After w1 (SameOutside {X = ℕ} (part_at g (half h) + (64 + k)) (length more)) c → Grew g h more w0 c
+    second c after =
+        grew c (subst (λ (l : List ℕ). SameOutside (part_at g (half h) + (64 + k)) (length more) l c) (calm_left w1 after.old bodies.calm after.left) after.change)
 
     module _ (w2 : Medium) (gates : Stored (part_at g (half h) + (64 + k)) (replicate (length more) 1) w1 w2) where
       long : length w1.now ≡ length w0.now

@@ -1,6 +1,5 @@
 -- A batch of records, call by call.
-use Rattle.std.proofs.Common.{◌≡◌, ℕ, ◌+◌, ◌<◌, ◌≤◌, List, length, replicate, ap, subst, ◌∙◌}
-use Rattle.std.proofs.lemmas.List.{length-replicate}
+use Rattle.std.proofs.Common.{◌≡◌, ℕ, ◌+◌, ◌<◌, ◌≤◌, List, length, replicate, subst}
 use Rattle.std.specs.List.{concat}
 use Rattle.disk.specs.Device.{AreBytes, Medium, SameOutside}
 use Rattle.disk.specs.Moments.{LeavesOnly}
@@ -19,17 +18,18 @@ module _ (g : Layout) (h k : ℕ) (more : List (List ℕ)) (is_half : h < 2) (si
       (subst (λ (l : List ℕ). LeavesOnly w0 w1 (After w0 (SameOutside {X = ℕ} at (length l)))) are moments) in
       weaker w0 w1 _ _ moments' (first g h k more is_half sized room w0 w1 fits are_bytes ready)
 
-  module _ (bodies : Stored at bytes w0 w1) (w2 : Medium) (at2 : ℕ) (ones : List ℕ) (place2 : at2 ≡ part_at g (half h) + (64 + k)) (are_ones : ones ≡ replicate (length more) 1) where
+  module _ (bodies : Stored at bytes w0 w1) (w2 : Medium) (count : ℕ) (all : count ≡ length more) where
     stored : Stored (part_at g (half h) + body_at g.slots k) (concat more) w0 w1
     stored = subst (λ (a : ℕ). Stored a (concat more) w0 w1) place (subst (λ (l : List ℕ). Stored at l w0 w1) are bodies)
 
-    pub gates_moments : LeavesOnly w0 w1 (After w0 (SameOutside {X = ℕ} at (length bytes))) → LeavesOnly w1 w2 (After w1 (SameOutside {X = ℕ} at2 (length ones))) → LeavesOnly w0 w2 (Grew g h more w0)
+    pub gates_moments : LeavesOnly w0 w1 (After w0 (SameOutside {X = ℕ} at (length bytes)))
+        → LeavesOnly w1 w2 (After w1 (SameOutside {X = ℕ} (part_at g (half h) + (64 + k)) count)) → LeavesOnly w0 w2 (Grew g h more w0)
     gates_moments moments moments2 =
-        let moments2' = subst (λ (a : ℕ). LeavesOnly w1 w2 (After w1 (SameOutside {X = ℕ} a (length ones)))) place2 moments2 in
+        let moments2' = subst (λ (n : ℕ). LeavesOnly w1 w2 (After w1 (SameOutside {X = ℕ} (part_at g (half h) + (64 + k)) n))) all moments2 in
         then w0 w1 w2 _ (bodies_moments moments)
-        (weaker w1 w2 _ _ moments2' (second g h k more is_half sized room w0 w1 fits are_bytes ready stored ones (ap length are_ones ∙ length-replicate (length more) 1)))
+        (weaker w1 w2 _ _ moments2' (second g h k more is_half sized room w0 w1 fits are_bytes ready stored))
 
-    pub batch_added : Stored at2 ones w1 w2 → HasAll g h k more w0 w2
+    pub batch_added : Stored (part_at g (half h) + (64 + k)) (replicate count 1) w1 w2 → HasAll g h k more w0 w2
     batch_added gates =
         third g h k more is_half sized room w0 w1 fits are_bytes ready stored w2
-        (subst (λ (a : ℕ). Stored a (replicate (length more) 1) w1 w2) place2 (subst (λ (l : List ℕ). Stored at2 l w1 w2) are_ones gates))
+        (subst (λ (n : ℕ). Stored (part_at g (half h) + (64 + k)) (replicate n 1) w1 w2) all gates)

@@ -11,9 +11,11 @@ pub mod Reading
 pub mod RecordRows
 pub mod BadRecords
 pub mod Answered
+pub mod Beyond
 -- ---- For this crate alone.
 mod Batch
 mod BatchMoments
+mod Costs
 mod Examples
 mod Gates
 mod InHalf

@@ -7,3 +7,5 @@ pub mod Crash
 pub mod Store
 pub mod Logged
 pub mod Calls
+pub mod Costs
+pub mod Beyond

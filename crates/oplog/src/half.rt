@@ -1,9 +1,12 @@
 //! One half of a log: where its parts lie, and how records are added to it.
 ghost use Rattle.std.specs.Prelude.{◌≡◌, ◌+◌, ◌*◌, ◌<◌, ◌≤◌, length, IfOk, OnOk, IsErrOf, min, replicate, vec_len};
-ghost use Rattle.disk.specs.Device.{IsDeviceCall, moments};
+ghost use Rattle.disk.specs.Device.{IsDeviceCall, SameOutside, moments};
+ghost use Rattle.oplog.specs.Changes.{ChangesOnly};
+ghost use Rattle.oplog.specs.Costs.{Takes, batches};
 ghost use Rattle.oplog.specs.Front.{front, open_gates};
 ghost use Rattle.oplog.specs.Layout.{layout_of, part_at, half};
 ghost use Rattle.oplog.specs.Logged.{AreLogged};
+ghost use Rattle.oplog.specs.Store.{Stored};
 
 use crate::layout::{BATCH, CHAIN_AREA, MOST_RECORDS, RECORD_SIZE, half_at};
 use crate::staging::stage;
@@ -20,7 +23,7 @@ const LARGEST_FRONT: usize = CHAIN_AREA + MOST_RECORDS;
 const ZEROS: [u8; LARGEST_FRONT] = [0; LARGEST_FRONT];
 
 /// A row of zeros, at most 1,088.
-pub(crate) fn zeros(count: usize) -> &'static [u8]
+fn zeros(count: usize) -> &'static [u8]
     requires { count ≤ 1088 }
     ensures { result.now ≡ replicate count 0 }
 {
@@ -77,7 +80,39 @@ impl Half {
         self.start() + (CHAIN_AREA + self.slots() + i * RECORD_SIZE) as u64
     }
 
-    /// Writes the records and syncs, then writes their gates and syncs.
+    /// Writes zeros over its chain byte, the bytes beside it and its gates, and syncs.
+    pub(crate) fn clear<D: Disk>(self, disk: &mut D) -> Result<(), DiskFault>
+        requires whole { HasHalf self (D.medium disk.old) }
+        ensures any_moment { D.keeps → ChangesOnly (D.medium disk.old) (D.medium disk.new)
+            (SameOutside (part_at (layout_of self.geometry) (half self.number)) (64 + self.geometry.half)) }
+        ensures cleared { OnOk result (D.keeps →
+            Stored (part_at (layout_of self.geometry) (half self.number))
+            (replicate (64 + self.geometry.half) 0) (D.medium disk.old) (D.medium disk.new)) }
+        ensures takes { D.keeps → Takes result 2 (D.medium disk.old) (D.medium disk.new) }
+        ensures inside { IsErrOf result DiskFault.OutOfRange → ⊥ }
+        ensures call { IsDeviceCall result (D.medium disk.old) (D.medium disk.new) }
+    {
+        store(disk, self.start(), zeros(CHAIN_AREA + self.slots()))
+    }
+
+    /// Writes 1 over so many gates from this one on, and syncs: then their records are in the front.
+    fn open_gates<D: Disk>(self, disk: &mut D, first: usize, count: usize) -> Result<(), DiskFault>
+        requires batch { count ≤ 64 }
+        requires room { first + count ≤ self.geometry.half }
+        requires whole { HasHalf self (D.medium disk.old) }
+        ensures any_moment { D.keeps → ChangesOnly (D.medium disk.old) (D.medium disk.new)
+            (SameOutside (part_at (layout_of self.geometry) (half self.number) + (64 + first)) count) }
+        ensures opened { OnOk result (D.keeps →
+            Stored (part_at (layout_of self.geometry) (half self.number) + (64 + first))
+            (replicate count 1) (D.medium disk.old) (D.medium disk.new)) }
+        ensures takes { D.keeps → Takes result 2 (D.medium disk.old) (D.medium disk.new) }
+        ensures inside { IsErrOf result DiskFault.OutOfRange → ⊥ }
+        ensures call { IsDeviceCall result (D.medium disk.old) (D.medium disk.new) }
+    {
+        store(disk, self.gate_at(first), ones(count))
+    }
+
+    /// Writes the records and syncs, then opens their gates.
     fn append_batch<D: Disk>(
         self,
         disk: &mut D,
@@ -95,6 +130,7 @@ impl Half {
             HalfGrows self messages.now (D.medium disk.old) (D.medium disk.new) }
         ensures added { OnOk result (D.keeps →
             HalfHasAdded self used messages.now (D.medium disk.old) (D.medium disk.new)) }
+        ensures takes { D.keeps → Takes result 4 (D.medium disk.old) (D.medium disk.new) }
         ensures buffer { vec_len buffer.new ≡ vec_len buffer.old }
         ensures inside { IsErrOf result DiskFault.OutOfRange → ⊥ }
         ensures call { IsDeviceCall result (D.medium disk.old) (D.medium disk.new) }
@@ -102,8 +138,7 @@ impl Half {
         let size = messages.len() * RECORD_SIZE;
         stage(messages, buffer);
         store(disk, self.record_at(used), &buffer.as_slice()[..size])?;
-        store(disk, self.gate_at(used), ones(messages.len()))?;
-        Ok(())
+        self.open_gates(disk, used, messages.len())
     }
 
     /// Adds these messages after the records in use, as many at a time as the buffer holds.
@@ -124,6 +159,8 @@ impl Half {
         ensures added { OnOk result (D.keeps →
             HalfHasAdded self used messages.now (D.medium disk.old) (D.medium disk.new)) }
         ensures none { length messages.now ≡ 0 → disk.new ≡ disk.old }
+        ensures takes { D.keeps →
+            Takes result (4 * batches (length messages.now)) (D.medium disk.old) (D.medium disk.new) }
         ensures buffer { vec_len buffer.new ≡ vec_len buffer.old }
         ensures inside { IsErrOf result DiskFault.OutOfRange → ⊥ }
         ensures call { IsDeviceCall result (D.medium disk.old) (D.medium disk.new) }

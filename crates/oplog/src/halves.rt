@@ -1,13 +1,13 @@
 //! The two halves of a log as one value.
-ghost use Rattle.std.specs.Prelude.{◌≡◌, ◌+◌, ◌<◌, ◌≤◌, true, false, length, IfOk, IfSome, IsNone, OnOk};
+ghost use Rattle.std.specs.Prelude.{◌≡◌, ◌+◌, ◌*◌, ◌<◌, ◌≤◌, true, false, length, IfOk, IfSome, IsNone, OnOk};
 ghost use Rattle.disk.specs.Device.{moments};
 ghost use Rattle.message.specs.Messages.{IsMessage};
 ghost use Rattle.message.specs.Records.{record_of};
 ghost use Rattle.oplog.specs.Logged.{AreLogged, IsLogged, IsNoRecord};
 
 use crate::LogFault;
-use crate::half::{Half, zeros};
-use crate::layout::{BATCH, CHAIN_AREA, MOST_RECORDS, RECORD_SIZE, ROOT_ZONE_AT};
+use crate::half::Half;
+use crate::layout::{BATCH, MOST_RECORDS, RECORD_SIZE, ROOT_ZONE_AT};
 use crate::store::store;
 use affinity::{Geometry, changing};
 use disk::Disk;
@@ -53,6 +53,7 @@ impl Model for Halves {
 
 impl Halves {
     ghost use Rattle.oplog.specs.Log.{new_log, renamed, flipped, chained, log_after, IsLogCall, IsNotBad, IsAbout};
+    ghost use Rattle.oplog.specs.Costs.{Takes, batches};
     ghost use Rattle.oplog.specs.Calls.{HasParts, IsReadyFor, Grows, HasAdded, Clears, HasCleared, Chains, HasChained, Flips, HasFlipped, HasFront, IsOfRecordAt};
 
     /// A log of which nothing is known: half 0 is named and current, and there is no room.
@@ -138,6 +139,10 @@ impl Halves {
         ensures added { OnOk result (D.keeps →
             HasAdded self.old messages.now (D.medium disk.old) (D.medium disk.new)) }
         ensures none { length messages.now ≡ 0 → disk.new ≡ disk.old }
+
+        // Four device calls for each batch: its records, a sync, its gates, a sync.
+        ensures takes { D.keeps →
+            Takes result (4 * batches (length messages.now)) (D.medium disk.old) (D.medium disk.new) }
         ensures log { self.new ≡ log_after result self.old
             (record self.old { used = self.old.used + length messages.now }) }
         ensures not_bad { IsNotBad result }
@@ -167,6 +172,7 @@ impl Halves {
         ensures any_moment { D.keeps → Clears self.old (D.medium disk.old) (D.medium disk.new) }
         ensures cleared { OnOk result (D.keeps →
             HasCleared self.old (D.medium disk.old) (D.medium disk.new)) }
+        ensures takes { D.keeps → Takes result 2 (D.medium disk.old) (D.medium disk.new) }
         ensures log { self.new ≡ log_after result self.old (record self.old { cleared = true }) }
         ensures not_bad { IsNotBad result }
         ensures call { IsLogCall result (D.medium disk.old) (D.medium disk.new) }
@@ -175,7 +181,7 @@ impl Halves {
             geometry: self.geometry,
             number: 1 - self.named,
         };
-        if store(disk, half.start(), zeros(CHAIN_AREA + half.slots())).is_err() {
+        if half.clear(disk).is_err() {
             self.failed = true;
             return Err(LogFault::Device);
         }
@@ -193,6 +199,7 @@ impl Halves {
         ensures any_moment { D.keeps → Chains self.old (D.medium disk.old) (D.medium disk.new) }
         ensures chained { OnOk result (D.keeps →
             HasChained self.old (D.medium disk.old) (D.medium disk.new)) }
+        ensures takes { D.keeps → Takes result 2 (D.medium disk.old) (D.medium disk.new) }
         ensures log { self.new ≡ log_after result self.old (chained self.old) }
         ensures not_bad { IsNotBad result }
         ensures call { IsLogCall result (D.medium disk.old) (D.medium disk.new) }
@@ -220,6 +227,7 @@ impl Halves {
         ensures any_moment { D.keeps → Flips self.old (D.medium disk.old) (D.medium disk.new) }
         ensures flipped { OnOk result (D.keeps →
             HasFlipped self.old (D.medium disk.old) (D.medium disk.new)) }
+        ensures takes { D.keeps → Takes result 2 (D.medium disk.old) (D.medium disk.new) }
         ensures log { self.new ≡ log_after result self.old (flipped self.old) }
         ensures not_bad { IsNotBad result }
         ensures call { IsLogCall result (D.medium disk.old) (D.medium disk.new) }

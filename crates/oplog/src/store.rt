@@ -2,6 +2,7 @@
 ghost use Rattle.std.specs.Prelude.{◌≡◌, ◌+◌, ◌≤◌, length, OnOk, IsErrOf};
 ghost use Rattle.disk.specs.Device.{SameOutside, IsDeviceCall, overlaid};
 ghost use Rattle.oplog.specs.Changes.{ChangesOnly};
+ghost use Rattle.oplog.specs.Costs.{Takes};
 ghost use Rattle.oplog.specs.Store.{Stored, Touched};
 
 use disk::{Disk, DiskFault};
@@ -14,13 +15,13 @@ pub fn write<D: Disk>(disk: &mut D, at: u64, bytes: &[u8]) -> Result<(), DiskFau
         ChangesOnly (D.medium disk.old) (D.medium disk.new) (SameOutside at (length bytes.now)) }
     ensures touched { D.keeps →
         Touched at (length bytes.now) (D.medium disk.old) (D.medium disk.new) }
+    ensures takes { D.keeps → Takes result 1 (D.medium disk.old) (D.medium disk.new) }
     ensures written { OnOk result (D.keeps →
         (D.medium disk.new).now ≡ overlaid (D.medium disk.old).now at bytes.now) }
     ensures inside { IsErrOf result DiskFault.OutOfRange → ⊥ }
     ensures call { IsDeviceCall result (D.medium disk.old) (D.medium disk.new) }
 {
-    disk.write_at(at, bytes)?;
-    Ok(())
+    disk.write_at(at, bytes)
 }
 
 /// Writes these bytes from the byte `at` on, and syncs: then nothing on the device is loose. `Device`
@@ -31,10 +32,10 @@ pub fn store<D: Disk>(disk: &mut D, at: u64, bytes: &[u8]) -> Result<(), DiskFau
         ChangesOnly (D.medium disk.old) (D.medium disk.new) (SameOutside at (length bytes.now)) }
     ensures stored { OnOk result (D.keeps →
         Stored at bytes.now (D.medium disk.old) (D.medium disk.new)) }
+    ensures takes { D.keeps → Takes result 2 (D.medium disk.old) (D.medium disk.new) }
     ensures inside { IsErrOf result DiskFault.OutOfRange → ⊥ }
     ensures call { IsDeviceCall result (D.medium disk.old) (D.medium disk.new) }
 {
     write(disk, at, bytes)?;
-    disk.sync()?;
-    Ok(())
+    disk.sync()
 }

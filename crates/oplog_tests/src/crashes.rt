@@ -35,25 +35,6 @@ fn is_beginning(rt: &impl Abort, read: &[Msg], n: u64, kind: usize) {
     holds(rt, n != 7 || kind != MIXED || count == 1);
 }
 
-/// Taken in by a half of 128 records, these messages take `calls` calls of the device.
-fn takes_calls(rt: &impl Abort, alloc: Global, messages: &[Msg], calls: u64) -> Result<(), Fail> {
-    let mut server = Server::new(alloc, 128)?;
-    holds(rt, server.takes(Way::Named, messages));
-    counts(rt, server.disk.calls(), calls);
-    let read = server.messages(alloc, 1)?;
-    same_messages(rt, &read, messages);
-    Ok(())
-}
-
-#[test]
-fn a_batch_is_four_calls(rt: HostRuntime) -> Result<(), Fail> {
-    let many = vec![in rt.alloc(); Msg::Seal(0, 0); 70]?;
-    // Four of the calls clear the other half and name it.
-    takes_calls(&rt, rt.alloc(), &many, 12)?;
-    takes_calls(&rt, rt.alloc(), &MESSAGES, 8)?;
-    takes_calls(&rt, rt.alloc(), &[], 4)
-}
-
 #[test]
 fn the_second_batch_may_be_lost(rt: HostRuntime) -> Result<(), Fail> {
     let many = vec![in rt.alloc(); Msg::Seal(0, 0); 70]?;

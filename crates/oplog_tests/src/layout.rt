@@ -21,6 +21,12 @@ fn lies(rt: &impl Abort, g: &Geometry, want: [u64; 7]) {
 fn parts_lie_in_a_row(rt: HostRuntime) -> Result<(), Fail> {
     let small = Geometry::new([1, 1, 2, 1, 2, 4, 2, 4])?;
     lies(&rt, &small, [128, 2276, 4424, 6632, 2148, 2208, 8840]);
+    let default = Geometry::default();
+    lies(
+        &rt,
+        &default,
+        [128, 133_568, 267_008, 799_808, 133_440, 532_800, 1_332_608],
+    );
     let largest = Geometry::new([4, 8, 8, 64, 64, 256, 64, 1024])?;
     lies(
         &rt,

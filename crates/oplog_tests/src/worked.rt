@@ -41,6 +41,16 @@ fn a_record_is_appended_and_read(rt: HostRuntime) -> Result<(), Fail> {
     Ok(())
 }
 
+/// Half 1 is cleared and named: it has room for four records.
+const ROOM: [(Step, [u64; 4]); 2] = [(Step::Clear, [0, 0, 0, 0]), (Step::Flip, [1, 4, 1, 1])];
+
+#[test]
+fn a_half_that_was_cleared_has_room(rt: HostRuntime) -> Result<(), Fail> {
+    let mut server = Server::new(rt.alloc(), 4)?;
+    goes(&rt, &mut server, &ROOM);
+    Ok(())
+}
+
 /// A chain is opened to half 1, which is named then.
 const CHAIN: [(Step, [u64; 4]); 2] = [(Step::Chain, [0, 4, 0, 1]), (Step::Flip, [1, 4, 1, 1])];
 

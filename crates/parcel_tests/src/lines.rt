@@ -123,38 +123,54 @@ fn each_kind_of_message(rt: HostRuntime) -> Result<(), Fail> {
     expect_lines(&rt, rt.alloc(), &EACH_KIND)
 }
 
+const READ_BACK: [(&str, &str); 9] = [
+    ("makevol 0 0", "done"),
+    ("create 0 0 0", "done"),
+    ("write 0 0 0 0 6162", "done"),
+    ("read 0 0 0 0", "block 6162"),
+    ("read 0 0 0 3", "hole"),
+    ("read 0 0 1 0", "error file"),
+    ("write 0 0 0 4 61", "error range"),
+    ("makevol 0 1", "error range"),
+    ("makevol 0 0", "error exists"),
+];
+
+#[test]
+fn a_block_is_read_back(rt: HostRuntime) -> Result<(), Fail> {
+    expect_lines(&rt, rt.alloc(), &READ_BACK)
+}
+
 const FULL_STRIPE: [(&str, &str); 12] = [
     ("makevol 0 0", "done"),
     ("create 0 0 0", "done"),
     ("create 0 0 1", "done"),
-    ("write 0 0 0 0 01", "done"),
-    ("write 0 0 0 2 02", "done"),
-    ("write 0 0 1 1 03", "error space"),
-    ("write 0 0 1 0 04", "done"),
+    ("write 0 0 0 0 61", "done"),
+    ("write 0 0 0 2 61", "done"),
+    ("write 0 0 1 1 61", "error space"),
+    ("write 0 0 1 0 61", "done"),
     ("write 0 0 0 2 62", "done"),
     ("read 0 0 0 2", "block 62"),
     ("delete 0 0 0", "done"),
-    ("write 0 0 1 1 03", "done"),
+    ("write 0 0 1 1 61", "done"),
     ("usage 0 0", "usage 1 2 open"),
 ];
 
 #[test]
-fn a_stripe_is_full(rt: HostRuntime) -> Result<(), Fail> {
+fn a_stripe_is_full_until_a_file_is_deleted(rt: HostRuntime) -> Result<(), Fail> {
     expect_lines(&rt, rt.alloc(), &FULL_STRIPE)
 }
 
-const SEALED_VOLUME: [(&str, &str); 17] = [
+const SEALED_VOLUME: [(&str, &str); 16] = [
     ("makevol 0 0", "done"),
-    ("makevol 0 0", "error exists"),
     ("create 0 0 0", "done"),
     ("write 0 0 0 0 6162", "done"),
-    ("setlabel 0 0 07", "done"),
+    ("read 0 0 0 0", "block 6162"),
     ("seal 0 0", "done"),
     ("write 0 0 0 1 61", "error sealed"),
     ("create 0 0 0", "error sealed"),
     ("dropvol 0 0", "error sealed"),
     ("setlabel 0 0 08", "error sealed"),
-    ("label 0 0", "label 07"),
+    ("label 0 0", "label 00"),
     ("read 0 0 0 0", "block 6162"),
     ("seal 0 0", "done"),
     ("unseal 0 0", "done"),

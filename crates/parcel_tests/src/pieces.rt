@@ -16,6 +16,15 @@ const VOLUME: [(usize, u8); 3] = [(0, 1), (8, 3), (16, 7)];
 /// Block 0 of file 0, and block 1 of file 1, which holds 0x61.
 const STRIPE: [(usize, u8); 6] = [(0, 1), (8, 0x62), (520, 1), (521, 1), (522, 1), (528, 0x61)];
 
+/// A volume with file 0, whose label begins with 6162.
+const LABELED: [(usize, u8); 4] = [(0, 1), (8, 1), (16, 0x61), (17, 0x62)];
+
+/// A sealed volume with files 0 and 1.
+const SEALED: [(usize, u8); 3] = [(0, 1), (1, 1), (8, 3)];
+
+/// Block 1 of file 1, which begins with 61.
+const ONE_BLOCK: [(usize, u8); 4] = [(0, 1), (1, 1), (2, 1), (8, 0x61)];
+
 fn new_tree(alloc: Global) -> Result<Tree, Fail>
     ensures { IfOk result IsNewTree }
 {
@@ -99,10 +108,12 @@ fn expect_rows(rt: &impl Abort, alloc: Global, rows: &[Row<'_>], good: bool) -> 
     Ok(())
 }
 
-const GOOD: [Row<'static>; 3] = [
+const GOOD: [Row<'static>; 5] = [
     (&[], &[]),
     (&VOLUME, &STRIPE),
-    (&[(0, 1), (1, 1), (8, 3)], &STRIPE),
+    (&SEALED, &STRIPE),
+    (&SEALED, &ONE_BLOCK),
+    (&LABELED, &[]),
 ];
 
 #[test]
@@ -134,13 +145,39 @@ const TOLD: [(&str, &str); 6] = [
     ("create 0 0 1", "error exists"),
 ];
 
+const TOLD_OF_LABELED: [(&str, &str); 3] = [
+    ("list 0 0", "files 0"),
+    ("label 0 0", "label 6162"),
+    ("usage 0 0", "usage 1 0 open"),
+];
+
+const TOLD_OF_SEALED: [(&str, &str); 4] = [
+    ("list 0 0", "files 0 1"),
+    ("label 0 0", "label 00"),
+    ("usage 0 0", "usage 2 1 sealed"),
+    ("read 0 0 1 1", "block 61"),
+];
+
+// A new tree takes in both pieces, and answers the lines so.
+fn expect_pieces_told(
+    rt: &impl Abort,
+    alloc: Global,
+    volume: &[(usize, u8)],
+    stripe: &[(usize, u8)],
+    rows: &[(&str, &str)],
+) -> Result<(), Fail> {
+    let mut tree = new_tree(alloc)?;
+    let read = read_both(&mut tree, &volume_piece(volume), &stripe_piece(stripe));
+    holds(rt, read == Ok(()));
+    expect_told(rt, alloc, &mut tree, rows)?;
+    Ok(())
+}
+
 #[test]
 fn what_pieces_say_is_told(rt: HostRuntime) -> Result<(), Fail> {
-    let mut tree = new_tree(rt.alloc())?;
-    let read = read_both(&mut tree, &volume_piece(&VOLUME), &stripe_piece(&STRIPE));
-    holds(&rt, read == Ok(()));
-    expect_told(&rt, rt.alloc(), &mut tree, &TOLD)?;
-    Ok(())
+    expect_pieces_told(&rt, rt.alloc(), &VOLUME, &STRIPE, &TOLD)?;
+    expect_pieces_told(&rt, rt.alloc(), &LABELED, &[], &TOLD_OF_LABELED)?;
+    expect_pieces_told(&rt, rt.alloc(), &SEALED, &ONE_BLOCK, &TOLD_OF_SEALED)
 }
 
 // Whether a tree takes in a volume's piece of version 1. Then its label is zeros.

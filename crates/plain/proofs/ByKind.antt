@@ -1,22 +1,21 @@
 -- What the tests, the effect and the reply of a message are by its kind and its numbers.
-use Rattle.std.proofs.Common.{◌≡◌, ℕ, true, false, Bool, List, [], ◌∷◌, None, Some, Option, refl, ap, sym, ◌∙◌, subst}
+use Rattle.std.proofs.Common.{◌≡◌, ℕ, true, false, Bool, List, [], ◌∷◌, None, Some, refl, ap, sym, ◌∙◌}
 use Rattle.std.specs.Prelude.{not, find, is_some}
 use Rattle.std.specs.List.{AllByRecursion}
 use Rattle.std.proofs.lemmas.Bool.{and_from, or_left, lt-ltb}
 use Rattle.affinity.specs.declared.geometry.Geometry.{Geometry}
 use Rattle.affinity.specs.declared.kinds.Kind.{Kind}
 use Rattle.affinity.specs.declared.kinds.Kind.TheVariants as kinds
-use Rattle.affinity.specs.Kind.{is_changing}
 use Rattle.message.specs.declared.Msg.{Msg}
 use Rattle.message.specs.declared.Msg.TheVariants.{MakeVol, DropVol, Create, Delete, Seal, Unseal, Write, Punch, Read, List as ListFiles, Usage, Summary, SetLabel, Label}
 use Rattle.message.specs.declared.Block.{Block}
 use Rattle.message.specs.declared.Refusal.{Refusal}
 use Rattle.message.specs.declared.Refusal.TheVariants.{Range}
-use Rattle.message.specs.declared.Reply.TheVariants.{Done, Block as shows}
+use Rattle.message.specs.declared.Reply.TheVariants.{Block as shows}
 use Rattle.message.specs.Messages.{kind, four_numbers, IsMessage}
 use Rattle.message.specs.Heads.{asking, has_data, IsAsked}
 use Rattle.plain.specs.State.{State, IsState}
-use Rattle.plain.specs.Serial.{tests, passes, refusal, effect, accepted_reply, block_reply, outcome, step}
+use Rattle.plain.specs.Serial.{tests, passes, refusal, block_reply, outcome, step}
 use Rattle.plain.specs.ByKind.{tests_by, refusal_by}
 
 pub tests_by_kind : (m : Msg) → tests_by (kind m) ≡ tests m

@@ -10,6 +10,9 @@ use std::test::Fail;
 /// blocks of a file lie in different stripes.
 pub(crate) const SMALL: [u16; 8] = [1, 1, 2, 1, 2, 4, 2, 4];
 
+/// What the program takes where nothing is said.
+pub(crate) const DEFAULTS: [u16; 8] = [1, 4, 4, 4, 16, 64, 64, 256];
+
 /// How a session ends that serves this input at a geometry.
 pub(crate) fn served_into<R: Read + Drop, W: Write>(
     alloc: Global,
@@ -29,6 +32,10 @@ pub(crate) fn room(alloc: Global) -> Result<Vec<u8>, AllocError> {
 }
 
 pub(crate) fn ends(rt: &impl Abort, got: Result<(), PlainFault>, want: Result<(), PlainFault>) {
+    assert_eq!(rt; got, want);
+}
+
+pub(crate) fn same(rt: &impl Abort, got: usize, want: usize) {
     assert_eq!(rt; got, want);
 }
 

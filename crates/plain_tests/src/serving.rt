@@ -1,5 +1,5 @@
 //! How a session ends: at the end of its input, at a failed read, at a failed write.
-use crate::rows::{SMALL, ends, room, served_into, writes};
+use crate::rows::{SMALL, ends, room, same, served_into, writes};
 use affinity::Geometry;
 use plain::{PlainFault, serve_from};
 use std::alloc::{AllocError, Global};
@@ -40,17 +40,35 @@ impl Write for Full {
     }
 }
 
-/// Takes all bytes, and fails where it should pass them on.
+/// Takes all bytes, but for the write or flush with this number, which fails.
 #[derive(Drop)]
-struct Unflushed(Vec<u8>);
+struct FailingOnce<'a> {
+    fails: usize,
+    calls: usize,
+    taken: &'a mut Vec<u8>,
+}
 
-impl Write for Unflushed {
+impl FailingOnce<'_> {
+    // One more call; whether it fails.
+    fn is_failing(&mut self) -> bool {
+        self.calls = self.calls.saturating_add(1);
+        self.calls == self.fails
+    }
+}
+
+impl Write for FailingOnce<'_> {
     fn write(&mut self, buf: &[u8]) -> io::Result<usize> {
-        self.0.write(buf)
+        if self.is_failing() {
+            return Err(io::Error::from(ErrorKind::Other));
+        }
+        self.taken.write(buf)
     }
 
     fn flush(&mut self) -> io::Result<()> {
-        Err(io::Error::from(ErrorKind::Other))
+        if self.is_failing() {
+            return Err(io::Error::from(ErrorKind::Other));
+        }
+        Ok(())
     }
 }
 
@@ -68,53 +86,51 @@ fn expect<R: Read + Drop>(
     Ok(())
 }
 
-const FULL_STRIPE: &[u8] = b"makevol 0 0
+/// Whole lines and one that is cut, of which only the first and the third change something.
+const LINES: &[u8] = b"makevol 0 0
+makevol 0 0
 create 0 0 0
-create 0 0 1
-write 0 0 0 0 61
-write 0 0 0 2 62
-write 0 0 1 1 61
-write 0 0 1 0 61
-write 0 0 0 2 63
-read 0 0 0 2
-no message
-";
+what
+summary";
 
-const FULL_STRIPE_REPLIES: &[u8] = b"done
+/// The replies to them.
+const REPLIES: &[u8] = b"done
+error exists
 done
-done
-done
-done
-error space
-done
-done
-block 63
 error line
+summary 1 1 0
 ";
 
-#[test]
-fn a_stripe_is_full_where_its_quota_is_used(rt: HostRuntime) -> Result<(), Fail> {
-    expect(&rt, rt.alloc(), FULL_STRIPE, Ok(()), FULL_STRIPE_REPLIES)?;
-    Ok(())
+// The first few lines, whole.
+fn first_lines(lines: &[u8], count: usize) -> &[u8] {
+    let mut left = count;
+    for (at, byte) in lines.iter().enumerate() {
+        if left == 0 {
+            return &lines[..at];
+        }
+        if *byte == b'\n' {
+            left -= 1;
+        }
+    }
+    lines
 }
 
-/// What a reader gives before it fails, and the replies to it.
-const CUT_INPUTS: [(&[u8], &[u8]); 4] = [
-    (b"", b""),
-    (b"makevol 0 0", b""),
-    (b"makevol 0 0\n", b"done\n"),
-    (
-        b"makevol 0 0\nmakevol 0 0\ncreate 0 ",
-        b"done\nerror exists\n",
-    ),
-];
+// How many lines end here.
+fn count_lines(bytes: &[u8]) -> usize {
+    bytes.iter().filter(|byte| **byte == b'\n').count()
+}
 
 #[test]
-fn whole_lines_are_answered_before_a_failed_read(rt: HostRuntime) -> Result<(), Fail> {
-    for (input, replies) in CUT_INPUTS {
+fn whole_lines_are_answered_before_a_read_that_fails_at_each_place(
+    rt: HostRuntime,
+) -> Result<(), Fail> {
+    for place in 0..=LINES.len() {
+        let given = &LINES[..place];
+        let replies = first_lines(REPLIES, count_lines(given));
         let fault = Err(PlainFault::Read);
-        expect(&rt, rt.alloc(), Failing(input), fault, replies)?;
+        expect(&rt, rt.alloc(), Failing(given), fault, replies)?;
     }
+    expect(&rt, rt.alloc(), LINES, Ok(()), REPLIES)?;
     Ok(())
 }
 
@@ -126,12 +142,51 @@ fn a_failed_write_is_told(rt: HostRuntime) {
     ends(&rt, end, Err(PlainFault::Write));
 }
 
+/// Gives one byte a read, so that each reply is written before the next line is read.
+#[derive(Drop)]
+struct ByteByByte<'a>(&'a [u8]);
+
+impl<'a> Read for ByteByByte<'a> {
+    fn read(&mut self, buf: &mut [u8]) -> io::Result<usize> {
+        let (Some((first, others)), Some(place)) = (self.0.split_first(), buf.first_mut()) else {
+            return Ok(0);
+        };
+        *place = *first;
+        self.0 = others;
+        Ok(1)
+    }
+}
+
+// How a session ends whose write or flush with this number fails, and how many there were.
+fn served_until(
+    alloc: Global,
+    fails: usize,
+    taken: &mut Vec<u8>,
+) -> (Result<(), PlainFault>, usize) {
+    let mut output = FailingOnce {
+        fails,
+        calls: 0,
+        taken,
+    };
+    let end = served_into(alloc, SMALL, ByteByByte(LINES), &mut output);
+    (end, output.calls)
+}
+
 #[test]
-fn no_line_is_written_again_after_a_failed_write(rt: HostRuntime) -> Result<(), Fail> {
-    let mut output = Unflushed(room(rt.alloc())?);
-    let end = served_into(rt.alloc(), SMALL, ONE_LINE, &mut output);
-    ends(&rt, end, Err(PlainFault::Write));
-    writes(&rt, output.0.as_slice(), b"done\n");
+fn after_each_write_that_fails_nothing_more_is_written(rt: HostRuntime) -> Result<(), Fail> {
+    // The five replies are written and flushed one after the other.
+    for fails in 1..=10 {
+        let mut taken = room(rt.alloc())?;
+        let (end, calls) = served_until(rt.alloc(), fails, &mut taken);
+        ends(&rt, end, Err(PlainFault::Write));
+        same(&rt, calls, fails);
+        writes(&rt, taken.as_slice(), first_lines(REPLIES, fails / 2));
+    }
+    let mut taken = room(rt.alloc())?;
+    let (end, calls) = served_until(rt.alloc(), 11, &mut taken);
+    ends(&rt, end, Ok(()));
+    same(&rt, calls, 10);
+    writes(&rt, taken.as_slice(), REPLIES);
     Ok(())
 }
 
@@ -173,5 +228,124 @@ fn a_reader_that_fails_is_read_no_further(rt: HostRuntime) -> Result<(), Fail> {
     let end = served_from(rt.alloc(), &mut input, &mut output);
     ends(&rt, end, Err(PlainFault::Read));
     writes(&rt, output.as_slice(), b"done\ndone\n");
+    Ok(())
+}
+
+/// Lines that take memory for a volume, its label, a file, a block, a number for its stripe and a seal.
+const FIRST_OF_ALL: &[u8] = b"makevol 0 0
+setlabel 0 0 6162
+create 0 0 0
+write 0 0 0 0 6162
+seal 0 0
+read 0 0 0 0
+";
+
+const FIRST_REPLIES: &[u8] = b"done
+done
+done
+done
+done
+block 6162
+";
+
+// What was written before memory was refused is whole lines.
+fn is_beginning(rt: &impl Abort, written: &[u8]) {
+    writes(
+        rt,
+        written,
+        first_lines(FIRST_REPLIES, count_lines(written)),
+    );
+}
+
+/// It passes too where any one request for memory is refused.
+#[test]
+fn lines_are_answered_at_the_next_try(rt: HostRuntime) -> Result<(), Fail> {
+    let alloc = rt.alloc();
+    let mut first = room(alloc)?;
+    let mut output = room(alloc)?;
+    let end = served_into(alloc, SMALL, FIRST_OF_ALL, &mut first);
+    if end.is_ok() {
+        writes(&rt, first.as_slice(), FIRST_REPLIES);
+        return Ok(());
+    }
+    ends(&rt, end, Err(PlainFault::OutOfMemory));
+    is_beginning(&rt, first.as_slice());
+    let end = served_into(alloc, SMALL, FIRST_OF_ALL, &mut output);
+    ends(&rt, end, Ok(()));
+    writes(&rt, output.as_slice(), FIRST_REPLIES);
+    Ok(())
+}
+
+/// Lines that are no message, each with its newline.
+const NO_MESSAGES: [&[u8]; 14] = [
+    b"\n",
+    b"read 00 0 0 0\n",
+    b"read 0 0 0 0\r\n",
+    b"read  0 0 0 0\n",
+    b"read 0 0 0 65536\n",
+    b"READ 0 0 0 0\n",
+    b"summary 0\n",
+    b"write 0 0 0 0 6\n",
+    b"write 0 0 0 0 6g\n",
+    b"write 0 0 0 0\n",
+    b"read 0 0 0 -1\n",
+    b"read\t0\t0\t0\t0\n",
+    b"\x00\n",
+    b"\xFF\n",
+];
+
+// An input is answered so, to its end.
+fn is_answered(
+    rt: &impl Abort,
+    alloc: Global,
+    input: &[u8],
+    replies: &[u8],
+) -> Result<(), AllocError> {
+    expect(rt, alloc, input, Ok(()), replies)
+}
+
+#[test]
+fn lines_that_are_no_message_change_nothing(rt: HostRuntime) -> Result<(), Fail> {
+    for line in NO_MESSAGES {
+        is_answered(&rt, rt.alloc(), line, b"error line\n")?;
+    }
+    is_answered(&rt, rt.alloc(), b"read 0 0 0 65535\n", b"error range\n")?;
+    is_answered(&rt, rt.alloc(), b"summary", b"summary 0 0 0\n")?;
+    Ok(())
+}
+
+// A line of one byte over and over is no message.
+fn is_no_message(
+    rt: &impl Abort,
+    alloc: Global,
+    size: usize,
+    end: &[u8],
+) -> Result<(), AllocError> {
+    let mut line = vec![in alloc; b'a'; size]?;
+    line.extend_from_slice(end)?;
+    is_answered(rt, alloc, line.as_slice(), b"error line\n")
+}
+
+// A `write` with so many digits.
+fn digits_are_told(
+    rt: &impl Abort,
+    alloc: Global,
+    digits: usize,
+    reply: &[u8],
+) -> Result<(), AllocError> {
+    let mut line = Vec::new(alloc);
+    line.extend_from_slice(b"write 0 0 0 0 ")?;
+    line.extend_from_slice(vec![in alloc; b'6'; digits]?.as_slice())?;
+    line.push(b'\n')?;
+    is_answered(rt, alloc, line.as_slice(), reply)
+}
+
+#[test]
+fn long_lines_are_told_once(rt: HostRuntime) -> Result<(), Fail> {
+    is_no_message(&rt, rt.alloc(), 1100, b"\n")?;
+    is_no_message(&rt, rt.alloc(), 1101, b"\n")?;
+    is_no_message(&rt, rt.alloc(), 1_000_000, b"")?;
+    digits_are_told(&rt, rt.alloc(), 1024, b"error volume\n")?;
+    digits_are_told(&rt, rt.alloc(), 1026, b"error line\n")?;
     Ok(())
 }

@@ -14,8 +14,11 @@ use Rattle.legal_runs.specs.Laws.{AreAscending}
 use Rattle.legal_runs.specs.World.{Entry, World, entries, entry, are_related_entries}
 use Rattle.legal_runs.specs.declared.outcomes.Outcome.TheVariants as outcomes
 use Rattle.message.specs.Messages.{place}
+use Rattle.scheduler.specs.Calls.{IsGranted}
 use Rattle.scheduler.specs.Parts.{ArePlaced, IsCore, IsPlaced, Parts, entry_of, held_any, replied_of, turn_of, world_in}
 use Rattle.scheduler.specs.Slots.{Lines, SlotView}
+use Rattle.scheduler.specs.declared.granted.Granted.{Granted}
+use Rattle.scheduler.specs.declared.granted.Granted.TheVariants as granted
 use Rattle.turns.proofs.ByTicket.{Ascend, comes_first, is_clear, next_is_first}
 use Rattle.turns.specs.Turns.{has_room, next_turn, are_related_intervals}
 use Rattle.turns.specs.declared.entries.Turn.{Turn}
@@ -218,3 +221,13 @@ module _ (keeps : Type 0) (p : Parts) (k : IsCore keeps p) where
     pub none_eligible : next_turn true p.turns.held p.turns.waiting ≡ None → no_grant geometry w ≡ outcomes.NoneEligible
     none_eligible h = ap (λ b. if b then outcomes.NoRoom else outcomes.NoneEligible)
         (lacking w.waiting (none_any room is_room none) ∙ none_chosen _ (is_clear_in geometry w) p.lines.waiting clear_test (sym found_clear ∙ h))
+
+    pub none_is_granted : w.failed ≡ false → (why : Granted)
+        → why ≡ (if is_some (next_turn true p.turns.held p.turns.waiting) then granted.NoRoom else granted.NoneEligible)
+        → IsGranted geometry w w why
+    none_is_granted works why is = subst (IsGranted geometry w w) (sym is) (by (next_turn true p.turns.held p.turns.waiting) refl)
+      where
+        by : (o : Option Turn) → next_turn true p.turns.held p.turns.waiting ≡ o
+            → IsGranted geometry w w (if is_some o then granted.NoRoom else granted.NoneEligible)
+        by (Some t) h = record { works = works; none = none_goes room is_room none; reason = lacks_room t h; same = refl }
+        by None h = record { works = works; none = none_goes room is_room none; reason = none_eligible h; same = refl }

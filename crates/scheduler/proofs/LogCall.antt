@@ -8,8 +8,8 @@ use Rattle.std.proofs.lemmas.List.Sums.{sum_by-cons}
 use Rattle.std.proofs.lemmas.Option.{same_Some}
 use Rattle.arena.specs.Row.{Row, capacity_of, chain_at, value_at}
 use Rattle.checkpoint.specs.Recovery.{holds}
-use Rattle.disk.specs.Device.{Leaves}
-use Rattle.disk.specs.Moments.{LeavesOnly}
+use Rattle.disk.specs.Device.{Leaves, Medium}
+use Rattle.disk.specs.Moments.{LeavesOnly, moment}
 use Rattle.journal.specs.Journal.{after_call, AreCarriedOut, JournalView, HoldsSome, IsSettled, settled}
 use Rattle.legal_runs.proofs.Told.{fold-joined}
 use Rattle.legal_runs.specs.Eligible.{changes}
@@ -19,6 +19,7 @@ use Rattle.legal_runs.specs.declared.outcomes.Step.TheVariants as steps
 use Rattle.message.specs.declared.Msg.{Msg}
 use Rattle.message.specs.declared.Reply.{Reply}
 use Rattle.message.specs.declared.Reply.TheVariants.{Done}
+use Rattle.oplog.specs.Costs.{Takes}
 use Rattle.oplog.specs.Logged.{AreLogged}
 use Rattle.oplog.specs.declared.fault.LogFault.{LogFault}
 use Rattle.parcel.specs.Tree.{TreeView, state_in}
@@ -43,6 +44,18 @@ broken_from (Err why) done old new e after = after
 pub made_from : (r : Result (Unit {0}) LogFault) (done old new : JournalView) → is_err r ≡ false → new ≡ after_call r done old → new ≡ done
 made_from (Ok u) done old new e after = after
 made_from (Err why) done old new e after = absurd (true≢false e)
+
+-- the writes and syncs that it took
+pub broken_takes : (r : Result (Unit {0}) LogFault) (n : ℕ) (w0 w1 : Medium) → is_err r ≡ true → Takes r n w0 w1 → moment w1 ≤ moment w0 + n
+broken_takes (Ok u) n w0 w1 e took = absurd (true≢false (sym e))
+broken_takes (Err why) n w0 w1 e took = took
+
+pub made_takes : (r : Result (Unit {0}) LogFault) (n : ℕ) (w0 w1 : Medium) → is_err r ≡ false → Takes r n w0 w1 → moment w1 ≡ moment w0 + n
+made_takes (Ok u) n w0 w1 e took = took
+made_takes (Err why) n w0 w1 e took = absurd (true≢false e)
+
+pub none_taken : (w : Medium) (n : ℕ) → moment w ≤ moment w + n
+none_taken w n = omega arith
 
 none_to_log : (failed : Bool) (many : ℕ) → failed ≡ false → (not failed && nat_lt 0 many) ≡ false → many ≡ 0
 none_to_log true many works quiet = absurd (true≢false works)
@@ -114,8 +127,11 @@ module _ (keeps : Type 0) (row : Row Slot) (replies : List Reply) (tree : TreeVi
       passed_at : passed ≡ batch_at p n
       passed_at = passed_is ∙ messages_are
 
+      pub log_length : length passed ≡ length (batch_of (world_in p) n)
+      log_length = ap (λ (ms : List Msg). length ms) (passed_at ∙ same_batch keeps p k n)
+
       none_passed : length (batch_of (world_in p) n) ≡ 0 → length passed ≡ 0
-      none_passed none = ap (λ (ms : List Msg). length ms) (passed_at ∙ same_batch keeps p k n) ∙ none
+      none_passed none = log_length ∙ none
 
       pub log_fits : length passed ≤ journal.room
       log_fits = subst (λ (ms : List Msg). length ms ≤ journal.room) (sym passed_at) (batch_fits keeps p k n)

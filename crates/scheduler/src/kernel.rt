@@ -1,5 +1,5 @@
 //! The core: the messages that it has taken in, what they run on, and the journal of what was carried out.
-ghost use Rattle.std.specs.Prelude.{cond, nat_lt, ◌≡◌, ◌+◌, ◌≤◌, ◌↔◌, ℕ, true, false, List, Some, None, [], length, OnOk, IfOk, IfErr, MatchResult};
+ghost use Rattle.std.specs.Prelude.{cond, nat_lt, ◌≡◌, ◌+◌, ◌*◌, ◌≤◌, ◌↔◌, ℕ, true, false, List, Some, None, [], length, OnOk, IfOk, IfErr, MatchResult};
 ghost use Rattle.affinity.specs.declared.geometry.Geometry.{Geometry};
 ghost use Rattle.checkpoint.specs.Header.{HasHeader};
 ghost use Rattle.checkpoint.specs.Recovery.{holds};
@@ -12,6 +12,8 @@ ghost use Rattle.legal_runs.specs.Events.{answer, arrive, batch, flip_refusal, g
 ghost use Rattle.legal_runs.specs.Laws.{IsSoundWorld};
 ghost use Rattle.legal_runs.specs.World.{Entry};
 ghost use Rattle.legal_runs.specs.declared.outcomes.Step.TheVariants as steps;
+ghost use Rattle.oplog.specs.Beyond.{KeepsBeyond};
+ghost use Rattle.oplog.specs.Costs.{Takes, batches};
 ghost use Rattle.oplog.specs.Layout.{layout_of};
 ghost use Rattle.oplog.specs.Stands.{in_force, named_area};
 ghost use Rattle.plain.specs.State.{State};
@@ -23,6 +25,7 @@ ghost use Rattle.scheduler.specs.Kept.{IsJustOpened, CoreView, StandsNow, Stands
 ghost use Rattle.scheduler.specs.Opening.{IsOfBytes};
 
 use crate::Granted;
+use crate::granted::choose;
 use crate::history::History;
 use crate::memory::{Memory, take_memory};
 use crate::moving::{gather, move_ran};
@@ -120,6 +123,11 @@ impl<D: Disk> Core<D> {
         ensures any_moment { D.keeps → MatchResult result
             (λ core. OpeningLeaves (D.medium d) core.medium)
             (λ e. OpeningLeaves (D.medium d) (D.medium e.disk)) }
+
+        // What a longer device has behind its parts stays, also in what a crash leaves.
+        ensures beyond { D.keeps → (g : Geometry) → HasHeader g (D.medium d).now → MatchResult result
+            (λ core. KeepsBeyond (layout_of g) (D.medium d) core.medium)
+            (λ e. KeepsBeyond (layout_of g) (D.medium d) (D.medium e.disk)) }
         ensures refused { IfErr result (λ e. D.keeps → IsRefused (D.medium d).now e.fault) }
         ensures unwritten { IfErr result (λ e. D.keeps → IsRefusedUnwritten (D.medium d) e.fault (D.medium e.disk)) }
 
@@ -211,11 +219,9 @@ impl<D: Disk> Core<D> {
             return Granted::Failed;
         }
         let room = self.flight < self.journal.room();
-        let Some(turn) = self.turns.next(room) else {
-            return match self.turns.next(true) {
-                Some(_) => Granted::NoRoom,
-                None => Granted::NoneEligible,
-            };
+        let turn = match choose(&self.turns, room) {
+            Ok(turn) => turn,
+            Err(why) => return why,
         };
         let number = turn.slot;
         let more = one_if(turn.changing);
@@ -268,6 +274,10 @@ impl<D: Disk> Core<D> {
 
         // A crash at any moment of the call leaves what was settled, with the first m of what is appended.
         ensures any_moment { D.keeps → StandsThroughout (batch (world_of self.old) n) self.old self.new }
+        ensures beyond { D.keeps → KeepsBeyond (layout_of self.old.geometry) self.old.medium self.new.medium }
+
+        // It takes no more writes and syncs than its batches do.
+        ensures takes { D.keeps → Takes result (4 * batches (length (batch (world_of self.old) n))) self.old.medium self.new.medium }
         ensures untouched { touches_device (world_of self.old) (steps.Log n) ≡ false → self.new.medium ≡ self.old.medium }
     {
         if self.journal.failed() {
@@ -327,6 +337,7 @@ impl<D: Disk> Core<D> {
 
         // A crash at any moment of the call leaves what was settled.
         ensures any_moment { D.keeps → StandsThroughout [] self.old self.new }
+        ensures beyond { D.keeps → KeepsBeyond (layout_of self.old.geometry) self.old.medium self.new.medium }
         ensures emptied { OnOk result (D.keeps → in_force (layout_of self.new.geometry)
             (named_area (layout_of self.new.geometry) self.new.medium.now) self.new.medium.now ≡ []) }
         ensures untouched { touches_device (world_of self.old) steps.Point ≡ false → self.new.medium ≡ self.old.medium }
@@ -348,6 +359,7 @@ impl<D: Disk> Core<D> {
         ensures geometry { self.new.geometry ≡ self.old.geometry }
         ensures counts { CountsFailure (point_rose result) self.old.medium.faults self.new.medium.faults }
         ensures any_moment { D.keeps → StandsThroughout [] self.old self.new }
+        ensures beyond { D.keeps → KeepsBeyond (layout_of self.old.geometry) self.old.medium self.new.medium }
         ensures untouched { touches_device (world_of self.old) steps.Cut ≡ false → self.new.medium ≡ self.old.medium }
     {
         if let Some(why) = self.point_refusal() {
@@ -366,6 +378,7 @@ impl<D: Disk> Core<D> {
         ensures geometry { self.new.geometry ≡ self.old.geometry }
         ensures counts { CountsFailure (point_rose result) self.old.medium.faults self.new.medium.faults }
         ensures any_moment { D.keeps → StandsThroughout [] self.old self.new }
+        ensures beyond { D.keeps → KeepsBeyond (layout_of self.old.geometry) self.old.medium self.new.medium }
         ensures untouched { touches_device (world_of self.old) steps.Piece ≡ false → self.new.medium ≡ self.old.medium }
     {
         if self.journal.failed() {
@@ -387,6 +400,7 @@ impl<D: Disk> Core<D> {
         ensures geometry { self.new.geometry ≡ self.old.geometry }
         ensures counts { CountsFailure (point_rose result) self.old.medium.faults self.new.medium.faults }
         ensures any_moment { D.keeps → StandsThroughout [] self.old self.new }
+        ensures beyond { D.keeps → KeepsBeyond (layout_of self.old.geometry) self.old.medium self.new.medium }
         ensures untouched { touches_device (world_of self.old) steps.Flip ≡ false → self.new.medium ≡ self.old.medium }
     {
         if self.journal.failed() {

@@ -1,11 +1,11 @@
 -- A message that is answered, and its line in the row.
-use Rattle.std.proofs.Common.{◌≡◌, ◌+◌, ℕ, true, false, List, [], ◌∷◌, ◌++◌, Option, Some, None, refl, ap, sym, ◌∙◌, subst, map, inl, append-nil, arith, length, suc, Bool}
+use Rattle.std.proofs.Common.{◌≡◌, ◌+◌, ℕ, true, false, List, [], ◌∷◌, ◌++◌, Option, Some, None, refl, ap, sym, ◌∙◌, subst, map, inl, append-nil, arith, length, suc, Bool, ◌⊎◌, inr, ⊎_elim}
 use Rattle.std.specs.Prelude.{if◌then◌else◌, ◌==◌}
-use Rattle.std.specs.List.{Contains}
-use Rattle.std.proofs.lemmas.Bool.{eqb-true}
+use Rattle.std.specs.List.{AllByRecursion, Contains}
+use Rattle.std.proofs.lemmas.Bool.{eq-eqb, eqb-true, true≢false}
 use Rattle.affinity.specs.declared.geometry.Geometry.{Geometry}
 use Rattle.legal_runs.proofs.Elements.{contains_in, in_contained}
-use Rattle.legal_runs.proofs.Told.{in_left, in_right}
+use Rattle.legal_runs.proofs.Told.{IsIn, in_left, in_right}
 use Rattle.legal_runs.specs.Events.{answer}
 use Rattle.legal_runs.specs.World.{Entry, Replied, World}
 use Rattle.legal_runs.specs.declared.outcomes.Outcome.{Outcome}
@@ -20,7 +20,7 @@ use Rattle.message.specs.declared.Msg.{Msg}
 use Rattle.message.specs.declared.Reply.{Reply}
 use Rattle.scheduler.specs.Calls.{answer_outcome}
 use Rattle.scheduler.specs.Kept.{CoreView}
-use Rattle.serving.specs.Lines.{Answered, AreKnown, IsKnown, Line, NoMessage, OutOfRange, Unanswered, answer_one, asked, asked_in, next_ticket, ticketed}
+use Rattle.serving.specs.Lines.{Answered, AreKnown, IsKnown, Line, NoMessage, NoneIsTo, OutOfRange, Unanswered, answer_one, asked, asked_in, is_answered, next_ticket, ticketed}
 use Rattle.serving.specs.Going.{Goes}
 use Rattle.serving.specs.Runs.{Holds, IsQuiet, Passes}
 use Rattle.serving.proofs.Chain.{passes_on}
@@ -36,27 +36,40 @@ module _ (g : Geometry) (told : List (ℕ × Reply)) (ticket : ℕ) (reply : Rep
   now_there : Contains more (ticket, reply)
   now_there = contains_in more (ticket, reply) (in_right (ticket, reply) told ((ticket, reply) ∷ []) (inl refl))
 
-  -- What was known of a line is known of it still.
-  known_still : (n : ℕ) (o : Option Msg) (known : Line) → IsKnown g told n o known → IsKnown g more n o known
-  known_still n None NoMessage k = tt
-  known_still n None OutOfRange k = absurd k
-  known_still n None (Unanswered t) k = absurd k
-  known_still n None (Answered t r) k = absurd k
-  known_still n (Some m) NoMessage k = absurd k
-  known_still n (Some m) OutOfRange k = k
-  known_still n (Some m) (Unanswered t) k = k
-  known_still n (Some m) (Answered t r) k = (k.0, k.1, still_there (t, r) k.2)
+  -- A reply that is there now was there, or is this one.
+  in_more : (ps : List (ℕ × Reply)) (p : ℕ × Reply) → IsIn p (ps ++ (ticket, reply) ∷ []) → IsIn p ps ⊎ (p ≡ (ticket, reply))
+  in_more [] p is = ⊎_elim (λ e. inr e) (λ none. absurd none) is
+  in_more (q ∷ ps) p is = ⊎_elim (λ e. inl (inl e)) (λ rest. ⊎_elim (λ there. inl (inr there)) (λ e. inr e) (in_more ps p rest)) is
+
+  -- To another ticket there is still none.
+  none_still : (t : ℕ) → (t == ticket) ≡ false → NoneIsTo told t → NoneIsTo more t
+  none_still t other none r there = ⊎_elim
+      (λ was. none r (contains_in told (t, r) was))
+      (λ (e : (t, r) ≡ (ticket, reply)).
+      let same : t ≡ ticket = ap (λ (q : ℕ × Reply). q.0) e in true≢false (sym (eq-eqb t ticket same) ∙ other))
+      (in_more told (t, r) (in_contained more (t, r) there))
+
+  -- What was known of a line that is answered is known of it still.
+  known_still : (n : ℕ) (o : Option Msg) (known : Line) → is_answered known ≡ true → IsKnown g told n o known → IsKnown g more n o known
+  known_still n None NoMessage done k = tt
+  known_still n None OutOfRange done k = absurd k
+  known_still n None (Unanswered t) done k = absurd k
+  known_still n None (Answered t r) done k = absurd k
+  known_still n (Some m) NoMessage done k = absurd k
+  known_still n (Some m) OutOfRange done k = k
+  known_still n (Some m) (Unanswered t) done k = absurd (true≢false (sym done))
+  known_still n (Some m) (Answered t r) done k = (k.0, k.1, still_there (t, r) k.2)
 
   -- So is the reply, where it is to its message.
   known_answered : (n : ℕ) (o : Option Msg) (known : Line) → IsKnown g told n o known → IsKnown g more n o (answer_one ticket reply known)
-  known_answered n o NoMessage k = known_still n o NoMessage k
-  known_answered n o OutOfRange k = known_still n o OutOfRange k
-  known_answered n o (Answered t r) k = known_still n o (Answered t r) k
+  known_answered n o NoMessage k = known_still n o NoMessage refl k
+  known_answered n o OutOfRange k = known_still n o OutOfRange refl k
+  known_answered n o (Answered t r) k = known_still n o (Answered t r) refl k
   known_answered n None (Unanswered t) k = absurd k
   known_answered n (Some m) (Unanswered t) k = elim (t == ticket) as
       (λ b. (t == ticket) ≡ b → IsKnown g more n (Some m) (if b then Answered t reply else Unanswered t)) [
         | true ↦ λ e. (k.0, k.1, subst (λ (u : ℕ). Contains more (u, reply)) (sym (eqb-true t ticket e)) now_there)
-        | false ↦ λ e. k
+        | false ↦ λ e. (k.0, k.1, none_still t e k.2)
       ] refl
 
   row_answered : (n : ℕ) (ls : List (List ℕ)) (row : List Line) → AreKnown g told n ls row → AreKnown g more n ls (map (answer_one ticket reply) row)
@@ -66,12 +79,14 @@ module _ (g : Geometry) (told : List (ℕ × Reply)) (ticket : ℕ) (reply : Rep
   row_answered n (l ∷ ls) (known ∷ row) k =
       (known_answered n (message_of l) known k.0, row_answered (next_ticket n (asked_in g (message_of l))) ls row k.1)
 
-  lines_answered : (n : ℕ) (ls : List (List ℕ)) (said row : List Line) → AreKnown g told n ls (said ++ row)
-      → AreKnown g more n ls (said ++ map (answer_one ticket reply) row)
-  lines_answered n ls [] row k = row_answered n ls row k
-  lines_answered n [] (known ∷ said) row k = absurd k
-  lines_answered n (l ∷ ls) (known ∷ said) row k =
-      (known_still n (message_of l) known k.0, lines_answered (next_ticket n (asked_in g (message_of l))) ls said row k.1)
+  lines_answered : (n : ℕ) (ls : List (List ℕ)) (said row : List Line) → AllByRecursion (λ line. is_answered line ≡ true) said
+      → AreKnown g told n ls (said ++ row) → AreKnown g more n ls (said ++ map (answer_one ticket reply) row)
+  lines_answered n ls [] row done k = row_answered n ls row k
+  lines_answered n [] (known ∷ said) row done k = absurd k
+  lines_answered n (l ∷ ls) (known ∷ said) row done k = (
+    known_still n (message_of l) known done.0 k.0,
+    lines_answered (next_ticket n (asked_in g (message_of l))) ls said row done.1 k.1,
+  )
 
 -- A message was answered, and so is its line in the row.
 pub answered_goes_on : (keeps : Type 0) (old new : MachineView) (ticket : ℕ) (reply : Reply) → Passes keeps old new [] ((ticket, reply) ∷ [])
@@ -91,7 +106,7 @@ answered_goes_on keeps old new ticket reply p row start input left ended before 
         told = told;
         passes = subst (λ (es : List Entry). Passes keeps start new es told) (append-nil come)
             (passes_on keeps start old new come [] s.told ((ticket, reply) ∷ []) s.passes p);
-        known = lines_answered g s.told ticket reply start.core.next h.taken h.said row s.known;
+        known = lines_answered g s.told ticket reply start.core.next h.taken h.said row s.answered s.known;
         answered = s.answered;
       };
       output = h.output;

@@ -2,7 +2,9 @@
 use Rattle.std.proofs.Common.{◌≡◌, ◌≢◌, ℕ, ◌+◌, true, false, List, [], ◌∷◌, ◌++◌, Option, refl, ap, sym, ◌∙◌, subst, append_assoc, append-nil, arith, Some, None}
 use Rattle.std.specs.Prelude.{Bool, Result, Ok, Err, if◌then◌else◌, not, nat_le, ◌==◌, ◌^◌, ◌-◌, length}
 use Rattle.affinity.specs.declared.geometry.Geometry.{Geometry}
+use Rattle.legal_runs.proofs.Elements.{in_contained}
 use Rattle.legal_runs.specs.Events.{Hands, arrive}
+use Rattle.legal_runs.specs.Laws.{IsIdle}
 use Rattle.legal_runs.specs.World.{Entry, World, held}
 use Rattle.legal_runs.specs.declared.outcomes.ArriveRefusal.{ArriveRefusal}
 use Rattle.legal_runs.specs.declared.outcomes.ArriveRefusal.TheVariants as arrivals
@@ -22,11 +24,12 @@ use Rattle.message.specs.declared.Msg.{Msg}
 use Rattle.message.specs.declared.Reply.{Reply}
 use Rattle.plain.specs.Order.{messages}
 use Rattle.serving.specs.Going.{IsServing}
-use Rattle.serving.specs.Lines.{AreKnown, IsKnown, Line, OutOfRange, Unanswered, asked, asked_in, next_ticket, ticketed, Answered, NoMessage}
+use Rattle.serving.specs.Lines.{AreKnown, IsKnown, Line, NoneIsTo, OutOfRange, Unanswered, asked, asked_in, next_ticket, ticketed, Answered, NoMessage}
 use Rattle.serving.specs.Reads.{IsRefusedLine, IsTaken}
 use Rattle.serving.specs.Runs.{Holds, Passes}
 use Rattle.serving.proofs.Chain.{passes_on}
 use Rattle.serving.proofs.Serial.{asked-append, messages-ticketed}
+use Rattle.serving.proofs.Served.{told_before}
 use Rattle.serving.proofs.Stretches.{core_is_quiet, step_passes}
 use Rattle.serving.proofs.Tickets.{next-append, run_next, ticketed-append}
 
@@ -76,26 +79,31 @@ module _ (keeps : Type 0) (start old : MachineView) (taken : List (List ℕ)) (s
         answered = s.answered;
       }
 
--- What is known where nothing is answered is known whatever is.
-known_anyway : (g : Geometry) (told : List (ℕ × Reply)) (n : ℕ) (o : Option Msg) (known : Line) → IsKnown g [] n o known → IsKnown g told n o known
-known_anyway g told n None NoMessage k = k
-known_anyway g told n None OutOfRange k = absurd k
-known_anyway g told n None (Unanswered t) k = absurd k
-known_anyway g told n None (Answered t r) k = absurd k
-known_anyway g told n (Some m) NoMessage k = absurd k
-known_anyway g told n (Some m) OutOfRange k = k
-known_anyway g told n (Some m) (Unanswered t) k = k
-known_anyway g told n (Some m) (Answered t r) k = let none = k.2.1 in absurd (omega (arith, none))
+-- What is known where nothing is answered is known whatever is, if none of it is to this ticket.
+known_anyway : (g : Geometry) (told : List (ℕ × Reply)) (n : ℕ) (o : Option Msg) (known : Line) → NoneIsTo told n → IsKnown g [] n o known
+    → IsKnown g told n o known
+known_anyway g told n None NoMessage fresh k = k
+known_anyway g told n None OutOfRange fresh k = absurd k
+known_anyway g told n None (Unanswered t) fresh k = absurd k
+known_anyway g told n None (Answered t r) fresh k = absurd k
+known_anyway g told n (Some m) NoMessage fresh k = absurd k
+known_anyway g told n (Some m) OutOfRange fresh k = k
+known_anyway g told n (Some m) (Unanswered t) fresh k = (k.0, k.1, subst (NoneIsTo told) (sym k.1) fresh)
+known_anyway g told n (Some m) (Answered t r) fresh k = let none = k.2.1 in absurd (omega (arith, none))
 
 -- A line is taken.
 pub serves_taken : (keeps : Type 0) (start old new : MachineView) (taken : List (List ℕ)) (said row : List Line) (line : List ℕ) (known : Line)
-    → IsTaken keeps old new (message_of line) known → IsServing keeps start old taken said row
+    → IsIdle (world_of start.core) → IsTaken keeps old new (message_of line) known → IsServing keeps start old taken said row
     → IsServing keeps start new (taken ++ line ∷ []) said (row ++ known ∷ [])
-serves_taken keeps start old new taken said row line known t s =
+serves_taken keeps start old new taken said row line known idle t s =
     let o = message_of line in
+    let is = next_is keeps start old taken said row s in
+    let fresh : NoneIsTo s.told old.core.next = λ reply there.
+    let before = told_before keeps start old idle taken said row s (old.core.next, reply) (in_contained s.told (old.core.next, reply) there) in
+    absurd (omega (arith, before, is)) in
     takes_in keeps start old taken said row s new line known
     (subst (λ (y : Geometry). Passes keeps old new (ticketed old.core.next (asked_in y o)) []) s.passes.geometry t.passes)
-    (known_anyway start.core.geometry s.told old.core.next o known
+    (known_anyway start.core.geometry s.told old.core.next o known fresh
     (subst (λ (y : Geometry). IsKnown y [] old.core.next o known) s.passes.geometry t.is_known))
 
 -- ---- what a ticket and a refusal tell
@@ -146,7 +154,7 @@ module _ (keeps : Type 0) (old new : CoreView) (m : Msg) (hands : List Hand) (h 
         passes = subst (λ (es : List Entry). Passes keeps was now es []) come
             (step_passes keeps was now (steps.Arrive m) (outcomes.Ticket t)
             (core_step keeps old new hands (steps.Arrive m) (outcomes.Ticket t) h step));
-        is_known = (fits, is_next);
+        is_known = (fits, is_next, λ reply there. absurd (in_contained [] (t, reply) there));
       }
 
   out_of_range : IsCoreStep keeps old new (steps.Arrive m) (outcomes.ArriveRefused arrivals.Range) → is_in_range old.geometry m ≡ false

@@ -1,5 +1,5 @@
 -- A session that reads no more, and what it promises in the end.
-use Rattle.std.proofs.Common.{◌≡◌, ◌≢◌, ℕ, zero, suc, ◌≤◌, ◌-◌, ◌^◌, ◌++◌, Bool, true, false, List, [], Option, Some, None, refl, ap, sym, ◌∙◌, subst, length, map, replicate, append-nil}
+use Rattle.std.proofs.Common.{arith, ◌≡◌, ◌≢◌, ℕ, zero, suc, ◌≤◌, ◌-◌, ◌^◌, ◌++◌, Bool, true, false, List, [], Option, Some, None, refl, ap, sym, ◌∙◌, subst, length, map, replicate, append-nil}
 use Rattle.std.specs.Prelude.{Result, Ok, Err, IfOk, IfSome, MatchResult, OnErr, OnOk, ◌&&◌}
 use Rattle.message.specs.Waiting.{so_far}
 use Rattle.std.proofs.lemmas.Bool.{true≢false}
@@ -324,6 +324,7 @@ module _ (keeps : Type 0) (s : Start) (desk : Desk) (row : RowView) (out : List 
         row = row;
         out = out;
         told = s.before;
+        open_lines = 0;
         broken = false;
         stop = None;
         left = left;
@@ -344,6 +345,8 @@ module _ (keeps : Type 0) (s : Start) (desk : Desk) (row : RowView) (out : List 
           waiting = [];
           are_answered = tt;
           out_is = none_waits;
+          counted = omega (arith, ap length none);
+          bounded = omega arith;
           goes = subst (λ (l : List (Option JobView)). Goes keeps start (with_lent s.core l) row.lines s.input left drained s.before s.before) (sym lent)
               (subst (λ (l : List Line). Goes keeps start start l s.input left drained s.before s.before) (sym none)
               (subst (λ (d : Bool). Goes keeps start start [] s.input left d s.before s.before) (sym begun)
@@ -362,6 +365,7 @@ pub first_at : (keeps : Type 0) (o : Option Start) (core : CoreView) (desk : Des
       row = row;
       out = out;
       told = told;
+      open_lines = 0;
       broken = false;
       stop = None;
       left = left;

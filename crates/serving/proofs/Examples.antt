@@ -1,14 +1,16 @@
 -- Worked examples, by computing: which lines take tickets, and what is known of lines.
-use Rattle.std.proofs.Common.{◌≡◌, ℕ, List, [], ◌∷◌, map, refl, lit≤, arith}
+use Rattle.std.proofs.Common.{◌≡◌, ℕ, List, [], ◌∷◌, map, refl, lit≤, ap, arith, ⊎_elim}
 use Rattle.std.specs.Prelude.{codes}
 use Rattle.affinity.specs.Geometry.{small}
+use Rattle.legal_runs.proofs.Elements.{in_contained}
 use Rattle.message.specs.Grammar.{kind_named, message_of}
 use Rattle.message.specs.Lines.{number_in_word}
 use Rattle.message.specs.declared.Msg.TheVariants.{MakeVol, Create, Summary as AskSummary}
+use Rattle.message.specs.declared.Reply.{Reply}
 use Rattle.message.specs.declared.Reply.TheVariants.{Done, Summary}
 use Rattle.plain.specs.Output.{joined, output_lines}
 use Rattle.plain.specs.State.{empty}
-use Rattle.serving.specs.Lines.{Answered, AreKnown, NoMessage, OutOfRange, Unanswered, asked, next_ticket, text, ticketed}
+use Rattle.serving.specs.Lines.{Answered, AreKnown, NoMessage, NoneIsTo, OutOfRange, Unanswered, asked, next_ticket, text, ticketed}
 
 -- ---- lines
 
@@ -26,15 +28,25 @@ tickets_follow_one_another = refl
 the_next_ticket : next_ticket 7 (MakeVol 0 0 ∷ AskSummary ∷ []) ≡ 9
 the_next_ticket = refl
 
+none_to_seven : NoneIsTo ((8, Summary 1 0 0) ∷ []) 7
+none_to_seven reply there = ⊎_elim
+    (λ (e : (7, reply) ≡ (8, Summary 1 0 0)). let same : ◌≡◌ {A = ℕ} 7 8 = ap (λ (q : ℕ × Reply). q.0) e in absurd (omega (arith, same)))
+    (λ none. absurd none) (in_contained ((8, Summary 1 0 0) ∷ []) (7, reply) there)
+
 -- The second message was answered before the first: the first line waits for it.
 one_is_answered : AreKnown small ((8, Summary 1 0 0) ∷ []) 7 four_lines (Unanswered 7 ∷ OutOfRange ∷ NoMessage ∷ Answered 8 (Summary 1 0 0) ∷ [])
 unfolding message_of kind_named number_in_word
-one_is_answered = ((refl, refl), (refl, (tt, ((refl, refl, (0, lit≤ tt, refl)), tt))))
+one_is_answered = ((refl, refl, none_to_seven), (refl, (tt, ((refl, refl, (0, lit≤ tt, refl)), tt))))
 
 -- No reply is known that was not given.
 not_answered_yet : AreKnown small [] 7 (codes "summary" ∷ []) (Answered 7 (Summary 1 0 0) ∷ []) → ⊥
 unfolding message_of kind_named number_in_word
 not_answered_yet h = let none = h.0.2.1 in absurd (omega (arith, none))
+
+-- No line waits that was answered.
+answered_already : AreKnown small ((7, Summary 1 0 0) ∷ []) 7 (codes "summary" ∷ []) (Unanswered 7 ∷ []) → ⊥
+unfolding message_of kind_named number_in_word
+answered_already h = h.0.2 (Summary 1 0 0) (0, lit≤ tt, refl)
 
 -- Nor is one known by the ticket of another message.
 not_by_another_ticket : AreKnown small ((8, Done) ∷ []) 7 (codes "makevol 0 0" ∷ []) (Answered 8 Done ∷ []) → ⊥

@@ -1,6 +1,7 @@
--- ---- for the crates above: what was told, and what a device holds of it
+-- ---- for the crates above: what was told, what a device holds of it, and what a restart goes on from
 pub mod Told
 pub mod Holding
+pub mod Recovering
 -- ---- this crate's own
 mod Chain
 mod Tickets
@@ -26,4 +27,6 @@ mod Under
 mod Promises
 mod Closing
 mod Silence
+mod SortedLogs
 mod Examples
+mod Restarts

@@ -44,7 +44,7 @@ module _ (g : Geometry) (x : State) where
   refused (SetLabel a v bytes) h = fails_first (SetLabel a v bytes) (drop 1 (tests (SetLabel a v bytes))) h
   refused (AskLabel a v) h = fails_first (AskLabel a v) (drop 1 (tests (AskLabel a v))) h
 
-  out_of_range : (m : Msg) → is_in_range g m ≡ false → step g x m ≡ (Refused Range, x)
+  pub out_of_range : (m : Msg) → is_in_range g m ≡ false → step g x m ≡ (Refused Range, x)
   out_of_range m h = ap (λ (why : Option Refusal). outcome why (accepted_reply g x m) (effect x m) x) (refused m h)
 
 -- ---- the tickets
@@ -58,6 +58,17 @@ told_later g x n [] p is = absurd is
 told_later g x n (m ∷ ms) p is = ⊎_elim
     (λ (e : p ≡ (n, reply_to g x m)). let same : p.0 ≡ n = ap (λ (q : ℕ × Reply). q.0) e in omega (arith, same))
     (λ later. let from = told_later g (next_state g x m) (n + 1) ms p later in omega (arith, from)) is
+
+pub next_from : (n : ℕ) (ms : List Msg) → n ≤ next_ticket n ms
+next_from n [] = omega arith
+next_from n (m ∷ ms) = let from = next_from (n + 1) ms in omega (arith, from)
+
+pub told_earlier : (g : Geometry) (x : State) (n : ℕ) (ms : List Msg) (p : ℕ × Reply) → IsIn p (told g x (ticketed n ms)) → p.0 < next_ticket n ms
+told_earlier g x n [] p is = absurd is
+told_earlier g x n (m ∷ ms) p is = ⊎_elim
+    (λ (e : p ≡ (n, reply_to g x m)).
+    let same : p.0 ≡ n = ap (λ (q : ℕ × Reply). q.0) e in let from = next_from (n + 1) ms in omega (arith, same, from))
+    (λ later. told_earlier g (next_state g x m) (n + 1) ms p later) is
 
 pub asked-append : (g : Geometry) (ls ms : List (List ℕ)) → asked g (ls ++ ms) ≡ asked g ls ++ asked g ms
 asked-append g [] ms = refl

@@ -1,5 +1,5 @@
 -- What a server has written when it ends, beside the serial server.
-use Rattle.std.proofs.Common.{◌≡◌, ◌≢◌, ℕ, ◌-◌, ◌^◌, Bool, true, false, List, [], ◌∷◌, ◌++◌, Option, Some, None, ap, sym, ◌∙◌, subst, length, map, take, inr, ⊎_elim, append_assoc, append-nil}
+use Rattle.std.proofs.Common.{◌≡◌, ◌≢◌, ℕ, ◌<◌, ◌-◌, ◌^◌, Bool, true, false, List, [], ◌∷◌, ◌++◌, Option, Some, None, ap, sym, ◌∙◌, subst, length, map, take, inr, ⊎_elim, append_assoc, append-nil, arith}
 use Rattle.std.specs.Prelude.{IfSome, Ok, Err}
 use Rattle.std.specs.Io.KnownBytes.{IsAtEnd}
 use Rattle.std.proofs.lemmas.Bool.{true≢false}
@@ -29,12 +29,12 @@ use Rattle.plain.specs.State.{State}
 use Rattle.scheduler.specs.Kept.{StandsNow, world_of}
 use Rattle.serving.specs.Ends.{AreFirst, AreServed, EndsSo, HasServed, IsWoundUp, settled_in}
 use Rattle.serving.specs.Going.{Goes, IsServing}
-use Rattle.serving.specs.Lines.{AreKnown, Line, asked, text, ticketed}
+use Rattle.serving.specs.Lines.{AreKnown, Line, asked, next_ticket, text, ticketed}
 use Rattle.machine.specs.Machine.{MachineView, machine_of}
 use Rattle.machine.specs.Stages.{events_of}
 use Rattle.serving.specs.declared.server.ServeFault.TheVariants as faults
 use Rattle.serving.proofs.Inside.{idle_again}
-use Rattle.serving.proofs.Serial.{AreTold, all_said, asked_leads_there, messages-ticketed, said_is_serial}
+use Rattle.serving.proofs.Serial.{AreTold, all_said, asked_leads_there, messages-ticketed, next_from, said_is_serial, told_earlier}
 
 module _ (keeps : Type 0) (start now : MachineView) (idle : IsIdle (world_of start.core)) where
   abbrev g : Geometry
@@ -56,6 +56,13 @@ module _ (keeps : Type 0) (start now : MachineView) (idle : IsIdle (world_of sta
     all_told p is = inr (subst (λ (es : List Entry). IsIn p (told g x es)) by_line
         (answered_by_ticket g (machine_of start) (events_of s.passes.stages) s.passes.legal sound idle p
         (subst (IsIn p) (sym s.passes.told_are) is)))
+
+    -- Each that was answered has a ticket before the next.
+    pub told_before : (p : ℕ × Reply) → IsIn p s.told → p.0 < next_ticket start.core.next (asked g taken)
+    told_before p is = ⊎_elim
+        (λ (lt : p.0 < start.core.next). let from = next_from start.core.next (asked g taken) in omega (arith, lt, from))
+        (λ here. told_earlier g x start.core.next (asked g taken) p here)
+        (all_told p is)
 
     leads : IsIdle (world_of now.core) → settled_in now.core ≡ state_after_lines g x taken
     leads ends =

@@ -1,5 +1,5 @@
 -- Where all that has arrived is still inside, no reply may be told.
-use Rattle.std.proofs.Common.{◌≡◌, ℕ, ◌+◌, List, [], ◌∷◌, ◌++◌, Option, Some, None, ap, sym, subst, length, map, arith}
+use Rattle.std.proofs.Common.{◌≡◌, ◌⊎◌, inl, inr, refl, ℕ, ◌+◌, List, [], ◌∷◌, ◌++◌, Option, Some, None, ap, sym, subst, length, map, arith}
 use Rattle.std.specs.Prelude.{slice_index_or}
 use Rattle.std.specs.List.{AllByRecursion}
 use Rattle.std.proofs.lemmas.Bool.{true≢false}
@@ -12,16 +12,17 @@ use Rattle.legal_runs.specs.World.{Entry}
 use Rattle.machine.specs.Machine.{machine_of}
 use Rattle.machine.specs.Stages.{events_of}
 use Rattle.message.specs.Grammar.{message_of}
-use Rattle.message.specs.Replies.{reply_line}
+use Rattle.message.specs.Replies.{no_message, reply_line}
 use Rattle.message.specs.declared.Msg.{Msg}
 use Rattle.message.specs.declared.Reply.{Reply}
-use Rattle.message.specs.declared.Reply.TheVariants.{Done}
+use Rattle.message.specs.declared.Refusal.TheVariants.{Range}
+use Rattle.message.specs.declared.Reply.TheVariants.{Done, Refused}
 use Rattle.plain.specs.Order.{messages}
 use Rattle.plain.specs.Output.{joined}
 use Rattle.scheduler.specs.Kept.{CoreView, world_of}
 use Rattle.serving.specs.Lines.{Answered, AreAnswered, AreKnown, IsKnown, Line, NoMessage, OutOfRange, Unanswered, asked_in, next_ticket, text}
 use Rattle.serving.specs.Runs.{inside}
-use Rattle.serving.specs.Telling.{HasNoReply, MaySay, MayTell, Start, start_machine}
+use Rattle.serving.specs.Telling.{HasNoReply, MaySay, MayTell, Start, TellsNoReply, start_machine}
 use Rattle.serving.proofs.Counting.{run_counts}
 use Rattle.serving.proofs.Inside.{idle_inside}
 use Rattle.serving.proofs.Tickets.{run_next}
@@ -74,6 +75,18 @@ module _ (keeps : Type 0) (s : Start) (told : Option (List ℕ)) (now : CoreView
   is_silent = all_silent s.core.geometry s.core.next m.served.taken m.served.said m.next m.row
       (subst (λ (l : List (ℕ × Reply)). AreKnown s.core.geometry l s.core.next m.served.taken (m.served.said ++ (m.next ++ m.row))) none_answered m.served.known)
       m.are_answered
+
+-- Each such line says that it has none.
+say_none : (ls : List Line) → AllByRecursion HasNoReply ls → AllByRecursion (λ line. (line ≡ no_message) ⊎ (line ≡ reply_line (Refused Range))) (map text ls)
+say_none [] all = tt
+say_none (NoMessage ∷ ls) all = (inl refl, say_none ls all.1)
+say_none (OutOfRange ∷ ls) all = (inr refl, say_none ls all.1)
+say_none (Unanswered t ∷ ls) all = absurd all.0
+say_none (Answered t reply ∷ ls) all = absurd all.0
+
+pub no_reply : (keeps : Type 0) (s : Start) (told : Option (List ℕ)) (now : CoreView) (bytes : List ℕ) → inside (world_of now) + s.core.next ≡ now.next
+    → MayTell keeps (Some s) told now bytes → TellsNoReply bytes
+no_reply keeps s told now bytes all_inside m = (map text m.next, m.bytes_are, say_none m.next (is_silent keeps s told now bytes m all_inside))
 
 -- No such line tells that a message was carried out.
 not_done : (ls : List Line) → AllByRecursion HasNoReply ls → reply_line Done ≡ joined (map text ls) → ⊥

@@ -3,6 +3,7 @@ use Rattle.std.proofs.Common.{◌≡◌, ℕ, true, false, Bool, List, [], ◌�
 use Rattle.std.specs.Prelude.{IfSome, Result, Ok, Err, ◌&&◌}
 use Rattle.std.specs.Io.KnownBytes.{IsAtEnd}
 use Rattle.legal_runs.specs.Events.{arrive}
+use Rattle.legal_runs.specs.Laws.{IsIdle}
 use Rattle.legal_runs.specs.declared.outcomes.ArriveRefusal.{ArriveRefusal}
 use Rattle.legal_runs.specs.declared.outcomes.ArriveRefusal.TheVariants as arrivals
 use Rattle.machine.proofs.Events.{arrive_step}
@@ -72,7 +73,7 @@ still keeps m h = record { holds = h; passes = stays keeps m }
 -- ---- the next line
 
 module _ (keeps : Type 0) (start old new : MachineView) (row : List Line) (known : Line) (input left now_left : Option (List ℕ)) (ended now_ended : Bool)
-    (before written : Option (List ℕ)) (going : ended ≡ false) (closes : IsClosed left now_ended) where
+    (before written : Option (List ℕ)) (idle : IsIdle (world_of start.core)) (going : ended ≡ false) (closes : IsClosed left now_ended) where
   -- It was given.
   pub line_goes_on : (line : List ℕ) → IsTaken keeps old new (message_of line) known → IfSome left (λ bs. GivesLine line bs now_left)
       → Goes keeps start old row input left ended before written
@@ -81,7 +82,7 @@ module _ (keeps : Type 0) (start old new : MachineView) (row : List Line) (known
     taken = h.taken ++ line ∷ [];
     said = h.said;
     takes = takes_line input left now_left ended now_ended h.taken line h.takes going found closes;
-    serving = serves_taken keeps start old new h.taken h.said row line known t h.serving;
+    serving = serves_taken keeps start old new h.taken h.said row line known idle t h.serving;
     output = h.output;
   }
 
@@ -95,7 +96,7 @@ module _ (keeps : Type 0) (start old new : MachineView) (row : List Line) (known
         taken = h.taken ++ l.line ∷ [];
         said = h.said;
         takes = l.takes;
-        serving = serves_taken keeps start old new h.taken h.said row l.line known
+        serving = serves_taken keeps start old new h.taken h.said row l.line known idle
             (subst (λ (o : Option Msg). IsTaken keeps old new o known) (sym l.no_message) t) h.serving;
         output = h.output;
       }

@@ -1,5 +1,6 @@
 -- A session stays under way: one lemma for each kind of step, and what being under way tells.
-use Rattle.std.proofs.Common.{◌≡◌, ◌≢◌, ◌≤◌, ◌<◌, ℕ, Bool, true, false, List, [], ◌∷◌, ◌++◌, Option, Some, None, refl, ap, sym, ◌∙◌, subst, length, map, drop, append_assoc, append-nil, arith}
+use Rattle.std.proofs.Common.{◌≡◌, ◌≢◌, ◌≤◌, ◌<◌, ◌+◌, ℕ, Bool, true, false, List, [], ◌∷◌, ◌++◌, Option, Some, None, refl, ap, sym, ◌∙◌, subst, length, map, drop, append_assoc, append-nil, arith}
+use Rattle.std.proofs.lemmas.List.{length-append, length-map}
 use Rattle.std.specs.Prelude.{IfSome, IsTrue, MatchBool}
 use Rattle.std.specs.Io.KnownBytes.{Appends, IsAtEnd}
 use Rattle.affinity.specs.declared.geometry.Geometry.{Geometry}
@@ -156,6 +157,8 @@ module _ (keeps : Type 0) where
               waiting = h.waiting;
               are_answered = h.are_answered;
               out_is = h.out_is;
+              counted = h.counted;
+              bounded = h.bounded;
               goes = quiet_goes_on keeps (machine p) (machine q) k.passes (h.waiting ++ p.row.lines) (start_machine s) s.input left drained
                   (known_unless p.broken s.before) (known_unless p.broken p.told) h.goes;
             }) p.stop u.reads;
@@ -183,6 +186,8 @@ module _ (keeps : Type 0) where
               waiting = h.waiting;
               are_answered = h.are_answered;
               out_is = h.out_is;
+              counted = let counted = h.counted in omega (arith, counted, ap length is, length-map p.row.lines (answer_one ticket reply));
+              bounded = let bounded = h.bounded in omega (arith, bounded, slots);
               goes = subst (λ (l : List Line). Goes keeps (start_machine s) (machine q) l s.input left drained (known_unless p.broken s.before)
                   (known_unless p.broken p.told))
                   (are_left ticket reply h.waiting p.row.lines h.are_answered ∙ ap (λ (l : List Line). h.waiting ++ l) (sym is))
@@ -212,6 +217,8 @@ module _ (keeps : Type 0) where
               are_answered = all_join (λ line. is_answered line ≡ true) h.waiting one h.are_answered (f.answered, tt);
               out_is = added ∙ ap (λ (l : List ℕ). l ++ next_text p.row.lines) h.out_is
                   ∙ ap (λ (l : List ℕ). joined (map text h.waiting) ++ l) (f.says ∙ sym (append-nil (text f.line))) ∙ sym (texts_both h.waiting one);
+              counted = let counted = h.counted in omega (arith, counted, ap length f.were, length-append h.waiting one);
+              bounded = let bounded = h.bounded in omega (arith, bounded, slots);
               goes = subst (λ (l : List Line). Goes keeps (start_machine s) (machine p) l s.input left drained (known_unless p.broken s.before)
                   (known_unless p.broken p.told))
                   (ap (λ (l : List Line). h.waiting ++ l) f.were ∙ sym (append_assoc h.waiting one row.lines)) h.goes;
@@ -229,21 +236,26 @@ module _ (keeps : Type 0) where
       (subst (λ (l : List ℕ). IsUnderWayFrom keeps o (record p { out = l })) (sym added) u)
 
   -- All that waits is told.
-  pub on_tell : (o : Option Start) (p : SessionView) (out : List ℕ) (told : Option (List ℕ)) → IsUnderWayFrom keeps o p
-      → out ≡ [] → Appends p.told told p.out → IsUnderWayFrom keeps o (record p { out = out; told = told })
-  on_tell None p out told u none appends = absurd u
-  on_tell (Some s) p out told u none appends = record {
+  pub on_tell : (o : Option Start) (p : SessionView) (out : List ℕ) (told : Option (List ℕ)) (n : ℕ) → IsUnderWayFrom keeps o p
+      → out ≡ [] → Appends p.told told p.out → n ≡ length p.row.lines
+      → IsUnderWayFrom keeps o (record p { out = out; told = told; open_lines = n })
+  on_tell None p out told n u none appends are = absurd u
+  on_tell (Some s) p out told n u none appends are = record {
     idle = u.idle;
     sure = u.sure;
     fits = u.fits;
     holds = u.holds;
     places = u.places;
     knows = u.knows;
-    reads = reads_on s p (record p { out = out; told = told }) refl (λ x. x) refl refl refl
+    reads = reads_on s p (record p { out = out; told = told; open_lines = n }) refl (λ x. x) refl refl refl
         (λ left drained h. record {
           waiting = [];
           are_answered = tt;
           out_is = none;
+          counted = omega (arith, are);
+          bounded = let counted = h.counted in
+              let bounded = h.bounded in
+              omega (arith, are, counted, bounded);
           goes = says_on keeps (start_machine s) (machine p) (h.waiting ++ p.row.lines) p.row.lines (known_unless p.broken p.told)
               (known_unless p.broken told)
               (says_unless p.broken (h.waiting ++ p.row.lines) p.row.lines p.told told (record {
@@ -271,6 +283,8 @@ module _ (keeps : Type 0) where
           waiting = h.waiting;
           are_answered = h.are_answered;
           out_is = h.out_is;
+          counted = h.counted;
+          bounded = h.bounded;
           goes = forgets keeps (start_machine s) (machine p) (h.waiting ++ p.row.lines) s.input left drained (known_unless p.broken s.before)
               (known_unless p.broken p.told) h.goes;
         }) p.stop u.reads;
@@ -301,10 +315,17 @@ module _ (keeps : Type 0) where
   pub reading : (s : Start) (p : SessionView) → p.stop ≡ None → IsUnderWay keeps s p → HasGone keeps s p p.left p.drained
   reading s p is u = subst (λ (o : Option Stop). ReadsOrStops keeps s p o) is u.reads
 
-  module _ (p : SessionView) (core : CoreView) (row : RowView) (left : Option (List ℕ)) (drained ended : Bool) (behind : Option (List ℕ))
-      (none : p.stop ≡ None) (slots : row.slots ≡ p.row.slots) (knows : IsTrue ended → IsAtEnd behind) where
+  module _ (p : SessionView) (core : CoreView) (row : RowView) (n : ℕ) (left : Option (List ℕ)) (drained ended : Bool)
+      (behind : Option (List ℕ)) (none : p.stop ≡ None) (slots : row.slots ≡ p.row.slots)
+      (more : n + length p.row.lines ≡ p.open_lines + length row.lines) (few : n ≤ p.row.slots) (knows : IsTrue ended → IsAtEnd behind) where
     abbrev next : SessionView
-    next = record p { core = core; row = row; left = left; drained = drained; ended = ended; behind = behind }
+    next = record p { core = core; row = row; open_lines = n; left = left; drained = drained; ended = ended; behind = behind }
+
+    counted_next : (waiting : List Line) → p.open_lines ≡ length waiting + length p.row.lines → n ≡ length waiting + length row.lines
+    counted_next waiting counted = omega (arith, counted, more)
+
+    bounded_next : n ≤ row.slots
+    bounded_next = omega (arith, few, slots)
 
     reads_next : (s : Start) → IsUnderWay keeps s p → Holds (machine next) → HasGone keeps s next left drained → IsUnderWay keeps s next
     reads_next s u holds gone = record {
@@ -332,10 +353,12 @@ module _ (keeps : Type 0) where
             waiting = h.waiting;
             are_answered = h.are_answered;
             out_is = h.out_is;
+            counted = counted_next h.waiting h.counted;
+            bounded = bounded_next;
             goes = subst (λ (l : List Line). Goes keeps (start_machine s) (machine next) l s.input left drained (known_unless p.broken s.before) told)
                 (at_end h.waiting)
                 (line_goes_on keeps (start_machine s) (machine p) (machine next) (h.waiting ++ p.row.lines) known s.input p.left left p.drained drained
-                (known_unless p.broken s.before) told going closes line t found h.goes);
+                (known_unless p.broken s.before) told u.idle going closes line t found h.goes);
           })
 
       -- One that is too long is read.
@@ -349,10 +372,12 @@ module _ (keeps : Type 0) where
             waiting = h.waiting;
             are_answered = h.are_answered;
             out_is = h.out_is;
+            counted = counted_next h.waiting h.counted;
+            bounded = bounded_next;
             goes = subst (λ (l : List Line). Goes keeps (start_machine s) (machine next) l s.input left drained (known_unless p.broken s.before) told)
                 (at_end h.waiting)
                 (long_line_goes_on keeps (start_machine s) (machine p) (machine next) (h.waiting ++ p.row.lines) known s.input p.left left p.drained drained
-                (known_unless p.broken s.before) told going closes t found h.goes);
+                (known_unless p.broken s.before) told u.idle going closes t found h.goes);
           })
 
     -- No more is read for this reason.
@@ -376,6 +401,8 @@ module _ (keeps : Type 0) where
               waiting = h.waiting;
               are_answered = h.are_answered;
               out_is = h.out_is;
+              counted = counted_next h.waiting h.counted;
+              bounded = bounded_next;
               goes = subst (λ (l : List Line). Goes keeps (start_machine s) (machine next) l s.input p.left p.drained (known_unless p.broken s.before) told)
                   (ap (λ (l : List Line). h.waiting ++ l) (sym same))
                   (quiet_goes_on keeps (machine p) (machine next) k.passes (h.waiting ++ p.row.lines) (start_machine s) s.input p.left p.drained
@@ -392,6 +419,14 @@ module _ (keeps : Type 0) where
   follows (Some s) p none u =
       let h = to_row s p p.left p.drained (reading s p none u) in
       next_follows keeps (start_machine s) (machine p) h.taken h.said p.row.lines h.serving
+
+  -- Where fewer lines are open than there are slots, the row has room for a further one.
+  pub has_place : (o : Option Start) (p : SessionView) → IsUnderWayFrom keeps o p → p.open_lines < p.row.slots → length p.row.lines < p.row.slots
+  has_place None p u room = absurd u
+  has_place (Some s) p u room =
+      let k = gone s p p.stop u.reads in
+      let counted = k.2.counted in
+      omega (arith, counted, room)
 
   -- Where the row has room for a line, its message isn't refused for want of a slot.
   pub has_slot : (o : Option Start) (p : SessionView) (m : Msg) → p.stop ≡ None → IsUnderWayFrom keeps o p → length p.row.lines < p.row.slots

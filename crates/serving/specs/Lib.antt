@@ -9,3 +9,4 @@ pub mod Ends
 pub mod Serve
 pub mod Telling
 pub mod Session
+pub mod Restart

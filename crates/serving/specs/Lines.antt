@@ -34,11 +34,16 @@ next_ticket n (m ∷ ms) = next_ticket (n + 1) ms
 
 -- ---- what is known of a line
 
--- This is known of the line of a message, or of none. Its ticket is n, if it takes one, and the reply to it is among these.
+-- none of these replies is to this ticket
+abbrev pub NoneIsTo : List (ℕ × Reply) → ℕ → Type 0
+NoneIsTo replies ticket = (reply : Reply) → Contains replies (ticket, reply) → ⊥
+
+-- This is known of the line of a message, or of none. Its ticket is n, if it takes one, and the reply to it is among these; or, where the
+-- line is not answered, none of them is to it.
 abbrev pub IsKnown : Geometry → List (ℕ × Reply) → ℕ → Option Msg → Line → Type 0
 IsKnown g replies n None NoMessage = Unit {0}
 IsKnown g replies n (Some m) OutOfRange = is_in_range g m ≡ false
-IsKnown g replies n (Some m) (Unanswered ticket) = (is_in_range g m ≡ true) × (ticket ≡ n)
+IsKnown g replies n (Some m) (Unanswered ticket) = (is_in_range g m ≡ true) × (ticket ≡ n) × NoneIsTo replies ticket
 IsKnown g replies n (Some m) (Answered ticket reply) = (is_in_range g m ≡ true) × (ticket ≡ n) × Contains replies (ticket, reply)
 IsKnown g replies n _ _ = ⊥
 

@@ -32,10 +32,12 @@ pub record SessionView : Type 0 where
   -- the core, and what is lent
   pub core : CoreView
   pub desk : Desk
-  -- the lines that were read and are not answered in the output, and the answers that wait to be told behind what was told
+  -- the lines that were read and not said yet, the answers that wait to be told, and what was told
   pub row : RowView
   pub out : List ℕ
   pub told : Option (List ℕ)
+  -- how many lines were read and are not answered in the output
+  pub open_lines : ℕ
   -- whether telling has failed, and why no more is read, if it is so
   pub broken : Bool
   pub stop : Option Stop
@@ -73,6 +75,9 @@ pub record HasGone (keeps : Type 0) (s : Start) (p : SessionView) (left : Option
   pub waiting : List Line
   pub are_answered : AreAnswered waiting
   pub out_is : p.out ≡ joined (map text waiting)
+  -- Open are the lines whose answers wait and those of the row. There are never more of them than slots.
+  pub counted : p.open_lines ≡ length waiting + length p.row.lines
+  pub bounded : p.open_lines ≤ p.row.slots
   pub goes : Goes keeps (start_machine s) (machine p) (waiting ++ p.row.lines) s.input left drained
       (known_unless p.broken s.before) (known_unless p.broken p.told)
 

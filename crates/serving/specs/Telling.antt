@@ -1,11 +1,15 @@
 -- What a server may tell, and when.
-use Rattle.std.specs.Prelude.{◌≡◌, ℕ, List, [], ◌++◌, map, replicate, Option, Some, None}
+use Rattle.std.specs.Prelude.{◌≡◌, ◌⊎◌, ℕ, List, [], ◌++◌, map, replicate, Option, Some, None}
 use Rattle.std.specs.Io.KnownBytes.{Appends}
+use Rattle.std.specs.List.{AllByRecursion}
 use Rattle.checkpoint.specs.Header.{HasHeader}
 use Rattle.checkpoint.specs.Refusals.{refused}
 use Rattle.legal_runs.specs.Laws.{IsIdle}
 use Rattle.legal_runs.specs.World.{Replied}
 use Rattle.machine.specs.Machine.{MachineView}
+use Rattle.message.specs.Replies.{no_message, reply_line}
+use Rattle.message.specs.declared.Refusal.TheVariants.{Range}
+use Rattle.message.specs.declared.Reply.TheVariants.{Refused}
 use Rattle.plain.specs.Output.{joined}
 use Rattle.scheduler.specs.Kept.{CoreView, world_of}
 use Rattle.serving.specs.Ends.{AreFirst, HasServed, settled_in}
@@ -55,6 +59,11 @@ pub record MaySay (keeps : Type 0) (s : Start) (told : Option (List ℕ)) (now :
 abbrev pub MayTell : Type 0 → Option Start → Option (List ℕ) → CoreView → List ℕ → Type 0
 MayTell keeps None told now bytes = ⊥
 MayTell keeps (Some s) told now bytes = MaySay keeps s told now bytes
+
+-- These bytes are lines, each of which tells that a line is no message, or that a message is out of range.
+abbrev pub TellsNoReply : List ℕ → Type 0
+TellsNoReply bytes = (ls : List (List ℕ)) × (bytes ≡ joined ls)
+    × AllByRecursion (λ line. (line ≡ no_message) ⊎ (line ≡ reply_line (Refused Range))) ls
 
 -- a line that is answered without a message: it is none, or one that is out of range
 abbrev pub HasNoReply : Line → Type 0

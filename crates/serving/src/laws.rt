@@ -27,8 +27,9 @@ ghost use Rattle.plain.specs.State.{State};
 ghost use Rattle.scheduler.specs.Kept.{CoreView, StandsNow, world_of};
 ghost use Rattle.serving.specs.Ends.{EndsSo, HasRunLines, HasServed, IsWoundUp, settled_in};
 ghost use Rattle.serving.specs.Going.{Goes};
+ghost use Rattle.serving.specs.Restart.{StandsRecovered};
 ghost use Rattle.serving.specs.Told.{AreKept, HoldsLog};
-ghost use Rattle.serving.specs.Telling.{HoldsTold, MayTell, Start};
+ghost use Rattle.serving.specs.Telling.{HoldsTold, MayTell, Start, TellsNoReply};
 ghost use Rattle.serving.specs.Lines.{AreKnown, Line, asked, is_answered, text, ticketed};
 ghost use Rattle.machine.specs.Machine.{MachineView, machine_of};
 ghost use Rattle.machine.specs.Stages.{Stage, device_after, events_of};
@@ -128,9 +129,19 @@ pub fn what_may_be_told_is_on_the_device<D: Disk>()
         → D.keeps → Appends told later bytes → (c : List ℕ) → Leaves now.medium c → HoldsTold s later c }
 {}
 
-/// Nothing may be told too early: as long as each message that has arrived is still inside, waiting or held, no call may tell that one
-/// was carried out.
+/// What may be told is recovered: once it is told, whatever a crash leaves of the device, as it was then, stands for a state with each line
+/// that was told, and with a closed part of the lines behind them.
+pub fn what_may_be_told_is_recovered<D: Disk>()
+    ensures { (s : Start) (told later : Option (List ℕ)) (now : CoreView) (bytes : List ℕ) → MayTell D.keeps (Some s) told now bytes
+        → D.keeps → Appends told later bytes → (c : List ℕ) → Leaves now.medium c
+        → StandsRecovered s.core.geometry (settled_in s.core) s.input s.before later c }
+{}
+
+/// Nothing may be told too early: as long as each message that has arrived is still inside, waiting or held, no call may tell a reply,
+/// among whatever other lines: it tells lines that are no message or out of range. So none tells that a message was carried out.
 pub fn nothing_is_told_before_it_is_answered<D: Disk>()
-    ensures { (s : Start) (told : Option (List ℕ)) (now : CoreView) → inside (world_of now) + s.core.next ≡ now.next
+    ensures none { (s : Start) (told : Option (List ℕ)) (now : CoreView) (bytes : List ℕ) → inside (world_of now) + s.core.next ≡ now.next
+        → MayTell D.keeps (Some s) told now bytes → TellsNoReply bytes }
+    ensures done { (s : Start) (told : Option (List ℕ)) (now : CoreView) → inside (world_of now) + s.core.next ≡ now.next
         → MayTell D.keeps (Some s) told now (reply_line Done) → ⊥ }
 {}

@@ -88,4 +88,19 @@ impl<'c, R: Read, D: Disk, L: Teller<D>> Session<'c, R, D, L> {
         let cut = self.core.cut();
         self.course.begin(cut)
     }
+
+    /// Where no job is out and no message may go out or be read: takes the consistency point in progress a step on, or begins one where it
+    /// is due or a message lacks room in the log alone. Whether it did either.
+    pub(crate) fn step_point(&mut self, lacks_room: bool) -> Result<bool, Halted>
+        ensures moves { Moves self.old self.new result }
+    {
+        if self.move_point_on()? {
+            return Ok(true);
+        }
+        if lacks_room || self.course.is_due(self.core.left()) {
+            self.begin_point()?;
+            return Ok(true);
+        }
+        Ok(false)
+    }
 }

@@ -48,30 +48,36 @@ fn take<D: Disk>(core: &mut Core<D>, row: &mut LineRow, line: &[u8]) -> Result<(
     }
 }
 
-/// Whether a further line may be read: nothing has stopped it, and there is room for the line in the row.
-fn may_read(stop: Option<Stop>, row: &LineRow) -> bool
-    ensures { IsTrue result ↔ ((stop ≡ None) × (length row.now.lines < row.now.slots)) }
+/// Whether a further line may be read: nothing has stopped it, and fewer lines are open than there are slots.
+fn may_read(stop: Option<Stop>, open_lines: usize, slots: usize) -> bool
+    ensures { IsTrue result ↔ ((stop ≡ None) × (open_lines < slots)) }
 {
-    stop.is_none() && row.has_room()
+    stop.is_none() && open_lines < slots
 }
 
 impl<'c, R: Read, D: Disk, L: Teller<D>> Session<'c, R, D, L> {
-    /// Reads the next line, for which there is room, if there is one: whether more may be read then. Else the session has stopped.
+    /// Reads the next line, if there is one, while fewer lines are open than there are slots: whether there was one. Else the session has
+    /// stopped.
     fn read_next(&mut self) -> bool
         requires reads { self.old.stop ≡ None }
-        requires room { length self.old.row.lines < self.old.row.slots }
+        requires room { self.old.open_lines < self.old.row.slots }
         ensures reads { result ≡ is_none self.new.stop }
         ensures whole { self.new.broken ≡ self.old.broken }
         ensures slots { self.new.row.slots ≡ self.old.row.slots }
         ensures longer { IsTrue result → length self.new.row.lines ≡ length self.old.row.lines + 1 }
+        ensures counted { IsTrue result → self.new.open_lines ≡ self.old.open_lines + 1 }
     {
+        prove!(self.open_lines < self.row.slots());
         if self.lines.is_drained() {
             self.stop = Some(Stop::End);
             return false;
         }
         match self.lines.next_line() {
             Ok(Found::Line) => match take(&mut self.core, &mut self.row, self.lines.line()) {
-                Ok(()) => true,
+                Ok(()) => {
+                    self.open_lines += 1;
+                    true
+                }
                 Err(stop) => {
                     self.stop = Some(stop);
                     false
@@ -79,6 +85,7 @@ impl<'c, R: Read, D: Disk, L: Teller<D>> Session<'c, R, D, L> {
             },
             Ok(Found::TooLong) => {
                 self.row.push(Line::NoMessage);
+                self.open_lines += 1;
                 true
             }
             Ok(Found::End) => {
@@ -92,14 +99,19 @@ impl<'c, R: Read, D: Disk, L: Teller<D>> Session<'c, R, D, L> {
         }
     }
 
-    /// Reads lines that are held, while there is room for them. Where it may wait, the next line is read first, if there is room for it:
-    /// others may come with it, and a change is logged with theirs, not by itself. Whether there was one. None is read once the session
-    /// has stopped.
+    /// Whether a line is held that may be read.
+    pub(crate) fn can_read(&self) -> bool {
+        may_read(self.stop, self.open_lines, self.row.slots()) && self.lines.holds_line()
+    }
+
+    /// Reads lines that are held, while fewer lines are open than there are slots. Where it may wait, the next line is read first, also if
+    /// none is held: others may come with it, and a change is logged with theirs, not by itself. Whether there was one. None is read once
+    /// the session has stopped.
     pub(crate) fn read_more(&mut self, may_wait: bool) -> bool
         ensures whole { self.new.broken ≡ self.old.broken }
     {
         let mut read = false;
-        while may_read(self.stop, &self.row)
+        while may_read(self.stop, self.open_lines, self.row.slots())
             && ((may_wait && !read) || self.lines.holds_line())
             && self.read_next()
         {

@@ -52,13 +52,12 @@ pub struct ServeError<D: Disk> {
     pub fault: ServeFault,
 }
 
-// What a server has before it reads: room for what is read, for the lines that are not answered and for the answers that wait, when
-// consistency points are due, and a bench with its seats. Nothing lies there yet.
+// What a server has before it reads: room for what is read, for the lines that are not said and for the answers that wait, and a bench
+// with its seats. Nothing lies there yet.
 struct Room {
     input: Vec<u8>,
     row: LineRow,
     out: ReplyBuffer,
-    course: Course,
     bench: Bench,
     desk: DispatchSeat,
     seats: Vec<WorkSeat>,
@@ -69,9 +68,8 @@ struct Room {
     ghost none_lent: { desk.lent ≡ replicate bench.slots None },
 }
 
-// Takes the memory for lines of which `slots` are read and not answered at once, with a point after `every` records, and lays a bench with
-// a place for each worker.
-fn take_room(alloc: Global, slots: usize, workers: usize, every: u64) -> Result<Room, AllocError>
+// Takes the memory for lines of which at most `slots` are open, and lays a bench with a place for each worker.
+fn take_room(alloc: Global, slots: usize, workers: usize) -> Result<Room, AllocError>
     requires { workers ≤ 64 }
     ensures row { IfOk result (λ room. room.row.slots ≡ slots) }
     ensures places { IfOk result (λ room. room.bench.slots ≡ workers) }
@@ -84,7 +82,6 @@ fn take_room(alloc: Global, slots: usize, workers: usize, every: u64) -> Result<
         input,
         row,
         out,
-        course: Course::new(every),
         bench,
         desk,
         seats,
@@ -127,6 +124,8 @@ fn serve_lent<
     reader: &'a mut R,
     teller: L,
     room: Room,
+    course: Course,
+    of: PhantomData<N>,
 ) -> (Result<Core<D>, ServeError<D>>, &'a mut R, L)
     requires reader { reader.ghost_name ≡ N.name }
     requires can_begin { CanBegin L.start core room.bench.slots (R.remaining reader.now) (L.told teller) room.row }
@@ -150,12 +149,10 @@ fn serve_lent<
         input,
         row,
         out,
-        course,
         bench,
         desk,
         seats,
     } = room;
-    let of = PhantomData::<N>;
     let mut session = Session {
         core,
         desk,
@@ -164,6 +161,7 @@ fn serve_lent<
         course,
         lines: LineReader::new(LentReader { reader, of }, input),
         stop: None,
+        open_lines: 0,
         teller,
         broken: false,
         bench: &bench,
@@ -177,6 +175,7 @@ fn serve_lent<
         course: _,
         lines,
         stop: _,
+        open_lines: _,
         teller,
         broken: _,
         bench: _,
@@ -197,8 +196,8 @@ fn serve_lent<
 /// is no memory or a thread can't be started: nothing was read or told. Then `ServeFault::Read`, `ServeFault::Exhausted`,
 /// `ServeFault::Device` and `ServeFault::Write`, as they say.
 pub fn serve_to<T: Threads + Wait + Sync, R: Read, L: Teller<D>, D: Disk + Drop, G: Gate + Sync>(
-    alloc: Global,
     rt: &T,
+    alloc: Global,
     core: Core<D>,
     r: &mut R,
     teller: L,
@@ -226,7 +225,7 @@ pub fn serve_to<T: Threads + Wait + Sync, R: Read, L: Teller<D>, D: Disk + Drop,
         let fault = ServeFault::NoWorkers;
         return (Err(ServeError { core, fault }), teller);
     }
-    let Ok(room) = take_room(alloc, core.slots(), workers, every) else {
+    let Ok(room) = take_room(alloc, core.slots(), workers) else {
         let fault = ServeFault::OutOfMemory;
         return (Err(ServeError { core, fault }), teller);
     };
@@ -236,6 +235,8 @@ pub fn serve_to<T: Threads + Wait + Sync, R: Read, L: Teller<D>, D: Disk + Drop,
         r,
         teller,
         room,
+        Course::new(every),
+        PhantomData,
     );
     come_back(reader);
     (ended, teller)
@@ -284,8 +285,8 @@ impl<'w, D: Disk, W: Write, B: Beginning> Teller<D> for Output<'w, W, B> {
 
 // With what a server serves, beside its core, its input and its output.
 struct Setting<'c, T, G> {
-    alloc: Global,
     rt: &'c T,
+    alloc: Global,
     workers: usize,
     every: u64,
     gate: &'c G,
@@ -334,14 +335,14 @@ fn serve_writer<
     ensures emptied { IfOk result.0 (λ after. D.keeps → HasEmptyLog after) }
 {
     let Setting {
-        alloc,
         rt,
+        alloc,
         workers,
         every,
         gate,
     } = setting;
     let output = Output::<W, B> { w, of };
-    let (ended, output) = serve_to(alloc, rt, core, r, output, workers, every, gate);
+    let (ended, output) = serve_to(rt, alloc, core, r, output, workers, every, gate);
     let Output { w, of: _ } = output;
     (ended, w)
 }
@@ -357,8 +358,8 @@ fn serve_writer<
 /// is no memory or a thread can't be started: nothing was read or written. Then `ServeFault::Read`, `ServeFault::Exhausted`,
 /// `ServeFault::Device` and `ServeFault::Write`, as they say.
 pub fn serve<T: Threads + Wait + Sync, R: Read, W: Write, D: Disk + Drop, G: Gate + Sync>(
-    alloc: Global,
     rt: &T,
+    alloc: Global,
     core: Core<D>,
     r: &mut R,
     w: &mut W,
@@ -383,8 +384,8 @@ pub fn serve<T: Threads + Wait + Sync, R: Read, W: Write, D: Disk + Drop, G: Gat
     ensures emptied { IfOk result (λ after. D.keeps → HasEmptyLog after) }
 {
     let setting = Setting {
-        alloc,
         rt,
+        alloc,
         workers,
         every,
         gate,

@@ -46,7 +46,7 @@ pub(crate) struct Session<'c, R: Read, D: Disk, L: Teller<D>> {
     pub(crate) core: Core<D>,
     /// The dispatcher's seat at the bench.
     pub(crate) desk: DispatchSeat,
-    /// The lines that were read and are not answered in the output.
+    /// The lines that were read and not said yet.
     pub(crate) row: LineRow,
     /// The answers that wait to be told.
     pub(crate) out: ReplyBuffer,
@@ -56,6 +56,8 @@ pub(crate) struct Session<'c, R: Read, D: Disk, L: Teller<D>> {
     pub(crate) lines: LineReader<R>,
     /// Why no more of it is read, once that is so.
     pub(crate) stop: Option<Stop>,
+    /// How many lines are open: read, and not answered in the output. They are in the row, or their answers wait.
+    pub(crate) open_lines: usize,
     /// Whom it tells the lines.
     pub(crate) teller: L,
     /// Whether that has failed. Nothing more is told then.
@@ -77,6 +79,7 @@ impl<'c, R: Read, D: Disk, L: Teller<D>> Model for Session<'c, R, D, L> {
       row = s.row;
       out = s.out;
       told = L.told s.teller;
+      open_lines = s.open_lines;
       broken = s.broken;
       stop = s.stop;
       left = unread R.remaining s.lines;
@@ -91,6 +94,7 @@ impl<'c, R: Read, D: Disk, L: Teller<D>> Model for Session<'c, R, D, L> {
       row = s.row;
       out = s.out;
       told = L.told s.teller;
+      open_lines = s.open_lines;
       broken = s.broken;
       stop = s.stop;
       left = unread R.remaining s.lines;

@@ -74,6 +74,7 @@ impl<'c, R: Read, D: Disk, L: Teller<D>> Session<'c, R, D, L> {
         match self.teller.tell(self.out.waiting(), &self.core) {
             Ok(()) => {
                 self.out.clear();
+                self.open_lines = self.row.len();
                 Ok(())
             }
             Err(_) => {

@@ -250,34 +250,50 @@ impl<'c, R: Read, D: Disk, L: Teller<D>> Session<'c, R, D, L> {
         while self.answer_first(rt) {
             self.move_point_on()?;
         }
-        self.say_what_is_next()
+        self.say_what_is_next()?;
+        if self.half_waits() {
+            self.send()?;
+        }
+        Ok(())
     }
 
-    /// Where no consistency point is in progress: sends what waits, and waits for a result where one is to come, or begins a point where
-    /// one is due or a message lacks room. Else nothing is to be done: whether it is so.
+    /// Whether at least half as many answers wait as lines may be open. They are told then, so that other lines are read in their place
+    /// while the rest are worked off.
+    fn half_waits(&self) -> bool {
+        let slots = self.row.slots();
+        self.open_lines.saturating_sub(self.row.len()) >= slots - slots / 2
+    }
+
+    /// Where no message goes out or comes back: tells what waits. If a line may be read then that is held, this is all; else it waits for
+    /// a result where a job is out, or takes a step of a consistency point. Whether nothing is left to do but to read.
     fn rest<W: Gated>(&mut self, rt: &W, lacks_room: bool) -> Result<bool, Halted>
-        requires none { self.old.core.left ≡ None }
         ensures moves { Moves self.old self.new result }
     {
         self.send()?;
+        if self.can_read() {
+            return Ok(false);
+        }
         if self.desk.any_lent() {
             self.bench.wait(rt, &mut self.desk);
             return Ok(false);
         }
-        if lacks_room || self.course.is_due(self.core.left()) {
-            self.begin_point()?;
-            return Ok(false);
-        }
-        Ok(true)
+        let stepped = self.step_point(lacks_room)?;
+        Ok(!stepped)
     }
 
-    /// Does what can be done: whether nothing is left to do but to read. Where lines were read just before, it doesn't wait.
+    /// Whether each line that was read is answered, and no further one is held: its client may wait for what is to be told.
+    fn has_caught_up(&self) -> bool {
+        self.stop.is_none() && self.row.len() == 0 && !self.lines.holds_line()
+    }
+
+    /// Does what can be done: whether nothing is left to do but to read. Where lines were read just before, it rests only if each is
+    /// answered.
     pub(crate) fn advance<W: Gated>(&mut self, rt: &W, read: bool) -> Result<bool, Halted>
         ensures moves { Moves self.old self.new result }
     {
         let batch = self.gather();
         self.work_off(rt)?;
-        if read || batch.has_come() || self.move_point_on()? {
+        if (read || batch.has_come()) && !self.has_caught_up() {
             return Ok(false);
         }
         self.rest(rt, batch.lacks_room)

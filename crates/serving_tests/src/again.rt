@@ -54,8 +54,8 @@ fn serve_first<T: Threads + Wait + Sync>(
         notes: &notes,
     };
     match serve(
-        alloc,
         rt,
+        alloc,
         core,
         &mut reader,
         output,
@@ -109,8 +109,8 @@ fn serve_twice<T: Threads + Wait + Sync>(
     }
     let mut input = SECOND;
     match serve(
-        alloc,
         rt,
+        alloc,
         core,
         &mut input,
         &mut output,
@@ -146,7 +146,7 @@ fn serve_at_next_try<T: Threads + Wait + Sync>(
     requires works { core.failed ≡ false }
 {
     let mut input = FIRST;
-    let core = match serve(alloc, rt, core, &mut input, output, 3, 0, &OpenGate) {
+    let core = match serve(rt, alloc, core, &mut input, output, 3, 0, &OpenGate) {
         Ok(core) => return Ok(core),
         Err(
             ServeError {
@@ -159,7 +159,7 @@ fn serve_at_next_try<T: Threads + Wait + Sync>(
     if input.len() != FIRST.len() || !output.is_empty() {
         return Err(Wrong::Unfit);
     }
-    serve(alloc, rt, core, &mut input, output, 3, 0, &OpenGate).map_err(|_| Wrong::OutOfMemory)
+    serve(rt, alloc, core, &mut input, output, 3, 0, &OpenGate).map_err(|_| Wrong::OutOfMemory)
 }
 
 #[test]

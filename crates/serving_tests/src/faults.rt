@@ -1,6 +1,6 @@
 //! Servers on devices that fail or stop at any call, and are torn after that.
 use crate::noting::{Notes, Noting, Taking};
-use crate::running::{End, Ended, SMALL, Way, serve_on};
+use crate::running::{End, Ended, SMALL, Way, holds, serve_on};
 use affinity::Geometry;
 use checkpoint::OpenFault;
 use disk::MemDisk;
@@ -337,6 +337,52 @@ fn answers_of_two_workers_survive(rt: HostRuntime) -> Result<(), Fail> {
         survives(&rt, rt.alloc(), way(workers, every), &play)?;
     }
     Ok(())
+}
+
+const THREE: &[u8] = b"makevol 0 0\ncreate 0 0 0\nwrite 0 0 0 0 61\n";
+
+const TWO_DONE: &[u8] = b"done\ndone\n";
+
+/// Serves three changes with one worker and a point after each, on a device that stops at its n-th call: whether that was met, and whether
+/// two lines were written while the chain of half 1 was open and half 0 had a record behind it.
+fn stops_in_a_point<T: Threads + Wait + Sync>(
+    rt: &T,
+    alloc: Global,
+    n: u64,
+) -> Result<(bool, bool), Wrong> {
+    let mut device: MemDisk = device_with(alloc, SMALL, &[])?;
+    let n = set_fuse(&mut device, Crash { call: n, kind: 0 });
+    let mut input = THREE;
+    let mut output = Vec::new(alloc);
+    let ended = serve_on(
+        rt,
+        alloc,
+        device,
+        way(1, 1),
+        &mut input,
+        &mut output,
+        &OpenGate,
+    );
+    let Ended { device, end } = ended;
+    let bytes = device.bytes();
+    let is_chained = bytes.get(2276) == Some(&1) && bytes.get(192) == Some(&1);
+    let is_in_a_point = end == End::Fault(ServeFault::Device) && is_chained;
+    let has_told_two = output.as_slice().starts_with(TWO_DONE);
+    Ok((device.calls() >= n, is_in_a_point && has_told_two))
+}
+
+#[test]
+fn a_device_stops_with_records_in_both_halves(rt: HostRuntime) -> Result<(), Fail> {
+    let mut is_found = false;
+    for n in 1..MOST_CALLS {
+        let (is_met, is_in_a_point) = stops_in_a_point(&rt, rt.alloc(), n)?;
+        is_found = is_found || is_in_a_point;
+        if !is_met {
+            holds(&rt, is_found);
+            return Ok(());
+        }
+    }
+    Err(Wrong::Endless.into())
 }
 
 /// Images of version 1 and how many changes the devices stand for: none; and three of them, where a cut was in progress: the image has

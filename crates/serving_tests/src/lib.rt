@@ -14,6 +14,8 @@ mod lives;
 #[cfg(test)]
 mod noting;
 #[cfg(test)]
+mod open_lines;
+#[cfg(test)]
 mod overlap;
 #[cfg(test)]
 mod pieces;

@@ -66,7 +66,7 @@ pub(crate) struct Notes {
     /// Lines that the writer took.
     pub(crate) taken: Count,
     /// Lines that it took before its last flush.
-    flushed: Count,
+    pub(crate) flushed: Count,
     /// Whether the writer has failed.
     failed: Flag,
     /// Whether a line was written before its record was synced.

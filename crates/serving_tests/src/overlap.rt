@@ -13,23 +13,23 @@ use std::thread;
 use std::thread::Threads;
 use workers::Gate;
 
-/// How often a worker looks whether it may go on, before it gives up.
-const MOST_TRIES: u32 = 16_000_000;
-
-/// Holds each job until that of this ticket is answered.
+/// Holds the jobs of these tickets until the message with the ticket behind them is answered.
 #[derive(Drop)]
 struct Holding {
+    first: u64,
     last: u64,
+    /// How often a job looks whether it may go on, before it gives up.
+    tries: u32,
     answered: AtomicBool,
     gave_up: AtomicBool,
 }
 
 impl Gate for Holding {
     fn before(&self, ticket: u64) {
-        if ticket >= self.last {
+        if ticket < self.first || ticket >= self.last {
             return;
         }
-        for _ in 0..MOST_TRIES {
+        for _ in 0..self.tries {
             if self.answered.load(Ordering::SeqCst) {
                 return;
             }
@@ -45,28 +45,89 @@ impl Gate for Holding {
     }
 }
 
-/// Numbers of a server; lines; how many workers and slots there are; and what is answered. The last message is answered while
-/// a worker has each of those before it.
-const AT_ONCE: [([u16; 8], &[u8], usize, &[u8]); 4] = [
-    (
-        SMALL,
-        b"write 0 0 0 0 61\nwrite 0 0 0 1 62\n",
-        2,
-        b"done\ndone\n",
-    ),
-    (
-        FLAT,
-        b"punch 0 0 0 0\npunch 0 0 0 1\npunch 0 0 0 2\npunch 0 0 0 3\npunch 0 0 0 4\npunch 0 0 0 5\npunch 0 0 0 6\npunch 0 0 0 7\n",
-        8,
-        b"done\ndone\ndone\ndone\ndone\ndone\ndone\ndone\n",
-    ),
-    (
-        SMALL,
-        b"setlabel 0 0 61\nwrite 0 0 0 0 61\n",
-        2,
-        b"done\ndone\n",
-    ),
-    (SMALL, b"create 0 0 1\nlabel 0 0\n", 2, b"done\nlabel 00\n"),
+/// Messages of which some are held until the one behind them is answered.
+#[derive(Clone, Copy)]
+struct AtOnce {
+    /// The numbers of the server.
+    numbers: [u16; 8],
+    lines: &'static [u8],
+    workers: usize,
+    slots: usize,
+    /// The first message that is held, and the one behind the last.
+    first: u64,
+    last: u64,
+    tries: u32,
+    /// What the lines are answered.
+    want: &'static [u8],
+}
+
+/// One volume of one file of four blocks, each in a stripe of its own.
+const FOUR: [u16; 8] = [1, 1, 4, 1, 1, 4, 1, 8];
+
+/// The last message is answered while a worker has each of those that are held.
+const AT_ONCE: [AtOnce; 6] = [
+    AtOnce {
+        numbers: SMALL,
+        lines: b"write 0 0 0 0 61\nwrite 0 0 0 1 62\n",
+        workers: 2,
+        slots: 2,
+        first: 0,
+        last: 1,
+        tries: 1_000_000,
+        want: b"done\ndone\n",
+    },
+    AtOnce {
+        numbers: FOUR,
+        lines: b"write 0 0 0 0 61\nwrite 0 0 0 1 62\nwrite 0 0 0 2 63\nwrite 0 0 0 3 64\n",
+        workers: 4,
+        slots: 4,
+        first: 0,
+        last: 3,
+        tries: 1_000_000,
+        want: b"done\ndone\ndone\ndone\n",
+    },
+    // The answer to message 0 waits with two lines behind it. It is told, since message 3 could not be read else.
+    AtOnce {
+        numbers: FOUR,
+        lines: b"punch 0 0 0 0\npunch 0 0 0 1\npunch 0 0 0 2\npunch 0 0 0 3\n",
+        workers: 3,
+        slots: 3,
+        first: 1,
+        last: 3,
+        tries: 16_000_000,
+        want: b"done\ndone\ndone\ndone\n",
+    },
+    // Busy processors may be slow to answer while seven jobs are held.
+    AtOnce {
+        numbers: FLAT,
+        lines: b"punch 0 0 0 0\npunch 0 0 0 1\npunch 0 0 0 2\npunch 0 0 0 3\npunch 0 0 0 4\npunch 0 0 0 5\npunch 0 0 0 6\npunch 0 0 0 7\n",
+        workers: 8,
+        slots: 8,
+        first: 0,
+        last: 7,
+        tries: 16_000_000,
+        want: b"done\ndone\ndone\ndone\ndone\ndone\ndone\ndone\n",
+    },
+    AtOnce {
+        numbers: SMALL,
+        lines: b"setlabel 0 0 61\nwrite 0 0 0 0 61\n",
+        workers: 2,
+        slots: 2,
+        first: 0,
+        last: 1,
+        tries: 1_000_000,
+        want: b"done\ndone\n",
+    },
+    AtOnce {
+        numbers: SMALL,
+        lines: b"create 0 0 1\nlabel 0 0\n",
+        workers: 2,
+        slots: 2,
+        first: 0,
+        last: 1,
+        tries: 1_000_000,
+        want: b"done\nlabel 00\n",
+    },
 ];
 
 const A_FILE: &[u8] = b"makevol 0 0\ncreate 0 0 0\n";
@@ -76,23 +137,23 @@ const A_FILE: &[u8] = b"makevol 0 0\ncreate 0 0 0\n";
 fn runs_at_once<T: Threads + Wait + Sync>(
     rt: &T,
     alloc: Global,
-    numbers: [u16; 8],
-    lines: &[u8],
-    workers: usize,
+    row: AtOnce,
 ) -> Result<Vec<u8>, Wrong> {
     let way = Way {
-        workers,
-        slots: workers,
+        workers: row.workers,
+        slots: row.slots,
         every: 0,
     };
-    let device = device_with(alloc, numbers, &[])?;
+    let device = device_with(alloc, row.numbers, &[])?;
     let (device, _) = serve_lines(rt, alloc, device, way, A_FILE)?;
     let gate = Holding {
-        last: workers.saturating_sub(1) as u64,
+        first: row.first,
+        last: row.last,
+        tries: row.tries,
         answered: AtomicBool::new(false),
         gave_up: AtomicBool::new(false),
     };
-    let mut input = lines;
+    let mut input = row.lines;
     let mut output = Vec::new(alloc);
     let Ended { end, .. } = serve_on(rt, alloc, device, way, &mut input, &mut output, &gate);
     if end != End::Whole || gate.gave_up.load(Ordering::SeqCst) {
@@ -103,9 +164,9 @@ fn runs_at_once<T: Threads + Wait + Sync>(
 
 #[test]
 fn unrelated_messages_run_at_once(rt: HostRuntime) -> Result<(), Fail> {
-    for (numbers, lines, workers, want) in AT_ONCE {
-        let output = runs_at_once(&rt, rt.alloc(), numbers, lines, workers)?;
-        writes(&rt, output.as_slice(), want);
+    for row in AT_ONCE {
+        let output = runs_at_once(&rt, rt.alloc(), row)?;
+        writes(&rt, output.as_slice(), row.want);
     }
     Ok(())
 }

@@ -112,7 +112,7 @@ pub(crate) fn serve_on<T: Threads + Wait + Sync, R: Read, W: Write, D: Disk + Dr
             };
         }
     };
-    match serve(alloc, rt, core, r, w, way.workers.min(64), way.every, gate) {
+    match serve(rt, alloc, core, r, w, way.workers.min(64), way.every, gate) {
         Ok(core) => Ended {
             device: core.into_disk(),
             end: End::Whole,

@@ -150,7 +150,7 @@ fn serve_client<T: Threads + Wait + Sync, R: Read, G: Gate + Sync, B: Beginning>
 {
     let alloc = client.alloc;
     let Plan { workers, every } = plan;
-    let (ended, client) = serve_to(alloc, rt, core, r, client, workers, every, gate);
+    let (ended, client) = serve_to(rt, alloc, core, r, client, workers, every, gate);
     let Watch { told, sights, .. } = client;
     (ended, told, sights)
 }

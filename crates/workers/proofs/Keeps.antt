@@ -59,23 +59,23 @@ pub desk_moves : (s : Board) (h : BenchRule s) (id k n r q : ℕ) (o : Option Jo
     → ((seat : ℕ) (job : JobView) → get_elem? s.views seat ≡ some (Claimed k job) → ⊥)
     → ((i : ℕ) → i ≢ k → ((i < q → i < r) × (q ≤ i → r ≤ i)))
     → Stands q k n o home
-    → BenchRule record { words = set s.words (k + 3) n; homes = set s.homes k home; views = set s.views id (Dispatcher q (set l k o)) }
+    → BenchRule record { words = set s.words (k + 6) n; homes = set s.homes k home; views = set s.views id (Dispatcher q (set l k o)) }
 desk_moves s h id k n r q o l home me near free readied stands =
     let d = the_desk s h id r l me in
     let row : length l ≡ length s.homes = ap length d.2 ∙ h.row in
-    let wide : k + 3 < length s.words = let w = h.words in omega arith in
+    let wide : k + 6 < length s.words = let w = h.words in omega arith in
     record {
       desk = id;
       resting = q;
       lent = set l k o;
-      words = length-set s.words (k + 3) n ∙ (h.words ∙ ap word_of (sym (length-set s.homes k home)));
+      words = length-set s.words (k + 6) n ∙ (h.words ∙ ap word_of (sym (length-set s.homes k home)));
       row = length-set l k o ∙ (row ∙ sym (length-set s.homes k home));
       dispatcher = set_at s.views id (Dispatcher r l) (Dispatcher q (set l k o)) me;
       no_other = λ seat p m at. ⊎_elim (λ t. t.0) (λ t. h.no_other seat p m t.1 ∙ sym d.0) (at_set s.views id seat (Dispatcher q (set l k o)) (Dispatcher p m) at);
       claims = λ seat i job at. ⊎_elim
           (λ t. absurd (desk_is_no_claim q i (set l k o) job t.1))
           (λ t. let c = h.claims seat i job t.1 in let apart : i ≢ k = λ e. free seat job (subst (λ x. get_elem? s.views seat ≡ some (Claimed x job)) e t.1) in
-          (get_or-set_other s.words (k + 3) (i + 3) n 0 (λ e. apart (omega arith)) ∙ c.0, get_or-set_other l k i o None apart ∙ (ap (λ x. lent_at x i) d.2 ∙ c.1)))
+          (get_or-set_other s.words (k + 6) (i + 6) n 0 (λ e. apart (omega arith)) ∙ c.0, get_or-set_other l k i o None apart ∙ (ap (λ x. lent_at x i) d.2 ∙ c.1)))
           (at_set s.views id seat (Dispatcher q (set l k o)) (Claimed i job) at);
       one_claim = λ seat other i job job' at at'. ⊎_elim
           (λ t. absurd (desk_is_no_claim q i (set l k o) job t.1))
@@ -85,12 +85,12 @@ desk_moves s h id k n r q o l home me near free readied stands =
           (at_set s.views id other (Dispatcher q (set l k o)) (Claimed i job') at'))
           (at_set s.views id seat (Dispatcher q (set l k o)) (Claimed i job) at);
       places = λ i x at. ⊎_elim
-          (λ t. subst (λ j. Stands q j (get_or (set s.words (k + 3) n) (j + 3) 0) (lent_at (set l k o) j) x) (sym t.0)
-          (subst (λ y. Stands q k (get_or (set s.words (k + 3) n) (k + 3) 0) (lent_at (set l k o) k) y) t.1
-          (stands_still q q k n _ o _ home stands (λ a. a) (λ a. a) (get_or-set_same s.words (k + 3) n 0 wide) (get_or-set_same l k o None (omega arith)))))
+          (λ t. subst (λ j. Stands q j (get_or (set s.words (k + 6) n) (j + 6) 0) (lent_at (set l k o) j) x) (sym t.0)
+          (subst (λ y. Stands q k (get_or (set s.words (k + 6) n) (k + 6) 0) (lent_at (set l k o) k) y) t.1
+          (stands_still q q k n _ o _ home stands (λ a. a) (λ a. a) (get_or-set_same s.words (k + 6) n 0 wide) (get_or-set_same l k o None (omega arith)))))
           (λ t. let apart = t.0 in stands_still h.resting q i _ _ _ _ x (h.places i x t.1)
           (λ a. let b = (readied i apart).0 a in let e = d.1 in omega arith) (λ a. let b = (readied i apart).1 a in let e = d.1 in omega arith)
-          (get_or-set_other s.words (k + 3) (i + 3) n 0 (λ e. apart (omega arith))) (get_or-set_other l k i o None apart ∙ ap (λ y. lent_at y i) d.2))
+          (get_or-set_other s.words (k + 6) (i + 6) n 0 (λ e. apart (omega arith))) (get_or-set_other l k i o None apart ∙ ap (λ y. lent_at y i) d.2))
           (at_set s.homes k i home x at);
     }
 
@@ -101,23 +101,23 @@ pub worker_moves : (s : Board) (h : BenchRule s) (id k n : ℕ) (v w : View) (ho
     → ((seat : ℕ) (job : JobView) → seat ≢ id → get_elem? s.views seat ≡ some (Claimed k job) → ⊥)
     → ((i : ℕ) (job : JobView) → w ≡ Claimed i job → (i ≡ k) × (n ≡ 2) × (lent_at h.lent k ≡ Some job))
     → Stands h.resting k n (lent_at h.lent k) home
-    → BenchRule record { words = set s.words (k + 3) n; homes = set s.homes k home; views = set s.views id w }
+    → BenchRule record { words = set s.words (k + 6) n; homes = set s.homes k home; views = set s.views id w }
 worker_moves s h id k n v w home me near was_none is_none free mine stands =
-    let wide : k + 3 < length s.words = let e = h.words in omega arith in
+    let wide : k + 6 < length s.words = let e = h.words in omega arith in
     let not_desk : h.desk ≢ id = λ e. was_none h.resting h.lent (some-injective _ _ (sym me ∙ (ap (λ i. get_elem? s.views i) (sym e) ∙ h.dispatcher))) in
     record {
       desk = h.desk;
       resting = h.resting;
       lent = h.lent;
-      words = length-set s.words (k + 3) n ∙ (h.words ∙ ap word_of (sym (length-set s.homes k home)));
+      words = length-set s.words (k + 6) n ∙ (h.words ∙ ap word_of (sym (length-set s.homes k home)));
       row = h.row ∙ sym (length-set s.homes k home);
       dispatcher = set_else s.views id h.desk w not_desk ∙ h.dispatcher;
       no_other = λ seat p m at. ⊎_elim (λ t. absurd (is_none p m t.1)) (λ t. h.no_other seat p m t.1) (at_set s.views id seat w (Dispatcher p m) at);
       claims = λ seat i job at. ⊎_elim
           (λ t. let c = mine i job t.1 in let here : k ≡ i = sym c.0 in
-          (ap (λ j. get_or (set s.words (k + 3) n) (j + 3) 0) c.0 ∙ (get_or-set_same s.words (k + 3) n 0 wide ∙ c.1), ap (λ j. lent_at h.lent j) c.0 ∙ c.2))
+          (ap (λ j. get_or (set s.words (k + 6) n) (j + 6) 0) c.0 ∙ (get_or-set_same s.words (k + 6) n 0 wide ∙ c.1), ap (λ j. lent_at h.lent j) c.0 ∙ c.2))
           (λ t. let c = h.claims seat i job t.1 in let apart : i ≢ k = λ e. free seat job t.0 (subst (λ x. get_elem? s.views seat ≡ some (Claimed x job)) e t.1) in
-          (get_or-set_other s.words (k + 3) (i + 3) n 0 (λ e. apart (omega arith)) ∙ c.0, c.1))
+          (get_or-set_other s.words (k + 6) (i + 6) n 0 (λ e. apart (omega arith)) ∙ c.0, c.1))
           (at_set s.views id seat w (Claimed i job) at);
       one_claim = λ seat other i job job' at at'. ⊎_elim
           (λ t. ⊎_elim
@@ -130,17 +130,17 @@ worker_moves s h id k n v w home me near was_none is_none free mine stands =
           (at_set s.views id other w (Claimed i job') at'))
           (at_set s.views id seat w (Claimed i job) at);
       places = λ i x at. ⊎_elim
-          (λ t. subst (λ j. Stands h.resting j (get_or (set s.words (k + 3) n) (j + 3) 0) (lent_at h.lent j) x) (sym t.0)
-          (subst (λ y. Stands h.resting k (get_or (set s.words (k + 3) n) (k + 3) 0) (lent_at h.lent k) y) t.1
-          (stands_still h.resting h.resting k n _ _ _ home stands (λ a. a) (λ a. a) (get_or-set_same s.words (k + 3) n 0 wide) refl)))
+          (λ t. subst (λ j. Stands h.resting j (get_or (set s.words (k + 6) n) (j + 6) 0) (lent_at h.lent j) x) (sym t.0)
+          (subst (λ y. Stands h.resting k (get_or (set s.words (k + 6) n) (k + 6) 0) (lent_at h.lent k) y) t.1
+          (stands_still h.resting h.resting k n _ _ _ home stands (λ a. a) (λ a. a) (get_or-set_same s.words (k + 6) n 0 wide) refl)))
           (λ t. let apart = t.0 in stands_still h.resting h.resting i _ _ _ _ x (h.places i x t.1) (λ a. a) (λ a. a)
-          (get_or-set_other s.words (k + 3) (i + 3) n 0 (λ e. apart (omega arith))) refl)
+          (get_or-set_other s.words (k + 6) (i + 6) n 0 (λ e. apart (omega arith))) refl)
           (at_set s.homes k i home x at);
     }
 
 -- A step that leaves each place's word as it is keeps the rule.
 aside : (s : Board) (h : BenchRule s) (id : ℕ) (v : View) (ws : List ℕ) → get_elem? s.views id ≡ some v
-    → length ws ≡ length s.words → ((k : ℕ) → get_or ws (k + 3) 0 ≡ get_or s.words (k + 3) 0)
+    → length ws ≡ length s.words → ((k : ℕ) → get_or ws (k + 6) 0 ≡ get_or s.words (k + 6) 0)
     → BenchRule record { words = ws; homes = s.homes; views = set s.views id v }
 aside s h id v ws me long same = subst (λ vs. BenchRule record { words = ws; homes = s.homes; views = vs }) (sym (set_again s.views id v me)) record {
   desk = h.desk;
@@ -156,13 +156,13 @@ aside s h id v ws me long same = subst (λ vs. BenchRule record { words = ws; ho
 }
 
 -- a bell is rung, or the bench is closed
-pub rings : (slots id : ℕ) (me : Sat) (i : ℕ) (f : ℕ → ℕ) → i < 3 → Allows BenchRule slots id me i f (λ n w. w ≡ me)
+pub rings : (slots id : ℕ) (me : Sat) (i : ℕ) (f : ℕ → ℕ) → i < 6 → Allows BenchRule slots id me i f (λ n w. w ≡ me)
 rings slots id me i f low s h long at fits =
-    (me.0, keeps, tt, aside s h id me.0 _ at (length-set s.words i _) (λ k. get_or-set_other s.words i (k + 3) _ 0 (λ e. omega arith)), refl)
+    (me.0, keeps, tt, aside s h id me.0 _ at (length-set s.words i _) (λ k. get_or-set_other s.words i (k + 6) _ 0 (λ e. omega arith)), refl)
 
 -- a try that found another number than it looked for
 fails : (s : Board) (h : BenchRule s) (id i : ℕ) (v : View) → get_elem? s.views id ≡ some v → BenchRule (stepped s i (get_or s.words i 0) id [] v keeps)
-fails s h id i v me = aside s h id v _ me (length-set s.words i _) (λ k. ap (λ ws. get_or ws (k + 3) 0) (set-get_or s.words i 0))
+fails s h id i v me = aside s h id v _ me (length-set s.words i _) (λ k. ap (λ ws. get_or ws (k + 6) 0) (set-get_or s.words i 0))
 
 -- what stands at a place whose word is 0, 1 or 3
 at_offered : (r k word : ℕ) (o : Option JobView) (home : Home) → Stands r k word o home → word ≡ 1
@@ -191,18 +191,18 @@ at_empty r k word o home (is_claimed job w l at) e = absurd (none_is_no_job o jo
 at_empty r k word o home (is_answered job done w l at run) e = absurd (none_is_no_job o job e l)
 
 -- nobody has claimed a place whose word isn't 2
-unclaimed : (s : Board) (h : BenchRule s) (k n : ℕ) → get_or s.words (k + 3) 0 ≡ n → n ≢ 2 → (seat : ℕ) (job : JobView) → get_elem? s.views seat ≡ some (Claimed k job) → ⊥
+unclaimed : (s : Board) (h : BenchRule s) (k n : ℕ) → get_or s.words (k + 6) 0 ≡ n → n ≢ 2 → (seat : ℕ) (job : JobView) → get_elem? s.views seat ≡ some (Claimed k job) → ⊥
 unclaimed s h k n e ne seat job at = ne (sym e ∙ (h.claims seat k job at).0)
 
 -- what a step on the word of place k tells of that place, it tells as its kind
-of_place : (told : ℕ → Sat → ℕ → Sat → Type 0) (slots id k : ℕ) (me : Sat) (f : ℕ → ℕ) (st : Step (Option Load)) → st.word ≡ k + 3
-    → Allows BenchRule slots id me (k + 3) f (λ n w. told k me n w) → Allows BenchRule slots id me (k + 3) f (λ n w. OfPlace told st me n w)
+of_place : (told : ℕ → Sat → ℕ → Sat → Type 0) (slots id k : ℕ) (me : Sat) (f : ℕ → ℕ) (st : Step (Option Load)) → st.word ≡ k + 6
+    → Allows BenchRule slots id me (k + 6) f (λ n w. told k me n w) → Allows BenchRule slots id me (k + 6) f (λ n w. OfPlace told st me n w)
 of_place told slots id k me f st here allowed s h long at fits =
     let a = allowed s h long at fits in
-    (a.0, a.1, a.2, a.3, λ i e. let same : k ≡ i = omega arith in subst (λ j. told j me (get_or s.words (k + 3) 0) (a.0, carried_after me.1 a.1)) same a.4)
+    (a.0, a.1, a.2, a.3, λ i e. let same : k ≡ i = omega arith in subst (λ j. told j me (get_or s.words (k + 6) 0) (a.0, carried_after me.1 a.1)) same a.4)
 
 readies_at : (slots id k : ℕ) (lent : LentRow) (held : List (ℕ × Option Load)) → k < slots → lent_at lent k ≡ None
-    → Allows BenchRule slots id (Dispatcher (k + 1) lent, held) (k + 3) (λ _. 0) (λ n w. Readies k (Dispatcher (k + 1) lent, held) w)
+    → Allows BenchRule slots id (Dispatcher (k + 1) lent, held) (k + 6) (λ _. 0) (λ n w. Readies k (Dispatcher (k + 1) lent, held) w)
 readies_at slots id k lent held near empty s h long at fits =
     let d = the_desk s h id (k + 1) lent at in let t = there s.homes k (omega arith) in
     let e = at_empty h.resting k _ _ t.0 (h.places k t.0 t.1) (ap (λ l. lent_at l k) (sym d.2) ∙ empty) in
@@ -210,7 +210,7 @@ readies_at slots id k lent held near empty s h long at fits =
       Dispatcher k lent,
       takes k None,
       t.1 ∙ ap some (e.1 (let r = d.1 in omega arith)),
-      subst (λ l. BenchRule record { words = set s.words (k + 3) 0; homes = set s.homes k none; views = set s.views id (Dispatcher k l) }) same
+      subst (λ l. BenchRule record { words = set s.words (k + 6) 0; homes = set s.homes k none; views = set s.views id (Dispatcher k l) }) same
           (desk_moves s h id k 0 (k + 1) k None lent none at (omega arith) (unclaimed s h k 0 e.0 (λ x. omega arith))
           (λ i apart. ((λ a. omega arith), (λ a. omega arith)))
           (is_empty refl refl (λ a. absurd (omega arith)) (λ a. refl))),
@@ -218,12 +218,12 @@ readies_at slots id k lent held near empty s h long at fits =
     )
 
 pub readies : (slots id k : ℕ) (me : Sat) (lent : LentRow) (held : List (ℕ × Option Load)) → me ≡ (Dispatcher (k + 1) lent, held) → k < slots → lent_at lent k ≡ None
-    → Allows BenchRule slots id me (k + 3) (λ _. 0) (λ n w. OfPlace {F = Option Load} (λ i m _. Readies i m) (step slots (k + 3) 0 0 none) me 0 w)
-readies slots id k me lent held is near empty = of_place (λ i m _. Readies i m) slots id k me (λ _. 0) (step slots (k + 3) 0 0 none) refl
-    (subst (λ m. Allows BenchRule slots id m (k + 3) (λ _. 0) (λ n w. Readies k m w)) (sym is) (readies_at slots id k lent held near empty))
+    → Allows BenchRule slots id me (k + 6) (λ _. 0) (λ n w. OfPlace {F = Option Load} (λ i m _. Readies i m) (step slots (k + 6) 0 0 none) me 0 w)
+readies slots id k me lent held is near empty = of_place (λ i m _. Readies i m) slots id k me (λ _. 0) (step slots (k + 6) 0 0 none) refl
+    (subst (λ m. Allows BenchRule slots id m (k + 6) (λ _. 0) (λ n w. Readies k m w)) (sym is) (readies_at slots id k lent held near empty))
 
 offers_at : (slots id k : ℕ) (lent : LentRow) (job : JobView) (held : List (ℕ × Option Load)) → k < slots → lent_at lent k ≡ None
-    → Allows BenchRule slots id (Dispatcher 0 lent, (k, Some (Offered job)) ∷ held) (k + 3) (λ _. 1) (λ n w. Offers k (Dispatcher 0 lent, (k, Some (Offered job)) ∷ held) w)
+    → Allows BenchRule slots id (Dispatcher 0 lent, (k, Some (Offered job)) ∷ held) (k + 6) (λ _. 1) (λ n w. Offers k (Dispatcher 0 lent, (k, Some (Offered job)) ∷ held) w)
 offers_at slots id k lent job held near empty s h long at fits =
     let d = the_desk s h id 0 lent at in let t = there s.homes k (omega arith) in
     let e = at_empty h.resting k _ _ t.0 (h.places k t.0 t.1) (ap (λ l. lent_at l k) (sym d.2) ∙ empty) in (
@@ -236,14 +236,14 @@ offers_at slots id k lent job held near empty s h long at fits =
     )
 
 pub offers : (slots id k : ℕ) (me : Sat) (lent : LentRow) (job : JobView) (held : List (ℕ × Option Load)) → me ≡ (Dispatcher 0 lent, (k, Some (Offered job)) ∷ held) → k < slots → lent_at lent k ≡ None
-    → Allows BenchRule slots id me (k + 3) (λ _. 1) (λ n w. OfPlace {F = Option Load} (λ i m _. Offers i m) (step slots (k + 3) 1 0 none) me 1 w)
-offers slots id k me lent job held is near empty = of_place (λ i m _. Offers i m) slots id k me (λ _. 1) (step slots (k + 3) 1 0 none) refl
-    (subst (λ m. Allows BenchRule slots id m (k + 3) (λ _. 1) (λ n w. Offers k m w)) (sym is) (offers_at slots id k lent job held near empty))
+    → Allows BenchRule slots id me (k + 6) (λ _. 1) (λ n w. OfPlace {F = Option Load} (λ i m _. Offers i m) (step slots (k + 6) 1 0 none) me 1 w)
+offers slots id k me lent job held is near empty = of_place (λ i m _. Offers i m) slots id k me (λ _. 1) (step slots (k + 6) 1 0 none) refl
+    (subst (λ m. Allows BenchRule slots id m (k + 6) (λ _. 1) (λ n w. Offers k m w)) (sym is) (offers_at slots id k lent job held near empty))
 
-claims_at : (slots id k : ℕ) → k < slots → Allows BenchRule slots id idle (k + 3) (λ n. either (eqb n 1) 2 n) (λ n w. Claims k idle n w)
+claims_at : (slots id k : ℕ) → k < slots → Allows BenchRule slots id idle (k + 6) (λ n. either (eqb n 1) 2 n) (λ n w. Claims k idle n w)
 claims_at slots id k near s h long at fits =
-    let n = get_or s.words (k + 3) 0 in let t = there s.homes k (omega arith) in
-    let F : ℕ → Type 0 = λ m. (w : View) × (a : Act (Option Load)) × Valid s.homes [] a × BenchRule (stepped s (k + 3) m id [] w a) × Claims k idle n (w, carried_after [] a) in
+    let n = get_or s.words (k + 6) 0 in let t = there s.homes k (omega arith) in
+    let F : ℕ → Type 0 = λ m. (w : View) × (a : Act (Option Load)) × Valid s.homes [] a × BenchRule (stepped s (k + 6) m id [] w a) × Claims k idle n (w, carried_after [] a) in
     exchanged n 1 2 F
     (λ e. let o = at_offered h.resting k n _ t.0 (h.places k t.0 t.1) e in (
       Claimed k o.0,
@@ -254,15 +254,15 @@ claims_at slots id k near s h long at fits =
           (λ i j c. let q = one_claimed k i o.0 j c in (sym q.0, refl, o.1 ∙ ap Some q.1)) (is_claimed o.0 refl o.1 refl),
       ((λ _. (o.0, refl)), (λ ne. absurd (ne e))),
     ))
-    (λ ne. (Idle, keeps, tt, fails s h id (k + 3) Idle at, ((λ e. absurd (ne e)), (λ _. refl))))
+    (λ ne. (Idle, keeps, tt, fails s h id (k + 6) Idle at, ((λ e. absurd (ne e)), (λ _. refl))))
 
 pub claims : (slots id k : ℕ) (me : Sat) → me ≡ idle → k < slots
-    → Allows BenchRule slots id me (k + 3) (λ n. either (eqb n 1) 2 n) (λ n w. OfPlace {F = Option Load} Claims (step slots (k + 3) 1 2 none) me n w)
-claims slots id k me is near = of_place Claims slots id k me (λ n. either (eqb n 1) 2 n) (step slots (k + 3) 1 2 none) refl
-    (subst (λ m. Allows BenchRule slots id m (k + 3) (λ n. either (eqb n 1) 2 n) (λ n w. Claims k m n w)) (sym is) (claims_at slots id k near))
+    → Allows BenchRule slots id me (k + 6) (λ n. either (eqb n 1) 2 n) (λ n w. OfPlace {F = Option Load} Claims (step slots (k + 6) 1 2 none) me n w)
+claims slots id k me is near = of_place Claims slots id k me (λ n. either (eqb n 1) 2 n) (step slots (k + 6) 1 2 none) refl
+    (subst (λ m. Allows BenchRule slots id m (k + 6) (λ n. either (eqb n 1) 2 n) (λ n w. Claims k m n w)) (sym is) (claims_at slots id k near))
 
 delivers_at : (slots id k : ℕ) (job : JobView) (done : Done) → k < slots → IsJobRun job done
-    → Allows BenchRule slots id (Claimed k job, (k, Some (Answered done)) ∷ []) (k + 3) (λ _. 3) (λ n w. Delivers (Claimed k job, (k, Some (Answered done)) ∷ []) w)
+    → Allows BenchRule slots id (Claimed k job, (k, Some (Answered done)) ∷ []) (k + 6) (λ _. 3) (λ n w. Delivers (Claimed k job, (k, Some (Answered done)) ∷ []) w)
 delivers_at slots id k job done near run s h long at fits =
     let c = h.claims id k job at in (
       Idle,
@@ -275,15 +275,15 @@ delivers_at slots id k job done near run s h long at fits =
     )
 
 pub delivers : (slots id k : ℕ) (me : Sat) (job : JobView) (done : Done) → me ≡ (Claimed k job, (k, Some (Answered done)) ∷ []) → k < slots → IsJobRun job done
-    → Allows BenchRule slots id me (k + 3) (λ _. 3) (λ n w. OfPlace {F = Option Load} (λ _ m _. Delivers m) (step slots (k + 3) 3 0 none) me 3 w)
-delivers slots id k me job done is near run = of_place (λ _ m _. Delivers m) slots id k me (λ _. 3) (step slots (k + 3) 3 0 none) refl
-    (subst (λ m. Allows BenchRule slots id m (k + 3) (λ _. 3) (λ n w. Delivers m w)) (sym is) (delivers_at slots id k job done near run))
+    → Allows BenchRule slots id me (k + 6) (λ _. 3) (λ n w. OfPlace {F = Option Load} (λ _ m _. Delivers m) (step slots (k + 6) 3 0 none) me 3 w)
+delivers slots id k me job done is near run = of_place (λ _ m _. Delivers m) slots id k me (λ _. 3) (step slots (k + 6) 3 0 none) refl
+    (subst (λ m. Allows BenchRule slots id m (k + 6) (λ _. 3) (λ n w. Delivers m w)) (sym is) (delivers_at slots id k job done near run))
 
 collects_at : (slots id k : ℕ) (lent : LentRow) (held : List (ℕ × Option Load)) → k < slots
-    → Allows BenchRule slots id (Dispatcher 0 lent, held) (k + 3) (λ n. either (eqb n 3) 0 n) (λ n w. Collects k (Dispatcher 0 lent, held) n w)
+    → Allows BenchRule slots id (Dispatcher 0 lent, held) (k + 6) (λ n. either (eqb n 3) 0 n) (λ n w. Collects k (Dispatcher 0 lent, held) n w)
 collects_at slots id k lent held near s h long at fits =
-    let n = get_or s.words (k + 3) 0 in let t = there s.homes k (omega arith) in let d = the_desk s h id 0 lent at in
-    let F : ℕ → Type 0 = λ m. (w : View) × (a : Act (Option Load)) × Valid s.homes held a × BenchRule (stepped s (k + 3) m id held w a) × Collects k (Dispatcher 0 lent, held) n (w, carried_after held a) in
+    let n = get_or s.words (k + 6) 0 in let t = there s.homes k (omega arith) in let d = the_desk s h id 0 lent at in
+    let F : ℕ → Type 0 = λ m. (w : View) × (a : Act (Option Load)) × Valid s.homes held a × BenchRule (stepped s (k + 6) m id held w a) × Collects k (Dispatcher 0 lent, held) n (w, carried_after held a) in
     exchanged n 3 0 F
     (λ e. let o = at_answered h.resting k n _ t.0 (h.places k t.0 t.1) e in (
       Dispatcher 0 (set lent k None),
@@ -293,12 +293,12 @@ collects_at slots id k lent held near s h long at fits =
           (λ i apart. ((λ a. a), (λ a. a))) (is_empty refl refl (λ a. absurd (omega arith)) (λ a. refl)),
       ((λ _. (o.0, o.1, ap (λ l. lent_at l k) d.2 ∙ o.2, o.4, refl)), (λ ne. absurd (ne e))),
     ))
-    (λ ne. (Dispatcher 0 lent, keeps, tt, fails s h id (k + 3) (Dispatcher 0 lent) at, ((λ e. absurd (ne e)), (λ _. refl))))
+    (λ ne. (Dispatcher 0 lent, keeps, tt, fails s h id (k + 6) (Dispatcher 0 lent) at, ((λ e. absurd (ne e)), (λ _. refl))))
 
 pub collects : (slots id k : ℕ) (me : Sat) (lent : LentRow) (held : List (ℕ × Option Load)) → me ≡ (Dispatcher 0 lent, held) → k < slots
-    → Allows BenchRule slots id me (k + 3) (λ n. either (eqb n 3) 0 n) (λ n w. OfPlace {F = Option Load} Collects (step slots (k + 3) 3 0 none) me n w)
-collects slots id k me lent held is near = of_place Collects slots id k me (λ n. either (eqb n 3) 0 n) (step slots (k + 3) 3 0 none) refl
-    (subst (λ m. Allows BenchRule slots id m (k + 3) (λ n. either (eqb n 3) 0 n) (λ n w. Collects k m n w)) (sym is) (collects_at slots id k lent held near))
+    → Allows BenchRule slots id me (k + 6) (λ n. either (eqb n 3) 0 n) (λ n w. OfPlace {F = Option Load} Collects (step slots (k + 6) 3 0 none) me n w)
+collects slots id k me lent held is near = of_place Collects slots id k me (λ n. either (eqb n 3) 0 n) (step slots (k + 6) 3 0 none) refl
+    (subst (λ m. Allows BenchRule slots id m (k + 6) (λ n. either (eqb n 3) 0 n) (λ n w. Collects k m n w)) (sym is) (collects_at slots id k lent held near))
 
 -- A worker's seat is split off.
 pub splits : (id : ℕ) (v : View) → Splits BenchRule id v v Idle
@@ -339,7 +339,7 @@ vacant_length : (n : ℕ) → length (map some (replicate {A = Option Load} n No
 vacant_length zero = refl
 vacant_length (suc n) = ap suc (vacant_length n)
 
-opens : (n : ℕ) (ws : List ℕ) → length ws ≡ n + 3 → ((i : ℕ) → get_or ws i 0 ≡ 0) → BenchRule (opening ws (replicate n None) (Dispatcher n (replicate n None)))
+opens : (n : ℕ) (ws : List ℕ) → length ws ≡ n + 6 → ((i : ℕ) → get_or ws i 0 ≡ 0) → BenchRule (opening ws (replicate n None) (Dispatcher n (replicate n None)))
 opens n ws long zeros =
     let slots = vacant_length n in
     record {
@@ -353,9 +353,9 @@ opens n ws long zeros =
       claims = λ seat k job at. absurd (desk_is_no_claim n k (replicate n None) job (only_one (Dispatcher n (replicate n None)) (Claimed k job) seat at).1);
       one_claim = λ seat other k job job' at at'. absurd (desk_is_no_claim n k (replicate n None) job (only_one (Dispatcher n (replicate n None)) (Claimed k job) seat at).1);
       places = λ k home at. let t = at_vacant n k home at in
-          is_empty (zeros (k + 3)) (get_or-replicate n k None None t.1) (λ _. t.0) (λ more. absurd (let less = t.1 in omega arith));
+          is_empty (zeros (k + 6)) (get_or-replicate n k None None t.1) (λ _. t.0) (λ more. absurd (let less = t.1 in omega arith));
     }
 
-pub opens_empty : (n : ℕ) (ws : List ℕ) → ws ≡ replicate (n + 3) 0 → BenchRule (opening ws (replicate n None) (Dispatcher n (replicate n None)))
+pub opens_empty : (n : ℕ) (ws : List ℕ) → ws ≡ replicate (n + 6) 0 → BenchRule (opening ws (replicate n None) (Dispatcher n (replicate n None)))
 opens_empty n ws e = subst (λ vs. BenchRule (opening vs (replicate n None) (Dispatcher n (replicate n None)))) (sym e)
-    (opens n (zeros (n + 3)) (length-replicate (n + 3) 0) (zero_at (n + 3)))
+    (opens n (zeros (n + 6)) (length-replicate (n + 6) 0) (zero_at (n + 6)))

@@ -15,9 +15,9 @@ pub record Desk : Type 0 where
   pub bench : TableId
   pub lent : List (Option JobView)
 
--- a table that serves as a bench: three words and one for each of its places, of which there are at most 64
+-- a table that serves as a bench: six words and one for each of its places, of which there are at most 64
 abbrev pub IsBench : TableId → Type 0
-IsBench z = (z.words ≡ z.slots + 3) × (z.slots ≤ 64)
+IsBench z = (z.words ≡ z.slots + 6) × (z.slots ≤ 64)
 
 -- a seat at this table, which serves as a bench
 abbrev pub IsAtBench : TableId → TableId → Type 0

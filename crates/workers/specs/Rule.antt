@@ -25,9 +25,10 @@ LentRow = List (Option JobView)
 abbrev pub lent_at : LentRow → ℕ → Option JobView
 lent_at lent k = slice_index_or lent k None
 
--- Word 0 is the stop word, and 1 and 2 are the bells, of which nothing is said. Behind them each place has its word.
+-- Word 0 is the stop word, 1 and 2 are the bells, and 3, 4 and 5 say who waits at them: of these six nothing is said. Behind them each
+-- place has its word.
 abbrev pub word_of : ℕ → ℕ
-word_of k = k + 3
+word_of k = k + 6
 
 -- How place k stands, by its word, by what is lent there and by its slot. The places below `resting` are yet to be readied: there the slot
 -- is still at home.

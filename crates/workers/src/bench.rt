@@ -11,7 +11,7 @@ use crate::seats::{DispatchSeat, Seat, View, WorkSeat, turn_to};
 use crate::steps::{self, Handoff, Words};
 use crate::tray::Tray;
 use crate::waiting::wake;
-use crate::words::{ANSWERED, FIRST_PLACE, MOST_PLACES, OFFERS, RING};
+use crate::words::{ANSWERED, FIRST_PLACE, MOST_PLACES, OFFERS};
 use atomic_table::Table;
 use parcel::{Done, Job};
 use std::alloc::{AllocError, Global};
@@ -59,7 +59,11 @@ impl Bench {
         let (table, mut seat) = lay(alloc, &words, places)?;
         ready_all(&table.shared, &mut seat, places);
         let seats = seat_workers(alloc, &table.shared, &mut seat, workers)?;
-        let desk = DispatchSeat { seat, lent };
+        let desk = DispatchSeat {
+            seat,
+            lent,
+            heard: 0,
+        };
         Ok((Bench { table }, desk, seats))
     }
 
@@ -77,7 +81,8 @@ impl Bench {
         }
         let words = &self.table.shared;
         lend(words, &mut seat.seat, &mut seat.lent, k, job);
-        wake(words, steps::count(words, &mut seat.seat, RING));
+        steps::ring(words, &mut seat.seat, OFFERS);
+        wake(words);
         Ok(())
     }
 
@@ -107,7 +112,7 @@ impl Bench {
     {
         let words = &self.table.shared;
         steps::close(words, &mut seat.seat);
-        steps::count(words, &mut seat.seat, RING);
+        steps::ring(words, &mut seat.seat, OFFERS);
         words.wake_all(OFFERS);
     }
 }
@@ -119,7 +124,7 @@ fn lay(
     places: usize,
 ) -> Result<(Table<Tray, View, usize, Handoff, Global>, Seat), AllocError>
     requires places { places ≤ MOST_PLACES }
-    requires words { words.now ≡ replicate (places + 3) 0 }
+    requires words { words.now ≡ replicate (places + FIRST_PLACE) 0 }
     ensures table { IfOk result (λ r. IsBench r.0.shared.table_id × (r.0.shared.table_id.slots ≡ places)) }
     ensures seat { IfOk result (λ r. (r.1.table_id ≡ r.0.shared.table_id) × (r.1.me ≡ (Dispatcher places (replicate places None), []))) }
 {

@@ -28,12 +28,18 @@ pub struct DispatchSeat {
     pub(crate) seat: Seat,
     // Whether something is lent at each place.
     pub(crate) lent: Vec<bool>,
+    // The number of the bell of the deliveries when the last wait returned.
+    pub(crate) heard: u64,
 }
 
 // By hand, as a bench's.
 impl Drop for DispatchSeat {
     fn drop(self) {
-        let DispatchSeat { seat: _, lent: _ } = self;
+        let DispatchSeat {
+            seat: _,
+            lent: _,
+            heard: _,
+        } = self;
     }
 }
 

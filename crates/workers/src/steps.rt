@@ -1,5 +1,5 @@
-//! The kinds of atomic step on the table, each one try. Nothing else changes a word.
-//! A slot is filled between them.
+//! The kinds of atomic step on the table, each one try: eight that hand jobs and results through, and three by which a thread says that it
+//! waits. Nothing else changes a word. A slot is filled between them.
 ghost use Rattle.std.specs.Prelude.{◌≡◌, ◌+◌, ◌<◌, [], ◌∷◌, replicate, slice_set, None, Some, IsTrue, IsFalse};
 ghost use Rattle.atomic_table.specs.Table.{rest};
 ghost use Rattle.parcel.specs.Run.{JobView, IsJobRun};
@@ -12,9 +12,7 @@ ghost use Rattle.workers.specs.declared.seats.View.TheVariants.{Dispatcher, Idle
 
 use crate::seats::{Seat, View};
 use crate::tray::Tray;
-use crate::words::{
-    ANSWERED, CLAIMED, DELIVERIES, EMPTY, FIRST_PLACE, OFFERED, OFFERS, QUIET, SLEPT_ON, STOP,
-};
+use crate::words::{ANSWERED, CLAIMED, EMPTY, FIRST_PLACE, OFFERED, SLEPT_AT, STOP};
 use atomic_table::{Play, Shared, Split, TableRule};
 use parcel::{Done, Job};
 
@@ -144,29 +142,13 @@ pub fn collect(words: &Words, seat: &mut Seat, k: usize) -> bool
     words.compare_exchange::<Collecting>(seat, k + FIRST_PLACE, ANSWERED, EMPTY) == ANSWERED
 }
 
-/// Counts a ring of the bell of the offers, or a worker that sleeps there or got up. Gives what the
-/// bell was.
-pub fn count(words: &Words, seat: &mut Seat, added: u64) -> u64
-    requires { IsAtBench words.now.table_id seat.old.table_id }
+/// Rings a bell, and gives the number that it had.
+pub fn ring(words: &Words, seat: &mut Seat, bell: usize) -> u64
+    requires bench { IsAtBench words.now.table_id seat.old.table_id }
+    requires bell { bell < FIRST_PLACE }
     ensures { (seat.new.table_id ≡ seat.old.table_id) × (seat.new.me ≡ seat.old.me) }
 {
-    words.fetch_add::<Aside>(seat, OFFERS, added)
-}
-
-/// Sets the bell of the deliveries, and gives what it was.
-pub fn set_bell(words: &Words, seat: &mut Seat, new: u64) -> u64
-    requires { IsAtBench words.now.table_id seat.old.table_id }
-    ensures { (seat.new.table_id ≡ seat.old.table_id) × (seat.new.me ≡ seat.old.me) }
-{
-    words.swap::<Aside>(seat, DELIVERIES, new)
-}
-
-/// Says at the bell of the deliveries that it is slept on, if it is quiet, and gives what it was. One try.
-pub fn lie_down(words: &Words, seat: &mut Seat) -> u64
-    requires { IsAtBench words.now.table_id seat.old.table_id }
-    ensures { (seat.new.table_id ≡ seat.old.table_id) × (seat.new.me ≡ seat.old.me) }
-{
-    words.compare_exchange::<Aside>(seat, DELIVERIES, QUIET, SLEPT_ON)
+    words.fetch_add::<Aside>(seat, bell, 1)
 }
 
 /// Says by the stop word that the bench is stopped.
@@ -175,6 +157,32 @@ pub fn close(words: &Words, seat: &mut Seat)
     ensures { (seat.new.table_id ≡ seat.old.table_id) × (seat.new.me ≡ seat.old.me) }
 {
     words.store::<Aside>(seat, STOP, 1);
+}
+
+/// Counts the worker among those that sleep, or among those that look on.
+pub fn count_in(words: &Words, seat: &mut Seat, who: usize)
+    requires bench { IsAtBench words.now.table_id seat.old.table_id }
+    requires who { who < FIRST_PLACE }
+    ensures { (seat.new.table_id ≡ seat.old.table_id) × (seat.new.me ≡ seat.old.me) }
+{
+    words.fetch_add::<Aside>(seat, who, 1);
+}
+
+/// Counts it among these no more.
+pub fn count_out(words: &Words, seat: &mut Seat, who: usize)
+    requires bench { IsAtBench words.now.table_id seat.old.table_id }
+    requires who { who < FIRST_PLACE }
+    ensures { (seat.new.table_id ≡ seat.old.table_id) × (seat.new.me ≡ seat.old.me) }
+{
+    words.fetch_sub::<Aside>(seat, who, 1);
+}
+
+/// Says at which number of the bell of the deliveries the dispatcher goes to sleep.
+pub fn lie_down(words: &Words, seat: &mut Seat, number: u64)
+    requires { IsAtBench words.now.table_id seat.old.table_id }
+    ensures { (seat.new.table_id ≡ seat.old.table_id) × (seat.new.me ≡ seat.old.me) }
+{
+    words.store::<Aside>(seat, SLEPT_AT, number);
 }
 
 /// Lays a job into the slot that the seat took last.

@@ -4,9 +4,7 @@ ghost use Rattle.workers.specs.Desk.{IsAtBench, IsBench};
 
 use crate::seats::Seat;
 use crate::steps::{self, Words};
-use crate::words::{
-    DELIVERIES, LOOKED, LOOKER, OFFERS, QUIET, RISEN, RUNG, SLEPT_ON, TIRED, needs_waking, rings,
-};
+use crate::words::{DELIVERIES, LOOKERS, OFFERS, SLEEPERS, SLEPT_AT, low_half};
 use std::hint::spin_loop;
 use std::sync::Wait;
 use std::thread::yield_now;
@@ -18,47 +16,54 @@ const LOOKS: usize = 64;
 /// about as long as it takes to put a thread to sleep and to wake it.
 const ROUNDS: usize = 16;
 
-/// Sleeps until the bell of the deliveries is rung, and quiets it.
-pub fn hear<R: Wait>(words: &Words, seat: &mut Seat, rt: &R)
+/// Sleeps while the bell of the deliveries has this number, and gives the one that it has then.
+pub fn hear<R: Wait>(words: &Words, seat: &mut Seat, rt: &R, heard: u64) -> u64
     requires { IsAtBench words.now.table_id seat.old.table_id }
     ensures { (seat.new.table_id ≡ seat.old.table_id) × (seat.new.me ≡ seat.old.me) }
 {
+    let mut number = words.peek(DELIVERIES);
+    if number != heard {
+        return number;
+    }
+    steps::lie_down(words, seat, heard);
     for _ in rt.forever() {
-        if steps::lie_down(words, seat) == RUNG {
+        number = words.peek(DELIVERIES);
+        if number != heard {
             break;
         }
-        words.park(rt, DELIVERIES, SLEPT_ON as u32);
+        words.park(rt, DELIVERIES, low_half(heard));
     }
-    steps::set_bell(words, seat, QUIET);
+    number
 }
 
-/// Rings the bell of the deliveries, and wakes the dispatcher if it sleeps there: whether it did.
+/// Rings the bell of the deliveries, and wakes the dispatcher if it sleeps at the number that the ring found: whether it does.
 pub fn tell(words: &Words, seat: &mut Seat) -> bool
     requires { IsAtBench words.now.table_id seat.old.table_id }
     ensures { (seat.new.table_id ≡ seat.old.table_id) × (seat.new.me ≡ seat.old.me) }
 {
-    let slept = steps::set_bell(words, seat, RUNG) == SLEPT_ON;
-    if slept {
+    let found = steps::ring(words, seat, DELIVERIES);
+    let sleeps = words.peek(SLEPT_AT) == found;
+    if sleeps {
         words.wake_one(DELIVERIES);
     }
-    slept
+    sleeps
 }
 
-/// Wakes a worker that sleeps on the bell of the offers, which stood so just now, unless one looks on there.
-pub fn wake(words: &Words, bell: u64)
+/// Wakes a worker that sleeps on the bell of the offers, unless one looks on there.
+pub fn wake(words: &Words)
     requires { IsBench words.now.table_id }
 {
-    if needs_waking(bell) {
+    if words.peek(SLEEPERS) != 0 && words.peek(LOOKERS) == 0 {
         words.wake_one(OFFERS);
     }
 }
 
-// Whether the bell of the offers, which was rung just so often, is rung again within some looks.
-fn is_rung_now(words: &Words, heard: u32) -> bool
+// Whether the bell of the offers has another number than this one within some looks.
+fn is_rung_now(words: &Words, heard: u64) -> bool
     requires { IsBench words.now.table_id }
 {
     for _ in 0..LOOKS {
-        if rings(words.peek(OFFERS)) != heard {
+        if words.peek(OFFERS) != heard {
             return true;
         }
         spin_loop();
@@ -66,8 +71,8 @@ fn is_rung_now(words: &Words, heard: u32) -> bool
     false
 }
 
-// Whether it is rung again soon: other threads may go first meanwhile, if they wait for a processor.
-fn is_rung_soon(words: &Words, heard: u32) -> bool
+// Whether it has another one soon: other threads may go first meanwhile, if they wait for a processor.
+fn is_rung_soon(words: &Words, heard: u64) -> bool
     requires { IsBench words.now.table_id }
 {
     for _ in 0..ROUNDS {
@@ -79,26 +84,27 @@ fn is_rung_soon(words: &Words, heard: u32) -> bool
     false
 }
 
-/// Looks on for a while, and then sleeps, for as long as the bell of the offers was rung just so often.
-pub fn look_on<R: Wait>(words: &Words, seat: &mut Seat, rt: &R, heard: u32)
+/// Looks on for a while, and then sleeps, while the bell of the offers has this number.
+pub fn look_on<R: Wait>(words: &Words, seat: &mut Seat, rt: &R, heard: u64)
     requires { IsAtBench words.now.table_id seat.old.table_id }
     ensures { (seat.new.table_id ≡ seat.old.table_id) × (seat.new.me ≡ seat.old.me) }
 {
-    steps::count(words, seat, LOOKER);
-    if is_rung_soon(words, heard) {
-        steps::count(words, seat, LOOKED);
-        return;
+    steps::count_in(words, seat, LOOKERS);
+    let is_rung = is_rung_soon(words, heard);
+    steps::count_out(words, seat, LOOKERS);
+    if !is_rung {
+        sleep(words, seat, rt, heard);
     }
-    sleep(words, seat, rt, heard, TIRED);
 }
 
-/// Sleeps on the bell of the offers for as long as it was rung just so often, and adds this to it before.
-pub fn sleep<R: Wait>(words: &Words, seat: &mut Seat, rt: &R, heard: u32, counted: u64)
+/// Sleeps while the bell of the offers has this number.
+pub fn sleep<R: Wait>(words: &Words, seat: &mut Seat, rt: &R, heard: u64)
     requires { IsAtBench words.now.table_id seat.old.table_id }
     ensures { (seat.new.table_id ≡ seat.old.table_id) × (seat.new.me ≡ seat.old.me) }
 {
-    if rings(steps::count(words, seat, counted)) == heard {
-        words.park(rt, OFFERS, heard);
+    steps::count_in(words, seat, SLEEPERS);
+    if words.peek(OFFERS) == heard {
+        words.park(rt, OFFERS, low_half(heard));
     }
-    steps::count(words, seat, RISEN);
+    steps::count_out(words, seat, SLEEPERS);
 }

@@ -10,7 +10,7 @@ use crate::pace::Gate;
 use crate::seats::{DispatchSeat, Seat, WorkSeat};
 use crate::steps::{self, Words};
 use crate::waiting::{hear, look_on, sleep, tell, wake};
-use crate::words::{FIRST_PLACE, OFFERED, OFFERS, SLEEPER, STOP, rings};
+use crate::words::{FIRST_PLACE, OFFERED, OFFERS, STOP};
 use parcel::run;
 use std::alloc::AllocError;
 use std::sync::Wait;
@@ -38,14 +38,12 @@ impl Bench {
         let mut pass = seat.into_inner();
         let mut last = Round::Idle;
         for _ in rt.forever() {
-            let heard = rings(words.peek(OFFERS));
+            let heard = words.peek(OFFERS);
             if words.peek(STOP) != 0 {
                 break;
             }
             match serve_round(words, &mut pass, places, gate) {
-                Round::Idle if last == Round::Woke => {
-                    sleep(words, &mut pass, rt, heard, SLEEPER);
-                }
+                Round::Idle if last == Round::Woke => sleep(words, &mut pass, rt, heard),
                 Round::Idle => look_on(words, &mut pass, rt, heard),
                 round => last = round,
             }
@@ -103,7 +101,7 @@ impl Bench {
         requires { seat.old.bench ≡ self.now }
         ensures { seat.new ≡ seat.old }
     {
-        hear(&self.table.shared, &mut seat.seat, rt);
+        seat.heard = hear(&self.table.shared, &mut seat.seat, rt, seat.heard);
     }
 }
 
@@ -115,7 +113,7 @@ fn call_another(words: &Words, k: usize, places: usize)
 {
     for other in k + 1..places {
         if words.peek(other + FIRST_PLACE) == OFFERED {
-            wake(words, words.peek(OFFERS));
+            wake(words);
             return;
         }
     }

@@ -8,11 +8,12 @@ use std::alloc::Global;
 use std::hint::spin_loop;
 use std::marker::Model;
 use std::process::Abort;
+use std::rt::Env;
 use std::sync::Wait;
 use std::sync::atomic::{AtomicBool, AtomicU64, Ordering};
 use std::test::Fail;
-use std::thread;
 use std::thread::Threads;
+use std::{env, thread};
 use workers::{Bench, DispatchSeat, Duty, Gate, OpenGate};
 
 /// One volume of two files of four blocks, in two stripes that hold two blocks each.
@@ -113,16 +114,51 @@ fn collect(bench: &Bench, desk: &mut DispatchSeat, k: usize) -> Option<(u64, Rep
     None
 }
 
-// One job offered at place 0 of two, which nobody runs yet: none more is taken there, and no result
-// is anywhere.
+// Whether the job of a ticket is handed back by a place where something is lent.
+fn is_handed_back(
+    bench: &Bench,
+    desk: &mut DispatchSeat,
+    alloc: Global,
+    k: usize,
+    ticket: u64,
+) -> Result<bool, Fail>
+    requires { (desk.old.bench ≡ bench.now) × (k < bench.now.slots) }
+    ensures { desk.new.bench ≡ desk.old.bench }
+{
+    let Some(job) = job(alloc, ticket)? else {
+        return Ok(false);
+    };
+    match bench.offer(desk, k, job) {
+        Ok(()) => Ok(false),
+        Err(back) => Ok(back.ticket() == ticket),
+    }
+}
+
+// One job offered at place 0 of two, which nobody runs yet: the next one is handed back there, and no
+// result is anywhere.
 fn offers_one(bench: &Bench, desk: &mut DispatchSeat, alloc: Global) -> Result<bool, Fail>
     requires { (desk.old.bench ≡ bench.now) × (1 < bench.now.slots) }
     ensures { desk.new.bench ≡ desk.old.bench }
 {
     let first = offer(bench, desk, alloc, 0, 11)?;
-    let second = offer(bench, desk, alloc, 0, 12)?;
+    let second = is_handed_back(bench, desk, alloc, 0, 12)?;
     let nothing = bench.collect(desk, 0).is_none() && bench.collect(desk, 1).is_none();
-    Ok(first && !second && nothing)
+    Ok(first && second && nothing)
+}
+
+/// It passes too where any one request for memory is refused.
+#[test]
+fn a_bench_is_opened_at_the_next_try(rt: HostRuntime) -> Result<(), Fail> {
+    let alloc = rt.alloc();
+    let (_bench, desk, seats) = match Bench::open(alloc, 2, 3) {
+        Ok(opened) => opened,
+        Err(_) => Bench::open(alloc, 2, 3)?,
+    };
+    expect(
+        &rt,
+        desk.places() == 2 && !desk.any_lent() && seats.len() == 3,
+    );
+    Ok(())
 }
 
 #[test]
@@ -142,7 +178,7 @@ fn one_worker_answers_one_job(rt: HostRuntime) -> Result<(), Fail> {
             let mut desk = desk;
             let offered = offers_one(bench, &mut desk, alloc);
             let started = bench.start(runtime, scope, &mut desk, seats, gate).is_ok();
-            let collected = tells(bench, &mut desk, 0, 11, &alone);
+            let collected = is_answer(collect(bench, &mut desk, 0), 11, &alone);
             bench.stop(&mut desk);
             Ok(offered? && started && collected)
         },
@@ -378,11 +414,12 @@ fn all_meetings(
     desk: &mut DispatchSeat,
     alloc: Global,
     gate: &Holding,
+    meetings: u64,
 ) -> Result<bool, Fail>
     requires { (desk.old.bench ≡ bench.now) × (1 < bench.now.slots) }
     ensures { desk.new.bench ≡ desk.old.bench }
 {
-    for meeting in 0..MEETINGS {
+    for meeting in 0..meetings {
         pause(LONG_PAUSE);
         let single = meeting.wrapping_mul(4).wrapping_add(1);
         let done = offer(bench, desk, alloc, 0, single)? && collect(bench, desk, 0).is_some();
@@ -394,11 +431,20 @@ fn all_meetings(
     Ok(true)
 }
 
+// The most rounds or meetings at a bench, where `BENCH_ROUNDS` in the environment says how many.
+fn most_rounds<R: Env + Alloc>(rt: &R) -> u64 {
+    match env::var(rt, "BENCH_ROUNDS") {
+        Ok(text) => text.as_str().parse::<u64>().unwrap_or(u64::MAX),
+        Err(_) => u64::MAX,
+    }
+}
+
 #[test]
 fn a_worker_that_is_held_up_calls_another(rt: HostRuntime) -> Result<(), Fail> {
     let alloc = rt.alloc();
     let (bench, desk, seats) = Bench::open(alloc, 2, 2)?;
     let gate = Holding::new();
+    let meetings = most_rounds(&rt).min(MEETINGS);
     let (runtime, bench, gate) = (&rt, &bench, &gate);
     let fine = thread::scope(
         thread::scope_env(),
@@ -409,7 +455,7 @@ fn a_worker_that_is_held_up_calls_another(rt: HostRuntime) -> Result<(), Fail> {
         {
             let mut desk = desk;
             let started = bench.start(runtime, scope, &mut desk, seats, gate).is_ok();
-            let fine = all_meetings(bench, &mut desk, alloc, gate);
+            let fine = all_meetings(bench, &mut desk, alloc, gate, meetings);
             bench.stop(&mut desk);
             Ok(fine? && started)
         },
@@ -427,18 +473,9 @@ fn replies_alone(alloc: Global) -> Result<Vec<Option<Reply>>, Fail> {
     Ok(replies)
 }
 
-// Whether the result at a place is that of this ticket, with the reply that its message gets alone.
-fn tells(
-    bench: &Bench,
-    desk: &mut DispatchSeat,
-    k: usize,
-    ticket: u64,
-    alone: &[Option<Reply>],
-) -> bool
-    requires { (desk.old.bench ≡ bench.now) × (k < bench.now.slots) }
-    ensures { desk.new.bench ≡ desk.old.bench }
-{
-    match collect(bench, desk, k) {
+// Whether the result that came is that of this ticket, with the reply that its message gets alone.
+fn is_answer(came: Option<(u64, Reply)>, ticket: u64, alone: &[Option<Reply>]) -> bool {
+    match came {
         Some((back, reply)) => {
             back == ticket && alone.get((ticket % KINDS) as usize) == Some(&Some(reply))
         }
@@ -446,11 +483,30 @@ fn tells(
     }
 }
 
-// Offers a job at each place, where the one before has to be answered first. Says whether all was so.
-fn offer_round(
+// The ticket and the reply of the result at a place: the dispatcher sleeps until it is there.
+fn await_result<R: Wait>(
     bench: &Bench,
     desk: &mut DispatchSeat,
-    alloc: Global,
+    rt: &R,
+    k: usize,
+) -> Option<(u64, Reply)>
+    requires { (desk.old.bench ≡ bench.now) × (k < bench.now.slots) }
+    ensures { desk.new.bench ≡ desk.old.bench }
+{
+    for _ in rt.forever() {
+        if let Some(done) = bench.collect(desk, k) {
+            return Some((done.ticket(), *done.reply()));
+        }
+        bench.wait(rt, desk);
+    }
+    None
+}
+
+// Offers a job at each place, where the one before has to be answered first. Says whether all was so.
+fn offer_round<R: Wait>(
+    bench: &Bench,
+    desk: &mut DispatchSeat,
+    with: (&R, Global),
     places: usize,
     round: u64,
     alone: &[Option<Reply>],
@@ -458,9 +514,10 @@ fn offer_round(
     requires { (desk.old.bench ≡ bench.now) × (places ≡ bench.now.slots) }
     ensures { desk.new.bench ≡ desk.old.bench }
 {
+    let (rt, alloc) = with;
     for k in 0..places {
         let before = round.wrapping_mul(STRIDE).wrapping_add(k as u64);
-        if round > 0 && !tells(bench, desk, k, before, alone) {
+        if round > 0 && !is_answer(await_result(bench, desk, rt, k), before, alone) {
             return Ok(false);
         }
         if !offer(bench, desk, alloc, k, before.wrapping_add(STRIDE))? {
@@ -471,9 +528,10 @@ fn offer_round(
 }
 
 // Collects the last job of each place, after which nothing is left. Says whether all was so.
-fn collect_round(
+fn collect_round<R: Wait>(
     bench: &Bench,
     desk: &mut DispatchSeat,
+    rt: &R,
     places: usize,
     round: u64,
     alone: &[Option<Reply>],
@@ -483,32 +541,34 @@ fn collect_round(
 {
     for k in 0..places {
         let last = round.wrapping_mul(STRIDE).wrapping_add(k as u64);
-        if !tells(bench, desk, k, last, alone) || bench.collect(desk, k).is_some() {
+        let came = await_result(bench, desk, rt, k);
+        if !is_answer(came, last, alone) || bench.collect(desk, k).is_some() {
             return false;
         }
     }
     true
 }
 
-// Hands jobs over at each place, with a ticket of its own each. Says whether each came back
-// once, with the reply that its message gets alone.
-fn all_jobs(
+// Hands jobs over at each place, with a ticket of its own each, and sleeps while none comes back. Says
+// whether each came back once, with the reply that its message gets alone.
+fn all_jobs<R: Wait>(
     bench: &Bench,
     desk: &mut DispatchSeat,
-    alloc: Global,
+    with: (&R, Global),
     places: usize,
     rounds: u64,
 ) -> Result<bool, Fail>
     requires { (desk.old.bench ≡ bench.now) × (places ≡ bench.now.slots) }
     ensures { desk.new.bench ≡ desk.old.bench }
 {
+    let (rt, alloc) = with;
     let alone = replies_alone(alloc)?;
     for round in 0..rounds {
-        if !offer_round(bench, desk, alloc, places, round, &alone)? {
+        if !offer_round(bench, desk, with, places, round, &alone)? {
             return Ok(false);
         }
     }
-    Ok(collect_round(bench, desk, places, rounds, &alone))
+    Ok(collect_round(bench, desk, rt, places, rounds, &alone))
 }
 
 // Whether all jobs come back at a bench with as many places as workers.
@@ -532,7 +592,7 @@ fn hands_off_all<R: Threads + Wait + Sync>(
         {
             let mut desk = desk;
             let started = bench.start(rt, scope, &mut desk, seats, gate).is_ok();
-            let fine = all_jobs(bench, &mut desk, alloc, places, rounds);
+            let fine = all_jobs(bench, &mut desk, (rt, alloc), places, rounds);
             bench.stop(&mut desk);
             Ok(fine? && started)
         },
@@ -541,8 +601,9 @@ fn hands_off_all<R: Threads + Wait + Sync>(
 
 #[test]
 fn each_of_100000_jobs_comes_back_once(rt: HostRuntime) -> Result<(), Fail> {
+    let most = most_rounds(&rt);
     for (places, rounds) in [(1, 25_000), (2, 12_500), (8, 3_125), (64, 391)] {
-        let fine = hands_off_all(&rt, rt.alloc(), places, rounds)?;
+        let fine = hands_off_all(&rt, rt.alloc(), places, most.min(rounds))?;
         expect(&rt, fine);
     }
     Ok(())

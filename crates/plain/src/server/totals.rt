@@ -5,7 +5,7 @@ ghost use Rattle.affinity.specs.declared.geometry.Geometry.{Geometry};
 ghost use Rattle.message.specs.declared.Msg.{Msg};
 ghost use Rattle.plain.specs.State.{file_count, block_count};
 ghost use Rattle.plain.specs.Serial.{accepted_reply};
-ghost use Rattle.plain.specs.Server.{server_state, IsConsistent};
+ghost use Rattle.plain.specs.Server.{server_state, IsCounted, IsConsistent};
 
 use super::Server;
 use affinity::Geometry;
@@ -34,8 +34,8 @@ impl Server {
 
     /// How many blocks a volume has: the numbers noted for its stripes. It walks these notes
     /// alone.
-    fn blocks_of(&self, g: &Geometry, a: u16, v: u16) -> u32
-        requires sound { IsConsistent g.now self.now }
+    pub(super) fn blocks_of(&self, g: &Geometry, a: u16, v: u16) -> u32
+        requires counted { IsCounted g.now self.now }
         ensures { result ≡ block_count g.now (server_state self.now) a v }
     {
         let mut total = 0;

@@ -1,13 +1,8 @@
 -- The slot leaves its list, and becomes the last of the chain.
 use Rattle.std.proofs.Common.{◌≡◌, ◌<◌, true, is_some, None, sym, ◌∙◌, slice_index_or, arith, length}
 use Rattle.arena.specs.Kept.{chains_in}
-use Rattle.arena.proofs.Times.{times-without_all_same}
 use Rattle.arena.proofs.Keeping.{move-kept, move-row}
 use Rattle.arena.proofs.Arena.move_to.Goals as goal
-
-pub append-requires-clause-alone : goal.append-requires-clause-alone
-append-requires-clause-alone g c =
-    rw c.unlink.ensures.lists (times-without_all_same c.args.i c.self.inside.links.lists)
 
 pub invariant_of-self : goal.invariant_of-self
 invariant_of-self g c =

@@ -1,13 +1,8 @@
 -- The slot leaves its list, becomes the first free one, and its value goes.
 use Rattle.std.proofs.Common.{◌≡◌, true, is_some, None, sym, ◌∙◌, slice_index_or, arith}
 use Rattle.std.proofs.lemmas.List.{length-set}
-use Rattle.arena.proofs.Times.{times-without_all_same}
 use Rattle.arena.proofs.Keeping.{take-kept, take-row, kept-fits}
 use Rattle.arena.proofs.Arena.take.Goals as goal
-
-pub prepend-requires-clause-alone : goal.prepend-requires-clause-alone
-prepend-requires-clause-alone g c =
-    rw c.unlink.ensures.lists (times-without_all_same c.args.i c.self.inside.links.lists)
 
 pub overflow_add-self : goal.overflow_add-self
 overflow_add-self g c =
@@ -18,13 +13,13 @@ overflow_add-self g c =
 pub invariant_of-self : goal.invariant_of-self
 invariant_of-self g c =
     let held : is_some (slice_index_or c.self.inside.values.items c.args.i None) ≡ true = rw (← c.self.view_is) at (sym c.holds.ensures.answer ∙ c.if-not-holds.false) in
-    rw (c.take.ensures.after, c.prepend.ensures.lists, c.unlink.ensures.lists)
+    rw (c.take.ensures.after, c.move_first.ensures.lists)
     (take-kept c.self.inside.values.items c.self.inside.links.slots c.self.inside.links.lists c.self.inside.free c.args.i c.self.invariant held)
 
 pub returns-clause-row : goal.returns-clause-row
 returns-clause-row g c =
     let held : is_some (slice_index_or c.self.inside.values.items c.args.i None) ≡ true = rw (← c.self.view_is) at (sym c.holds.ensures.answer ∙ c.if-not-holds.false) in
-    rw (← c.self.view_is, c.take.ensures.after, c.prepend.ensures.lists, c.unlink.ensures.lists)
+    rw (← c.self.view_is, c.take.ensures.after, c.move_first.ensures.lists)
     (take-row c.self.inside.values.items c.self.inside.links.slots c.self.inside.links.lists c.self.inside.free c.args.i c.self.invariant held)
 
 pub returns-clause-parted : goal.returns-clause-parted

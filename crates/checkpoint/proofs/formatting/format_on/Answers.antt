@@ -4,6 +4,8 @@ use Rattle.checkpoint.specs.Recovery.{holds}
 use Rattle.disk.specs.Moments.{LeavesOnly}
 use Rattle.plain.specs.State.{empty}
 use Rattle.checkpoint.proofs.Opened.{shut_moments, laid_moments, opened_moments}
+use Rattle.oplog.specs.Layout.{layout_of}
+use Rattle.oplog.proofs.Beyond.{beyond_then, beyond_write}
 use Rattle.checkpoint.proofs.formatting.format_on.Goals as goal
 
 pub returns-in_err-shut_gate-clause-any_moment : goal.returns-in_err-shut_gate-clause-any_moment
@@ -17,3 +19,16 @@ pub returns-clause-any_moment : goal.returns-clause-any_moment
 returns-clause-any_moment g c = λ k.
     opened_moments c.args.g.now _ c.requires.whole _ _ (c.shut_gate.ensures.any_moment k) (c.in_ok-shut_gate.ensures.shut k) 64 _ (omega arith) (c.lay_out.ensures.any_moment k) _
     (subst (λ (n : ℕ). LeavesOnly (g.D.Disk.medium c.lay_out.new.disk) (g.D.Disk.medium c.open_gate.new.disk) (λ l. IsShut n l ⊎ (holds c.args.g.now l ≡ Some empty))) (c.lay_out.ensures.call.1 ∙ c.shut_gate.ensures.call.1) (c.open_gate.ensures.any_moment k))
+
+pub returns-in_err-shut_gate-clause-beyond : goal.returns-in_err-shut_gate-clause-beyond
+returns-in_err-shut_gate-clause-beyond g c = λ k. c.shut_gate.ensures.beyond k (layout_of c.args.g.now)
+
+pub returns-in_err-lay_out-clause-beyond : goal.returns-in_err-lay_out-clause-beyond
+returns-in_err-lay_out-clause-beyond g c = λ k.
+    beyond_then (layout_of c.args.g.now) _ _ _ (c.shut_gate.ensures.beyond k (layout_of c.args.g.now)) (beyond_write (layout_of c.args.g.now) 64 _ _ _ (omega arith) (c.lay_out.ensures.any_moment k))
+
+pub returns-clause-beyond : goal.returns-clause-beyond
+returns-clause-beyond g c = λ k.
+    beyond_then (layout_of c.args.g.now) _ _ _
+    (beyond_then (layout_of c.args.g.now) _ _ _ (c.shut_gate.ensures.beyond k (layout_of c.args.g.now)) (beyond_write (layout_of c.args.g.now) 64 _ _ _ (omega arith) (c.lay_out.ensures.any_moment k)))
+    (c.open_gate.ensures.beyond k)

@@ -1,6 +1,7 @@
 use Rattle.std.proofs.Common.{sym, ◌∙◌, arith}
 use Rattle.checkpoint.proofs.Shut.{begun, calm_shut, now_calm, now_kept, now_read, shutting, stored_shut}
 use Rattle.disk.proofs.Calls.{after_read, after_sync}
+use Rattle.oplog.proofs.Beyond.{beyond_sync, beyond_then, beyond_write}
 use Rattle.checkpoint.proofs.formatting.shut_gate.Goals as goal
 
 pub returns-in_err-sync-clause-any_moment : goal.returns-in_err-sync-clause-any_moment
@@ -10,8 +11,8 @@ pub returns-in_err-read_at-clause-any_moment : goal.returns-in_err-read_at-claus
 returns-in_err-read_at-clause-any_moment g c = λ k.
     after_read _ _ _ _ (after_sync _ _ _ _ (begun _) c.sync.result (c.sync.ensures.syncs k)) _ _ c.read_at.result (c.read_at.ensures.reads k)
 
-pub returns-else-gate-eq-OPEN-clause-any_moment : goal.returns-else-gate-eq-OPEN-clause-any_moment
-returns-else-gate-eq-OPEN-clause-any_moment g c = λ k.
+pub returns-else-is_open-clause-any_moment : goal.returns-else-is_open-clause-any_moment
+returns-else-is_open-clause-any_moment g c = λ k.
     after_read _ _ _ _ (after_sync _ _ _ _ (begun _) c.sync.result (c.sync.ensures.syncs k)) _ _ c.read_at.result (c.read_at.ensures.reads k)
 
 pub returns-in_err-store-clause-any_moment : goal.returns-in_err-store-clause-any_moment
@@ -19,7 +20,7 @@ returns-in_err-store-clause-any_moment g c = λ k.
     shutting _ _ _ (g.met.D.Disk.bytes c.args.disk.now)
     (now_calm _ _ _ _ (c.in_ok-sync.ensures.syncs k).ok (c.in_ok-read_at.ensures.reads k).ok (c.read_at.auto.out))
     (now_kept _ _ _ _ (c.in_ok-sync.ensures.syncs k).ok (c.in_ok-read_at.ensures.reads k).ok (c.read_at.auto.out))
-    (now_read _ _ _ _ (c.in_ok-sync.ensures.syncs k).ok (c.in_ok-read_at.ensures.reads k).ok (c.read_at.auto.out) ∙ c.if-gate-eq-OPEN.true)
+    (now_read _ _ _ _ (c.in_ok-sync.ensures.syncs k).ok (c.in_ok-read_at.ensures.reads k).ok (c.read_at.auto.out) ∙ c.is_open.ensures.open c.if-is_open.true)
     (after_read _ _ _ _ (after_sync _ _ _ _ (begun _) c.sync.result (c.sync.ensures.syncs k)) _ _ c.read_at.result (c.read_at.ensures.reads k))
     (c.store.ensures.any_moment k)
 
@@ -28,7 +29,7 @@ returns-in_ok-store-clause-any_moment g c = λ k.
     shutting _ _ _ (g.met.D.Disk.bytes c.args.disk.now)
     (now_calm _ _ _ _ (c.in_ok-sync.ensures.syncs k).ok (c.in_ok-read_at.ensures.reads k).ok (c.read_at.auto.out))
     (now_kept _ _ _ _ (c.in_ok-sync.ensures.syncs k).ok (c.in_ok-read_at.ensures.reads k).ok (c.read_at.auto.out))
-    (now_read _ _ _ _ (c.in_ok-sync.ensures.syncs k).ok (c.in_ok-read_at.ensures.reads k).ok (c.read_at.auto.out) ∙ c.if-gate-eq-OPEN.true)
+    (now_read _ _ _ _ (c.in_ok-sync.ensures.syncs k).ok (c.in_ok-read_at.ensures.reads k).ok (c.read_at.auto.out) ∙ c.is_open.ensures.open c.if-is_open.true)
     (after_read _ _ _ _ (after_sync _ _ _ _ (begun _) c.sync.result (c.sync.ensures.syncs k)) _ _ c.read_at.result (c.read_at.ensures.reads k))
     (c.store.ensures.any_moment k)
 
@@ -36,9 +37,26 @@ pub returns-in_ok-store-clause-shut : goal.returns-in_ok-store-clause-shut
 returns-in_ok-store-clause-shut g c = λ k.
     stored_shut _ _ _ (omega (arith, c.requires, c.sync.ensures.call.1, c.read_at.ensures.call.1)) (c.read_at.ensures.call.1 ∙ c.sync.ensures.call.1) (c.in_ok-store.ensures.stored k)
 
-pub returns-else-gate-eq-OPEN-clause-shut : goal.returns-else-gate-eq-OPEN-clause-shut
-returns-else-gate-eq-OPEN-clause-shut g c = λ k.
+pub returns-else-is_open-clause-shut : goal.returns-else-is_open-clause-shut
+returns-else-is_open-clause-shut g c = λ k.
     calm_shut _ (g.D.Disk.medium c.read_at.new.self)
     (now_calm (g.D.Disk.medium c.args.disk.now) (g.D.Disk.medium c.sync.new.self) (g.D.Disk.medium c.read_at.new.self) _ (c.in_ok-sync.ensures.syncs k).ok (c.in_ok-read_at.ensures.reads k).ok (c.read_at.auto.out))
     (c.read_at.ensures.call.1 ∙ c.sync.ensures.call.1)
-    (λ is_open. c.if-gate-eq-OPEN.false (sym (now_read (g.D.Disk.medium c.args.disk.now) (g.D.Disk.medium c.sync.new.self) (g.D.Disk.medium c.read_at.new.self) _ (c.in_ok-sync.ensures.syncs k).ok (c.in_ok-read_at.ensures.reads k).ok (c.read_at.auto.out)) ∙ is_open))
+    (λ is_open. c.is_open.ensures.shut c.if-is_open.false (sym (now_read (g.D.Disk.medium c.args.disk.now) (g.D.Disk.medium c.sync.new.self) (g.D.Disk.medium c.read_at.new.self) _ (c.in_ok-sync.ensures.syncs k).ok (c.in_ok-read_at.ensures.reads k).ok (c.read_at.auto.out)) ∙ is_open))
+
+pub returns-in_err-sync-clause-beyond : goal.returns-in_err-sync-clause-beyond
+returns-in_err-sync-clause-beyond g c = λ k l. beyond_sync l _ _ c.sync.result (c.sync.ensures.syncs k)
+
+pub returns-in_err-read_at-clause-beyond : goal.returns-in_err-read_at-clause-beyond
+returns-in_err-read_at-clause-beyond g c = λ k l. after_read _ _ _ _ (beyond_sync l _ _ c.sync.result (c.sync.ensures.syncs k)) _ _ c.read_at.result (c.read_at.ensures.reads k)
+
+pub returns-else-is_open-clause-beyond : goal.returns-else-is_open-clause-beyond
+returns-else-is_open-clause-beyond g c = λ k l. after_read _ _ _ _ (beyond_sync l _ _ c.sync.result (c.sync.ensures.syncs k)) _ _ c.read_at.result (c.read_at.ensures.reads k)
+
+pub returns-in_err-store-clause-beyond : goal.returns-in_err-store-clause-beyond
+returns-in_err-store-clause-beyond g c = λ k l.
+    beyond_then l _ _ _ (after_read _ _ _ _ (beyond_sync l _ _ c.sync.result (c.sync.ensures.syncs k)) _ _ c.read_at.result (c.read_at.ensures.reads k)) (beyond_write l 0 1 _ _ (omega arith) (c.store.ensures.any_moment k))
+
+pub returns-in_ok-store-clause-beyond : goal.returns-in_ok-store-clause-beyond
+returns-in_ok-store-clause-beyond g c = λ k l.
+    beyond_then l _ _ _ (after_read _ _ _ _ (beyond_sync l _ _ c.sync.result (c.sync.ensures.syncs k)) _ _ c.read_at.result (c.read_at.ensures.reads k)) (beyond_write l 0 1 _ _ (omega arith) (c.store.ensures.any_moment k))

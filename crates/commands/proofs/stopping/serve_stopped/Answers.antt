@@ -1,20 +1,29 @@
--- What serving says of any device, of the one that stops and is crashed.
+-- The fuse that is set is no part of the medium.
 use Rattle.std.proofs.Common.{◌≡◌, ap, subst}
 use Rattle.disk.specs.Device.{Medium}
-use Rattle.disk.specs.Memory.{Memory, medium_of}
-use Rattle.commands.specs.Kept.{KeepsWhatWasTold}
-use Rattle.commands.proofs.Kept.{told_so}
+use Rattle.disk.specs.Memory.{Memory, medium_of, memory_of}
+use Rattle.commands.specs.Kept.{HoldsWhatWasTold, UnlessUntold}
+use Rattle.commands.specs.Promise.{HoldsRecovered, UnlessUnopened, unless_unsent}
+use Rattle.commands.specs.Serving.{HasServedUntilCrash}
 use Rattle.commands.proofs.stopping.serve_stopped.Goals as goal
 
 pub returns : goal.returns
 returns g c =
-    let mid = medium_of c.serve_on-disk.result.0 in
-    let end = c.serve_on-disk.result.1 in
+    let left = c.serve_and_crash.result.0 in
+    let end = c.serve_and_crash.result.1 in
     let input = g.R.Read.remaining c.args.r.now in
+    let rest = g.R.Read.remaining c.serve_and_crash.new.r in
     let before = g.W.Write.contents c.args.w.now in
-    let written = g.W.Write.contents c.serve_on-disk.new.w in
+    let written = g.W.Write.contents c.serve_and_crash.new.w in
     let same : medium_of c.stop_at.new.self ≡ medium_of c.args.disk = ap (λ (m : Memory). m.medium) c.stop_at.ensures in
     record {
-      kept = told_so end before written (λ k. k tt (medium_of c.crash.result).now c.crash.ensures.may)
-          (subst (λ (m : Medium). KeepsWhatWasTold (Unit {0}) m mid end input before written) same c.serve_on-disk.ensures.kept);
+      crashed = subst (λ (m : Medium). HasServedUntilCrash c.args.service m c.args.torn (memory_of left) end input rest before written)
+          same c.serve_and_crash.ensures.crashed;
+      kept = subst (λ (m : Medium). UnlessUntold end before written (HoldsWhatWasTold m input before written (medium_of left).now))
+          same c.serve_and_crash.ensures.kept;
+      recovers = subst (λ (m : Medium). UnlessUnopened end (HoldsRecovered m input (unless_unsent end before) written (medium_of left).now))
+          same c.serve_and_crash.ensures.recovers;
     }
+
+pub serve_and_crash-requires-clause-stops : goal.serve_and_crash-requires-clause-stops
+serve_and_crash-requires-clause-stops g c lent outlives = ap (λ (m : Memory). m.fuse) c.stop_at.ensures

@@ -9,8 +9,10 @@ use Rattle.disk.specs.Moments.{LeavesOnly}
 use Rattle.journal.specs.Parts.{IsBad, IsRefusedAlike, KeepsRoom}
 use Rattle.journal.specs.Steps.{StandsStill}
 use Rattle.journal.proofs.Loaded.{are_loaded, alone_fine, alone_holds, alone_stands, held_after, not_off, not_on}
-use Rattle.journal.proofs.Settling.{alike_after, alike_read, all_unwritten, bad_behind, still_after, still_read, still_synced, unread}
-use Rattle.oplog.specs.Layout.{other}
+use Rattle.journal.proofs.Settling.{alike_after, alike_read, all_unwritten, bad_behind, bad_from, bad_synced, still_after, still_read, still_synced, unread}
+use Rattle.oplog.specs.Beyond.{KeepsBeyond}
+use Rattle.oplog.specs.Layout.{layout_of, other}
+use Rattle.oplog.proofs.Beyond.{beyond_read, beyond_then}
 use Rattle.oplog.specs.Log.{Log, new_log, renamed}
 use Rattle.parcel.specs.Tree.{state_in}
 use Rattle.journal.proofs.opening.load_in_turn.Goals as goal
@@ -81,8 +83,11 @@ returns-in_err-replay_behind-clause-unwritten g c =
     rw (p.1, p.2)
     (λ k.
     let w2 = g.D.Disk.medium c.replay_behind.new.disk in
-    let bad = subst (λ (l : Log). IsBad l.geometry (other l.named) w2 c.in_err-replay_behind.field-0.0) c.in_ok-named.ensures.log (c.in_err-replay_behind.ensures.behind k) in
-    bad_behind _ c.in_ok-named.named.area (g.D.Disk.medium c.args.disk.now) w2 c.args.parts.now.tree.geometry c.in_ok-named.ensures.area (c.in_ok-named.ensures.loaded k).named (c.requires.header k) bad)
+    let w0 = g.D.Disk.medium c.args.disk.now in
+    let w1 = g.D.Disk.medium c.load_named.new.disk in
+    let bad = subst (λ (l : Log). IsBad l.geometry (other l.named) w1 w2 c.in_err-replay_behind.field-0.0) c.in_ok-named.ensures.log (c.in_err-replay_behind.ensures.behind k) in
+    bad_behind _ c.in_ok-named.named.area (g.D.Disk.medium c.args.disk.now) w2 c.args.parts.now.tree.geometry c.in_ok-named.ensures.area (c.in_ok-named.ensures.loaded k).named (c.requires.header k)
+    (bad_from _ _ _ w0 w1 w2 (same_bytes w0 w1 (c.load_named.ensures.untouched k)) bad))
 
 pub returns-clause-any_moment : goal.returns-clause-any_moment
 returns-clause-any_moment g c = λ k.
@@ -133,3 +138,44 @@ pub returns-clause-room : goal.returns-clause-room
 returns-clause-room g c =
     let room = c.in_ok-replay_behind.ensures.room in
     record { frozen = room.frozen; named_marks = room.named_marks; other_marks = room.other_marks; due = room.due }
+
+pub returns-in_err-named-clause-synced : goal.returns-in_err-named-clause-synced
+returns-in_err-named-clause-synced g c =
+    let p = err_from_is_err_and c.from_residual.result c.from_residual.ensures.1 in
+    rw p.1 (λ not_device k. still_synced (g.D.Disk.medium c.args.disk.now) (g.D.Disk.medium c.load_named.new.disk) (c.load_named.ensures.untouched k) (c.requires.calm k))
+
+pub returns-in_err-replay_behind-clause-synced : goal.returns-in_err-replay_behind-clause-synced
+returns-in_err-replay_behind-clause-synced g c =
+    let p = err_from_is_err_and c.from_residual-in_err-replay_behind.result c.from_residual-in_err-replay_behind.ensures.1 in
+    rw (p.1, p.2)
+    (λ not_device k.
+    let log = c.load_named.new.log in
+    bad_synced log.geometry (other log.named) c.in_err-replay_behind.field-0.0 (g.D.Disk.medium c.load_named.new.disk) (g.D.Disk.medium c.replay_behind.new.disk) not_device (c.in_err-replay_behind.ensures.behind k))
+
+pub returns-in_err-named-clause-beyond : goal.returns-in_err-named-clause-beyond
+returns-in_err-named-clause-beyond g c = λ k.
+    beyond_read (layout_of c.args.parts.now.tree.geometry) _ _ (c.load_named.ensures.untouched k)
+
+pub returns-then-not-named-clause-beyond : goal.returns-then-not-named-clause-beyond
+returns-then-not-named-clause-beyond g c = λ k.
+    beyond_read (layout_of c.args.parts.now.tree.geometry) _ _ (c.load_named.ensures.untouched k)
+
+pub returns-in_err-replay_behind-clause-beyond : goal.returns-in_err-replay_behind-clause-beyond
+returns-in_err-replay_behind-clause-beyond g c = λ k.
+    let t = c.args.parts.now.tree.geometry in
+    let w0 = g.D.Disk.medium c.args.disk.now in
+    let w1 = g.D.Disk.medium c.load_named.new.disk in
+    let w2 = g.D.Disk.medium c.replay_behind.new.disk in
+    let log = ap (λ (l : Log). l.geometry) c.in_ok-named.ensures.log in
+    beyond_then (layout_of t) w0 w1 w2 (beyond_read (layout_of t) w0 w1 (c.load_named.ensures.untouched k))
+    (subst (λ (h : Geometry). KeepsBeyond (layout_of h) w1 w2) log (c.replay_behind.ensures.beyond k))
+
+pub returns-clause-beyond : goal.returns-clause-beyond
+returns-clause-beyond g c = λ k.
+    let t = c.args.parts.now.tree.geometry in
+    let w0 = g.D.Disk.medium c.args.disk.now in
+    let w1 = g.D.Disk.medium c.load_named.new.disk in
+    let w2 = g.D.Disk.medium c.replay_behind.new.disk in
+    let log = ap (λ (l : Log). l.geometry) c.in_ok-named.ensures.log in
+    beyond_then (layout_of t) w0 w1 w2 (beyond_read (layout_of t) w0 w1 (c.load_named.ensures.untouched k))
+    (subst (λ (h : Geometry). KeepsBeyond (layout_of h) w1 w2) log (c.replay_behind.ensures.beyond k))

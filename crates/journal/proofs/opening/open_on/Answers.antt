@@ -1,7 +1,10 @@
-use Rattle.std.proofs.Common.{ℕ, List, subst}
+use Rattle.std.proofs.Common.{ℕ, List, sym, subst}
+use Rattle.checkpoint.specs.Header.{HasHeader}
 use Rattle.checkpoint.specs.Refusals.{IsDevice}
 use Rattle.journal.specs.Parts.{IsMadeOf}
 use Rattle.journal.proofs.Settling.{if_err, if_ok, never_synced, synced_then, unwritten_from, unwritten_then}
+use Rattle.oplog.specs.Layout.{layout_of}
+use Rattle.oplog.proofs.Beyond.{beyond_then}
 use Rattle.journal.proofs.opening.open_on.Goals as goal
 
 pub returns-in_err-settle-clause-any_moment : goal.returns-in_err-settle-clause-any_moment
@@ -28,3 +31,14 @@ returns-clause-unwritten g c =
 pub returns-clause-memory : goal.returns-clause-memory
 returns-clause-memory g c =
     if_err c.open_settled.result _ _ (λ e told is k. subst (λ (l : List ℕ). IsDevice l) (c.settle.ensures.now k) (told is k)) c.open_settled.ensures.memory
+
+pub returns-in_err-settle-clause-beyond : goal.returns-in_err-settle-clause-beyond
+returns-in_err-settle-clause-beyond g c = λ k h head.
+    c.settle.ensures.beyond k (layout_of h)
+
+pub returns-clause-beyond : goal.returns-clause-beyond
+returns-clause-beyond g c = λ k h head.
+    let w0 = g.D.Disk.medium c.args.disk.now in
+    let w1 = g.D.Disk.medium c.settle.new.disk in
+    let w2 = g.D.Disk.medium c.open_settled.new.disk in
+    beyond_then (layout_of h) w0 w1 w2 (c.settle.ensures.beyond k (layout_of h)) (c.open_settled.ensures.beyond k h (subst (λ (l : List ℕ). HasHeader h l) (sym (c.settle.ensures.now k)) head))

@@ -6,6 +6,7 @@ use Rattle.checkpoint.specs.Header.{HasHeader}
 use Rattle.checkpoint.specs.Loading.{IsOfHalf}
 use Rattle.checkpoint.specs.Recovery.{holds}
 use Rattle.checkpoint.specs.Refusals.{refused}
+use Rattle.checkpoint.proofs.OneGeometry.{same_geometry}
 use Rattle.checkpoint.proofs.Refusing.{behind_header, header_half, took_none}
 use Rattle.checkpoint.proofs.Replays.{same_bytes}
 use Rattle.journal.specs.Parts.{IsMadeOf}
@@ -13,7 +14,9 @@ use Rattle.journal.specs.Steps.{StandsStill}
 use Rattle.journal.specs.Stretches.{AreAllMarked}
 use Rattle.journal.proofs.Loaded.{made, made_of}
 use Rattle.journal.proofs.Settling.{all_unwritten, alike_after, as_alike, as_before, as_still, still_after, still_now, still_synced, still_then, unread, unwritten_from, unwritten_then}
+use Rattle.oplog.specs.Beyond.{KeepsBeyond}
 use Rattle.oplog.specs.Layout.{device_size, layout_of}
+use Rattle.oplog.proofs.Beyond.{beyond_read, beyond_then}
 use Rattle.oplog.specs.Stands.{named_area}
 use Rattle.parcel.specs.Tree.{TreeView}
 use Rattle.journal.proofs.opening.open_settled.Goals as goal
@@ -142,3 +145,60 @@ returns-in_err-load_in_turn-clause-memory g c =
 pub returns-in_err-last_point-clause-memory : goal.returns-in_err-last_point-clause-memory
 returns-in_err-last_point-clause-memory g c =
     behind_header _ g.D.Disk.keeps (g.D.Disk.medium c.args.disk.now).now (λ k. record { geometry = c.in_ok-g.g; header = c.in_ok-g.ensures.header k; parts = c.in_ok-g.ensures.whole })
+
+pub returns-in_err-g-clause-synced : goal.returns-in_err-g-clause-synced
+returns-in_err-g-clause-synced g c =
+    let p = err_from_is_err_and c.from_residual.result c.from_residual.ensures.1 in
+    rw p.1 (λ other k. still_synced (g.D.Disk.medium c.args.disk.now) (g.D.Disk.medium c.read_header.new.disk) (c.read_header.ensures.untouched k) (c.requires.calm k))
+
+pub returns-in_err-parts-clause-synced : goal.returns-in_err-parts-clause-synced
+returns-in_err-parts-clause-synced g c =
+    let p = err_from_is_err_and c.from_residual-in_err-parts.result c.from_residual-in_err-parts.ensures.1 in
+    rw p.1 (λ other k. still_synced (g.D.Disk.medium c.args.disk.now) (g.D.Disk.medium c.read_header.new.disk) (c.read_header.ensures.untouched k) (c.requires.calm k))
+
+pub returns-in_err-last_point-clause-synced : goal.returns-in_err-last_point-clause-synced
+returns-in_err-last_point-clause-synced g c =
+    let p = err_from_is_err_and c.from_residual-in_err-last_point.result c.from_residual-in_err-last_point.ensures.1 in
+    rw (p.1, p.2) (λ other k. absurd (other c.in_err-last_point.ensures.device))
+
+pub returns-in_err-g-clause-beyond : goal.returns-in_err-g-clause-beyond
+returns-in_err-g-clause-beyond g c = λ k h head.
+    beyond_read (layout_of h) _ _ (c.read_header.ensures.untouched k)
+
+pub returns-in_err-parts-clause-beyond : goal.returns-in_err-parts-clause-beyond
+returns-in_err-parts-clause-beyond g c = λ k h head.
+    beyond_read (layout_of h) _ _ (c.read_header.ensures.untouched k)
+
+pub returns-in_err-load_in_turn-clause-beyond : goal.returns-in_err-load_in_turn-clause-beyond
+returns-in_err-load_in_turn-clause-beyond g c = λ k h head.
+    let w0 = g.D.Disk.medium c.args.disk.now in
+    let w1 = g.D.Disk.medium c.read_header.new.disk in
+    let w2 = g.D.Disk.medium c.load_in_turn.new.disk in
+    let t = c.in_ok-parts.parts.tree.geometry in
+    let own = subst (λ (x : Geometry). HasHeader x w0.now) (sym c.in_ok-parts.ensures.geometry) (c.in_ok-g.ensures.header k) in
+    let loaded = beyond_then (layout_of t) w0 w1 w2 (beyond_read (layout_of t) w0 w1 (c.read_header.ensures.untouched k)) (c.load_in_turn.ensures.beyond k) in
+    subst (λ (x : Geometry). KeepsBeyond (layout_of x) w0 w2) (same_geometry t h (sym own ∙ head)) loaded
+
+pub returns-in_err-last_point-clause-beyond : goal.returns-in_err-last_point-clause-beyond
+returns-in_err-last_point-clause-beyond g c = λ k h head.
+    let w0 = g.D.Disk.medium c.args.disk.now in
+    let w1 = g.D.Disk.medium c.read_header.new.disk in
+    let w2 = g.D.Disk.medium c.load_in_turn.new.disk in
+    let t = c.in_ok-parts.parts.tree.geometry in
+    let own = subst (λ (x : Geometry). HasHeader x w0.now) (sym c.in_ok-parts.ensures.geometry) (c.in_ok-g.ensures.header k) in
+    let loaded = beyond_then (layout_of t) w0 w1 w2 (beyond_read (layout_of t) w0 w1 (c.read_header.ensures.untouched k)) (c.load_in_turn.ensures.beyond k) in
+    let w3 = g.D.Disk.medium c.last_point.new.disk in
+    let last = subst (λ (x : Geometry). KeepsBeyond (layout_of x) w2 w3) c.in_ok-load_in_turn.ensures.geometry (c.last_point.ensures.beyond k) in
+    subst (λ (x : Geometry). KeepsBeyond (layout_of x) w0 w3) (same_geometry t h (sym own ∙ head)) (beyond_then (layout_of t) w0 w2 w3 loaded last)
+
+pub returns-clause-beyond : goal.returns-clause-beyond
+returns-clause-beyond g c = λ k h head.
+    let w0 = g.D.Disk.medium c.args.disk.now in
+    let w1 = g.D.Disk.medium c.read_header.new.disk in
+    let w2 = g.D.Disk.medium c.load_in_turn.new.disk in
+    let t = c.in_ok-parts.parts.tree.geometry in
+    let own = subst (λ (x : Geometry). HasHeader x w0.now) (sym c.in_ok-parts.ensures.geometry) (c.in_ok-g.ensures.header k) in
+    let loaded = beyond_then (layout_of t) w0 w1 w2 (beyond_read (layout_of t) w0 w1 (c.read_header.ensures.untouched k)) (c.load_in_turn.ensures.beyond k) in
+    let w3 = g.D.Disk.medium c.last_point.new.disk in
+    let last = subst (λ (x : Geometry). KeepsBeyond (layout_of x) w2 w3) c.in_ok-load_in_turn.ensures.geometry (c.last_point.ensures.beyond k) in
+    subst (λ (x : Geometry). KeepsBeyond (layout_of x) w0 w3) (same_geometry t h (sym own ∙ head)) (beyond_then (layout_of t) w0 w2 w3 loaded last)

@@ -7,13 +7,16 @@ use Rattle.checkpoint.specs.Refusals.{first_bad_record}
 use Rattle.checkpoint.proofs.Replays.{same_bytes}
 use Rattle.disk.proofs.Leaves.{itself}
 use Rattle.disk.proofs.Moments.{leaves_now, same}
+use Rattle.image.specs.Image.{read}
+use Rattle.journal.specs.Opening.{area_state}
 use Rattle.journal.specs.Parts.{KeepsRoom}
 use Rattle.journal.specs.Steps.{IsAlone, finished_now}
 use Rattle.journal.proofs.Loaded.{are_loaded, behind_fine, behind_holds, behind_refused}
 use Rattle.journal.proofs.Settling.{alone_finished, bad_half, still_synced}
 use Rattle.oplog.specs.Front.{front}
-use Rattle.oplog.specs.Layout.{device_size, layout_of, other}
+use Rattle.oplog.specs.Layout.{device_size, image, layout_of, other, part_bytes}
 use Rattle.oplog.specs.Log.{Log}
+use Rattle.oplog.proofs.Beyond.{beyond_read, beyond_then}
 use Rattle.oplog.specs.Stands.{named_area, run}
 use Rattle.parcel.specs.Tree.{state_in}
 use Rattle.journal.proofs.opening.replay_behind.Goals as goal
@@ -64,6 +67,8 @@ returns-in_err-replay-clause-behind g c =
     (subst (λ (o : Option OpenFault). IsFaultOfBytes o c.in_err-replay.field-0.0) (λ i. records_fault (c.finish_cut.ensures.tree i).geometry (held' i) (half i) rs) fault)
     (c.requires.holds k).header why alike
     (ap (λ (l : List ℕ). named_area (layout_of c.args.parts.now.halves.geometry) l) (same_bytes (g.D.Disk.medium c.finish_cut.new.disk) w2 only) ∙ finished.named)
+    (ap (λ (l : List ℕ). read c.args.parts.now.halves.geometry (part_bytes (layout_of c.args.parts.now.halves.geometry) (image (other c.args.parts.now.halves.named)) l)) (same_bytes (g.D.Disk.medium c.finish_cut.new.disk) w2 only)
+    ∙ finished.reads ∙ ap (λ (n : ℕ). area_state c.args.parts.now.halves.geometry n w0.now) (c.requires.holds k).named)
     (still_synced (g.D.Disk.medium c.finish_cut.new.disk) w2 only finished.calm))
 
 pub returns-clause-any_moment : goal.returns-clause-any_moment
@@ -129,3 +134,13 @@ returns-clause-room g c =
 
 pub returns-clause-geometry : goal.returns-clause-geometry
 returns-clause-geometry g c = ap (λ (l : Log). l.geometry) (c.in_ok-replay.ensures.log ∙ c.in_ok-finish_cut.ensures.log)
+
+pub returns-in_err-replay-clause-beyond : goal.returns-in_err-replay-clause-beyond
+returns-in_err-replay-clause-beyond g c = λ k.
+    let l = layout_of c.args.parts.now.halves.geometry in
+    beyond_then l _ _ _ (c.finish_cut.ensures.beyond k) (beyond_read l _ _ (c.replay.ensures.untouched k))
+
+pub returns-clause-beyond : goal.returns-clause-beyond
+returns-clause-beyond g c = λ k.
+    let l = layout_of c.args.parts.now.halves.geometry in
+    beyond_then l _ _ _ (c.finish_cut.ensures.beyond k) (beyond_read l _ _ (c.replay.ensures.untouched k))

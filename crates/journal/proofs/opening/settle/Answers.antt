@@ -1,6 +1,7 @@
 use Rattle.disk.specs.Device.{Leaves}
 use Rattle.disk.proofs.Calls.{after_sync}
 use Rattle.disk.proofs.Moments.{started}
+use Rattle.oplog.proofs.Beyond.{beyond_sync}
 use Rattle.journal.proofs.opening.settle.Goals as goal
 
 pub returns-then-is_err-clause-any_moment : goal.returns-then-is_err-clause-any_moment
@@ -12,3 +13,11 @@ pub returns-clause-any_moment : goal.returns-clause-any_moment
 returns-clause-any_moment g c = λ k.
     let m = g.D.Disk.medium c.args.disk.now in
     after_sync m m (g.D.Disk.medium c.sync.new.self) (Leaves m) (started m (Leaves m) (λ c' left. left)) c.sync.result (c.sync.ensures.syncs k)
+
+pub returns-then-is_err-clause-beyond : goal.returns-then-is_err-clause-beyond
+returns-then-is_err-clause-beyond g c = λ k l.
+    beyond_sync l _ _ c.sync.result (c.sync.ensures.syncs k)
+
+pub returns-clause-beyond : goal.returns-clause-beyond
+returns-clause-beyond g c = λ k l.
+    beyond_sync l _ _ c.sync.result (c.sync.ensures.syncs k)

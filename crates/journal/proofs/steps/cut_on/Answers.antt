@@ -1,7 +1,11 @@
-use Rattle.std.proofs.Common.{subst}
+use Rattle.std.proofs.Common.{subst, arith}
+use Rattle.std.proofs.lemmas.Result.{err_from_is_err_and}
 use Rattle.journal.proofs.Cutting.{begun_forced, begun_images, begun_none, begun_ready, begun_stands, chain_moments, named_below}
 use Rattle.journal.proofs.Pointing.{clear_moments}
+use Rattle.oplog.proofs.Beyond.{beyond, beyond_then}
 use Rattle.oplog.specs.Calls.{Chains, HasChained}
+use Rattle.oplog.specs.Changes.{IsSameButChain, IsSameButGates}
+use Rattle.oplog.specs.Layout.{layout_of, other}
 use Rattle.oplog.specs.Log.{Log}
 use Rattle.journal.proofs.steps.cut_on.Goals as goal
 
@@ -49,3 +53,36 @@ returns-clause-begun g c = λ k.
       forced = begun_forced geometry named _ is_area w0 w1 w2 stands clears cleared chains are c.requires.whole chained (g.met.D.Disk.bytes c.args.disk.now) (g.met.D.Disk.bytes c.open_chain.new.disk);
       images = begun_images geometry named _ is_area w0 w1 w2 stands clears cleared chains are c.requires.whole chained;
     }
+
+pub returns-in_err-clear_other-clause-beyond : goal.returns-in_err-clear_other-clause-beyond
+returns-in_err-clear_other-clause-beyond g c = λ k.
+    let l = layout_of c.args.halves.now.geometry in
+    let w0 = g.D.Disk.medium c.args.disk.now in
+    let w1 = g.D.Disk.medium c.clear_other.new.disk in
+    let cleared = beyond l w0 w1 (IsSameButGates l (other c.args.halves.now.named)) (λ o d h. h.same.rest) (c.clear_other.ensures.any_moment k) in
+    cleared
+
+pub returns-in_err-open_chain-clause-beyond : goal.returns-in_err-open_chain-clause-beyond
+returns-in_err-open_chain-clause-beyond g c = λ k.
+    let l = layout_of c.args.halves.now.geometry in
+    let w0 = g.D.Disk.medium c.args.disk.now in
+    let w1 = g.D.Disk.medium c.clear_other.new.disk in
+    let cleared = beyond l w0 w1 (IsSameButGates l (other c.args.halves.now.named)) (λ o d h. h.same.rest) (c.clear_other.ensures.any_moment k) in
+    let w2 = g.D.Disk.medium c.open_chain.new.disk in
+    let chains = subst (λ (log : Log). Chains log w1 w2) c.in_ok-clear_other.ensures.log (c.open_chain.ensures.any_moment k) in
+    beyond_then l w0 w1 w2 cleared (beyond l w1 w2 (IsSameButChain l c.args.halves.now.named) (λ o d h. h.same.rest) chains)
+
+pub returns-clause-beyond : goal.returns-clause-beyond
+returns-clause-beyond g c = λ k.
+    let l = layout_of c.args.halves.now.geometry in
+    let w0 = g.D.Disk.medium c.args.disk.now in
+    let w1 = g.D.Disk.medium c.clear_other.new.disk in
+    let cleared = beyond l w0 w1 (IsSameButGates l (other c.args.halves.now.named)) (λ o d h. h.same.rest) (c.clear_other.ensures.any_moment k) in
+    let w2 = g.D.Disk.medium c.open_chain.new.disk in
+    let chains = subst (λ (log : Log). Chains log w1 w2) c.in_ok-clear_other.ensures.log (c.open_chain.ensures.any_moment k) in
+    beyond_then l w0 w1 w2 cleared (beyond l w1 w2 (IsSameButChain l c.args.halves.now.named) (λ o d h. h.same.rest) chains)
+
+pub returns-in_err-clear_other-clause-takes : goal.returns-in_err-clear_other-clause-takes
+returns-in_err-clear_other-clause-takes g c =
+    let p = err_from_is_err_and c.from_residual.result c.from_residual.ensures.1 in
+    rw p.1 (λ k. omega (arith, c.in_err-clear_other.ensures.takes k))

@@ -5,7 +5,8 @@ use Rattle.journal.specs.Stretches.{Imaged}
 use Rattle.journal.proofs.Finishing.{finish_image_moments, finish_moments, finished}
 use Rattle.journal.proofs.StillRefused.{finish_alike, image_alike}
 use Rattle.oplog.proofs.Answered.{on_ok}
-use Rattle.oplog.specs.Changes.{ChangesOnly, IsSameBut}
+use Rattle.oplog.proofs.Beyond.{beyond, beyond_then}
+use Rattle.oplog.specs.Changes.{ChangesOnly, IsSameBut, IsSameButRoot}
 use Rattle.oplog.specs.Layout.{layout_of, image, other}
 use Rattle.journal.proofs.steps.finish_on.Goals as goal
 
@@ -65,3 +66,32 @@ returns-clause-alike g c = λ k x reads held.
     (on_ok c.write_image.result _ (sym c.is_err.ensures.value ∙ c.if-is_err.false) c.write_image.ensures.written k) in
     finish_alike c.args.halves.now.geometry c.args.halves.now.named (omega (arith, c.named-second.ensures.named, c.named-second.ensures.half)) x _ _ (c.requires.unfinished k).calm held
     (g.met.D.Disk.bytes c.write_image.new.disk) c.args.bytes.now reads imaged _ writes (c.flip_root.ensures.any_moment k)
+
+pub returns-then-is_err-clause-beyond : goal.returns-then-is_err-clause-beyond
+returns-then-is_err-clause-beyond g c = λ k.
+    let l = layout_of c.args.halves.now.geometry in
+    let w0 = g.D.Disk.medium c.args.disk.now in
+    let w1 = g.D.Disk.medium c.write_image.new.disk in
+    let writes = along (λ (x : Geometry) (n : ℕ). ChangesOnly w0 w1 (IsSameBut (layout_of x) (image (other n)))) c.geometry-g.ensures c.named-second.ensures.named (c.write_image.ensures.any_moment k) in
+    let imaged = beyond l w0 w1 (IsSameBut l (image (other c.args.halves.now.named))) (λ o d h. h.rest) writes in
+    imaged
+
+pub returns-in_err-flip_root-clause-beyond : goal.returns-in_err-flip_root-clause-beyond
+returns-in_err-flip_root-clause-beyond g c = λ k.
+    let l = layout_of c.args.halves.now.geometry in
+    let w0 = g.D.Disk.medium c.args.disk.now in
+    let w1 = g.D.Disk.medium c.write_image.new.disk in
+    let writes = along (λ (x : Geometry) (n : ℕ). ChangesOnly w0 w1 (IsSameBut (layout_of x) (image (other n)))) c.geometry-g.ensures c.named-second.ensures.named (c.write_image.ensures.any_moment k) in
+    let imaged = beyond l w0 w1 (IsSameBut l (image (other c.args.halves.now.named))) (λ o d h. h.rest) writes in
+    let w2 = g.D.Disk.medium c.flip_root.new.disk in
+    beyond_then l w0 w1 w2 imaged (beyond l w1 w2 (IsSameButRoot l) (λ o d h. h.same.rest) (c.flip_root.ensures.any_moment k))
+
+pub returns-clause-beyond : goal.returns-clause-beyond
+returns-clause-beyond g c = λ k.
+    let l = layout_of c.args.halves.now.geometry in
+    let w0 = g.D.Disk.medium c.args.disk.now in
+    let w1 = g.D.Disk.medium c.write_image.new.disk in
+    let writes = along (λ (x : Geometry) (n : ℕ). ChangesOnly w0 w1 (IsSameBut (layout_of x) (image (other n)))) c.geometry-g.ensures c.named-second.ensures.named (c.write_image.ensures.any_moment k) in
+    let imaged = beyond l w0 w1 (IsSameBut l (image (other c.args.halves.now.named))) (λ o d h. h.rest) writes in
+    let w2 = g.D.Disk.medium c.flip_root.new.disk in
+    beyond_then l w0 w1 w2 imaged (beyond l w1 w2 (IsSameButRoot l) (λ o d h. h.same.rest) (c.flip_root.ensures.any_moment k))

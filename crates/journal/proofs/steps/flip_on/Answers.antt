@@ -4,7 +4,10 @@ use Rattle.disk.specs.Device.{Medium}
 use Rattle.disk.specs.Moments.{LeavesOnly}
 use Rattle.journal.proofs.Cutting.{name_moments, named_alone, named_before, named_below, named_images, named_ready, named_stands, sync_moments}
 use Rattle.oplog.proofs.Answered.{on_ok}
+use Rattle.oplog.proofs.Beyond.{beyond, beyond_sync, beyond_then}
 use Rattle.oplog.specs.Calls.{Flips, HasFlipped}
+use Rattle.oplog.specs.Changes.{IsSameButRoot}
+use Rattle.oplog.specs.Layout.{layout_of}
 use Rattle.journal.proofs.steps.flip_on.Goals as goal
 
 pub returns-then-is_err-clause-any_moment : goal.returns-then-is_err-clause-any_moment
@@ -58,3 +61,29 @@ returns-clause-flipped g c = λ k.
       alone = named_alone geometry named c.args.halves.now.used _ c.args.bytes.now w0 written.by.stands is_area written.by.some written.is written.behind w2 are flipped;
       images = named_images geometry named c.args.halves.now.used _ c.args.bytes.now w0 written.by.stands is_area written.by.some written.is written.behind w2 are flipped;
     }
+
+pub returns-then-is_err-clause-beyond : goal.returns-then-is_err-clause-beyond
+returns-then-is_err-clause-beyond g c = λ k.
+    let l = layout_of c.args.halves.now.geometry in
+    let w0 = g.D.Disk.medium c.args.disk.now in
+    let w1 = g.D.Disk.medium c.make_last.new.disk in
+    let synced = beyond_sync l w0 w1 c.make_last.result (c.make_last.ensures.syncs k) in
+    synced
+
+pub returns-in_err-flip_root-clause-beyond : goal.returns-in_err-flip_root-clause-beyond
+returns-in_err-flip_root-clause-beyond g c = λ k.
+    let l = layout_of c.args.halves.now.geometry in
+    let w0 = g.D.Disk.medium c.args.disk.now in
+    let w1 = g.D.Disk.medium c.make_last.new.disk in
+    let synced = beyond_sync l w0 w1 c.make_last.result (c.make_last.ensures.syncs k) in
+    let w2 = g.D.Disk.medium c.flip_root.new.disk in
+    beyond_then l w0 w1 w2 synced (beyond l w1 w2 (IsSameButRoot l) (λ o d h. h.same.rest) (c.flip_root.ensures.any_moment k))
+
+pub returns-clause-beyond : goal.returns-clause-beyond
+returns-clause-beyond g c = λ k.
+    let l = layout_of c.args.halves.now.geometry in
+    let w0 = g.D.Disk.medium c.args.disk.now in
+    let w1 = g.D.Disk.medium c.make_last.new.disk in
+    let synced = beyond_sync l w0 w1 c.make_last.result (c.make_last.ensures.syncs k) in
+    let w2 = g.D.Disk.medium c.flip_root.new.disk in
+    beyond_then l w0 w1 w2 synced (beyond l w1 w2 (IsSameButRoot l) (λ o d h. h.same.rest) (c.flip_root.ensures.any_moment k))

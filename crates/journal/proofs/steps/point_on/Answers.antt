@@ -3,8 +3,9 @@ use Rattle.affinity.specs.declared.geometry.Geometry.{Geometry}
 use Rattle.journal.specs.Stretches.{AgreeUnmarked, Imaged, image_in}
 use Rattle.journal.proofs.Pointing.{clear_moments, flip_moments, image_moments, now_emptied, now_is, now_kept, now_ready, now_stands, still_unmarked}
 use Rattle.oplog.proofs.Answered.{on_ok}
+use Rattle.oplog.proofs.Beyond.{beyond, beyond_then}
 use Rattle.oplog.specs.Calls.{Flips, HasFlipped}
-use Rattle.oplog.specs.Changes.{ChangesOnly, IsSameBut}
+use Rattle.oplog.specs.Changes.{ChangesOnly, IsSameBut, IsSameButGates, IsSameButRoot}
 use Rattle.oplog.specs.Layout.{layout_of, image, other}
 use Rattle.oplog.specs.Log.{Log}
 use Rattle.journal.proofs.steps.point_on.Goals as goal
@@ -72,3 +73,48 @@ returns-clause-pointed g c = λ k.
       is = now_is geometry named _ is_area w0 w1 stands clears w2 writes some c.args.bytes.now (c.requires.image k) cleared imaged w3 are c.requires.whole flipped;
       kept = now_kept geometry named _ is_area w0 w1 stands clears w2 writes some c.args.bytes.now (c.requires.image k) cleared imaged w3 are c.requires.whole flipped;
     }
+
+pub returns-in_err-clear_other-clause-beyond : goal.returns-in_err-clear_other-clause-beyond
+returns-in_err-clear_other-clause-beyond g c = λ k.
+    let l = layout_of c.args.halves.now.geometry in
+    let w0 = g.D.Disk.medium c.args.disk.now in
+    let w1 = g.D.Disk.medium c.clear_other.new.disk in
+    let cleared = beyond l w0 w1 (IsSameButGates l (other c.args.halves.now.named)) (λ o d h. h.same.rest) (c.clear_other.ensures.any_moment k) in
+    cleared
+
+pub returns-then-is_err-clause-beyond : goal.returns-then-is_err-clause-beyond
+returns-then-is_err-clause-beyond g c = λ k.
+    let l = layout_of c.args.halves.now.geometry in
+    let w0 = g.D.Disk.medium c.args.disk.now in
+    let w1 = g.D.Disk.medium c.clear_other.new.disk in
+    let cleared = beyond l w0 w1 (IsSameButGates l (other c.args.halves.now.named)) (λ o d h. h.same.rest) (c.clear_other.ensures.any_moment k) in
+    let w2 = g.D.Disk.medium c.write_image.new.disk in
+    let writes = along (λ (x : Geometry) (n : ℕ). ChangesOnly w1 w2 (IsSameBut (layout_of x) (image (other n)))) c.geometry-g.ensures c.named-area.ensures.named (c.write_image.ensures.any_moment k) in
+    let imaged = beyond_then l w0 w1 w2 cleared (beyond l w1 w2 (IsSameBut l (image (other c.args.halves.now.named))) (λ o d h. h.rest) writes) in
+    imaged
+
+pub returns-in_err-flip_root-clause-beyond : goal.returns-in_err-flip_root-clause-beyond
+returns-in_err-flip_root-clause-beyond g c = λ k.
+    let l = layout_of c.args.halves.now.geometry in
+    let w0 = g.D.Disk.medium c.args.disk.now in
+    let w1 = g.D.Disk.medium c.clear_other.new.disk in
+    let cleared = beyond l w0 w1 (IsSameButGates l (other c.args.halves.now.named)) (λ o d h. h.same.rest) (c.clear_other.ensures.any_moment k) in
+    let w2 = g.D.Disk.medium c.write_image.new.disk in
+    let writes = along (λ (x : Geometry) (n : ℕ). ChangesOnly w1 w2 (IsSameBut (layout_of x) (image (other n)))) c.geometry-g.ensures c.named-area.ensures.named (c.write_image.ensures.any_moment k) in
+    let imaged = beyond_then l w0 w1 w2 cleared (beyond l w1 w2 (IsSameBut l (image (other c.args.halves.now.named))) (λ o d h. h.rest) writes) in
+    let w3 = g.D.Disk.medium c.flip_root.new.disk in
+    let flips = subst (λ (log : Log). Flips log w2 w3) c.in_ok-clear_other.ensures.log (c.flip_root.ensures.any_moment k) in
+    beyond_then l w0 w2 w3 imaged (beyond l w2 w3 (IsSameButRoot l) (λ o d h. h.same.rest) flips)
+
+pub returns-clause-beyond : goal.returns-clause-beyond
+returns-clause-beyond g c = λ k.
+    let l = layout_of c.args.halves.now.geometry in
+    let w0 = g.D.Disk.medium c.args.disk.now in
+    let w1 = g.D.Disk.medium c.clear_other.new.disk in
+    let cleared = beyond l w0 w1 (IsSameButGates l (other c.args.halves.now.named)) (λ o d h. h.same.rest) (c.clear_other.ensures.any_moment k) in
+    let w2 = g.D.Disk.medium c.write_image.new.disk in
+    let writes = along (λ (x : Geometry) (n : ℕ). ChangesOnly w1 w2 (IsSameBut (layout_of x) (image (other n)))) c.geometry-g.ensures c.named-area.ensures.named (c.write_image.ensures.any_moment k) in
+    let imaged = beyond_then l w0 w1 w2 cleared (beyond l w1 w2 (IsSameBut l (image (other c.args.halves.now.named))) (λ o d h. h.rest) writes) in
+    let w3 = g.D.Disk.medium c.flip_root.new.disk in
+    let flips = subst (λ (log : Log). Flips log w2 w3) c.in_ok-clear_other.ensures.log (c.flip_root.ensures.any_moment k) in
+    beyond_then l w0 w2 w3 imaged (beyond l w2 w3 (IsSameButRoot l) (λ o d h. h.same.rest) flips)

@@ -1,8 +1,9 @@
 use Rattle.std.proofs.Common.{◌≡◌, ◌+◌, ◌-◌, ℕ, List, sym, ◌∙◌, ap, arith}
+use Rattle.std.proofs.lemmas.Result.{err_from_is_err_and}
 use Rattle.disk.specs.Device.{overlaid}
 use Rattle.journal.specs.Stretches.{image_in, stretch_at, stretch_size}
 use Rattle.journal.proofs.Patches.{image_long, one_patched}
-use Rattle.journal.proofs.Places.{stretch_after, stretch_inside, stretch_rises}
+use Rattle.journal.proofs.Places.{stretch_after, stretch_inside, stretch_rises, stretch_some}
 use Rattle.oplog.specs.Layout.{slice}
 use Rattle.journal.proofs.stretches.write_stretch.Goals as goal
 
@@ -39,3 +40,14 @@ returns-clause-written g c = λ k.
     one_patched c.args.g.now c.args.n c.loop-i.at c.args.bytes.now old (image_in c.args.g.now c.args.area (g.D.Disk.medium c.write_run.new.disk)) c.requires.n c.requires.size
     (image_long c.args.g.now c.args.area (g.D.Disk.medium c.args.disk.now) c.requires.area c.requires.whole) place
     (c.in_ok-write_run.ensures.written k ∙ ap (λ (m : ℕ). overlaid old c.loop-i.at (slice c.args.bytes.now c.loop-i.at m)) count)
+
+pub returns-in_err-write_run-clause-takes : goal.returns-in_err-write_run-clause-takes
+returns-in_err-write_run-clause-takes g c =
+    let p = err_from_is_err_and c.from_residual.result c.from_residual.ensures.1 in
+    let some = stretch_some c.args.g.now c.args.n in
+    rw p.1 (λ k. c.in_err-write_run.ensures.takes (omega (arith, some, c.stretch_size.ensures.size)) k)
+
+pub returns-clause-takes : goal.returns-clause-takes
+returns-clause-takes g c =
+    let some = stretch_some c.args.g.now c.args.n in
+    λ k. c.in_ok-write_run.ensures.takes (omega (arith, some, c.stretch_size.ensures.size)) k

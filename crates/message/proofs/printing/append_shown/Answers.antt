@@ -8,9 +8,9 @@ returns-clause-text c =
     let bytes : List ℕ = take c.shown_size.result c.args.bytes.now in
     let size = c.shown_size.ensures.bound in
     let fewer : length bytes ≡ c.shown_size.result = length-take-le c.shown_size.result c.args.bytes.now size in
-    let digits : c.encode_to_slice.new.out ≡ encode_lower bytes = c.encode_to_slice.ensures in
+    let digits : c.encode_to_slice.new.output ≡ encode_lower bytes = rw c.unwrap.ensures at c.encode_to_slice.ensures.written in
     let len : length (encode_lower bytes) ≡ 2 * length bytes = length-lower bytes in
     let room = c.requires.room in
     let told = c.told-out in
     appends_same (shown_by c.args.bytes.now bytes c.shown_size.ensures.shown)
-    (appends_part c.args.out.now c.encode_to_slice.new.out (encode_lower bytes) c.args.at (c.args.at + 2 * length bytes - c.args.at) (c.args.at + 2 * length bytes) (omega arith) digits (omega arith) (omega arith))
+    (appends_part c.args.out.now c.encode_to_slice.new.output (encode_lower bytes) c.args.at (c.args.at + 2 * length bytes - c.args.at) (c.args.at + 2 * length bytes) (omega arith) digits (omega arith) (omega arith))

@@ -1,6 +1,5 @@
-use Rattle.std.proofs.Common.{◌≡◌, Bool, List, ℕ, Some, None, true, false, take, ap, sym, ◌∙◌, refl}
+use Rattle.std.proofs.Common.{◌≡◌, Bool, List, ℕ, Some, None, true, false, ap, sym, ◌∙◌, refl}
 use Rattle.std.proofs.lemmas.Bool.{true≢false}
-use Rattle.std.proofs.lemmas.Slice.Eq.{bytes_eq-Decides}
 use Rattle.std.proofs.lemmas.Option.{same_Some}
 use Rattle.affinity.specs.declared.kinds.Kind.{Kind}
 use Rattle.affinity.specs.declared.geometry.Geometry.{Geometry}
@@ -10,14 +9,14 @@ use Rattle.message.specs.Messages.{kind, four_numbers, is_in_range}
 use Rattle.message.specs.Records.{record_of}
 use Rattle.message.proofs.RecordLemmas.{data_there, decodes_none, decodes_some, head_there, record_by_parts, said_whole, said_room}
 use Rattle.message.proofs.records.decode.Goals as goal
-use Rattle.message.proofs.records.decode.Goals.{else-eq-via-then-eq+else-has_data_of, else-eq-via-else-eq}
+use Rattle.message.proofs.records.decode.Goals.{else-has_head_of-via-then-has_head_of+else-has_data_of, else-has_head_of-via-else-has_head_of}
 
 -- a message in range, or not, by its kind and numbers
 tested : (g : Geometry) (m : Msg) (k : Kind) (n : List ℕ) (t : Bool) → k ≡ kind m → n ≡ four_numbers m → t ≡ are_in_range g k n → is_in_range g m ≡ t
 tested g m k n t ek en e = (λ i. are_in_range g (sym ek i) (sym en i)) ∙ sym e
 
-pub head_of-requires : goal.head_of-requires
-head_of-requires c = said_room c.args.bytes.now c.in_ok-m.m c.told-bytes c.fits-bytes (sym c.in_ok-m.ensures)
+pub has_head_of-requires : goal.has_head_of-requires
+has_head_of-requires c = said_room c.args.bytes.now c.in_ok-m.m c.told-bytes c.fits-bytes (sym c.in_ok-m.ensures)
 
 pub returns-in_err-m-clause-exact : goal.returns-in_err-m-clause-exact
 returns-in_err-m-clause-exact c = decodes_none c.args.g.now c.args.bytes.now _ c.from_residual.ensures (λ m says is there. let f : None ≡ Some m = c.in_err-m.ensures ∙ says in cc f)
@@ -36,20 +35,20 @@ returns-then-has_data_of-clause-exact c =
     let bytes = c.args.bytes.now in
     let m = c.in_ok-m.m in
     let there = tested g m c.kind.result c.numbers.result true c.kind.ensures c.numbers.ensures c.in_ok-place_of.ensures.in_range in
-    let head = (bytes_eq-Decides (take 8 bytes) c.head_of.result).0 (sym c.if-eq.ensures) ∙ c.head_of.ensures in
+    let head = c.has_head_of.ensures.0 c.if-has_head_of.true in
     decodes_some g bytes m (sym c.in_ok-m.ensures) (record_by_parts bytes m head (c.has_data_of.ensures.0 c.if-has_data_of.true)) there
 
 pub returns-then-has_data_of-clause-whole : goal.returns-then-has_data_of-clause-whole
 returns-then-has_data_of-clause-whole c = said_whole c.args.bytes.now c.in_ok-m.m c.told-bytes c.fits-bytes (sym c.in_ok-m.ensures)
 
-pub returns-else-eq-clause-exact : goal.returns-else-eq-clause-exact
-returns-else-eq-clause-exact c =
+pub returns-else-has_head_of-clause-exact : goal.returns-else-has_head_of-clause-exact
+returns-else-has_head_of-clause-exact c =
     let bytes = c.args.bytes.now in
     let m = c.in_ok-m.m in
     decodes_none c.args.g.now bytes None refl (λ n says is there.
     let same : m ≡ n = same_Some m n (c.in_ok-m.ensures ∙ says) in
     let record_is : bytes ≡ record_of m = is ∙ ap record_of (sym same) in
-    elim c.else-eq.branch [
-      | else-eq-via-then-eq+else-has_data_of w ↦ true≢false (sym (w.has_data_of.ensures.1 (data_there bytes m record_is)) ∙ w.if-has_data_of.false)
-      | else-eq-via-else-eq w ↦ true≢false (sym ((bytes_eq-Decides (take 8 bytes) c.head_of.result).1 (head_there bytes m record_is ∙ sym c.head_of.ensures)) ∙ sym w.if-eq.ensures)
+    elim c.else-has_head_of.branch [
+      | else-has_head_of-via-then-has_head_of+else-has_data_of w ↦ true≢false (sym (w.has_data_of.ensures.1 (data_there bytes m record_is)) ∙ w.if-has_data_of.false)
+      | else-has_head_of-via-else-has_head_of w ↦ true≢false (sym (c.has_head_of.ensures.1 (head_there bytes m record_is)) ∙ w.if-has_head_of.false)
     ])

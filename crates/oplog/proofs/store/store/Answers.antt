@@ -1,8 +1,5 @@
 use Rattle.disk.proofs.Calls.{after_sync}
 use Rattle.oplog.proofs.store.store.Goals as goal
 
-pub returns-in_err-sync-clause-any_moment : goal.returns-in_err-sync-clause-any_moment
-returns-in_err-sync-clause-any_moment g c = λ k. after_sync _ _ _ _ (c.in_ok-write.ensures.any_moment k) c.sync.result (c.sync.ensures.syncs k)
-
 pub returns-clause-any_moment : goal.returns-clause-any_moment
 returns-clause-any_moment g c = λ k. after_sync _ _ _ _ (c.in_ok-write.ensures.any_moment k) c.sync.result (c.sync.ensures.syncs k)

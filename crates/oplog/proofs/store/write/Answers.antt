@@ -1,14 +1,8 @@
 use Rattle.oplog.proofs.OneWrite.{written, touched}
 use Rattle.oplog.proofs.store.write.Goals as goal
 
-pub returns-in_err-write_at-clause-any_moment : goal.returns-in_err-write_at-clause-any_moment
-returns-in_err-write_at-clause-any_moment g c = λ k. written _ _ _ _ c.write_at.result c.requires (g.met.D.Disk.bytes c.args.disk.now) (c.write_at.ensures.writes k)
-
 pub returns-clause-any_moment : goal.returns-clause-any_moment
 returns-clause-any_moment g c = λ k. written _ _ _ _ c.write_at.result c.requires (g.met.D.Disk.bytes c.args.disk.now) (c.write_at.ensures.writes k)
-
-pub returns-in_err-write_at-clause-touched : goal.returns-in_err-write_at-clause-touched
-returns-in_err-write_at-clause-touched g c = λ k. touched _ _ _ _ c.write_at.result c.requires (c.write_at.ensures.writes k)
 
 pub returns-clause-touched : goal.returns-clause-touched
 returns-clause-touched g c = λ k. touched _ _ _ _ c.write_at.result c.requires (c.write_at.ensures.writes k)

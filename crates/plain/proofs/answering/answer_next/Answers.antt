@@ -1,4 +1,4 @@
-use Rattle.std.proofs.Common.{◌≡◌, refl, sym, ap, ◌∙◌, subst, ℕ, List, Option}
+use Rattle.std.proofs.Common.{refl, sym, ap, ◌∙◌, subst, ℕ, List, Option}
 use Rattle.std.specs.Prelude.{IfSome}
 use Rattle.message.specs.Reader.{unread, line_of, is_drained, source, LosesFront}
 use Rattle.message.specs.Grammar.{message_of}

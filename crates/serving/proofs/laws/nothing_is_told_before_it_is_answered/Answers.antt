@@ -1,5 +1,5 @@
-use Rattle.serving.proofs.Silence.{nothing_done}
+use Rattle.serving.proofs.Silence.{no_reply, nothing_done}
 use Rattle.serving.proofs.laws.nothing_is_told_before_it_is_answered.Goals as goal
 
 pub returns : goal.returns
-returns g c = nothing_done g.D.Disk.keeps
+returns g c = record { none = no_reply g.D.Disk.keeps; done = nothing_done g.D.Disk.keeps }

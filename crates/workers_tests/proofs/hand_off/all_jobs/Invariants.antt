@@ -2,4 +2,4 @@ use Rattle.std.proofs.Common.{◌≡◌}
 use Rattle.workers_tests.proofs.hand_off.all_jobs.Given as goal
 
 abbrev pub invariant-loop-round : goal.invariant-loop-round
-invariant-loop-round l = l.desk.bench ≡ l.initial.desk.bench
+invariant-loop-round g l = l.desk.bench ≡ l.initial.desk.bench

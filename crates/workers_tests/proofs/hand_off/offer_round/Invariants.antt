@@ -2,4 +2,4 @@ use Rattle.std.proofs.Common.{◌≡◌}
 use Rattle.workers_tests.proofs.hand_off.offer_round.Given as goal
 
 abbrev pub invariant-loop-k : goal.invariant-loop-k
-invariant-loop-k l = l.desk.bench ≡ l.initial.desk.bench
+invariant-loop-k g l = l.desk.bench ≡ l.initial.desk.bench

@@ -6,13 +6,15 @@ use Rattle.disk.specs.Moments.{LeavesOnly}
 use Rattle.image.specs.Image.{image_of}
 use Rattle.image.specs.Pieces.{piece_count}
 use Rattle.journal.specs.Journal.{JournalView, records, records_in, settled}
+use Rattle.journal.specs.Images.{KeepsImages}
 use Rattle.journal.specs.Keeping.{IsCutState, IsSoundJournal, held_of}
 use Rattle.journal.specs.Marks.{count_marked, cut_marks, unmarked}
 use Rattle.journal.specs.Steps.{cut_now}
 use Rattle.journal.proofs.Logging.{settled_of}
 use Rattle.journal.proofs.Rows.{count_most, whole_items, whole_put}
 use Rattle.journal.proofs.Saving.{frozen_right, cut_settled, cut_sound}
-use Rattle.oplog.specs.Layout.{device_size, image_size, other}
+use Rattle.oplog.specs.Beyond.{KeepsBeyond}
+use Rattle.oplog.specs.Layout.{device_size, image_size, other, layout_of}
 use Rattle.oplog.specs.Log.{Log, layout}
 use Rattle.parcel.specs.Tree.{state_in}
 use Rattle.plain.specs.State.{IsState}
@@ -86,6 +88,10 @@ pub returns-clause-records : goal.returns-clause-records
 returns-clause-records g c = λ k.
     ap (λ (x : Geometry). records_in x (g.D.Disk.medium c.cut_on.new.disk).now) c.cut_on.ensures.geometry ∙ (c.in_default.ensures.begun k).forced ∙ ap records c.self.view_is
 
+pub returns-clause-images : goal.returns-clause-images
+returns-clause-images g c = λ k.
+    subst (λ (h : JournalView). KeepsImages h.geometry h.medium.now (g.D.Disk.medium c.cut_on.new.disk).now) c.self.view_is (c.in_default.ensures.begun k).images
+
 pub invariant_of-self-2 : goal.invariant_of-self-2
 invariant_of-self-2 g c =
     let fine : c.self.inside.failed ≡ false = ap (λ (h : JournalView). h.failed) c.self.view_is ∙ c.requires.sound in
@@ -120,3 +126,11 @@ invariant_of-self-2 g c =
       omega arith,
       (λ i few. absurd (omega (arith, few))),
     )
+
+pub returns-in-Err-clause-beyond : goal.returns-in-Err-clause-beyond
+returns-in-Err-clause-beyond g c = λ k.
+    subst (λ (h : JournalView). KeepsBeyond (layout_of h.geometry) h.medium (g.D.Disk.medium c.cut_on.new.disk)) c.self.view_is (c.cut_on.ensures.beyond k)
+
+pub returns-clause-beyond : goal.returns-clause-beyond
+returns-clause-beyond g c = λ k.
+    subst (λ (h : JournalView). KeepsBeyond (layout_of h.geometry) h.medium (g.D.Disk.medium c.cut_on.new.disk)) c.self.view_is (c.cut_on.ensures.beyond k)

@@ -3,13 +3,16 @@ use Rattle.affinity.specs.declared.geometry.Geometry.{Geometry}
 use Rattle.checkpoint.specs.Recovery.{holds}
 use Rattle.disk.specs.Moments.{LeavesOnly}
 use Rattle.journal.specs.Journal.{JournalView, records, records_in, settled}
+use Rattle.journal.specs.Images.{KeepsImages}
 use Rattle.journal.specs.Keeping.{IsCutState}
 use Rattle.journal.specs.Steps.{IsWritten}
-use Rattle.journal.proofs.Flipping.{flip_asks, flip_kept}
+use Rattle.checkpoint.specs.Version.{named_version}
+use Rattle.journal.proofs.Flipping.{flip_asks, flip_kept, flip_version}
 use Rattle.journal.proofs.Logging.{settled_of}
 use Rattle.journal.proofs.Standing.{holds_now}
 use Rattle.image.specs.Pieces.{piece_count}
 use Rattle.oplog.specs.Front.{front}
+use Rattle.oplog.specs.Beyond.{KeepsBeyond}
 use Rattle.oplog.specs.Layout.{device_size, image_size, layout_of}
 use Rattle.oplog.specs.Log.{Log, layout}
 use Rattle.journal.proofs.journal.Journal.flip.Goals as goal
@@ -58,6 +61,23 @@ returns-clause-records g c = λ k.
     subst (λ (h : JournalView). (rs : List (List ℕ)) × (records h ≡ rs ++ records_in c.flip_on.new.halves.geometry w1.now)) c.self.view_is
     (first, flipped.before ∙ ap (λ (x : Geometry). first ++ records_in x w1.now) (sym c.flip_on.ensures.geometry))
 
+pub returns-clause-version : goal.returns-clause-version
+returns-clause-version g c = λ k.
+    let fine : c.self.inside.failed ≡ false = ap (λ (h : JournalView). h.failed) c.self.view_is ∙ c.requires.sound in
+    let none : c.self.inside.left ≡ Some 0 = ap (λ (h : JournalView). h.left) c.self.view_is ∙ c.requires.written in
+    let sound = c.self.invariant.7 fine k in
+    let placed = (c.self.invariant.6 fine).1 in
+    let w0 = g.D.Disk.medium c.self.inside.disk in
+    let w1 = g.D.Disk.medium c.flip_on.new.disk in
+    let written = flip_asks c.self.inside.halves c.self.inside.frozen.items c.self.inside.named_marks.items c.self.inside.other_marks.items c.self.inside.due.items c.self.inside.left w0 none
+    c.self.invariant.0 c.self.invariant.2 c.self.invariant.5 (g.met.D.Disk.bytes c.self.inside.disk) placed sound in
+    ap (λ (x : Geometry). named_version x w1.now) c.flip_on.ensures.geometry
+    ∙ flip_version c.self.inside.halves c.self.inside.frozen.items c.self.inside.named_marks.items c.self.inside.other_marks.items c.self.inside.due.items c.self.inside.left w0 none w1 (g.met.D.Disk.bytes c.flip_on.new.disk) written sound (c.in_default.ensures.flipped k)
+
+pub returns-clause-images : goal.returns-clause-images
+returns-clause-images g c = λ k.
+    subst (λ (h : JournalView). KeepsImages h.geometry h.medium.now (g.D.Disk.medium c.flip_on.new.disk).now) c.self.view_is (c.in_default.ensures.flipped k).images
+
 pub invariant_of-self-2 : goal.invariant_of-self-2
 invariant_of-self-2 g c =
     let none : c.self.inside.left ≡ Some 0 = ap (λ (h : JournalView). h.left) c.self.view_is ∙ c.requires.written in
@@ -82,3 +102,11 @@ invariant_of-self-2 g c =
       c.self.invariant.8,
       c.self.invariant.9,
     )
+
+pub returns-in-Err-clause-beyond : goal.returns-in-Err-clause-beyond
+returns-in-Err-clause-beyond g c = λ k.
+    subst (λ (h : JournalView). KeepsBeyond (layout_of h.geometry) h.medium (g.D.Disk.medium c.flip_on.new.disk)) c.self.view_is (c.flip_on.ensures.beyond k)
+
+pub returns-clause-beyond : goal.returns-clause-beyond
+returns-clause-beyond g c = λ k.
+    subst (λ (h : JournalView). KeepsBeyond (layout_of h.geometry) h.medium (g.D.Disk.medium c.flip_on.new.disk)) c.self.view_is (c.flip_on.ensures.beyond k)

@@ -8,7 +8,9 @@ use Rattle.journal.specs.Keeping.{IsCutState, held_of}
 use Rattle.journal.specs.Marks.{AreBothTouched}
 use Rattle.journal.proofs.Logging.{log_kept, log_moments, log_records, log_told, placed_used, settled_of, touched_along}
 use Rattle.journal.proofs.Rows.{same_marks, whole_items, whole_put}
-use Rattle.oplog.specs.Layout.{device_size, image_size}
+use Rattle.disk.proofs.Moments.{weaker}
+use Rattle.oplog.specs.Beyond.{KeepsBeyond}
+use Rattle.oplog.specs.Layout.{device_size, image_size, layout_of}
 use Rattle.oplog.specs.Log.{Log, layout}
 use Rattle.oplog.specs.Logged.{records_of}
 use Rattle.plain.specs.Serial.{fold}
@@ -117,3 +119,19 @@ invariant_of-self-2 g c =
       c.self.invariant.8,
       c.self.invariant.9,
     )
+
+pub returns-in-Err-clause-beyond : goal.returns-in-Err-clause-beyond
+returns-in-Err-clause-beyond g c = λ k.
+    let l = layout_of c.self.inside.halves.geometry in
+    let w0 = g.D.Disk.medium c.self.inside.disk in
+    let w1 = g.D.Disk.medium c.append.new.disk in
+    subst (λ (h : JournalView). KeepsBeyond (layout_of h.geometry) h.medium w1) c.self.view_is
+    (weaker w0 w1 _ _ (c.append.ensures.any_moment k) (λ d grew. record { old = grew.has.old; left = grew.has.left; change = grew.has.change.same.rest }))
+
+pub returns-clause-beyond : goal.returns-clause-beyond
+returns-clause-beyond g c = λ k.
+    let l = layout_of c.self.inside.halves.geometry in
+    let w0 = g.D.Disk.medium c.self.inside.disk in
+    let w1 = g.D.Disk.medium c.append.new.disk in
+    subst (λ (h : JournalView). KeepsBeyond (layout_of h.geometry) h.medium w1) c.self.view_is
+    (weaker w0 w1 _ _ (c.append.ensures.any_moment k) (λ d grew. record { old = grew.has.old; left = grew.has.left; change = grew.has.change.same.rest }))

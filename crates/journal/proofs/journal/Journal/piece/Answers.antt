@@ -1,15 +1,20 @@
-use Rattle.std.proofs.Common.{◌≡◌, ◌<◌, ◌-◌, ℕ, Bool, true, false, List, length, get_or, set, Option, Some, is_some, option_map, sym, ◌∙◌, ap, subst, arith}
+use Rattle.std.proofs.Common.{◌≡◌, ◌<◌, ◌-◌, ℕ, Bool, true, false, List, length, get_or, set, Option, Some, is_some, option_map, refl, sym, ◌∙◌, ap, subst, arith}
 use Rattle.std.proofs.lemmas.List.{length-set}
 use Rattle.affinity.specs.declared.geometry.Geometry.{Geometry}
 use Rattle.checkpoint.specs.Recovery.{holds}
+use Rattle.disk.proofs.Leaves.{itself}
 use Rattle.disk.proofs.Moments.{started}
 use Rattle.disk.specs.Moments.{LeavesOnly}
 use Rattle.journal.specs.Journal.{JournalView, IsSettled, records, settled}
+use Rattle.journal.specs.Images.{PatchesOne}
 use Rattle.journal.specs.Keeping.{AreClearBefore, IsCutState}
+use Rattle.journal.specs.Marks.{count_marked}
 use Rattle.journal.proofs.Logging.{settled_of}
 use Rattle.journal.proofs.Rows.{clear_set}
-use Rattle.journal.proofs.Piecing.{piece_counted, piece_left, piece_moments, piece_records, piece_same, piece_some, piece_sound, pieced_along, some_left}
+use Rattle.journal.proofs.Piecing.{piece_counted, piece_left, piece_moments, piece_records, none_due, patches_one, piece_same, piece_some, piece_sound, pieced_along, some_left}
+use Rattle.oplog.specs.Beyond.{KeepsBeyond}
 use Rattle.oplog.specs.Changes.{ChangesOnly, IsSameBut}
+use Rattle.oplog.proofs.Beyond.{beyond, beyond_none}
 use Rattle.oplog.specs.Layout.{layout_of, image, other}
 use Rattle.oplog.proofs.Answered.{on_ok}
 use Rattle.journal.proofs.journal.Journal.piece.Goals as goal
@@ -114,6 +119,33 @@ returns-clause-records g c = λ k.
     piece_records c.self.inside.halves c.self.inside.frozen.items c.self.inside.named_marks.items c.self.inside.other_marks.items c.self.inside.due.items c.self.inside.left w0 w1 (g.met.D.Disk.bytes c.self.inside.disk) (c.self.invariant.7 fine k) (g.met.D.Disk.bytes c.write_stretch.new.disk) moments
     ∙ ap records c.self.view_is
 
+pub returns-in_default-clause-one : goal.returns-in_default-clause-one
+returns-in_default-clause-one g c = λ some.
+    let fine : c.self.inside.failed ≡ false = ap (λ (h : JournalView). h.failed) c.self.view_is ∙ c.requires.sound in
+    let none : count_marked c.self.inside.due.items ≡ 0 = sym (ap count_marked c.deref.ensures.value) ∙ c.in_default.ensures.none refl in
+    absurd (some (sym (ap (λ (h : JournalView). h.left) c.self.view_is)
+    ∙ none_due c.self.inside.halves c.self.inside.due.items c.self.inside.left (ap (λ (h : JournalView). is_some h.left) c.self.view_is ∙ c.requires.running) (c.self.invariant.6 fine).1 none))
+
+pub returns-in_default-clause-takes : goal.returns-in_default-clause-takes
+returns-in_default-clause-takes g c = λ some.
+    let fine : c.self.inside.failed ≡ false = ap (λ (h : JournalView). h.failed) c.self.view_is ∙ c.requires.sound in
+    let none : count_marked c.self.inside.due.items ≡ 0 = sym (ap count_marked c.deref.ensures.value) ∙ c.in_default.ensures.none refl in
+    absurd (some (sym (ap (λ (h : JournalView). h.left) c.self.view_is)
+    ∙ none_due c.self.inside.halves c.self.inside.due.items c.self.inside.left (ap (λ (h : JournalView). is_some h.left) c.self.view_is ∙ c.requires.running) (c.self.invariant.6 fine).1 none))
+
+pub returns-clause-one : goal.returns-clause-one
+returns-clause-one g c = λ some k.
+    let fine : c.self.inside.failed ≡ false = ap (λ (h : JournalView). h.failed) c.self.view_is ∙ c.requires.sound in
+    let w0 = g.D.Disk.medium c.self.inside.disk in
+    let w1 = g.D.Disk.medium c.write_stretch.new.disk in
+    let written = on_ok c.write_stretch.result _ (sym c.is_err.ensures.value ∙ c.if-is_err.false) c.write_stretch.ensures.written k in
+    let pieced = pieced_along c.geometry-g.result c.self.inside.halves.geometry c.named-area.result c.self.inside.halves.named c.in-Some.n c.deref-2.result.now c.self.inside.frozen.items w0 w1 c.geometry-g.ensures c.named-area.ensures.named c.deref-2.ensures.value
+    (record { moments = c.write_stretch.ensures.any_moment k; same = c.write_stretch.ensures.same k; is = written; ready = c.write_stretch.ensures.ready k }) in
+    let sound = c.self.invariant.7 fine k in
+    let named = (sound.stands w0.now (itself w0.now w0.loose (g.met.D.Disk.bytes c.self.inside.disk))).named in
+    subst (λ (h : JournalView). PatchesOne h.geometry h.medium.now w1.now) c.self.view_is
+    (patches_one c.self.inside.halves.geometry c.self.inside.halves.named c.in-Some.n c.self.inside.frozen.items w0 w1 named pieced)
+
 pub invariant_of-self-2 : goal.invariant_of-self-2
 invariant_of-self-2 g c =
     let few = subst (λ (l : List Bool). c.in-Some.n < length l) c.deref.ensures.value c.in-Some.ensures.inside in
@@ -140,3 +172,27 @@ invariant_of-self-2 g c =
       let long = length-set c.self.inside.due.items c.in-Some.n false in omega (arith, few, long),
       clear_set c.in-Some.n c.self.inside.due.items few (subst (λ (l : List Bool). AreClearBefore c.in-Some.n l) c.deref.ensures.value c.in-Some.ensures.clear),
     )
+
+pub returns-in_default-clause-beyond : goal.returns-in_default-clause-beyond
+returns-in_default-clause-beyond g c = λ k.
+    beyond_none (layout_of c.args.self.now.geometry) c.args.self.now.medium
+
+pub returns-then-is_err-clause-beyond : goal.returns-then-is_err-clause-beyond
+returns-then-is_err-clause-beyond g c = λ k.
+    let w0 = g.D.Disk.medium c.self.inside.disk in
+    let w1 = g.D.Disk.medium c.write_stretch.new.disk in
+    let l = layout_of c.self.inside.halves.geometry in
+    let moments = subst (λ (n : ℕ). ChangesOnly w0 w1 (IsSameBut l (image (other n)))) c.named-area.ensures.named
+    (subst (λ (x : Geometry). ChangesOnly w0 w1 (IsSameBut (layout_of x) (image (other c.named-area.result)))) c.geometry-g.ensures (c.write_stretch.ensures.any_moment k)) in
+    subst (λ (h : JournalView). KeepsBeyond (layout_of h.geometry) h.medium w1) c.self.view_is
+    (beyond l w0 w1 (IsSameBut l (image (other c.self.inside.halves.named))) (λ o d h. h.rest) moments)
+
+pub returns-clause-beyond : goal.returns-clause-beyond
+returns-clause-beyond g c = λ k.
+    let w0 = g.D.Disk.medium c.self.inside.disk in
+    let w1 = g.D.Disk.medium c.write_stretch.new.disk in
+    let l = layout_of c.self.inside.halves.geometry in
+    let moments = subst (λ (n : ℕ). ChangesOnly w0 w1 (IsSameBut l (image (other n)))) c.named-area.ensures.named
+    (subst (λ (x : Geometry). ChangesOnly w0 w1 (IsSameBut (layout_of x) (image (other c.named-area.result)))) c.geometry-g.ensures (c.write_stretch.ensures.any_moment k)) in
+    subst (λ (h : JournalView). KeepsBeyond (layout_of h.geometry) h.medium w1) c.self.view_is
+    (beyond l w0 w1 (IsSameBut l (image (other c.self.inside.halves.named))) (λ o d h. h.rest) moments)

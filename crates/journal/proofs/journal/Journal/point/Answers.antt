@@ -11,7 +11,9 @@ use Rattle.journal.specs.Steps.{IsPointed}
 use Rattle.journal.specs.Stretches.{AgreeUnmarked, image_in}
 use Rattle.journal.proofs.Logging.{settled_of}
 use Rattle.journal.proofs.Rows.{whole_items, whole_put}
-use Rattle.journal.proofs.Saving.{frozen_right, agrees, is_alone, point_settled, point_sound, reads}
+use Rattle.checkpoint.specs.Version.{named_version}
+use Rattle.journal.proofs.Saving.{frozen_right, agrees, is_alone, point_settled, point_sound, pointed_version, reads}
+use Rattle.oplog.specs.Beyond.{KeepsBeyond}
 use Rattle.oplog.specs.Layout.{layout_of, device_size, image_size, other}
 use Rattle.oplog.specs.Log.{Log, layout}
 use Rattle.oplog.specs.Stands.{in_force, named_area}
@@ -97,6 +99,21 @@ returns-clause-emptied g c = λ k.
     let made = subst (λ (l : List ℕ). IsPointed c.self.inside.halves l w0 w1) (c.deref-2.ensures.value ∙ frozen) (c.in_default.ensures.pointed k) in
     ap (λ (x : Geometry). in_force (layout_of x) (named_area (layout_of x) w1.now) w1.now) c.point_on.ensures.geometry ∙ made.emptied
 
+pub returns-clause-version : goal.returns-clause-version
+returns-clause-version g c = λ k.
+    let fine : c.self.inside.failed ≡ false = ap (λ (h : JournalView). h.failed) c.self.view_is ∙ c.requires.sound in
+    let alone : c.self.inside.left ≡ None = ap (λ (h : JournalView). h.left) c.self.view_is ∙ c.requires.alone in
+    let geometry : c.args.tree.now.geometry ≡ c.self.inside.halves.geometry = c.requires.geometry ∙ sym (ap (λ (h : JournalView). h.geometry) c.self.view_is) in
+    let is_state = subst (λ (x : Geometry). IsState x (state_in c.args.tree.now)) geometry c.requires.whole.state in
+    let frozen = whole_put c.self.inside.frozen.len c.freeze.new.bytes c.self.inside.frozen.items (c.freeze.ensures.size ∙ ap length c.deref_mut.ensures.value) (c.freeze.ensures.size ∙ c.deref_mut.ensures.len) in
+    let w0 = g.D.Disk.medium c.self.inside.disk in
+    let is : holds c.self.inside.halves.geometry w0.now ≡ Some (state_in c.args.tree.now) = ap settled c.self.view_is ∙ c.requires.state k in
+    let right = frozen_right c.self.inside.halves c.self.inside.frozen.items c.self.inside.named_marks.items c.self.inside.other_marks.items c.self.inside.due.items c.self.inside.left w0 (state_in c.args.tree.now) alone (c.self.invariant.7 fine k) is c.args.tree.now.geometry c.deref.result.now c.deref_mut.result.now geometry c.deref.ensures.value c.deref_mut.ensures.value in
+    let spelled : c.freeze.new.bytes ≡ image_of 2 c.self.inside.halves.geometry (state_in c.args.tree.now) = c.freeze.ensures.image right ∙ ap (λ (x : Geometry). image_of 2 x (state_in c.args.tree.now)) geometry in
+    let w1 = g.D.Disk.medium c.point_on.new.disk in
+    let made = subst (λ (l : List ℕ). IsPointed c.self.inside.halves l w0 w1) (c.deref-2.ensures.value ∙ frozen) (c.in_default.ensures.pointed k) in
+    ap (λ (x : Geometry). named_version x w1.now) c.point_on.ensures.geometry ∙ pointed_version c.self.inside.halves c.freeze.new.bytes w0 w1 (state_in c.args.tree.now) (g.met.D.Disk.bytes c.point_on.new.disk) spelled made
+
 pub returns-clause-sound : goal.returns-clause-sound
 returns-clause-sound g c = λ k.
     let fine : c.self.inside.failed ≡ false = ap (λ (h : JournalView). h.failed) c.self.view_is ∙ c.requires.sound in
@@ -149,3 +166,11 @@ invariant_of-self-2 g c =
       c.self.invariant.8,
       c.self.invariant.9,
     )
+
+pub returns-in-Err-clause-beyond : goal.returns-in-Err-clause-beyond
+returns-in-Err-clause-beyond g c = λ k.
+    subst (λ (h : JournalView). KeepsBeyond (layout_of h.geometry) h.medium (g.D.Disk.medium c.point_on.new.disk)) c.self.view_is (c.point_on.ensures.beyond k)
+
+pub returns-clause-beyond : goal.returns-clause-beyond
+returns-clause-beyond g c = λ k.
+    subst (λ (h : JournalView). KeepsBeyond (layout_of h.geometry) h.medium (g.D.Disk.medium c.point_on.new.disk)) c.self.view_is (c.point_on.ensures.beyond k)

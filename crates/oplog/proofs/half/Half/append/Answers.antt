@@ -1,4 +1,8 @@
-use Rattle.std.proofs.Common.{◌≡◌, ℕ, ◌+◌, ◌-◌, take, subst, arith, refl}
+use Rattle.std.proofs.Common.{◌≡◌, ◌∙◌, ℕ, ◌+◌, ◌-◌, ◌*◌, ap, length, take, subst, arith, refl}
+use Rattle.std.proofs.lemmas.Result.{err_from_is_err_and}
+use Rattle.disk.specs.Moments.{moment}
+use Rattle.oplog.specs.Costs.{batches}
+use Rattle.oplog.proofs.Costs.{batch_left, one_batch, whole_batch}
 use Rattle.std.proofs.lemmas.Grind.{common_steps}
 use Rattle.oplog.specs.Layout.{layout_of}
 use Rattle.oplog.specs.Logged.{records_of}
@@ -12,6 +16,8 @@ loop-done-init g c = record {
   buffer = refl;
   len = refl;
   faults = refl;
+  whole = λ more. refl;
+  takes = λ k. omega arith;
   so_far = λ k. begun (layout_of c.args.self.geometry) c.args.self.number c.args.used (records_of c.args.messages.now) (g.D.Disk.medium c.args.disk.now) (c.requires.ready k);
 }
 
@@ -20,6 +26,19 @@ returns-in_err-append_batch-clause-any_moment g c = λ k.
     messages_moments (layout_of c.args.self.geometry) c.args.self.number c.args.used c.loop-done.done (c.min-end.result - c.loop-done.done) c.args.messages.now (omega arith)
     (g.D.Disk.medium c.args.disk.now) (g.D.Disk.medium c.loop-done.disk) (g.D.Disk.medium c.append_batch.new.disk) (c.loop-done.invariant.so_far k) (c.append_batch.ensures.any_moment k)
 
+pub returns-in_err-append_batch-clause-takes : goal.returns-in_err-append_batch-clause-takes
+returns-in_err-append_batch-clause-takes g c =
+    let p = err_from_is_err_and c.from_residual.result c.from_residual.ensures.1 in
+    rw p.1
+    (λ k.
+    let left = batch_left c.loop-done.done (length c.args.messages.now) (omega arith) (c.loop-done.invariant.whole (omega arith)) in
+    omega (arith, left, c.loop-done.invariant.takes k, c.in_err-append_batch.ensures.takes k))
+
+pub returns-clause-takes : goal.returns-clause-takes
+returns-clause-takes g c = λ k.
+    let all : c.loop-done.done ≡ length c.args.messages.now = omega arith in
+    c.loop-done.invariant.takes k ∙ ap (λ (n : ℕ). moment (g.D.Disk.medium c.args.disk.now) + 4 * batches n) all
+
 pub loop-done-preserved : goal.loop-done-preserved
 loop-done-preserved g c = record {
   inside = grind (arith, common_steps);
@@ -27,6 +46,10 @@ loop-done-preserved g c = record {
   buffer = grind (arith, common_steps);
   len = grind (arith, common_steps);
   faults = grind (arith, common_steps);
+  whole = λ more. whole_batch c.loop-done.done c.min-end.result (length c.args.messages.now) (c.loop-done.invariant.whole (omega arith)) c.min-end.ensures (omega (arith, more));
+  takes = λ k.
+      let one = one_batch c.loop-done.done c.min-end.result (length c.args.messages.now) (omega arith) (c.loop-done.invariant.whole (omega arith)) c.min-end.ensures in
+      omega (arith, one, c.loop-done.invariant.takes k, c.in_ok-append_batch.ensures.takes k);
   so_far = λ k.
       let end : c.loop-done.done + (c.min-end.result - c.loop-done.done) ≡ c.min-end.result = omega arith in
       subst (λ (j : ℕ). SoFar (layout_of c.args.self.geometry) c.args.self.number c.args.used (records_of (take j c.args.messages.now)) (records_of c.args.messages.now) (g.D.Disk.medium c.args.disk.now) (g.D.Disk.medium c.append_batch.new.disk)) end

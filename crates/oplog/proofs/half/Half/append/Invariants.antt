@@ -1,4 +1,6 @@
-use Rattle.std.proofs.Common.{◌≡◌, ◌≤◌, ◌-◌, length, take, vec_len}
+use Rattle.std.proofs.Common.{◌≡◌, ◌<◌, ◌≤◌, ◌+◌, ◌-◌, ◌*◌, ◌%◌, length, take, vec_len}
+use Rattle.disk.specs.Moments.{moment}
+use Rattle.oplog.specs.Costs.{batches}
 use Rattle.oplog.specs.Layout.{layout_of}
 use Rattle.oplog.specs.Logged.{records_of}
 use Rattle.oplog.proofs.Batches.{SoFar}
@@ -11,6 +13,8 @@ invariant-loop-done g l = record {
   buffer : vec_len l.buffer ≡ vec_len l.initial.buffer;
   len : length (g.D.Disk.medium l.disk).now ≡ length (g.D.Disk.medium l.initial.disk).now;
   faults : (g.D.Disk.medium l.disk).faults ≡ (g.D.Disk.medium l.initial.disk).faults;
+  whole : l.done < length l.messages → l.done % 64 ≡ 0;
+  takes : g.D.Disk.keeps → moment (g.D.Disk.medium l.disk) ≡ moment (g.D.Disk.medium l.initial.disk) + 4 * batches l.done;
   so_far : g.D.Disk.keeps → SoFar (layout_of l.self.geometry) l.self.number l.used (records_of (take l.done l.messages)) (records_of l.messages) (g.D.Disk.medium l.initial.disk) (g.D.Disk.medium l.disk);
 }
 

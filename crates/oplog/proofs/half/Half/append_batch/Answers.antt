@@ -1,9 +1,9 @@
-use Rattle.std.proofs.Common.{◌*◌, ℕ, List, length, take, get_or, replicate, ◌∙◌, ap, arith}
-use Rattle.std.proofs.lemmas.List.{length-map, length-replicate}
+use Rattle.std.proofs.Common.{◌*◌, ℕ, List, length, take, get_or, sym, ◌∙◌, ap, arith}
+use Rattle.std.proofs.lemmas.List.{length-map}
+use Rattle.std.proofs.lemmas.Result.{on_ok_weaker}
 use Rattle.message.specs.Records.{record_of}
 use Rattle.message.proofs.RecordLemmas.{in_range_has_room}
 use Rattle.oplog.specs.Layout.{layout_of}
-use Rattle.oplog.proofs.Slices.{half_inside}
 use Rattle.oplog.specs.Logged.{records_of}
 use Rattle.oplog.proofs.BatchMoments.{bodies_moments, gates_moments, batch_added}
 use Rattle.oplog.proofs.half.Half.append_batch.Goals as goal
@@ -17,26 +17,17 @@ returns-in_err-store-clause-any_moment g c = λ k.
     (omega (arith, length-map c.args.messages.now record_of)) _ _ c.requires.whole (g.met.D.Disk.bytes c.args.disk.now) (c.requires.ready k) _ _ (omega (arith, c.record_at.ensures)) (ap (λ (l : List ℕ). take (length c.args.messages.now * 520) l) c.as_slice.ensures.value ∙ c.stage.ensures.staged)
     (c.store.ensures.any_moment k)
 
-pub returns-in_err-store-2-clause-any_moment : goal.returns-in_err-store-2-clause-any_moment
-returns-in_err-store-2-clause-any_moment g c = λ k.
-    gates_moments (layout_of c.args.self.geometry) c.args.self.number c.args.used (records_of c.args.messages.now) c.args.self.number_range c.stage.ensures.sizes
-    (omega (arith, length-map c.args.messages.now record_of)) _ _ c.requires.whole (g.met.D.Disk.bytes c.args.disk.now) (c.requires.ready k) _ _ (omega (arith, c.record_at.ensures)) (ap (λ (l : List ℕ). take (length c.args.messages.now * 520) l) c.as_slice.ensures.value ∙ c.stage.ensures.staged)
-    (c.in_ok-store.ensures.stored k) _ _ _ (omega (arith, c.gate_at.ensures)) (c.ones.ensures ∙ ap (λ (n : ℕ). replicate n 1) (omega (arith, length-map c.args.messages.now record_of)))
-    (c.in_ok-store.ensures.any_moment k) (c.store-2.ensures.any_moment k)
-
-pub store-requires-2 : goal.store-requires-2
-store-requires-2 g c =
-    omega (arith, c.gate_at.ensures, half_inside (layout_of c.args.self.geometry) c.args.self.number c.args.self.number_range, c.store.ensures.call.1, ap length c.ones.ensures ∙ length-replicate {A = ℕ} _ 1)
-
 pub returns-clause-any_moment : goal.returns-clause-any_moment
 returns-clause-any_moment g c = λ k.
     gates_moments (layout_of c.args.self.geometry) c.args.self.number c.args.used (records_of c.args.messages.now) c.args.self.number_range c.stage.ensures.sizes
     (omega (arith, length-map c.args.messages.now record_of)) _ _ c.requires.whole (g.met.D.Disk.bytes c.args.disk.now) (c.requires.ready k) _ _ (omega (arith, c.record_at.ensures)) (ap (λ (l : List ℕ). take (length c.args.messages.now * 520) l) c.as_slice.ensures.value ∙ c.stage.ensures.staged)
-    (c.in_ok-store.ensures.stored k) _ _ _ (omega (arith, c.gate_at.ensures)) (c.ones.ensures ∙ ap (λ (n : ℕ). replicate n 1) (omega (arith, length-map c.args.messages.now record_of)))
-    (c.in_ok-store.ensures.any_moment k) (c.store-2.ensures.any_moment k)
+    (c.in_ok-store.ensures.stored k) _ _ (sym (length-map c.args.messages.now record_of)) (c.in_ok-store.ensures.any_moment k) (c.open_gates.ensures.any_moment k)
 
 pub returns-clause-added : goal.returns-clause-added
-returns-clause-added g c = λ k.
+returns-clause-added g c =
+    on_ok_weaker c.open_gates.result
+    (λ opened k.
     batch_added (layout_of c.args.self.geometry) c.args.self.number c.args.used (records_of c.args.messages.now) c.args.self.number_range c.stage.ensures.sizes
     (omega (arith, length-map c.args.messages.now record_of)) _ _ c.requires.whole (g.met.D.Disk.bytes c.args.disk.now) (c.requires.ready k) _ _ (omega (arith, c.record_at.ensures)) (ap (λ (l : List ℕ). take (length c.args.messages.now * 520) l) c.as_slice.ensures.value ∙ c.stage.ensures.staged)
-    (c.in_ok-store.ensures.stored k) _ _ _ (omega (arith, c.gate_at.ensures)) (c.ones.ensures ∙ ap (λ (n : ℕ). replicate n 1) (omega (arith, length-map c.args.messages.now record_of))) (c.in_ok-store-2.ensures.stored k)
+    (c.in_ok-store.ensures.stored k) _ _ (sym (length-map c.args.messages.now record_of)) (opened k))
+    c.open_gates.ensures.opened

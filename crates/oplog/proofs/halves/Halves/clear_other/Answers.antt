@@ -1,6 +1,9 @@
-use Rattle.std.proofs.Common.{◌+◌, ℕ, replicate, sym, ◌∙◌, ap, subst, arith}
+use Rattle.std.proofs.Common.{◌+◌, ℕ, replicate, refl, sym, ◌∙◌, subst, arith}
+use Rattle.std.proofs.lemmas.List.{length-replicate}
+use Rattle.disk.specs.Device.{SameOutside}
 use Rattle.oplog.specs.Calls.{HasParts, Clears, HasCleared}
-use Rattle.oplog.specs.Layout.{layout_of, other}
+use Rattle.oplog.specs.Changes.{ChangesOnly}
+use Rattle.oplog.specs.Layout.{layout_of, half, other, part_at}
 use Rattle.oplog.specs.Log.{Log}
 use Rattle.oplog.proofs.Answered.{on_ok}
 use Rattle.oplog.proofs.OneStore.{clear_moments, cleared}
@@ -8,20 +11,33 @@ use Rattle.oplog.proofs.halves.Halves.clear_other.Goals as goal
 
 pub returns-then-is_err-clause-any_moment : goal.returns-then-is_err-clause-any_moment
 returns-then-is_err-clause-any_moment g c = λ k.
-    subst (λ (log : Log). Clears log (g.D.Disk.medium c.args.disk.now) (g.D.Disk.medium c.store.new.disk)) c.self.view_is
-    (clear_moments (layout_of c.self.inside.geometry) (other c.self.inside.named) c.start.result c.zeros.result.now (omega arith) c.start.ensures
-    (c.zeros.ensures ∙ ap (λ (n : ℕ). replicate (64 + n) 0) c.slots.ensures) _ _ (c.store.ensures.any_moment k))
+    let w0 = g.D.Disk.medium c.args.disk.now in
+    let w1 = g.D.Disk.medium c.clear.new.disk in
+    let l = layout_of c.self.inside.geometry in
+    let h = other c.self.inside.named in
+    let zeros = replicate {A = ℕ} (64 + l.slots) 0 in
+    subst (λ (log : Log). Clears log w0 w1) c.self.view_is
+    (clear_moments l h (part_at l (half h)) zeros (omega arith) refl refl _ _
+    (subst (λ (n : ℕ). ChangesOnly w0 w1 (SameOutside {X = ℕ} (part_at l (half h)) n)) (sym (length-replicate (64 + l.slots) 0)) (c.clear.ensures.any_moment k)))
 
 pub returns-clause-any_moment : goal.returns-clause-any_moment
 returns-clause-any_moment g c = λ k.
-    subst (λ (log : Log). Clears log (g.D.Disk.medium c.args.disk.now) (g.D.Disk.medium c.store.new.disk)) c.self.view_is
-    (clear_moments (layout_of c.self.inside.geometry) (other c.self.inside.named) c.start.result c.zeros.result.now (omega arith) c.start.ensures
-    (c.zeros.ensures ∙ ap (λ (n : ℕ). replicate (64 + n) 0) c.slots.ensures) _ _ (c.store.ensures.any_moment k))
+    let w0 = g.D.Disk.medium c.args.disk.now in
+    let w1 = g.D.Disk.medium c.clear.new.disk in
+    let l = layout_of c.self.inside.geometry in
+    let h = other c.self.inside.named in
+    let zeros = replicate {A = ℕ} (64 + l.slots) 0 in
+    subst (λ (log : Log). Clears log w0 w1) c.self.view_is
+    (clear_moments l h (part_at l (half h)) zeros (omega arith) refl refl _ _
+    (subst (λ (n : ℕ). ChangesOnly w0 w1 (SameOutside {X = ℕ} (part_at l (half h)) n)) (sym (length-replicate (64 + l.slots) 0)) (c.clear.ensures.any_moment k)))
 
 pub returns-clause-cleared : goal.returns-clause-cleared
 returns-clause-cleared g c = λ k.
-    let whole = subst (λ (log : Log). HasParts log (g.D.Disk.medium c.args.disk.now)) (sym c.self.view_is) c.requires.whole in
-    subst (λ (log : Log). HasCleared log (g.D.Disk.medium c.args.disk.now) (g.D.Disk.medium c.store.new.disk)) c.self.view_is
-    (cleared (layout_of c.self.inside.geometry) (other c.self.inside.named) c.start.result c.zeros.result.now (omega arith) c.start.ensures
-    (c.zeros.ensures ∙ ap (λ (n : ℕ). replicate (64 + n) 0) c.slots.ensures) _ _ whole
-    (on_ok c.store.result _ (sym c.is_err.ensures.value ∙ c.if-is_err.false) c.store.ensures.stored k))
+    let w0 = g.D.Disk.medium c.args.disk.now in
+    let w1 = g.D.Disk.medium c.clear.new.disk in
+    let l = layout_of c.self.inside.geometry in
+    let h = other c.self.inside.named in
+    let whole = subst (λ (log : Log). HasParts log w0) (sym c.self.view_is) c.requires.whole in
+    subst (λ (log : Log). HasCleared log w0 w1) c.self.view_is
+    (cleared l h (part_at l (half h)) (replicate (64 + l.slots) 0) (omega arith) refl refl _ _ whole
+    (on_ok c.clear.result _ (sym c.is_err.ensures.value ∙ c.if-is_err.false) c.clear.ensures.cleared k))

@@ -8,7 +8,7 @@ use Rattle.plain.proofs.server.Server.blocks_of.Goals as goal
 pub loop-count-init : goal.loop-count-init
 loop-count-init c =
     let all = ap (total (λ (e : FileKey × ℕ). e.1)) (c.into_iter-count-iterator.ensures.into_iter_gives ∙ c.range-count-items.ensures.between tt)
-    ∙ blocks_walked c.args.g.now c.args.self.now c.args.a c.args.v c.requires.sound.counted c.range-count-items.ensures.ordered in
+    ∙ blocks_walked c.args.g.now c.args.self.now c.args.a c.args.v c.requires.counted c.range-count-items.ensures.ordered in
     omega (arith, all)
 
 pub overflow_add-total : goal.overflow_add-total

@@ -1,9 +1,9 @@
-use Rattle.std.proofs.Common.{◌≡◌, None, true, false, ap, sym, ◌∙◌, subst}
-use Rattle.std.specs.Prelude.{is_some, unwrap_or, not}
+use Rattle.std.proofs.Common.{◌≡◌, None, ap, sym, ◌∙◌, subst}
+use Rattle.std.specs.Prelude.{unwrap_or}
 use Rattle.std.specs.BTreeMap as map
 use Rattle.message.specs.Heads.{writing}
 use Rattle.plain.specs.State.{IsState}
-use Rattle.plain.specs.Serial.{refusal, accepted_reply, effect, outcome, step}
+use Rattle.plain.specs.Serial.{refusal, accepted_reply, effect, outcome}
 use Rattle.plain.specs.Server.{server_state, noted, by_file}
 use Rattle.plain.proofs.ByKind.{write_passes}
 use Rattle.plain.proofs.Kept.{step_kept}

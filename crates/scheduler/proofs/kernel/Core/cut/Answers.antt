@@ -1,5 +1,5 @@
-use Rattle.std.proofs.Common.{◌≡◌, ℕ, ◌≤◌, [], None, Some, refl, sym, ap, subst, ◌∙◌}
-use Rattle.std.specs.Prelude.{if◌then◌else◌}
+use Rattle.std.proofs.Common.{◌≡◌, ℕ, ◌≤◌, [], false, None, Some, refl, sym, ap, subst, ◌∙◌, rules}
+use Rattle.std.specs.Prelude.{if◌then◌else◌, is_err}
 use Rattle.disk.specs.Moments.{LeavesOnly}
 use Rattle.image.specs.Pieces.{piece_count}
 use Rattle.journal.specs.Journal.{JournalView, HoldsSome}
@@ -7,6 +7,9 @@ use Rattle.journal.specs.Marks.{count_marked}
 use Rattle.legal_runs.specs.World.{World}
 use Rattle.oplog.proofs.Answered.{on_ok}
 use Rattle.legal_runs.specs.Events.{point_refusal}
+use Rattle.oplog.proofs.Beyond.{beyond_none}
+use Rattle.oplog.specs.Beyond.{KeepsBeyond}
+use Rattle.oplog.specs.Layout.{layout_of}
 use Rattle.scheduler.proofs.Journaling.{still_standing}
 use Rattle.scheduler.proofs.Pointing.{cut_core, point_state, point_whole, point_works, step_moment}
 use Rattle.scheduler.specs.Kept.{CoreView, StandsThroughout, world_of}
@@ -54,8 +57,20 @@ returns-clause-any_moment g c = λ keep.
 
 pub returns-clause-world : goal.returns-clause-world
 returns-clause-world g c =
-    let begun = on_ok c.cut.result _ (sym c.is_err.ensures.value ∙ c.if-is_err.false) c.cut.ensures.begun in
-    let few = on_ok c.cut.result _ (sym c.is_err.ensures.value ∙ c.if-is_err.false) c.cut.ensures.few in
+    let made : is_err c.cut.result ≡ false = search rules in
+    let begun = on_ok c.cut.result _ made c.cut.ensures.begun in
+    let few = on_ok c.cut.result _ made c.cut.ensures.few in
     let new : JournalView → World = λ j. world_in (parts c.self.inside.slots c.self.inside.replies.items c.self.inside.tree j c.self.inside.turns c.self.inside.batch.items c.self.inside.next c.self.inside.flight c.self.inside.history.opened c.self.inside.history.since) in
     subst (λ (o : CoreView). (point_refusal (world_of o) ≡ None) × ((n : ℕ) × (n ≤ piece_count o.geometry) × (new c.cut.new.self ≡ record (world_of o) { room = o.geometry.half; left = Some n }))) c.self.view_is
     (ap (λ (o : CoreView). point_refusal (world_of o)) c.self.view_is ∙ sym c.point_refusal.ensures ∙ c.in_default.is, (count_marked c.self.inside.journal.marks.others, few, ap new begun))
+
+pub returns-in-Some-clause-beyond : goal.returns-in-Some-clause-beyond
+returns-in-Some-clause-beyond g c = λ keep. beyond_none (layout_of c.args.self.now.geometry) c.args.self.now.medium
+
+pub returns-then-is_err-clause-beyond : goal.returns-then-is_err-clause-beyond
+returns-then-is_err-clause-beyond g c = λ keep.
+    subst (λ (o : CoreView). KeepsBeyond (layout_of o.geometry) o.medium c.cut.new.self.medium) c.self.view_is (c.cut.ensures.beyond keep)
+
+pub returns-clause-beyond : goal.returns-clause-beyond
+returns-clause-beyond g c = λ keep.
+    subst (λ (o : CoreView). KeepsBeyond (layout_of o.geometry) o.medium c.cut.new.self.medium) c.self.view_is (c.cut.ensures.beyond keep)

@@ -1,15 +1,19 @@
-use Rattle.std.proofs.Common.{◌≡◌, ℕ, ◌-◌, ◌≤◌, List, ◌++◌, length, take, true, false, refl, sym, ap, subst, ◌∙◌}
+use Rattle.std.proofs.Common.{◌≡◌, ℕ, ◌+◌, ◌*◌, ◌-◌, ◌≤◌, List, ◌++◌, length, take, true, false, refl, sym, ap, subst, ◌∙◌}
 use Rattle.std.specs.Prelude.{if◌then◌else◌, vec_capacity}
 use Rattle.arena.specs.Row.{capacity_of, chain_at}
-use Rattle.disk.specs.Moments.{LeavesOnly}
+use Rattle.disk.specs.Moments.{LeavesOnly, moment}
 use Rattle.journal.specs.Journal.{HoldsSome}
 use Rattle.legal_runs.specs.Events.{batch, log, touches_device}
 use Rattle.legal_runs.specs.declared.outcomes.Step.TheVariants as steps
 use Rattle.message.specs.declared.Msg.{Msg}
 use Rattle.message.specs.declared.Reply.{Reply}
 use Rattle.oplog.proofs.Answered.{on_ok}
+use Rattle.oplog.proofs.Beyond.{beyond_none}
+use Rattle.oplog.specs.Beyond.{KeepsBeyond}
+use Rattle.oplog.specs.Costs.{batches}
+use Rattle.oplog.specs.Layout.{layout_of}
 use Rattle.scheduler.proofs.Journaling.{still_standing}
-use Rattle.scheduler.proofs.LogCall.{broken_from, doubt_call_core, doubt_call_world, log_call_core, log_call_throughout, log_call_world, log_carried, log_count, log_fits, log_flight, log_logged, log_low, log_ran, log_size, log_untouched, made_from, some_were_passed}
+use Rattle.scheduler.proofs.LogCall.{broken_from, broken_takes, doubt_call_core, doubt_call_world, log_call_core, log_call_throughout, log_call_world, log_carried, log_count, log_fits, log_flight, log_length, log_logged, log_low, log_ran, log_size, log_untouched, made_from, made_takes, none_taken, some_were_passed}
 use Rattle.scheduler.specs.Kept.{CoreView, StandsThroughout, world_of}
 use Rattle.scheduler.specs.Moving.{gathered}
 use Rattle.scheduler.specs.Parts.{kept_of, parts, world_in}
@@ -84,3 +88,29 @@ returns-clause-any_moment g c = λ keep.
 
 pub returns-clause-untouched : goal.returns-clause-untouched
 returns-clause-untouched g c = subst (λ (o : CoreView). touches_device (world_of o) (steps.Log c.args.n) ≡ false → c.log.new.self.medium ≡ o.medium) c.self.view_is (log_untouched g.D.Disk.keeps c.self.inside.slots c.self.inside.replies.items c.self.inside.tree c.self.inside.journal c.self.inside.turns c.self.inside.batch.items c.self.inside.next c.self.inside.flight c.self.inside.history.opened c.self.inside.history.since c.self.invariant.0 c.self.invariant.1 (sym c.failed.ensures ∙ c.if-failed.false) c.args.n c.min-count.result c.self.inside.ran c.self.invariant.4 c.min-count.ensures c.gather-changing.new.batch.items (c.gather-changing.ensures.batch ∙ ap (λ (rs : List Reply). gathered c.self.inside.slots rs (take c.min-count.result (chain_at c.self.inside.slots 2))) c.deref.ensures.value) c.deref-2.result.now c.deref-2.ensures.value c.log.new.self c.log.ensures.any_moment c.log.ensures.none)
+
+pub returns-then-failed-clause-beyond : goal.returns-then-failed-clause-beyond
+returns-then-failed-clause-beyond g c = λ keep. beyond_none (layout_of c.args.self.now.geometry) c.args.self.now.medium
+
+pub returns-then-is_err-clause-beyond : goal.returns-then-is_err-clause-beyond
+returns-then-is_err-clause-beyond g c = λ keep.
+    subst (λ (o : CoreView). KeepsBeyond (layout_of o.geometry) o.medium c.log.new.self.medium) c.self.view_is (c.log.ensures.beyond keep)
+
+pub returns-clause-beyond : goal.returns-clause-beyond
+returns-clause-beyond g c = λ keep.
+    subst (λ (o : CoreView). KeepsBeyond (layout_of o.geometry) o.medium c.log.new.self.medium) c.self.view_is (c.log.ensures.beyond keep)
+
+pub returns-then-failed-clause-takes : goal.returns-then-failed-clause-takes
+returns-then-failed-clause-takes g c = λ keep. none_taken c.args.self.now.medium (4 * batches (length (batch (world_of c.args.self.now) c.args.n)))
+
+pub returns-then-is_err-clause-takes : goal.returns-then-is_err-clause-takes
+returns-then-is_err-clause-takes g c = λ keep.
+    subst (λ (o : CoreView). moment c.log.new.self.medium ≤ moment o.medium + 4 * batches (length (batch (world_of o) c.args.n))) c.self.view_is
+    (subst (λ (m : ℕ). moment c.log.new.self.medium ≤ moment c.self.inside.journal.medium + 4 * batches m) (log_length g.D.Disk.keeps c.self.inside.slots c.self.inside.replies.items c.self.inside.tree c.self.inside.journal c.self.inside.turns c.self.inside.batch.items c.self.inside.next c.self.inside.flight c.self.inside.history.opened c.self.inside.history.since c.self.invariant.0 c.self.invariant.1 (sym c.failed.ensures ∙ c.if-failed.false) c.args.n c.min-count.result c.self.inside.ran c.self.invariant.4 c.min-count.ensures c.gather-changing.new.batch.items (c.gather-changing.ensures.batch ∙ ap (λ (rs : List Reply). gathered c.self.inside.slots rs (take c.min-count.result (chain_at c.self.inside.slots 2))) c.deref.ensures.value) c.deref-2.result.now c.deref-2.ensures.value)
+    (broken_takes c.log.result _ _ _ (sym c.is_err.ensures.value ∙ c.if-is_err.true) (c.log.ensures.takes keep)))
+
+pub returns-clause-takes : goal.returns-clause-takes
+returns-clause-takes g c = λ keep.
+    subst (λ (o : CoreView). moment c.log.new.self.medium ≡ moment o.medium + 4 * batches (length (batch (world_of o) c.args.n))) c.self.view_is
+    (subst (λ (m : ℕ). moment c.log.new.self.medium ≡ moment c.self.inside.journal.medium + 4 * batches m) (log_length g.D.Disk.keeps c.self.inside.slots c.self.inside.replies.items c.self.inside.tree c.self.inside.journal c.self.inside.turns c.self.inside.batch.items c.self.inside.next c.self.inside.flight c.self.inside.history.opened c.self.inside.history.since c.self.invariant.0 c.self.invariant.1 (sym c.failed.ensures ∙ c.if-failed.false) c.args.n c.min-count.result c.self.inside.ran c.self.invariant.4 c.min-count.ensures c.gather-changing.new.batch.items (c.gather-changing.ensures.batch ∙ ap (λ (rs : List Reply). gathered c.self.inside.slots rs (take c.min-count.result (chain_at c.self.inside.slots 2))) c.deref.ensures.value) c.deref-2.result.now c.deref-2.ensures.value)
+    (made_takes c.log.result _ _ _ (sym c.is_err.ensures.value ∙ c.if-is_err.false) (c.log.ensures.takes keep)))

@@ -6,6 +6,8 @@ use Rattle.affinity.specs.declared.geometry.Geometry.{Geometry}
 use Rattle.disk.proofs.Moments.{started}
 use Rattle.disk.specs.Device.{Leaves}
 use Rattle.journal.specs.Journal.{IsSettled, settled}
+use Rattle.oplog.proofs.Beyond.{beyond_none}
+use Rattle.oplog.specs.Layout.{layout_of}
 use Rattle.parcel.specs.Tree.{state_in}
 use Rattle.scheduler.proofs.Opened.{opened_chains, opened_parts, opened_ran, opened_size}
 use Rattle.scheduler.proofs.Refusals.{one_fault, opened_or_refused, stands_or_refused}
@@ -57,3 +59,14 @@ pub returns-clause-exact : goal.returns-clause-exact
 returns-clause-exact g c = λ fault k also told.
     let o = c.in_ok-journal.ensures.opened k in
     opened_or_refused (g.D.Disk.medium c.args.d).now c.in_ok-journal.journal.geometry fault o.header o.fine told also
+
+pub returns-in_default-clause-beyond : goal.returns-in_default-clause-beyond
+returns-in_default-clause-beyond g c = λ k h header. beyond_none (layout_of h) (g.D.Disk.medium c.args.d)
+
+pub returns-in_err-journal-clause-beyond : goal.returns-in_err-journal-clause-beyond
+returns-in_err-journal-clause-beyond g c =
+    let p = err_from_is_err_and c.from_residual.result c.from_residual.ensures.1 in
+    rw (p.1, p.2) (λ k h header. c.in_err-journal.ensures.beyond k h header)
+
+pub returns-clause-beyond : goal.returns-clause-beyond
+returns-clause-beyond g c = λ k h header. c.in_ok-journal.ensures.beyond k h header

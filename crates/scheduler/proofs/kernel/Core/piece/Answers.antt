@@ -2,6 +2,9 @@ use Rattle.std.proofs.Common.{[], refl, sym, subst, ◌∙◌}
 use Rattle.std.specs.Prelude.{if◌then◌else◌}
 use Rattle.disk.specs.Moments.{LeavesOnly}
 use Rattle.journal.specs.Journal.{HoldsSome}
+use Rattle.oplog.proofs.Beyond.{beyond_none}
+use Rattle.oplog.specs.Beyond.{KeepsBeyond}
+use Rattle.oplog.specs.Layout.{layout_of}
 use Rattle.scheduler.proofs.Journaling.{still_standing}
 use Rattle.scheduler.proofs.Pointing.{piece_core, step_moment}
 use Rattle.scheduler.specs.Kept.{CoreView, StandsThroughout, world_of}
@@ -31,3 +34,13 @@ pub returns-clause-any_moment : goal.returns-clause-any_moment
 returns-clause-any_moment g c = λ keep.
     subst (λ (o : CoreView). LeavesOnly o.medium c.piece.new.self.medium (HoldsSome o.geometry (world_of o).settled (if o.failed then o.doubt else []))) c.self.view_is
     (step_moment g.D.Disk.keeps (parts c.self.inside.slots c.self.inside.replies.items c.self.inside.tree c.self.inside.journal c.self.inside.turns c.self.inside.batch.items c.self.inside.next c.self.inside.flight c.self.inside.history.opened c.self.inside.history.since) c.self.invariant.1 (sym c.failed.ensures ∙ c.if-failed.false) c.piece.new.self c.piece.ensures.any_moment keep)
+
+pub returns-then-failed-clause-beyond : goal.returns-then-failed-clause-beyond
+returns-then-failed-clause-beyond g c = λ keep. beyond_none (layout_of c.args.self.now.geometry) c.args.self.now.medium
+
+pub returns-in_default-clause-beyond : goal.returns-in_default-clause-beyond
+returns-in_default-clause-beyond g c = λ keep. beyond_none (layout_of c.args.self.now.geometry) c.args.self.now.medium
+
+pub returns-clause-beyond : goal.returns-clause-beyond
+returns-clause-beyond g c = λ keep.
+    subst (λ (o : CoreView). KeepsBeyond (layout_of o.geometry) o.medium c.piece.new.self.medium) c.self.view_is (c.piece.ensures.beyond keep)

@@ -1,5 +1,5 @@
 -- The line is read, or no more is; and the session stays under way.
-use Rattle.std.proofs.Common.{◌≡◌, ◌<◌, ◌+◌, ◌∷◌, [], ℕ, List, Ok, Option, Some, ap, length, map, refl, subst, sym, ◌∙◌}
+use Rattle.std.proofs.Common.{◌≡◌, ◌<◌, ◌+◌, ◌∷◌, [], arith, ℕ, List, Ok, Option, Some, ap, length, map, refl, subst, sym, ◌∙◌}
 use Rattle.std.specs.Prelude.{IfSome}
 use Rattle.std.proofs.lemmas.List.{length-append}
 use Rattle.message.specs.Reader.{Closes, Finds, GivesLine, LosesFront, has_ended, is_drained, line_of, source, unread}
@@ -12,8 +12,16 @@ use Rattle.serving.specs.declared.session.Stop.{Stop}
 use Rattle.serving.specs.declared.session.Stop.TheVariants as stops
 use Rattle.serving.proofs.Stopping.{stops_at_refusal}
 use Rattle.serving.proofs.Taken.{at_end, has_told_end, none_left, still, takes_none}
-use Rattle.serving.proofs.Under.{follows, has_slot, holds_of, knows_of, on_line, on_long_line, on_stop}
+use Rattle.serving.proofs.Under.{follows, has_place, has_slot, holds_of, knows_of, on_line, on_long_line, on_stop}
 use Rattle.serving.proofs.session.Session.read_next.Goals as goal
+
+pub take-requires-clause-room : goal.take-requires-clause-room
+take-requires-clause-room g c =
+    has_place g.D.Disk.keeps _ _ c.self.invariant.0 (subst (λ (p : SessionView). p.open_lines < p.row.slots) (sym c.self.view_is) c.requires.room)
+
+pub push-requires-clause-room : goal.push-requires-clause-room
+push-requires-clause-room g c =
+    has_place g.D.Disk.keeps _ _ c.self.invariant.0 (subst (λ (p : SessionView). p.open_lines < p.row.slots) (sym c.self.view_is) c.requires.room)
 
 pub take-requires-clause-order : goal.take-requires-clause-order
 take-requires-clause-order g c =
@@ -22,12 +30,13 @@ take-requires-clause-order g c =
 pub invariant_of-self : goal.invariant_of-self
 invariant_of-self g c =
     let f = c.self.inside in
+    let may = subst (λ (p : SessionView). p.open_lines < p.row.slots) (sym c.self.view_is) c.requires.room in
     let rest = g.R.Read.remaining in
     let u = c.self.invariant.0 in
     let none = ap (λ (p : SessionView). p.stop) c.self.view_is ∙ c.requires.reads in
     let drained = sym c.if-is_drained.ensures.value in
     let knows = knows_of g.D.Disk.keeps _ _ u in (
-      on_stop g.D.Disk.keeps _ f.core f.row (unread rest f.lines) (is_drained f.lines) (has_ended f.lines) (rest (source f.lines)) none refl knows
+      on_stop g.D.Disk.keeps _ f.core f.row f.open_lines (unread rest f.lines) (is_drained f.lines) (has_ended f.lines) (rest (source f.lines)) none refl refl (omega (arith, may)) knows
           _ stops.End u (still g.D.Disk.keeps _ (holds_of g.D.Disk.keeps _ _ u)) refl
           (none_left (unread rest f.lines) (c.if-is_drained.ensures.nothing refl), knows (has_told_end _ _ drained)),
       c.self.invariant.1,
@@ -43,8 +52,10 @@ invariant_of-self-in-Ok g c =
     let going = sym c.if-is_drained.ensures.value in
     let knows = c.next_line.ensures.at_end (knows_of g.D.Disk.keeps _ _ u) in
     let left = unread rest f.lines in
+    let may = subst (λ (p : SessionView). p.open_lines < p.row.slots) (sym c.self.view_is) c.requires.room in
     let took = c.in-Ok.ensures.takes (map lent_hand f.desk.lent) (holds_of g.D.Disk.keeps _ _ u) in (
-      on_line g.D.Disk.keeps _ c.take.new.core c.take.new.row (unread rest n) (is_drained n) (has_ended n) (rest (source n)) none c.in-Ok.ensures.slots knows
+      on_line g.D.Disk.keeps _ c.take.new.core c.take.new.row (f.open_lines + 1) (unread rest n) (is_drained n) (has_ended n) (rest (source n)) none
+          c.in-Ok.ensures.slots (omega (arith, ap length took.2, length-append f.row.lines (took.0 ∷ []))) (omega (arith, may)) knows
           took.0 took.2 going
           (subst (λ (x : Found). Closes (Ok x) left (is_drained n)) c.in-Ok-Line.field-0-is c.in-Ok-Line.ensures.closes)
           _ c.line.result.now u took.1
@@ -56,6 +67,7 @@ invariant_of-self-in-Ok g c =
 pub invariant_of-self-in-Err-take : goal.invariant_of-self-in-Err-take
 invariant_of-self-in-Err-take g c =
     let f = c.self.inside in
+    let may = subst (λ (p : SessionView). p.open_lines < p.row.slots) (sym c.self.view_is) c.requires.room in
     let n = c.next_line.new.self in
     let rest = g.R.Read.remaining in
     let u = c.self.invariant.0 in
@@ -64,7 +76,7 @@ invariant_of-self-in-Err-take g c =
     let knows = c.next_line.ensures.at_end (knows_of g.D.Disk.keeps _ _ u) in
     let left = unread rest f.lines in
     let took = c.in-Err-take.ensures.takes (map lent_hand f.desk.lent) (holds_of g.D.Disk.keeps _ _ u) in
-    let room = subst (λ (p : SessionView). length p.row.lines < p.row.slots) (sym c.self.view_is) c.requires.room in
+    let room = has_place g.D.Disk.keeps _ _ u may in
     let found = subst (λ (l : List ℕ). IfSome left (λ bs. GivesLine l bs (unread rest n))) (sym c.line.ensures)
     (subst (λ (x : Found). Finds (Ok x) left (line_of n) (unread rest n)) c.in-Ok-Line.field-0-is c.in-Ok-Line.ensures.found) in
     subst (λ (stop : Stop). IsUnderWayFrom g.D.Disk.keeps g.L.Teller.start (record {
@@ -73,6 +85,7 @@ invariant_of-self-in-Err-take g c =
       row = c.take.new.row;
       out = f.out;
       told = g.L.Teller.told f.teller;
+      open_lines = f.open_lines;
       broken = f.broken;
       stop = Some stop;
       left = unread rest n;
@@ -80,7 +93,7 @@ invariant_of-self-in-Err-take g c =
       ended = has_ended n;
       behind = rest (source n);
     }) × (f.desk.bench ≡ f.bench.now)) (sym took.4) (
-      on_stop g.D.Disk.keeps _ c.take.new.core c.take.new.row (unread rest n) (is_drained n) (has_ended n) (rest (source n)) none c.in-Err-take.ensures.slots knows
+      on_stop g.D.Disk.keeps _ c.take.new.core c.take.new.row f.open_lines (unread rest n) (is_drained n) (has_ended n) (rest (source n)) none c.in-Err-take.ensures.slots (omega (arith, ap length took.5)) (omega (arith, may)) knows
           _ (stop_of took.1) u took.3.quiet took.5
           (stops_at_refusal g.D.Disk.keeps _ _ left (unread rest n) (rest (source n)) (is_drained f.lines) c.line.result.now took.0 took.1 took.2 found took.3
           (has_slot g.D.Disk.keeps _ _ took.0 none u room)),
@@ -96,8 +109,10 @@ invariant_of-self-in-Ok-TooLong g c =
     let none = ap (λ (p : SessionView). p.stop) c.self.view_is ∙ c.requires.reads in
     let going = sym c.if-is_drained.ensures.value in
     let knows = c.next_line.ensures.at_end (knows_of g.D.Disk.keeps _ _ u) in
+    let may = subst (λ (p : SessionView). p.open_lines < p.row.slots) (sym c.self.view_is) c.requires.room in
     let left = unread rest f.lines in (
-      on_long_line g.D.Disk.keeps _ f.core c.push.new.self (unread rest n) (is_drained n) (has_ended n) (rest (source n)) none c.push.ensures.slots knows
+      on_long_line g.D.Disk.keeps _ f.core c.push.new.self (f.open_lines + 1) (unread rest n) (is_drained n) (has_ended n) (rest (source n)) none
+          c.push.ensures.slots (omega (arith, ap length c.push.ensures.lines, length-append f.row.lines (NoMessage ∷ []))) (omega (arith, may)) knows
           NoMessage c.push.ensures.lines going
           (subst (λ (x : Found). Closes (Ok x) left (is_drained n)) c.in-Ok-TooLong.field-0-is c.in-Ok-TooLong.ensures.closes)
           _ u (takes_none g.D.Disk.keeps _ (holds_of g.D.Disk.keeps _ _ u))
@@ -108,6 +123,7 @@ invariant_of-self-in-Ok-TooLong g c =
 pub invariant_of-self-in-Ok-End : goal.invariant_of-self-in-Ok-End
 invariant_of-self-in-Ok-End g c =
     let f = c.self.inside in
+    let may = subst (λ (p : SessionView). p.open_lines < p.row.slots) (sym c.self.view_is) c.requires.room in
     let n = c.next_line.new.self in
     let rest = g.R.Read.remaining in
     let u = c.self.invariant.0 in
@@ -116,7 +132,7 @@ invariant_of-self-in-Ok-End g c =
     let knows = c.next_line.ensures.at_end (knows_of g.D.Disk.keeps _ _ u) in
     let left = unread rest f.lines in
     let found = subst (λ (x : Found). Finds (Ok x) left (line_of n) (unread rest n)) c.in-Ok-End.field-0-is c.in-Ok-End.ensures.found in (
-      on_stop g.D.Disk.keeps _ f.core f.row (unread rest n) (is_drained n) (has_ended n) (rest (source n)) none refl knows
+      on_stop g.D.Disk.keeps _ f.core f.row f.open_lines (unread rest n) (is_drained n) (has_ended n) (rest (source n)) none refl refl (omega (arith, may)) knows
           _ stops.End u (still g.D.Disk.keeps _ (holds_of g.D.Disk.keeps _ _ u)) refl
           (at_end left (unread rest n) found, knows (c.next_line.ensures.end (c.in-Ok-End.is ∙ ap Ok c.in-Ok-End.field-0-is))),
       c.self.invariant.1,
@@ -125,6 +141,7 @@ invariant_of-self-in-Ok-End g c =
 pub invariant_of-self-in-Err : goal.invariant_of-self-in-Err
 invariant_of-self-in-Err g c =
     let f = c.self.inside in
+    let may = subst (λ (p : SessionView). p.open_lines < p.row.slots) (sym c.self.view_is) c.requires.room in
     let n = c.next_line.new.self in
     let rest = g.R.Read.remaining in
     let u = c.self.invariant.0 in
@@ -132,7 +149,7 @@ invariant_of-self-in-Err g c =
     let going = sym c.if-is_drained.ensures.value in
     let knows = c.next_line.ensures.at_end (knows_of g.D.Disk.keeps _ _ u) in
     let left = unread rest f.lines in (
-      on_stop g.D.Disk.keeps _ f.core f.row (unread rest n) (is_drained n) (has_ended n) (rest (source n)) none refl knows
+      on_stop g.D.Disk.keeps _ f.core f.row f.open_lines (unread rest n) (is_drained n) (has_ended n) (rest (source n)) none refl refl (omega (arith, may)) knows
           _ stops.Fault u (still g.D.Disk.keeps _ (holds_of g.D.Disk.keeps _ _ u)) refl
           (going, subst (λ (l : Option (List ℕ)). IfSome left (λ bs. LosesFront bs l)) c.in-Err.ensures.lost c.in-Err.ensures.found),
       c.self.invariant.1,

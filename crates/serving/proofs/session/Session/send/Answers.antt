@@ -18,7 +18,7 @@ pub invariant_of-self : goal.invariant_of-self
 invariant_of-self g c =
     let told = subst (λ (bytes : List ℕ). Appends (g.L.Teller.told c.self.inside.teller) (g.L.Teller.told c.tell.new.self) bytes)
     c.waiting.ensures c.in-Ok.ensures.told in
-    (on_tell g.D.Disk.keeps _ _ _ _ c.self.invariant.0 c.clear.ensures told, c.self.invariant.1)
+    (on_tell g.D.Disk.keeps _ _ _ _ _ c.self.invariant.0 c.clear.ensures told c.len-self-inside.ensures.len, c.self.invariant.1)
 
 pub invariant_of-self-in-Err : goal.invariant_of-self-in-Err
 invariant_of-self-in-Err g c = (on_break g.D.Disk.keeps _ _ _ c.self.invariant.0, c.self.invariant.1)

@@ -1,0 +1,224 @@
+-- What a restart goes on from, from what a service on a device has done.
+use Rattle.std.proofs.Common.{◌≡◌, ℕ, List, [], ◌++◌, Option, Some, None, ap, sym, ◌∙◌, subst, inl, inr, ⊎_elim, arith}
+use Rattle.std.specs.Prelude.{Result, Ok, Err, OnOk}
+use Rattle.std.specs.Io.KnownBytes.{Appends}
+use Rattle.std.proofs.KnownBytes.{Appends-nil}
+use Rattle.affinity.specs.declared.geometry.Geometry.{Geometry}
+use Rattle.checkpoint.proofs.Fine.{fine, head}
+use Rattle.checkpoint.proofs.OneGeometry.{one_geometry}
+use Rattle.checkpoint.specs.Recovery.{holds}
+use Rattle.disk.proofs.Leaves.{calm_left}
+use Rattle.disk.proofs.Moments.{counts_now}
+use Rattle.disk.specs.Device.{IsSynced, Leaves, Medium}
+use Rattle.disk.specs.Memory.{Memory}
+use Rattle.disk.specs.Moments.{left_since, moment}
+use Rattle.disk.specs.declared.torn.Torn.{Torn}
+use Rattle.journal.specs.Opening.{IsPastSync, OpeningLeaves, StandsAs}
+use Rattle.legal_runs.specs.Events.{loggable}
+use Rattle.legal_runs.specs.Runs.{went}
+use Rattle.machine.specs.Machine.{machine_of}
+use Rattle.machine.specs.Stages.{events_of}
+use Rattle.plain.specs.Output.{WritesOutput, serial_out}
+use Rattle.plain.specs.Serial.{fold}
+use Rattle.plain.specs.State.{State, empty}
+use Rattle.serving.proofs.Recovering.{none_written, stands_recovered}
+use Rattle.serving.proofs.Told.{holds_all}
+use Rattle.serving.specs.Ends.{settled_in}
+use Rattle.serving.specs.Lines.{asked, ticketed}
+use Rattle.serving.specs.Restart.{RecoversTo, StandsRecovered}
+use Rattle.serving.specs.Told.{HoldsLog}
+use Rattle.serving.specs.declared.server.ServeFault.{ServeFault}
+use Rattle.serving.specs.declared.server.ServeFault.TheVariants as faults
+use Rattle.commands.proofs.Kept.{keeps_what_was_told}
+use Rattle.commands.proofs.OnDevice.{is_idle}
+use Rattle.commands.specs.Faults.{as_told}
+use Rattle.commands.specs.Kept.{HoldsWhatWasTold}
+use Rattle.commands.specs.Promise.{GoesOn, HoldsRecovered, LeavesRecovered, UnlessUnopened, unless_unsent}
+use Rattle.commands.specs.Serving.{EndsOnDevice, HasLived, HasServedBy, HasServedUntilCrash, StoodFor, machine_at_start}
+use Rattle.commands.specs.declared.faults.Fault.{Fault}
+use Rattle.commands.specs.declared.faults.Fault.TheVariants as ends
+use Rattle.commands.specs.declared.service.Service.{Service}
+
+-- ---- whatever a crash leaves at the end of a service
+
+-- Where a write failed, no line counts as written.
+unsent : (keeps : Type 0) (s : Service) (old new : Medium) (input left before written : Option (List ℕ))
+    → HasServedBy keeps s old new (Err faults.Write) input left before written → keeps → (c : List ℕ) → Leaves new c
+    → HoldsWhatWasTold old input None written c
+unsent keeps s old new input left before written h keep c leaves =
+    let g = h.start.geometry in
+    let x = settled_in h.start in
+    let taken = h.run.0 in
+    let log = went (machine_of (machine_at_start s h.start)) (events_of h.run.1) in
+    let on_device : HoldsLog g x (ticketed 0 (asked g taken)) log c =
+    subst (λ (t : ℕ). HoldsLog g x (ticketed t (asked g taken)) log c) h.fresh.next
+    (holds_all keeps (machine_at_start s h.start) h.now input taken h.run.1 (is_idle s.slots h.start h.fresh) h.fresh.no_doubt h.run.2 keep c
+    (subst (λ (m : Medium). Leaves m c) h.given_back leaves)) in
+    let state = fold g x (loggable (log ++ on_device.more)) in
+    record {
+      geometry = g;
+      start = x;
+      stood = record { header = λ _. h.header keep; stood = λ _. h.stood keep };
+      taken = taken;
+      first = h.run.2.first;
+      told = [];
+      output = tt;
+      log = log;
+      kept = tt;
+      holds = on_device;
+      header = head g c state leaves.bytes on_device.stands;
+      not_refused = fine g c state leaves.bytes on_device.stands;
+    }
+
+held_at : (keeps : Type 0) (s : Service) (old new : Medium) (end : Result (Unit {0}) ServeFault) (input left before written : Option (List ℕ))
+    → HasServedBy keeps s old new end input left before written → keeps → (c : List ℕ) → Leaves new c
+    → HoldsWhatWasTold old input (unless_unsent (as_told end) before) written c
+held_at keeps s old new (Ok _) input left before written h = keeps_what_was_told keeps s old new (Ok tt) input left before written h
+held_at keeps s old new (Err faults.Device) input left before written h =
+    keeps_what_was_told keeps s old new (Err faults.Device) input left before written h
+held_at keeps s old new (Err faults.Write) input left before written h = unsent keeps s old new input left before written h
+held_at keeps s old new (Err faults.Read) input left before written h =
+    keeps_what_was_told keeps s old new (Err faults.Read) input left before written h
+held_at keeps s old new (Err faults.Exhausted) input left before written h =
+    keeps_what_was_told keeps s old new (Err faults.Exhausted) input left before written h
+held_at keeps s old new (Err faults.NoWorkers) input left before written h =
+    keeps_what_was_told keeps s old new (Err faults.NoWorkers) input left before written h
+held_at keeps s old new (Err faults.OutOfMemory) input left before written h =
+    keeps_what_was_told keeps s old new (Err faults.OutOfMemory) input left before written h
+
+-- What holds all that was told stands for where a restart goes on.
+pub recovered : (old : Medium) (input before written : Option (List ℕ)) (c : List ℕ) → HoldsWhatWasTold old input before written c
+    → HoldsRecovered old input before written c
+recovered old input before written c h = record {
+  geometry = h.geometry;
+  start = h.start;
+  stood = h.stood;
+  recovered = stands_recovered h.geometry h.start 0 input before written h.taken h.told h.log c h.first h.output h.kept h.holds;
+}
+
+pub leaves_recovered : (keeps : Type 0) (s : Service) (old new : Medium) (end : Result (Unit {0}) ServeFault)
+    (input left before written : Option (List ℕ)) → HasServedBy keeps s old new end input left before written
+    → LeavesRecovered keeps old new (as_told end) input before written
+leaves_recovered keeps s old new end input left before written h = at end h
+  where
+    all : (end : Result (Unit {0}) ServeFault) → HasServedBy keeps s old new end input left before written → keeps → (c : List ℕ)
+        → Leaves new c → HoldsRecovered old input (unless_unsent (as_told end) before) written c
+    all end h keep c leaves =
+        recovered old input (unless_unsent (as_told end) before) written c (held_at keeps s old new end input left before written h keep c leaves)
+
+    at : (end : Result (Unit {0}) ServeFault) → HasServedBy keeps s old new end input left before written
+        → LeavesRecovered keeps old new (as_told end) input before written
+    at (Ok _) h = all (Ok tt) h
+    at (Err faults.Device) h = all (Err faults.Device) h
+    at (Err faults.Write) h = all (Err faults.Write) h
+    at (Err faults.Read) h = all (Err faults.Read) h
+    at (Err faults.Exhausted) h = all (Err faults.Exhausted) h
+    at (Err faults.NoWorkers) h = all (Err faults.NoWorkers) h
+    at (Err faults.OutOfMemory) h = all (Err faults.OutOfMemory) h
+
+-- what follows of what is so follows of it at each end
+pub opened_then : {P Q : Type 0} (end : Result (Unit {0}) Fault) → (P → Q) → UnlessUnopened end P → UnlessUnopened end Q
+opened_then (Err (ends.Open fault)) f h = tt
+opened_then (Ok done) f h = f h
+opened_then (Err ends.Read) f h = f h
+opened_then (Err ends.Write) f h = f h
+opened_then (Err ends.GeometryOutOfRange) f h = f h
+opened_then (Err ends.OutOfMemory) f h = f h
+opened_then (Err ends.Device) f h = f h
+opened_then (Err ends.NoWorkers) f h = f h
+opened_then (Err ends.NoTicketLeft) f h = f h
+opened_then (Err (ends.Format fault)) f h = f h
+
+-- ---- two lives
+
+some_same : {x y : State} → ◌≡◌ {A = Option State} (Some x) (Some y) → x ≡ y
+some_same e = cc
+
+-- A device that stands for this state was opened with this geometry, and for this state.
+opened_so : (g h : Geometry) (x y : State) (old : Medium) → holds g old.now ≡ Some x → StoodFor (Unit {0}) old h y → (h ≡ g) × (y ≡ x)
+opened_so g h x y old stands stood =
+    let same : h ≡ g = one_geometry h g old.now (stood.header tt) x stands in
+    (same, some_same (sym (stood.stood tt) ∙ ap (λ (k : Geometry). holds k old.now) same ∙ stands))
+
+written_so : (input before written : Option (List ℕ)) (P Q : List ℕ → List ℕ → Type 0) → ((bytes out : List ℕ) → P bytes out → Q bytes out)
+    → WritesOutput input before written P → WritesOutput input before written Q
+written_so None before written P Q f h = tt
+written_so (Some bytes) before written P Q f h = (h.0, h.1, f bytes h.0 h.2)
+
+-- A service that ends without fault has answered all of its input.
+serves_so : (g : Geometry) (x : State) (s : Service) (old new : Medium) (end : Result (Unit {0}) Fault)
+    (input left before written : Option (List ℕ)) → holds g old.now ≡ Some x → EndsOnDevice (Unit {0}) s old new end input left before written
+    → OnOk end (WritesOutput input before written (λ bytes out. out ≡ serial_out g x bytes))
+serves_so g x s old new (Err fault) input left before written stands h = tt
+serves_so g x s old new (Ok done) input left before written stands h =
+    let w = h.1.0 in
+    let own = opened_so g w.geometry x w.start old stands w.before in
+    written_so input before written _ _
+    (λ bytes out served. served.output ∙ (λ i. serial_out (own.0 i) (own.1 i) bytes)) h.1.3
+
+module _ (g : Geometry) (old new : Medium) (made : holds g old.now ≡ Some empty) (c : List ℕ) (leaves : Leaves new c) where
+  left_so : (input before written : Option (List ℕ)) → HoldsRecovered old input before written c
+      → StandsRecovered g empty input before written c
+  left_so input before written h =
+      let own = opened_so g h.geometry empty h.start old made h.stood in
+      subst (λ (k : Geometry). StandsRecovered k empty input before written c) own.0
+      (subst (λ (y : State). StandsRecovered h.geometry y input before written c) own.1 h.recovered)
+
+  -- A crash while it is opened leaves what stands for the same.
+  crashed_so : IsSynced old → OpeningLeaves old new → holds g c ≡ Some empty
+  crashed_so calm h = ⊎_elim (λ (was : Leaves old c). ap (holds g) (calm_left old c calm was) ∙ made) (λ (k : StandsAs old.now c). k.same g empty made)
+      (⊎_elim
+      (λ (same : new ≡ h.synced).
+      inl (h.first.each c (counts_now h.synced (moment old) c h.first.later (subst (λ (m : Medium). Leaves m c) same leaves))))
+      (λ (past : IsPastSync old h.synced new). ⊎_elim (λ (was : left_since h.synced (moment old) c). inl (h.first.each c was))
+      (λ (k : StandsAs old.now c). inr k)
+      (past.later.before (moment old) c h.first.later
+      (counts_now new (moment old) c (let a = h.first.later in let b = past.later.later in omega (arith, a, b)) leaves))) h.rest)
+
+  -- where it could not be opened
+  left_unopened : (input before written : Option (List ℕ)) → IsSynced old → OpeningLeaves old new → written ≡ before
+      → StandsRecovered g empty input before written c
+  left_unopened input before written calm opening unwritten =
+      record { now = empty; stands = crashed_so calm opening; recovers = silent input }
+    where
+      silent : (input : Option (List ℕ)) → WritesOutput input before written (RecoversTo g empty empty)
+      silent None = tt
+      silent (Some bytes) =
+          ([], subst (λ (w : Option (List ℕ)). Appends before w []) (sym unwritten) (Appends-nil before), none_written g empty bytes)
+
+  module _ (s : Service) (input left before written : Option (List ℕ)) where
+    left_served : (end : Result (Unit {0}) Fault)
+        → (ended : Result (Unit {0}) ServeFault) × (end ≡ as_told ended) × HasServedBy (Unit {0}) s old new ended input left before written
+        → StandsRecovered g empty input (unless_unsent end before) written c
+    left_served end h = left_so input (unless_unsent end before) written
+        (subst (λ (e : Result (Unit {0}) Fault). HoldsRecovered old input (unless_unsent e before) written c) (sym h.1)
+        (recovered old input (unless_unsent (as_told h.0) before) written c (held_at (Unit {0}) s old new h.0 input left before written h.2 tt c leaves)))
+
+    left_at : (end : Result (Unit {0}) Fault) → IsSynced old → HasLived (Unit {0}) s old new end input left before written
+        → EndsOnDevice (Unit {0}) s old new end input left before written → StandsRecovered g empty input (unless_unsent end before) written c
+    left_at (Err (ends.Open fault)) calm h e = left_unopened input before written calm (h tt) e.2
+    left_at (Ok done) calm h e = left_served (Ok done) h
+    left_at (Err ends.Read) calm h e = left_served (Err ends.Read) h
+    left_at (Err ends.Write) calm h e = left_served (Err ends.Write) h
+    left_at (Err ends.GeometryOutOfRange) calm h e = left_served (Err ends.GeometryOutOfRange) h
+    left_at (Err ends.OutOfMemory) calm h e = left_served (Err ends.OutOfMemory) h
+    left_at (Err ends.Device) calm h e = left_served (Err ends.Device) h
+    left_at (Err ends.NoWorkers) calm h e = left_served (Err ends.NoWorkers) h
+    left_at (Err ends.NoTicketLeft) calm h e = left_served (Err ends.NoTicketLeft) h
+    left_at (Err (ends.Format fault)) calm h e = left_served (Err (ends.Format fault)) h
+
+-- A device that was just made was served until it was crashed, and then served again.
+pub goes_on : (g : Geometry) (s : Service) (began : Medium) (torn : Torn) (crashed : Memory) (last : Medium)
+    (first second : Result (Unit {0}) Fault) (input left before written next_input next_left next_before next_written : Option (List ℕ))
+    → holds g began.now ≡ Some empty → IsSynced began
+    → HasServedUntilCrash s began torn crashed first input left before written
+    → EndsOnDevice (Unit {0}) s crashed.medium last second next_input next_left next_before next_written
+    → GoesOn g first second input before written next_input next_before next_written
+goes_on g s began torn crashed last first second input left before written next_input next_left next_before next_written made calm h ends =
+    let one = left_at g began h.ended.medium made crashed.medium.now h.leaves s input left before written first calm h.lived h.ends in
+    record {
+      now = one.now;
+      recovers = one.recovers;
+      whole = serves_so g empty s began h.ended.medium first input left before written made h.ends;
+      next = serves_so g one.now s crashed.medium last second next_input next_left next_before next_written one.stands ends;
+    }

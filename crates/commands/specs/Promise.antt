@@ -1,0 +1,46 @@
+-- What a service promises its client over a crash: bytes in, bytes out.
+use Rattle.std.specs.Prelude.{◌≡◌, ℕ, List, Option, None, Result, Err, OnOk}
+use Rattle.affinity.specs.declared.geometry.Geometry.{Geometry}
+use Rattle.disk.specs.Device.{Leaves, Medium}
+use Rattle.plain.specs.Output.{WritesOutput, serial_out}
+use Rattle.plain.specs.State.{State, empty}
+use Rattle.serving.specs.Restart.{RecoversTo, StandsRecovered}
+use Rattle.commands.specs.Serving.{StoodFor}
+use Rattle.commands.specs.declared.faults.Fault.{Fault}
+use Rattle.commands.specs.declared.faults.Fault.TheVariants.{Write, Open}
+
+-- Where a write failed it is open what was written, as where it isn't known what was there before.
+abbrev pub unless_unsent : Result (Unit {0}) Fault → Option (List ℕ) → Option (List ℕ)
+unless_unsent (Err Write) before = None
+unless_unsent _ before = before
+
+-- A service answered an input from the empty state, came to its end and was left by a crash. A second one answered another input on what
+-- was left.
+pub record GoesOn (g : Geometry) (first second : Result (Unit {0}) Fault)
+    (input before written next_input next_before next_written : Option (List ℕ)) : Type 0 where
+  -- the state that the crash left
+  pub now : State
+  pub recovers : WritesOutput input (unless_unsent first before) written (RecoversTo g empty now)
+  -- without a fault all of the input was answered
+  pub whole : OnOk first (WritesOutput input before written (λ bytes out. out ≡ serial_out g empty bytes))
+  pub next : OnOk second (WritesOutput next_input next_before next_written (λ bytes out. out ≡ serial_out g now bytes))
+
+-- ---- the same of the bytes of a device
+
+-- The device stood for a state, and these bytes stand for one to which a restart recovers from there.
+pub record HoldsRecovered (old : Medium) (input before written : Option (List ℕ)) (bytes : List ℕ) : Type 0 where
+  pub geometry : Geometry
+  pub start : State
+  pub stood : StoodFor (Unit {0}) old geometry start
+  pub recovered : StandsRecovered geometry start input before written bytes
+
+-- So it is at each end, unless the device could not be opened.
+abbrev pub UnlessUnopened : Result (Unit {0}) Fault → Type 0 → Type 0
+UnlessUnopened (Err (Open fault)) P = Unit {0}
+UnlessUnopened _ P = P
+
+-- So does whatever a crash leaves when a service has come to this end.
+abbrev pub LeavesRecovered : Type 0 → Medium → Medium → Result (Unit {0}) Fault → Option (List ℕ) → Option (List ℕ)
+    → Option (List ℕ) → Type 0
+LeavesRecovered keeps old new end input before written = UnlessUnopened end
+    (keeps → (c : List ℕ) → Leaves new c → HoldsRecovered old input (unless_unsent end before) written c)

@@ -1,0 +1,60 @@
+//! The promise of a service over a crash, in bytes alone: what went into two lives of a device, and what came out.
+ghost use Rattle.std.specs.Prelude.{◌≡◌, ◌<◌, IfOk, IfErr};
+ghost use Rattle.checkpoint.specs.Recovery.{holds};
+ghost use Rattle.commands.specs.Promise.{GoesOn};
+ghost use Rattle.disk.specs.Device.{IsSynced};
+ghost use Rattle.disk.specs.Memory.{medium_of};
+ghost use Rattle.disk.specs.Torn.{HasBytes};
+ghost use Rattle.plain.specs.State.{empty};
+
+use crate::faults::Fault;
+use crate::on_device::serve_on;
+use crate::service::Service;
+use crate::stopping::serve_stopped;
+use affinity::Geometry;
+use checkpoint::{device_len, format};
+use disk::{MemDisk, Torn};
+use std::alloc::Global;
+use std::io::{Read, Write};
+use std::sync::Wait;
+use std::thread::Threads;
+
+/// A device of the empty state, in memory.
+fn made(alloc: Global, geometry: Geometry) -> Result<MemDisk, Fault>
+    ensures stands { IfOk result (λ d. holds geometry (medium_of d).now ≡ Some empty) }
+    ensures synced { IfOk result (λ d. IsSynced (medium_of d)) }
+{
+    let disk = MemDisk::new(alloc, device_len(&geometry))?;
+    match format(alloc, disk, geometry) {
+        Ok(disk) => Ok(disk),
+        Err(error) => Err(Fault::from(error.fault)),
+    }
+}
+
+/// Makes a device in memory, and answers the lines of `r` on `w` with it until its n-th call, whichever that is. The device stops there,
+/// and a crash tears what was not synced. Then answers the lines of `next_r` on `next_w` with what the crash left. It says how both
+/// ended. At `Err` there was no device: nothing was read or written.
+pub fn serve_again<T: Threads + Wait + Sync, R: Read, W: Write, S: Read, V: Write>(
+    rt: &T,
+    alloc: Global,
+    geometry: Geometry,
+    n: u64,
+    torn: Torn,
+    service: Service,
+    r: &mut R,
+    w: &mut W,
+    next_r: &mut S,
+    next_w: &mut V,
+) -> Result<(Result<(), Fault>, Result<(), Fault>), Fault>
+    requires call { 0 < n }
+    requires bytes { HasBytes torn }
+    ensures goes_on { IfOk result (λ ends. GoesOn geometry ends.0 ends.1 (R.remaining r.old) (W.contents w.old) (W.contents w.new)
+        (S.remaining next_r.old) (V.contents next_w.old) (V.contents next_w.new)) }
+    ensures unread { IfErr result (λ _. (R.remaining r.new ≡ R.remaining r.old) × (S.remaining next_r.new ≡ S.remaining next_r.old)) }
+    ensures unwritten { IfErr result (λ _. (W.contents w.new ≡ W.contents w.old) × (V.contents next_w.new ≡ V.contents next_w.old)) }
+{
+    let disk = made(alloc, geometry)?;
+    let (disk, first) = serve_stopped(rt, alloc, disk, n, torn, service, r, w);
+    let (_disk, second) = serve_on(rt, alloc, disk, service, next_r, next_w);
+    Ok((first, second))
+}

@@ -1,0 +1,23 @@
+-- What the steps of a cut change of the images on a device.
+use Rattle.std.specs.Prelude.{◌≡◌, ◌≢◌, ◌<◌, ℕ, List}
+use Rattle.affinity.specs.declared.geometry.Geometry.{Geometry}
+use Rattle.image.specs.Pieces.{piece_count}
+use Rattle.journal.specs.Stretches.{stretch_in}
+use Rattle.oplog.specs.Changes.{IsSameBut}
+use Rattle.oplog.specs.Layout.{image, layout_of, other, part_bytes}
+use Rattle.oplog.specs.Stands.{named_area}
+
+-- Both images are as they were.
+abbrev pub KeepsImages : Geometry → List ℕ → List ℕ → Type 0
+KeepsImages g old new = (i : ℕ) → i < 2 → part_bytes (layout_of g) (image i) new ≡ part_bytes (layout_of g) (image i) old
+
+-- At most one piece of this image differs, the head of the image counting with the first, and nothing else does.
+pub record PatchesAt (g : Geometry) (area : ℕ) (old new : List ℕ) : Type 0 where
+  pub piece : ℕ
+  pub same : IsSameBut (layout_of g) (image area) old new
+  pub others : (n : ℕ) → n < piece_count g → n ≢ piece
+      → stretch_in g (part_bytes (layout_of g) (image area) new) n ≡ stretch_in g (part_bytes (layout_of g) (image area) old) n
+
+-- of the image that isn't named
+abbrev pub PatchesOne : Geometry → List ℕ → List ℕ → Type 0
+PatchesOne g old new = PatchesAt g (other (named_area (layout_of g) old)) old new

@@ -1,0 +1,241 @@
+-- A serial log in order of tickets: the first of the messages that arrived, without a gap among related ones.
+use Rattle.std.proofs.Common.{◌≡◌, ◌⊎◌, ℕ, ◌<◌, ◌≤◌, Bool, true, false, List, [], ◌∷◌, ◌++◌, refl, ap, sym, ◌∙◌, subst, map, inl, inr, ⊎_elim, arith}
+use Rattle.std.specs.Prelude.{◌==◌, nat_lt, if◌then◌else◌, IsPermutation, filter, cond}
+use Rattle.std.specs.List.{AllByRecursion, Contains, IsDistinct}
+use Rattle.std.proofs.lemmas.Bool.{lt-ltb, ltb-true, false_from_ne_true, eq-eqb, eqb-false, ne_eqb}
+use Rattle.std.proofs.lemmas.Bool.Decides.{eqb_tells}
+use Rattle.std.proofs.lemmas.List.Elements.{All-contains_itself, recursion_from_All}
+use Rattle.std.proofs.lemmas.List.Sorted.{IsPermutation-sym, IsPermutation-trans}
+use Rattle.std.proofs.lemmas.Map.Keys.{IsDistinct-IsPermutation}
+use Rattle.affinity.specs.declared.geometry.Geometry.{Geometry}
+use Rattle.message.specs.declared.Reply.{Reply}
+use Rattle.plain.specs.Laws.{AreInOrder}
+use Rattle.plain.specs.Order.{by_ticket, messages, put, told, IsBefore, KeepsOrder}
+use Rattle.plain.specs.Serial.{fold, is_loggable, next_state, reply_to}
+use Rattle.plain.specs.State.{State}
+use Rattle.plain.proofs.ByTicket.{all-by_ticket, fold-by_ticket, in_order-by_ticket, permutation-by_ticket, told-by_ticket}
+use Rattle.plain.proofs.Unchanged.{unlogged_changes_nothing}
+use Rattle.legal_runs.specs.Events.{loggable}
+use Rattle.legal_runs.specs.Laws.{AreAscending, IsSerialLog, ticket_replies}
+use Rattle.legal_runs.specs.World.{Entry, Replied, are_related_entries, entries}
+use Rattle.legal_runs.proofs.Apart.{apart_turned}
+use Rattle.legal_runs.proofs.Elements.{holds_of, in_contained}
+use Rattle.legal_runs.proofs.Lists.{all_back, all_front, all_permuted, all_weaker}
+use Rattle.legal_runs.proofs.Told.{IsIn}
+
+-- ---- some of a list, in their order
+
+-- These are some of them, and what is left out passes.
+abbrev pub AreAmong : (Entry → Type 0) → List Entry → List Entry → Type 0
+AreAmong Out es [] = es ≡ []
+AreAmong Out es (a ∷ all) = ((rest : List Entry) × (es ≡ a ∷ rest) × AreAmong Out rest all) ⊎ (Out a × AreAmong Out es all)
+
+all_among : (P Out : Entry → Type 0) (es all : List Entry) → AllByRecursion P all → AreAmong Out es all → AllByRecursion P es
+all_among P Out es [] h among = subst (AllByRecursion P) (sym among) tt
+all_among P Out es (a ∷ all) h among = ⊎_elim
+    (λ (k : (rest : List Entry) × (es ≡ a ∷ rest) × AreAmong Out rest all).
+    subst (AllByRecursion P) (sym k.1) (h.0, all_among P Out k.0 all h.1 k.2))
+    (λ (k : Out a × AreAmong Out es all). all_among P Out es all h.1 k.1) among
+
+none_among : (Out : Entry → Type 0) (all : List Entry) → AllByRecursion Out all → AreAmong Out [] all
+none_among Out [] h = refl
+none_among Out (a ∷ all) h = inr (h.0, none_among Out all h.1)
+
+put_first : (e : Entry) (ds : List Entry) → AllByRecursion (λ d. e.0 < d.0) ds → put e ds ≡ e ∷ ds
+put_first e [] h = refl
+put_first e (d ∷ ds) h = ap (λ b. if b then e ∷ d ∷ ds else d ∷ put e ds) (lt-ltb e.0 d.0 h.0)
+
+-- One more is put to its place in both.
+put_among : (Out : Entry → Type 0) (e : Entry) (es all : List Entry) → AreInOrder all → AreAmong Out es all
+    → AreAmong Out (put e es) (put e all)
+put_among Out e es [] h among = subst (λ l. AreAmong Out (put e l) (e ∷ [])) (sym among) (inl ([], refl, refl))
+put_among Out e es (a ∷ all) h among = ⊎_elim
+    (λ (k : (rest : List Entry) × (es ≡ a ∷ rest) × AreAmong Out rest all).
+    subst (λ l. AreAmong Out (put e l) (put e (a ∷ all))) (sym k.1)
+    (elim (nat_lt e.0 a.0) as (λ b. AreAmong Out (if b then e ∷ a ∷ k.0 else a ∷ put e k.0) (if b then e ∷ a ∷ all else a ∷ put e all)) [
+      | true ↦ inl (a ∷ k.0, refl, inl (k.0, refl, k.2))
+      | false ↦ inl (put e k.0, refl, put_among Out e k.0 all h.1 k.2)
+    ]))
+    (λ (k : Out a × AreAmong Out es all).
+    elim (nat_lt e.0 a.0) as (λ b. nat_lt e.0 a.0 ≡ b → AreAmong Out (put e es) (if b then e ∷ a ∷ all else a ∷ put e all)) [
+      | true ↦ λ less.
+          let lt : e.0 < a.0 = ltb-true e.0 a.0 less in
+          let behind = all_weaker (λ d. a.0 ≤ d.0) (λ d. e.0 < d.0) (λ d le. omega (arith, lt, le)) es
+          (all_among (λ d. a.0 ≤ d.0) Out es all h.0 k.1) in
+          inl (es, put_first e es behind, inr k)
+      | false ↦ λ late. inr (k.0, put_among Out e es all h.1 k.1)
+    ] refl) among
+
+-- Sorted, they are among all, sorted.
+pub sorted_among : (Out : Entry → Type 0) (es rest : List Entry) → AllByRecursion Out (by_ticket rest)
+    → AreAmong Out (by_ticket es) (by_ticket (es ++ rest))
+sorted_among Out [] rest out = none_among Out (by_ticket rest) out
+sorted_among Out (e ∷ es) rest out =
+    put_among Out e (by_ticket es) (by_ticket (es ++ rest)) (in_order-by_ticket (es ++ rest)) (sorted_among Out es rest out)
+
+-- ---- without a gap
+
+-- They are some of all, in their order: where one is left out, so is each related one behind it.
+abbrev pub HasNoGap : Geometry → List Entry → List Entry → Type 0
+HasNoGap g es [] = es ≡ []
+HasNoGap g es (a ∷ all) = ((rest : List Entry) × (es ≡ a ∷ rest) × HasNoGap g rest all)
+    ⊎ (AllByRecursion (λ e. are_related_entries g a e ≡ false) es × HasNoGap g es all)
+
+late_unrelated : (g : Geometry) (a e : Entry) → a.0 ≤ e.0 → IsBefore g e a → are_related_entries g a e ≡ false
+late_unrelated g a e le h = apart_turned g e a (false_from_ne_true _ (λ r. omega (arith, le, h r)))
+
+-- so it is where each of them is before those that are left out, if they are related
+pub no_gap : (g : Geometry) (Out : Entry → Type 0) (es all : List Entry) → AreInOrder all → AreAmong Out es all
+    → ((d : Entry) → Out d → AllByRecursion (λ e. IsBefore g e d) es) → HasNoGap g es all
+no_gap g Out es [] h among before = among
+no_gap g Out es (a ∷ all) h among before = ⊎_elim
+    (λ (k : (rest : List Entry) × (es ≡ a ∷ rest) × AreAmong Out rest all).
+    inl (k.0, k.1, no_gap g Out k.0 all h.1 k.2 (λ d out. (subst (AllByRecursion (λ e. IsBefore g e d)) k.1 (before d out)).1)))
+    (λ (k : Out a × AreAmong Out es all).
+    inr (unrelated es (all_among (λ e. a.0 ≤ e.0) Out es all h.0 k.1) (before a k.0), no_gap g Out es all h.1 k.1 before))
+    among
+  where
+    unrelated : (es : List Entry) → AllByRecursion (λ e. a.0 ≤ e.0) es → AllByRecursion (λ e. IsBefore g e a) es
+        → AllByRecursion (λ e. are_related_entries g a e ≡ false) es
+    unrelated [] le h = tt
+    unrelated (e ∷ es) le h = (late_unrelated g a e le.0 h.0, unrelated es le.1 h.1)
+
+-- ---- all in the order of their tickets
+
+no_earlier : (e d : Entry) (es : List Entry) → AllByRecursion (λ c. e.0 < c.0) es → IsIn d es → d.0 ≤ e.0 → ⊥
+no_earlier e d es h in_es le = let less = holds_of (λ c. e.0 < c.0) es h d in_es in omega (arith, less, le)
+
+same_head : (e d : Entry) (es ds : List Entry) → AllByRecursion (λ c. e.0 < c.0) es → AllByRecursion (λ c. d.0 < c.0) ds
+    → IsIn e (d ∷ ds) → IsIn d (e ∷ es) → e ≡ d
+same_head e d es ds h k in_ds in_es = ⊎_elim (λ (same : e ≡ d). same)
+    (λ late. ⊎_elim (λ (same : d ≡ e). sym same)
+    (λ later. absurd (no_earlier e d es h later (let less = holds_of (λ c. d.0 < c.0) ds k e late in omega (arith, less)))) in_es) in_ds
+
+in_rest : (e c : Entry) (es ds : List Entry) → AllByRecursion (λ c. e.0 < c.0) es → IsIn c es → IsIn c (e ∷ ds) → IsIn c ds
+in_rest e c es ds h in_es in_ds = ⊎_elim
+    (λ (same : c ≡ e). absurd (no_earlier e c es h in_es (let at = ap (λ (d : Entry). d.0) same in omega (arith, at)))) (λ late. late) in_ds
+
+-- Two lists of the same messages whose tickets ascend are one.
+pub same_order : (es ds : List Entry) → AreAscending es → AreAscending ds → ((e : Entry) → IsIn e es → IsIn e ds)
+    → ((e : Entry) → IsIn e ds → IsIn e es) → es ≡ ds
+same_order [] [] h k there back = refl
+same_order [] (d ∷ ds) h k there back = absurd (back d (inl refl))
+same_order (e ∷ es) [] h k there back = absurd (there e (inl refl))
+same_order (e ∷ es) (d ∷ ds) h k there back =
+    let same = same_head e d es ds h.0 k.0 (there e (inl refl)) (back d (inl refl)) in
+    let behind = subst (λ (c : Entry). AllByRecursion (λ f. c.0 < f.0) ds) (sym same) k.0 in
+    let rest = same_order es ds h.1 k.1
+    (λ c is. in_rest e c es ds h.0 is (subst (λ (f : Entry). IsIn c (f ∷ ds)) (sym same) (there c (inr is))))
+    (λ c is. in_rest e c ds es behind is (back c (inr is))) in
+    λ i. same i ∷ rest i
+
+abbrev one_ticket : Entry → Entry → Bool
+one_ticket e d = e.0 == d.0
+
+same_turned : (a b : ℕ) → (a == b) ≡ (b == a)
+same_turned a b = ⊎_elim (λ t. t.0 ∙ sym (eq-eqb b a (sym t.1))) (λ f. f.0 ∙ sym (ne_eqb b a (λ e. f.1 (sym e)))) (eqb_tells a b)
+
+distinct_ascending : (es : List Entry) → AreAscending es → IsDistinct one_ticket es
+unfolding IsDistinct
+distinct_ascending [] h = tt
+distinct_ascending (e ∷ es) h = (
+  all_weaker (λ d. e.0 < d.0) (λ d. one_ticket e d ≡ false) (λ d less. ne_eqb e.0 d.0 (λ same. omega (arith, less, same))) es h.0,
+  distinct_ascending es h.1,
+)
+
+ascending_distinct : (es : List Entry) → AreInOrder es → IsDistinct one_ticket es → AreAscending es
+unfolding IsDistinct
+ascending_distinct [] h k = tt
+ascending_distinct (e ∷ es) h k = (strictly es h.0 k.0, ascending_distinct es h.1 k.1)
+  where
+    strictly : (es : List Entry) → AllByRecursion (λ d. e.0 ≤ d.0) es → AllByRecursion (λ d. one_ticket e d ≡ false) es
+        → AllByRecursion (λ d. e.0 < d.0) es
+    strictly [] le k = tt
+    strictly (d ∷ es) le k = (let le' = le.0 in let ne = eqb-false e.0 d.0 k.0 in omega (arith, le', ne), strictly es le.1 k.1)
+
+permuted_in : (es ds : List Entry) → IsPermutation es ds → (e : Entry) → IsIn e ds → IsIn e es
+permuted_in es ds same e is = in_contained es e
+    (holds_of (Contains es) ds (all_permuted (Contains es) es ds same (recursion_from_All (Contains es) es (All-contains_itself es))) e is)
+
+-- Messages whose tickets ascend are what any order of them is when it is sorted.
+pub sorted_again : (es ds : List Entry) → AreAscending es → IsPermutation es ds → by_ticket ds ≡ es
+sorted_again es ds h same =
+    let sorted = IsPermutation-trans es ds (by_ticket ds) same (permutation-by_ticket ds) in
+    same_order (by_ticket ds) es
+    (ascending_distinct (by_ticket ds) (in_order-by_ticket ds)
+    (IsDistinct-IsPermutation one_ticket (λ e d. same_turned e.0 d.0) es (by_ticket ds) sorted (distinct_ascending es h)))
+    h (permuted_in es (by_ticket ds) sorted) (permuted_in (by_ticket ds) es (IsPermutation-sym es (by_ticket ds) sorted))
+
+-- ---- a serial log
+
+both_parts : {A : Type 0} (a b : A) (as' bs : List A) → a ∷ as' ≡ b ∷ bs → (a ≡ b) × (as' ≡ bs)
+both_parts a b as' bs h = (cc, cc)
+
+-- What a log appends to the journal leads where all of it leads.
+pub log_leads : (g : Geometry) (x : State) (log : List Replied) → ticket_replies log ≡ told g x (entries log)
+    → fold g x (loggable log) ≡ fold g x (messages (entries log))
+log_leads g x [] h = refl
+log_leads g x (a ∷ log) h =
+    let parts = both_parts (a.0, a.2) (a.0, reply_to g x a.1) (ticket_replies log) (told g (next_state g x a.1) (entries log)) h in
+    let reply : a.2 ≡ reply_to g x a.1 = ap (λ p. p.1) parts.0 in
+    let rest = log_leads g (next_state g x a.1) log parts.1 in
+    elim (is_loggable a.1 a.2) as
+    (λ b. is_loggable a.1 a.2 ≡ b → fold g x (map
+    (λ (a : Replied). a.1) (cond b (a ∷ filter (λ a. is_loggable a.1 a.2) log) (filter (λ a. is_loggable a.1 a.2) log)))
+    ≡ fold g (next_state g x a.1) (messages (entries log))) [
+      | true ↦ λ e. rest
+      | false ↦ λ e. ap (λ y. fold g y (loggable log)) (sym (unlogged_changes_nothing g x a.1 (ap (is_loggable a.1) (sym reply) ∙ e))) ∙ rest
+    ] refl
+
+-- A serial log in the order of its tickets: of all that arrived some, without a gap. They lead where the log leads, and each is told what
+-- the log has for it.
+pub record IsSortedLog (g : Geometry) (x : State) (arrivals : List Entry) (log : List Replied) (sorted : List Entry) : Type 0 where
+  pub no_gap : HasNoGap g sorted arrivals
+  pub state : fold g x (loggable log) ≡ fold g x (messages sorted)
+  pub tells : (p : ℕ × Reply) → IsIn p (ticket_replies log) → IsIn p (told g x sorted)
+
+pub sorted_log : (g : Geometry) (x : State) (arrivals : List Entry) (log : List Replied) → AreAscending arrivals
+    → IsSerialLog g x arrivals log → IsSortedLog g x arrivals log (by_ticket (entries log))
+sorted_log g x arrivals log ascending h =
+    let es = entries log in
+    let order = keeps_front es h.rest h.by_ticket in
+    let all = sorted_again arrivals (es ++ h.rest) ascending h.each_once in
+    record {
+      no_gap = subst (HasNoGap g (by_ticket es)) all
+          (no_gap g before (by_ticket es) (by_ticket (es ++ h.rest)) (in_order-by_ticket (es ++ h.rest))
+          (sorted_among before es h.rest (all-by_ticket before h.rest (crossed es h.rest h.by_ticket)))
+          (λ d out. all-by_ticket (λ e. IsBefore g e d) es out));
+      state = log_leads g x log h.in_order ∙ sym (fold-by_ticket g x es order);
+      tells = λ p is. subst (IsIn p) (sym (told-by_ticket g x es order))
+          (sorted_in (told g x es) p (subst (IsIn p) h.in_order is));
+    }
+  where
+    before : Entry → Type 0
+    before d = AllByRecursion (λ e. IsBefore g e d) (entries log)
+
+    keeps_front : (es rest : List Entry) → KeepsOrder g (es ++ rest) → KeepsOrder g es
+    keeps_front [] rest h = tt
+    keeps_front (e ∷ es) rest h = (all_front (IsBefore g e) es rest h.0, keeps_front es rest h.1)
+
+    -- each of the first is before each of the others
+    across : (es rest : List Entry) → KeepsOrder g (es ++ rest) → AllByRecursion (λ e. AllByRecursion (IsBefore g e) rest) es
+    across [] rest h = tt
+    across (e ∷ es) rest h = (all_back (IsBefore g e) es rest h.0, across es rest h.1)
+
+    turned : (es rest : List Entry) → AllByRecursion (λ e. AllByRecursion (IsBefore g e) rest) es
+        → AllByRecursion (λ d. AllByRecursion (λ e. IsBefore g e d) es) rest
+    turned es [] h = tt
+    turned es (d ∷ rest) h = (
+      all_weaker (λ e. AllByRecursion (IsBefore g e) (d ∷ rest)) (λ e. IsBefore g e d) (λ e k. k.0) es h,
+      turned es rest (all_weaker (λ e. AllByRecursion (IsBefore g e) (d ∷ rest)) (λ e. AllByRecursion (IsBefore g e) rest) (λ e k. k.1) es h),
+    )
+
+    crossed : (es rest : List Entry) → KeepsOrder g (es ++ rest) → AllByRecursion (λ d. AllByRecursion (λ e. IsBefore g e d) es) rest
+    crossed es rest h = turned es rest (across es rest h)
+
+    any_in : (ps qs : List (ℕ × Reply)) → IsPermutation qs ps → (p : ℕ × Reply) → IsIn p ps → IsIn p qs
+    any_in ps qs same p is = in_contained qs p
+        (holds_of (Contains qs) ps (all_permuted (Contains qs) qs ps same (recursion_from_All (Contains qs) qs (All-contains_itself qs))) p is)
+
+    sorted_in : (ps : List (ℕ × Reply)) (p : ℕ × Reply) → IsIn p ps → IsIn p (by_ticket ps)
+    sorted_in ps p is = any_in ps (by_ticket ps) (IsPermutation-sym ps (by_ticket ps) (permutation-by_ticket ps)) p is

@@ -1,0 +1,10 @@
+use Rattle.serving.specs.Ends.{settled_in}
+use Rattle.serving.proofs.Holding.{holds_told}
+use Rattle.serving.proofs.Recovering.{stands_recovered}
+use Rattle.serving.proofs.laws.what_may_be_told_is_recovered.Goals as goal
+
+pub returns : goal.returns
+returns g c = λ s told later now bytes may kept appends left leaves.
+    let h = holds_told g.D.Disk.keeps s told later now bytes may kept appends left leaves in
+    stands_recovered s.core.geometry (settled_in s.core) s.core.next s.input s.before later h.taken h.lines h.log left h.first h.output h.kept
+    h.holds

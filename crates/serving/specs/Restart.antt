@@ -1,0 +1,40 @@
+-- What a restart after a crash goes on from, in words of lines: which were acknowledged, and which others are there.
+use Rattle.std.specs.Prelude.{◌≡◌, ◌⊎◌, ℕ, Bool, false, ◌&&◌, List, [], ◌∷◌, ◌++◌, Option, Some}
+use Rattle.std.specs.List.{AllByRecursion}
+use Rattle.affinity.specs.Path.{are_related}
+use Rattle.affinity.specs.declared.geometry.Geometry.{Geometry}
+use Rattle.checkpoint.specs.Recovery.{holds}
+use Rattle.message.specs.Grammar.{message_of}
+use Rattle.message.specs.Lines.{lines}
+use Rattle.message.specs.Messages.{is_in_range, place}
+use Rattle.message.specs.declared.Msg.{Msg}
+use Rattle.plain.specs.Output.{WritesOutput, joined, output_lines, state_after_lines}
+use Rattle.plain.specs.State.{State}
+
+-- Two lines are related if the messages that they spell are in range, at related places.
+abbrev pub are_related_lines : Geometry → Option Msg → Option Msg → Bool
+are_related_lines g (Some m) (Some n) = is_in_range g m && is_in_range g n && are_related (place g m) (place g n)
+are_related_lines g _ _ = false
+
+-- The part has some of the lines, in their order. Where a line is left out, so is each related one behind it.
+abbrev pub IsClosedPart : Geometry → List (List ℕ) → List (List ℕ) → Type 0
+IsClosedPart g part [] = part ≡ []
+IsClosedPart g part (line ∷ ls) = ((rest : List (List ℕ)) × (part ≡ line ∷ rest) × IsClosedPart g rest ls)
+    ⊎ (AllByRecursion (λ other. are_related_lines g (message_of line) (message_of other) ≡ false) part × IsClosedPart g part ls)
+
+-- The first lines of the input were acknowledged, each by the serial server's answer. The state is where these lead, with a part of the
+-- lines behind them.
+pub record RecoversTo (g : Geometry) (start now : State) (input written : List ℕ) : Type 0 where
+  pub acknowledged : List (List ℕ)
+  pub behind : List (List ℕ)
+  pub first : lines input ≡ acknowledged ++ behind
+  pub answers : written ≡ joined (output_lines g start acknowledged)
+  pub part : List (List ℕ)
+  pub closed : IsClosedPart g part behind
+  pub state : now ≡ state_after_lines g start (acknowledged ++ part)
+
+-- These bytes stand for a state to which a server recovers that began in this one.
+pub record StandsRecovered (g : Geometry) (start : State) (input before written : Option (List ℕ)) (bytes : List ℕ) : Type 0 where
+  pub now : State
+  pub stands : holds g bytes ≡ Some now
+  pub recovers : WritesOutput input before written (RecoversTo g start now)

@@ -1,0 +1,7 @@
+use Rattle.std.proofs.Common.{rules, arith, ◌+◌, ◌%◌, ◌^◌}
+use Rattle.workers.proofs.Keeps.{rings}
+use Rattle.workers.proofs.steps.ring.Goals as goal
+
+pub fetch_add-requires : goal.fetch_add-requires
+fetch_add-requires c = let w = c.requires.bench.1.0 in let low = c.requires.bell in
+    (search rules, omega arith, rings _ _ c.args.seat.now.me c.args.bell (λ n. (n + 1) % 2 ^ 64) low)
