@@ -1,3 +1,4 @@
+pub mod BackingFile
 pub mod Device
 pub mod Fuse
 pub mod Memory

@@ -2,10 +2,12 @@
 use Rattle.std.specs.Prelude.{◌≡◌, ◌+◌, ℕ, List, length, slice_range}
 use Rattle.std.specs.declared.io.ErrorKind.{ErrorKind}
 use Rattle.std.specs.declared.io.ErrorKind.TheVariants.{OutOfMemory as NoMemory}
-use Rattle.disk.specs.declared.file.FileDisk.{FileDisk}
-use Rattle.disk.specs.Device.{Medium}
+use Rattle.std.specs.declared.fs.File.{File}
+use Rattle.disk.specs.declared.backed.FileBacked.{FileBacked}
+use Rattle.disk.specs.declared.host.HostFile.{HostFile}
 use Rattle.disk.specs.declared.fault.FileFault.{FileFault}
 use Rattle.disk.specs.declared.fault.FileFault.TheVariants.{Device, OutOfMemory}
+use Rattle.disk.specs.Device.{Medium}
 
 -- Whether files keep their bytes as a device does. No contract can say so: this is no fact that anything here or above
 -- could ever have, so what is promised under it is promised of no real file.
@@ -18,8 +20,8 @@ unfolding FileKeeps
 read_gives keeps at out now = absurd keeps
 
 -- a file as contracts see it
-abbrev pub file_medium : FileDisk → Medium
-file_medium d = d.shadow.medium
+abbrev pub file_medium : FileBacked (HostFile File) → Medium
+file_medium d = d.file.shadow.medium
 
 -- the fault that is told of an error of the system
 abbrev pub fault_of : ErrorKind → FileFault

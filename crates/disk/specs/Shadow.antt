@@ -1,7 +1,9 @@
 -- What the calls of a device make of its shadow. No public clause cites this module.
-use Rattle.std.specs.Prelude.{ℕ, ◌+◌, List, length, replicate}
+use Rattle.std.specs.Prelude.{ℕ, ◌+◌, List, [], ◌∷◌, ◌++◌, length, replicate}
 use Rattle.disk.specs.declared.shadow.Call.{Call}
 use Rattle.disk.specs.declared.shadow.Call.TheVariants.{Begun, Wrote, Lost, Synced, Failed, Zeroed, Found}
+use Rattle.disk.specs.declared.shadow.ByteList.{ByteList, Empty, More'}
+use Rattle.disk.specs.declared.shadow.CallList.{CallList, Nothing, After'}
 use Rattle.disk.specs.Device.{Medium, moments, marked, begun, found, written, synced, failed}
 
 -- a write that failed and that a read sees nothing of
@@ -17,3 +19,15 @@ medium_after Synced bytes m = synced m
 medium_after Failed bytes m = failed m
 medium_after (Zeroed size) bytes m = begun (replicate size 0)
 medium_after (Found size) bytes m = found (replicate size 0)
+
+abbrev pub bytes_of : ByteList → List ℕ
+bytes_of Empty = []
+bytes_of (More' byte shape before) = bytes_of before ++ byte ∷ []
+
+pub record ShadowView : Type 0 where
+  pub medium : Medium
+
+-- a device after these calls
+abbrev pub medium_after_all : CallList → Medium
+medium_after_all Nothing = begun []
+medium_after_all (After' call bytes shape before) = medium_after call (bytes_of bytes.value) (medium_after_all before)

@@ -1,10 +1,11 @@
 //! What contracts know of a device and no memory holds: its moments so far, and how often it failed.
 ghost use Rattle.std.specs.Prelude.{◌≡◌, []};
-ghost use Rattle.std.specs.Borrow.{ftrue};
-ghost use Rattle.disk.specs.Device.{Medium, begun};
-ghost use Rattle.disk.specs.Shadow.{medium_after};
+ghost use Rattle.disk.specs.Device.{begun};
+ghost use Rattle.disk.specs.Shadow.{medium_after, bytes_of};
 
-use std::marker::{Model, PhantomData};
+use std::marker::Model;
+use std::mem;
+use std::snapshot::Snapshot;
 
 /// What a device reports of a call.
 #[derive(Clone, Copy, Debug)]
@@ -24,17 +25,45 @@ pub(crate) enum Call {
     Found(u64),
 }
 
-/// It has no bytes, and its calls do nothing when they run. Nothing in itself ties `medium` to a device: each
-/// device does so by its own ghost fields. The proofs of `new` and `note` are written by hand, and no other proof
-/// sets ghost data.
+/// The bytes of a call, the last one first.
+#[derive(Drop)]
+pub(crate) enum ByteList {
+    Empty,
+    More(u8, Snapshot<ByteList>),
+}
+
+/// The calls so far, the last one first.
+#[derive(Drop)]
+pub(crate) enum CallList {
+    Nothing,
+    After(Call, Snapshot<ByteList>, Snapshot<CallList>),
+}
+
+/// The calls of a device as contracts see them: a snapshot takes no memory. Nothing in itself ties it to a device: each device
+/// does so by its own ghost fields.
 #[derive(Drop)]
 pub(crate) struct Shadow {
-    marker: PhantomData<u8>,
-    pub ghost medium: { Medium },
+    last: Snapshot<CallList>,
+}
+
+/// The loop has no effect, so a compiler leaves it out.
+fn snapshot_of(bytes: &[u8]) -> Snapshot<ByteList>
+    ensures { bytes_of result.value ≡ bytes.now }
+{
+    let mut list = ByteList::Empty;
+    for byte in bytes.iter().copied() {
+        let before = Snapshot::of(&list);
+        list = ByteList::More(byte, before);
+    }
+    Snapshot::of(&list)
 }
 
 impl Model for Shadow {
-    ghost also_owns = { λ _. ftrue };
+    ghost use Rattle.disk.specs.Shadow.{ShadowView, medium_after_all};
+
+    ghost Value = { ShadowView };
+
+    ghost view = { λ s. record { medium = medium_after_all s.last.value } };
 }
 
 impl Shadow {
@@ -42,12 +71,15 @@ impl Shadow {
         ensures { result.medium ≡ begun [] }
     {
         Shadow {
-            marker: PhantomData,
+            last: Snapshot::of(&CallList::Nothing),
         }
     }
 
     /// Notes a call, with the bytes that it was given.
-    pub(crate) fn note(&mut self, _call: &Call, _bytes: &[u8])
-        ensures { self.new.medium ≡ medium_after _call.now _bytes.now self.old.medium }
-    {}
+    pub(crate) fn note(&mut self, call: &Call, bytes: &[u8])
+        ensures { self.new.medium ≡ medium_after call.now bytes.now self.old.medium }
+    {
+        let before = mem::replace(&mut self.last, Snapshot::of(&CallList::Nothing));
+        self.last = Snapshot::of(&CallList::After(*call, snapshot_of(bytes), before));
+    }
 }

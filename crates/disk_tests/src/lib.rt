@@ -8,6 +8,8 @@ mod files;
 #[cfg(test)]
 mod fuses;
 #[cfg(test)]
+mod refusing;
+#[cfg(test)]
 mod sealing;
 #[cfg(test)]
 mod tearing;

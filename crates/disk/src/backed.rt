@@ -1,0 +1,58 @@
+//! A device over a file.
+ghost use Rattle.std.specs.Prelude.{◌≡◌};
+ghost use Rattle.disk.specs.BackingFile.{told};
+
+use crate::backing::BackingFile;
+use crate::ranges::start_of;
+use crate::{Disk, DiskFault};
+use std::io;
+
+/// A device that is a file. It keeps its bytes if the file does.
+#[derive(Drop)]
+pub struct FileBacked<F: BackingFile + Drop> {
+    pub(crate) file: F,
+}
+
+impl<F: BackingFile + Drop> FileBacked<F> {
+    /// The device that this file is, as it is now.
+    pub fn new(file: F) -> FileBacked<F>
+        ensures { F.BackingFile.medium result.file ≡ F.BackingFile.medium file }
+    {
+        FileBacked { file }
+    }
+}
+
+/// What the device answers where its file answered this.
+fn tell(answer: io::Result<()>) -> Result<(), DiskFault>
+    ensures { result ≡ told answer }
+{
+    answer.map_err(|_| DiskFault::Device)
+}
+
+impl<F: BackingFile + Drop> Disk for FileBacked<F> {
+    ghost medium = { λ d. F.BackingFile.medium d.file };
+
+    ghost keeps = { F.BackingFile.keeps };
+
+    fn len(&self) -> u64 {
+        self.file.len()
+    }
+
+    fn read_at(&mut self, at: u64, out: &mut [u8]) -> Result<(), DiskFault> {
+        start_of(self.len(), at, out.len())?;
+        tell(self.file.read_exact_at(out, at))
+    }
+
+    fn write_at(&mut self, at: u64, bytes: &[u8]) -> Result<(), DiskFault> {
+        start_of(self.len(), at, bytes.len())?;
+        tell(self.file.write_all_at(bytes, at))
+    }
+
+    fn sync(&mut self) -> Result<(), DiskFault> {
+        tell(self.file.sync_data())
+    }
+
+    ghost fits = { λ d. F.BackingFile.fits d.file };
+
+    ghost bytes = { λ d. F.BackingFile.bytes d.file };
+}

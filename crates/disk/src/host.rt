@@ -1,0 +1,86 @@
+//! A file of the system.
+ghost use Rattle.std.specs.Prelude.{◌≡◌, ◌<◌, ◌^◌, length, replicate};
+ghost use Rattle.disk.specs.Device.{AreBytes, begun, found};
+
+use crate::backing::BackingFile;
+use crate::shadow::{Call, Shadow};
+use std::fs::OpenFile;
+use std::io;
+use std::os::unix::fs::FileExt;
+
+/// An open file of the system.
+#[derive(Drop)]
+pub struct HostFile<T: FileExt + OpenFile + Drop> {
+    file: T,
+    size: u64,
+    shadow: Shadow,
+    ghost size_is: { length shadow.medium.now ≡ size },
+    ghost fits: { length shadow.medium.now < 2 ^ 64 },
+    ghost are_bytes: { AreBytes shadow.medium.now },
+}
+
+impl<T: FileExt + OpenFile + Drop> HostFile<T> {
+    /// A file of this length, which is synced. What contracts see of its bytes are zeros, whatever it holds: see `FileKeeps`.
+    pub fn synced(file: T, size: u64) -> HostFile<T>
+        ensures { result.shadow.medium ≡ begun (replicate size 0) }
+    {
+        let mut shadow = Shadow::new();
+        shadow.note(&Call::Zeroed(size), &[]);
+        HostFile { file, size, shadow }
+    }
+
+    /// A file of this length, of which nothing counts as synced.
+    pub fn found(file: T, size: u64) -> HostFile<T>
+        ensures { result.shadow.medium ≡ found (replicate size 0) }
+    {
+        let mut shadow = Shadow::new();
+        shadow.note(&Call::Found(size), &[]);
+        HostFile { file, size, shadow }
+    }
+}
+
+/// Each method makes one call of the system, and then notes it with its answer. That it makes the call that it notes, and gives the
+/// answer that the system gave, no contract says: these three methods are trusted.
+impl<T: FileExt + OpenFile + Drop> BackingFile for HostFile<T> {
+    ghost use Rattle.disk.specs.RealFile.{FileKeeps};
+
+    ghost medium = { λ f. f.shadow.medium };
+
+    ghost keeps = { FileKeeps };
+
+    fn len(&self) -> u64 {
+        self.size
+    }
+
+    fn read_exact_at(&mut self, out: &mut [u8], at: u64) -> io::Result<()> {
+        let answer = self.file.read_exact_at(out, at);
+        if answer.is_err() {
+            self.shadow.note(&Call::Failed, &[]);
+        }
+        answer
+    }
+
+    fn write_all_at(&mut self, bytes: &[u8], at: u64) -> io::Result<()> {
+        let answer = self.file.write_all_at(bytes, at);
+        if answer.is_err() {
+            self.shadow.note(&Call::Lost(at), bytes);
+        } else {
+            self.shadow.note(&Call::Wrote(at), bytes);
+        }
+        answer
+    }
+
+    fn sync_data(&mut self) -> io::Result<()> {
+        let answer = self.file.sync_data();
+        if answer.is_err() {
+            self.shadow.note(&Call::Failed, &[]);
+        } else {
+            self.shadow.note(&Call::Synced, &[]);
+        }
+        answer
+    }
+
+    ghost fits = { λ f. f.fits };
+
+    ghost bytes = { λ f. f.are_bytes };
+}
