@@ -8,13 +8,13 @@ use std::test::Fail;
 
 /// A new, empty folder, and the path of a file in it.
 #[derive(Drop)]
-struct Place {
+pub(crate) struct Place {
     folder: String,
     path: String,
 }
 
 impl Place {
-    fn new(rt: &HostRuntime, name: &str) -> Result<Place, Fail> {
+    pub(crate) fn new(rt: &HostRuntime, name: &str) -> Result<Place, Fail> {
         let id = process::id(rt.process());
         let folder = format!(in rt.alloc(); "/tmp/disk_tests_{name}_{id}")?;
         if fs::exists(rt, folder.as_str())? {
@@ -26,8 +26,12 @@ impl Place {
     }
 
     /// Puts these bytes into the file.
-    fn write(&self, rt: &HostRuntime, bytes: &[u8]) -> Result<(), Fail> {
+    pub(crate) fn write(&self, rt: &HostRuntime, bytes: &[u8]) -> Result<(), Fail> {
         Ok(fs::write(rt, self.path.as_str(), bytes)?)
+    }
+
+    pub(crate) fn path(&self) -> &str {
+        self.path.as_str()
     }
 
     fn create(&self, rt: &HostRuntime, len: u64) -> Result<FileDisk, FileFault> {
@@ -43,11 +47,11 @@ impl Place {
     }
 
     /// The bytes of the file.
-    fn read(&self, rt: &HostRuntime) -> Result<Vec<u8>, Fail> {
+    pub(crate) fn read(&self, rt: &HostRuntime) -> Result<Vec<u8>, Fail> {
         Ok(fs::read(rt, self.path.as_str())?)
     }
 
-    fn remove(self, rt: &HostRuntime) -> Result<(), Fail> {
+    pub(crate) fn remove(self, rt: &HostRuntime) -> Result<(), Fail> {
         Ok(fs::remove_dir_all(rt, self.folder.as_str())?)
     }
 }

@@ -2,13 +2,13 @@
 #![tactic(auto)]
 
 #[cfg(test)]
+mod backing;
+#[cfg(test)]
 mod calls;
 #[cfg(test)]
 mod files;
 #[cfg(test)]
 mod fuses;
-#[cfg(test)]
-mod refusing;
 #[cfg(test)]
 mod sealing;
 #[cfg(test)]
