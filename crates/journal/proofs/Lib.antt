@@ -1,4 +1,5 @@
 mod Places
+mod Costs
 mod Runs
 mod Patches
 mod Standing

@@ -22,7 +22,7 @@ use Rattle.journal.specs.Journal.{JournalView}
 use Rattle.journal.specs.Marks.{opened_marks}
 use Rattle.journal.specs.Keeping.{IsSoundJournal, held_of}
 use Rattle.journal.specs.Opening.{IsOpened}
-use Rattle.journal.specs.Parts.{AreLoaded, AreUnloaded, IsMade, IsMadeOf, KeepsRoom, marks_of}
+use Rattle.journal.specs.Parts.{AreLoaded, AreUnloaded, IsMade, IsMadeOf, KeepsRoom}
 use Rattle.journal.specs.Steps.{IsAlone, IsPointed, IsUnfinished, pointed, run_on}
 use Rattle.journal.specs.Stretches.{AreAllMarked}
 use Rattle.journal.proofs.Logging.{settled_of}

@@ -6,3 +6,4 @@ pub mod Keeping
 pub mod Opening
 pub mod Parts
 pub mod Images
+pub mod Costs

@@ -4,6 +4,7 @@ ghost use Rattle.checkpoint.specs.Recovery.{holds};
 ghost use Rattle.checkpoint.specs.Version.{named_version};
 ghost use Rattle.disk.specs.Moments.{LeavesOnly};
 ghost use Rattle.image.specs.Pieces.{piece_count};
+ghost use Rattle.journal.specs.Costs.{longest_point, point_takes};
 ghost use Rattle.journal.specs.Images.{KeepsImages, PatchesOne};
 ghost use Rattle.journal.specs.Journal.{JournalView, AreCarriedOut, HoldsSome, IsSettled, after_call, records, settled};
 ghost use Rattle.journal.specs.Marks.{AreBothTouched, count_marked, cut_marks, flipped_marks, pointed_marks};
@@ -170,6 +171,10 @@ impl<D: Disk> Journal<D> {
         ensures sound { OnOk result (D.keeps → IsSettled self.new) }
         ensures emptied { OnOk result (D.keeps → records self.new ≡ []) }
         ensures version { OnOk result (D.keeps → named_version self.new.geometry self.new.medium.now ≡ 2) }
+
+        // Marked pieces that lie side by side go with one write.
+        ensures takes { D.keeps → Takes result (point_takes self.old.marks.others) self.old.medium self.new.medium }
+        ensures few { point_takes self.old.marks.others ≤ longest_point self.old.geometry }
         ensures after { self.new ≡ after_call result
             (record self.old { room = self.old.geometry.half; marks = pointed_marks self.old.marks; medium = self.new.medium })
             self.old }

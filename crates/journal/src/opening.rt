@@ -7,12 +7,14 @@ ghost use Rattle.checkpoint.specs.Loading.{IsOpeningCall, NamedHolds};
 ghost use Rattle.checkpoint.specs.Recovery.{holds};
 ghost use Rattle.checkpoint.specs.Refusals.{IsDevice, IsRefused, refused};
 ghost use Rattle.disk.specs.Device.{IsSynced, Leaves};
-ghost use Rattle.disk.specs.Moments.{LeavesOnly};
+ghost use Rattle.disk.specs.Moments.{LeavesOnly, moment};
 ghost use Rattle.image.specs.Image.{image_of};
+ghost use Rattle.journal.specs.Costs.{finish_takes, opening_takes};
 ghost use Rattle.journal.specs.Opening.{IsOpened, IsRefusedUnwritten, OpeningLeaves, StandsAs};
 ghost use Rattle.journal.specs.Parts.{AreLoaded, AreUnloaded, IsBad, IsMade, IsMadeOf, IsRefusedAlike, KeepsRoom};
 ghost use Rattle.journal.specs.Steps.{IsAlone, IsFinished, IsPointed, StandsStill, finished_now, pointed};
 ghost use Rattle.oplog.specs.Beyond.{KeepsBeyond};
+ghost use Rattle.oplog.specs.Costs.{Takes};
 ghost use Rattle.oplog.specs.Layout.{Layout, device_size, layout_of, other};
 ghost use Rattle.oplog.specs.Log.{IsLogCall, IsNotBad};
 ghost use Rattle.parcel.specs.Tree.{IsWholeTree, state_in};
@@ -80,6 +82,7 @@ fn settle<D: Disk>(disk: &mut D) -> Result<(), OpenFault>
     ensures now { D.keeps → (D.medium disk.new).now ≡ (D.medium disk.old).now }
     ensures beyond { D.keeps → (l : Layout) → KeepsBeyond l (D.medium disk.old) (D.medium disk.new) }
     ensures calm { OnOk result (D.keeps → IsSynced (D.medium disk.new)) }
+    ensures takes { D.keeps → Takes result 1 (D.medium disk.old) (D.medium disk.new) }
     ensures device { IfErr result (λ e. e ≡ Device) }
     ensures call { IsOpeningCall result (D.medium disk.old) (D.medium disk.new) }
 {
@@ -103,6 +106,7 @@ fn finish_cut<D: Disk>(parts: &mut Parts, disk: &mut D) -> Result<(), LogFault>
         LeavesOnly (D.medium disk.old) (D.medium disk.new) (IsRefusedAlike parts.old.halves.geometry (D.medium disk.old).now) }
     ensures finished { OnOk result (D.keeps →
         IsFinished parts.old.halves (D.medium disk.old) (D.medium disk.new)) }
+    ensures takes { D.keeps → Takes result 4 (D.medium disk.old) (D.medium disk.new) }
     ensures log { OnOk result (parts.new.halves ≡ finished_now parts.old.halves) }
     ensures tree { parts.new.tree ≡ parts.old.tree }
     ensures room { KeepsRoom parts.old parts.new }
@@ -125,6 +129,7 @@ fn replay_behind<D: Disk>(parts: &mut Parts, disk: &mut D) -> Result<(), OpenFau
     ensures beyond { D.keeps → KeepsBeyond (layout_of parts.old.halves.geometry) (D.medium disk.old) (D.medium disk.new) }
     ensures alike { D.keeps →
         LeavesOnly (D.medium disk.old) (D.medium disk.new) (IsRefusedAlike parts.old.halves.geometry (D.medium disk.old).now) }
+    ensures takes { D.keeps → Takes result 4 (D.medium disk.old) (D.medium disk.new) }
     ensures alone { OnOk result (D.keeps → IsAlone parts.new.halves (D.medium disk.new)) }
     ensures was { OnOk result (D.keeps →
         holds parts.old.halves.geometry (D.medium disk.old).now ≡ Some (state_in parts.new.tree)) }
@@ -161,6 +166,8 @@ fn load_in_turn<D: Disk>(
     ensures beyond { D.keeps → KeepsBeyond (layout_of parts.old.tree.geometry) (D.medium disk.old) (D.medium disk.new) }
     ensures alike { D.keeps →
         LeavesOnly (D.medium disk.old) (D.medium disk.new) (IsRefusedAlike parts.old.tree.geometry (D.medium disk.old).now) }
+    ensures takes { D.keeps → Takes result
+        (finish_takes parts.old.tree.geometry (D.medium disk.old).now) (D.medium disk.old) (D.medium disk.new) }
     ensures alone { OnOk result (D.keeps → IsAlone parts.new.halves (D.medium disk.new)) }
     ensures was { OnOk result (D.keeps →
         holds parts.old.tree.geometry (D.medium disk.old).now ≡ Some (state_in parts.new.tree)) }
@@ -192,6 +199,7 @@ fn last_point<D: Disk>(parts: &mut Parts, disk: &mut D) -> Result<(), OpenFault>
     ensures any_moment { D.keeps →
         StandsStill parts.old.halves.geometry (D.medium disk.old) (D.medium disk.new) }
     ensures beyond { D.keeps → KeepsBeyond (layout_of parts.old.halves.geometry) (D.medium disk.old) (D.medium disk.new) }
+    ensures takes { D.keeps → Takes result 6 (D.medium disk.old) (D.medium disk.new) }
     ensures pointed { OnOk result (D.keeps →
         IsPointed parts.old.halves parts.new.frozen.items (D.medium disk.old) (D.medium disk.new)) }
     ensures frozen { parts.new.frozen.items ≡ image_of 2 parts.old.tree.geometry (state_in parts.old.tree) }
@@ -213,6 +221,9 @@ fn open_settled<D: Disk>(alloc: Global, disk: &mut D) -> Result<Parts, OpenFault
         LeavesOnly (D.medium disk.old) (D.medium disk.new) (StandsAs (D.medium disk.old).now) }
     ensures beyond { D.keeps → (g : Geometry) → HasHeader g (D.medium disk.old).now
         → KeepsBeyond (layout_of g) (D.medium disk.old) (D.medium disk.new) }
+    ensures takes { D.keeps → MatchResult result
+        (λ p. moment (D.medium disk.new) ≡ moment (D.medium disk.old) + (finish_takes p.halves.geometry (D.medium disk.old).now + 6))
+        (λ e. moment (D.medium disk.new) ≤ moment (D.medium disk.old) + 10) }
     ensures made_of { IfOk result (λ p. D.keeps →
         IsMadeOf (D.medium disk.old).now p (D.medium disk.new)) }
     ensures made { IfOk result (λ p. IsMade p (D.medium disk.new)) }
@@ -236,6 +247,9 @@ fn open_on<D: Disk>(alloc: Global, disk: &mut D) -> Result<Parts, OpenFault>
     ensures any_moment { D.keeps → OpeningLeaves (D.medium disk.old) (D.medium disk.new) }
     ensures beyond { D.keeps → (g : Geometry) → HasHeader g (D.medium disk.old).now
         → KeepsBeyond (layout_of g) (D.medium disk.old) (D.medium disk.new) }
+    ensures takes { D.keeps → MatchResult result
+        (λ p. moment (D.medium disk.new) ≡ moment (D.medium disk.old) + opening_takes p.halves.geometry (D.medium disk.old).now)
+        (λ e. moment (D.medium disk.new) ≤ moment (D.medium disk.old) + 11) }
     ensures made_of { IfOk result (λ p. D.keeps →
         IsMadeOf (D.medium disk.old).now p (D.medium disk.new)) }
     ensures made { IfOk result (λ p. IsMade p (D.medium disk.new)) }
@@ -275,6 +289,11 @@ pub fn open<D: Disk>(alloc: Global, d: D) -> Result<(Journal<D>, Tree), OpenErro
     ensures beyond { D.keeps → (g : Geometry) → HasHeader g (D.medium d).now → MatchResult result
         (λ r. KeepsBeyond (layout_of g) (D.medium d) r.0.medium)
         (λ e. KeepsBeyond (layout_of g) (D.medium d) (D.medium e.disk)) }
+
+    // How many writes and syncs it takes.
+    ensures takes { D.keeps → MatchResult result
+        (λ r. moment r.0.medium ≡ moment (D.medium d) + opening_takes r.0.geometry (D.medium d).now)
+        (λ e. moment (D.medium e.disk) ≤ moment (D.medium d) + 11) }
     ensures refused { IfErr result (λ e. D.keeps → IsRefused (D.medium d).now e.fault) }
     ensures unwritten { IfErr result (λ e. D.keeps →
         IsRefusedUnwritten (D.medium d) e.fault (D.medium e.disk)) }

@@ -5,6 +5,7 @@ ghost use Rattle.checkpoint.specs.Recovery.{holds};
 ghost use Rattle.disk.specs.Moments.{LeavesOnly};
 ghost use Rattle.image.specs.Image.{read};
 ghost use Rattle.image.specs.Pieces.{piece_count};
+ghost use Rattle.journal.specs.Costs.{point_takes};
 ghost use Rattle.journal.specs.Parts.{IsRefusedAlike};
 ghost use Rattle.journal.specs.Steps.{IsAlone, IsBegun, IsFinished, IsFlipped, IsPointed, IsUnfinished, IsWritten, StandsStill, cut_now, finished_now, named_now, pointed};
 ghost use Rattle.journal.specs.Stretches.{AgreeUnmarked, AreAllMarked, image_in};
@@ -42,6 +43,7 @@ pub(crate) fn point_on<D: Disk>(
     ensures beyond { D.keeps → KeepsBeyond (layout_of halves.old.geometry) (D.medium disk.old) (D.medium disk.new) }
     ensures pointed { OnOk result (D.keeps →
         IsPointed halves.old bytes.now (D.medium disk.old) (D.medium disk.new)) }
+    ensures takes { D.keeps → Takes result (point_takes marks.now) (D.medium disk.old) (D.medium disk.new) }
     ensures log { OnOk result (halves.new ≡ pointed halves.old) }
     ensures geometry { halves.new.geometry ≡ halves.old.geometry }
     ensures used { OnErr result (halves.new.used ≡ halves.old.used) }
@@ -134,6 +136,7 @@ pub(crate) fn finish_on<D: Disk>(
         → LeavesOnly (D.medium disk.old) (D.medium disk.new) (IsRefusedAlike halves.old.geometry (D.medium disk.old).now) }
     ensures finished { OnOk result (D.keeps →
         IsFinished halves.old (D.medium disk.old) (D.medium disk.new)) }
+    ensures takes { D.keeps → Takes result 4 (D.medium disk.old) (D.medium disk.new) }
     ensures log { OnOk result (halves.new ≡ finished_now halves.old) }
     ensures not_bad { IsNotBad result }
     ensures call { IsLogCall result (D.medium disk.old) (D.medium disk.new) }

@@ -2,6 +2,7 @@
 ghost use Rattle.std.specs.Prelude.{◌≡◌, ◌+◌, ◌-◌, ◌<◌, ◌≤◌, ℕ, length, OnOk, IsErrOf};
 ghost use Rattle.disk.specs.Device.{IsDeviceCall, Syncs, overlaid};
 ghost use Rattle.image.specs.Pieces.{piece_count, piece_size};
+ghost use Rattle.journal.specs.Costs.{count_runs};
 ghost use Rattle.journal.specs.Stretches.{AgreeUnmarked, Imaged, IsPatchedAt, image_in, stretch_size};
 ghost use Rattle.oplog.specs.Changes.{ChangesOnly, IsReady, IsSameBut};
 ghost use Rattle.oplog.specs.Costs.{Takes};
@@ -48,6 +49,7 @@ fn write_run<D: Disk>(
     ensures ready { D.keeps → (h k : ℕ) → h < 2 → IsReady (layout_of g.now) h k (D.medium disk.old)
         → IsReady (layout_of g.now) h k (D.medium disk.new) }
     ensures takes { from < end → D.keeps → Takes result 1 (D.medium disk.old) (D.medium disk.new) }
+    ensures none { end ≤ from → disk.new ≡ disk.old }
     ensures inside { IsErrOf result DiskFault.OutOfRange → ⊥ }
     ensures call { IsDeviceCall result (D.medium disk.old) (D.medium disk.new) }
 {
@@ -86,6 +88,7 @@ pub(crate) fn write_image<D: Disk>(
         (IsSameBut (layout_of g.now) (image area)) }
     ensures written { OnOk result (D.keeps →
         Imaged g.now area bytes.now (D.medium disk.old) (D.medium disk.new)) }
+    ensures takes { D.keeps → Takes result (count_runs marks.now + 1) (D.medium disk.old) (D.medium disk.new) }
     ensures inside { IsErrOf result DiskFault.OutOfRange → ⊥ }
     ensures call { IsDeviceCall result (D.medium disk.old) (D.medium disk.new) }
 {

@@ -1,9 +1,11 @@
-use Rattle.std.proofs.Common.{◌≡◌, Bool, true, List, ℕ, length, refl, sym, ◌∙◌, ap, subst, true≢false}
+use Rattle.std.proofs.Common.{Bool, List, length, sym, ◌∙◌, ap, subst, arith, true≢false}
+use Rattle.std.proofs.lemmas.Result.{err_from_is_err_and}
 use Rattle.affinity.specs.declared.geometry.Geometry.{Geometry}
 use Rattle.image.specs.Image.{image_of, read}
 use Rattle.image.proofs.Reading.{read_again}
-use Rattle.journal.specs.Steps.{IsPointed}
+use Rattle.journal.specs.Costs.{count_runs}
 use Rattle.journal.specs.Stretches.{AreAllMarked}
+use Rattle.journal.proofs.Costs.{one_run}
 use Rattle.journal.proofs.Rows.{whole_put}
 use Rattle.journal.proofs.Saving.{all_right}
 use Rattle.parcel.specs.Tree.{state_in}
@@ -26,3 +28,16 @@ pub point_on-requires-clause-unmarked : goal.point_on-requires-clause-unmarked
 point_on-requires-clause-unmarked g c = λ k n few unmarked.
     let all = subst (λ (l : List Bool). AreAllMarked c.args.parts.now.halves.geometry l) (sym c.deref-3.ensures.value) c.requires.loaded.all in
     absurd (true≢false (sym (all n few) ∙ unmarked))
+
+pub returns-in_err-point_on-clause-takes : goal.returns-in_err-point_on-clause-takes
+returns-in_err-point_on-clause-takes g c =
+    let p = err_from_is_err_and c.from_residual.result c.from_residual.ensures.1 in
+    rw p.1
+    (λ k.
+    let one = ap count_runs c.deref-3.ensures.value ∙ one_run c.args.parts.now.halves.geometry c.args.parts.now.other_marks.items c.requires.loaded.other_marks c.requires.loaded.all in
+    omega (arith, one, c.in_err-point_on.ensures.takes k))
+
+pub returns-clause-takes : goal.returns-clause-takes
+returns-clause-takes g c = λ k.
+    let one = ap count_runs c.deref-3.ensures.value ∙ one_run c.args.parts.now.halves.geometry c.args.parts.now.other_marks.items c.requires.loaded.other_marks c.requires.loaded.all in
+    omega (arith, one, c.in_ok-point_on.ensures.takes k)

@@ -6,8 +6,9 @@ use Rattle.checkpoint.specs.Recovery.{holds}
 use Rattle.checkpoint.specs.Refusals.{refused}
 use Rattle.checkpoint.proofs.Replays.{same_bytes}
 use Rattle.disk.specs.Moments.{LeavesOnly}
-use Rattle.journal.specs.Parts.{IsBad, IsRefusedAlike, KeepsRoom}
+use Rattle.journal.specs.Parts.{IsBad, IsRefusedAlike}
 use Rattle.journal.specs.Steps.{StandsStill}
+use Rattle.journal.proofs.Costs.{finish_is, no_call}
 use Rattle.journal.proofs.Loaded.{are_loaded, alone_fine, alone_holds, alone_stands, held_after, not_off, not_on}
 use Rattle.journal.proofs.Settling.{alike_after, alike_read, all_unwritten, bad_behind, bad_from, bad_synced, still_after, still_read, still_synced, unread}
 use Rattle.oplog.specs.Beyond.{KeepsBeyond}
@@ -179,3 +180,32 @@ returns-clause-beyond g c = λ k.
     let log = ap (λ (l : Log). l.geometry) c.in_ok-named.ensures.log in
     beyond_then (layout_of t) w0 w1 w2 (beyond_read (layout_of t) w0 w1 (c.load_named.ensures.untouched k))
     (subst (λ (h : Geometry). KeepsBeyond (layout_of h) w1 w2) log (c.replay_behind.ensures.beyond k))
+
+pub returns-in_err-named-clause-takes : goal.returns-in_err-named-clause-takes
+returns-in_err-named-clause-takes g c =
+    let p = err_from_is_err_and c.from_residual.result c.from_residual.ensures.1 in
+    rw p.1
+    (λ k.
+    let read = no_call (g.D.Disk.medium c.args.disk.now) (g.D.Disk.medium c.load_named.new.disk) (c.load_named.ensures.untouched k) in
+    omega (arith, read))
+
+pub returns-then-not-named-clause-takes : goal.returns-then-not-named-clause-takes
+returns-then-not-named-clause-takes g c = λ k.
+    let read = no_call (g.D.Disk.medium c.args.disk.now) (g.D.Disk.medium c.load_named.new.disk) (c.load_named.ensures.untouched k) in
+    let none = finish_is c.args.parts.now.tree.geometry (g.D.Disk.medium c.args.disk.now).now c.in_ok-named.named.area c.in_ok-named.named.chained false (state_in c.load_named.new.tree) (not_on c.in_ok-named.named.chained c.if-not-named.true) (c.in_ok-named.ensures.loaded k) in
+    omega (arith, read, none)
+
+pub returns-in_err-replay_behind-clause-takes : goal.returns-in_err-replay_behind-clause-takes
+returns-in_err-replay_behind-clause-takes g c =
+    let p = err_from_is_err_and c.from_residual-in_err-replay_behind.result c.from_residual-in_err-replay_behind.ensures.1 in
+    rw p.1
+    (λ k.
+    let read = no_call (g.D.Disk.medium c.args.disk.now) (g.D.Disk.medium c.load_named.new.disk) (c.load_named.ensures.untouched k) in
+    let four = finish_is c.args.parts.now.tree.geometry (g.D.Disk.medium c.args.disk.now).now c.in_ok-named.named.area c.in_ok-named.named.chained true (state_in c.load_named.new.tree) (not_off c.in_ok-named.named.chained c.if-not-named.false) (c.in_ok-named.ensures.loaded k) in
+    omega (arith, read, four, c.in_err-replay_behind.ensures.takes k))
+
+pub returns-clause-takes : goal.returns-clause-takes
+returns-clause-takes g c = λ k.
+    let read = no_call (g.D.Disk.medium c.args.disk.now) (g.D.Disk.medium c.load_named.new.disk) (c.load_named.ensures.untouched k) in
+    let four = finish_is c.args.parts.now.tree.geometry (g.D.Disk.medium c.args.disk.now).now c.in_ok-named.named.area c.in_ok-named.named.chained true (state_in c.load_named.new.tree) (not_off c.in_ok-named.named.chained c.if-not-named.false) (c.in_ok-named.ensures.loaded k) in
+    omega (arith, read, four, c.in_ok-replay_behind.ensures.takes k)

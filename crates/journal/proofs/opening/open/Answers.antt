@@ -1,3 +1,7 @@
+use Rattle.std.proofs.Common.{◌+◌, sym, ◌∙◌, ap}
+use Rattle.disk.specs.Moments.{moment}
+use Rattle.journal.specs.Costs.{opening_takes}
+use Rattle.journal.specs.Journal.{JournalView}
 use Rattle.journal.proofs.Loaded.{opened}
 use Rattle.journal.proofs.opening.open.Goals as goal
 
@@ -7,3 +11,9 @@ new-journal-requires-clause-sound g c = λ k. (c.in-Ok.ensures.made_of k).sound
 pub returns-in-Ok-clause-opened : goal.returns-in-Ok-clause-opened
 returns-in-Ok-clause-opened g c = λ k.
     opened c.in-Ok.parts (g.D.Disk.medium c.args.d) (g.D.Disk.medium c.open_on.new.disk) c.new-journal.result c.in-Ok.ensures.made (c.in-Ok.ensures.made_of k) c.in-Ok.ensures.whole c.new-journal.ensures
+
+pub returns-in-Ok-clause-takes : goal.returns-in-Ok-clause-takes
+returns-in-Ok-clause-takes g c = λ k.
+    let m = g.D.Disk.medium c.args.d in
+    ap (λ (j : JournalView). moment j.medium) c.new-journal.ensures ∙ c.in-Ok.ensures.takes k
+    ∙ sym (ap (λ (j : JournalView). moment m + opening_takes j.geometry m.now) c.new-journal.ensures)

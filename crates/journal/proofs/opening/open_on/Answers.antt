@@ -1,7 +1,9 @@
-use Rattle.std.proofs.Common.{ℕ, List, sym, subst}
+use Rattle.std.proofs.Common.{ℕ, List, sym, subst, arith}
+use Rattle.std.proofs.lemmas.Result.{err_from_is_err_and}
 use Rattle.checkpoint.specs.Header.{HasHeader}
 use Rattle.checkpoint.specs.Refusals.{IsDevice}
 use Rattle.journal.specs.Parts.{IsMadeOf}
+use Rattle.journal.proofs.Costs.{opening_after}
 use Rattle.journal.proofs.Settling.{if_err, if_ok, never_synced, synced_then, unwritten_from, unwritten_then}
 use Rattle.oplog.specs.Layout.{layout_of}
 use Rattle.oplog.proofs.Beyond.{beyond_then}
@@ -42,3 +44,12 @@ returns-clause-beyond g c = λ k h head.
     let w1 = g.D.Disk.medium c.settle.new.disk in
     let w2 = g.D.Disk.medium c.open_settled.new.disk in
     beyond_then (layout_of h) w0 w1 w2 (c.settle.ensures.beyond k (layout_of h)) (c.open_settled.ensures.beyond k h (subst (λ (l : List ℕ). HasHeader h l) (sym (c.settle.ensures.now k)) head))
+
+pub returns-in_err-settle-clause-takes : goal.returns-in_err-settle-clause-takes
+returns-in_err-settle-clause-takes g c =
+    let p = err_from_is_err_and c.from_residual.result c.from_residual.ensures.1 in
+    rw p.1 (λ k. omega (arith, c.in_err-settle.ensures.takes k))
+
+pub returns-clause-takes : goal.returns-clause-takes
+returns-clause-takes g c = λ k.
+    opening_after c.open_settled.result (g.D.Disk.medium c.args.disk.now) (g.D.Disk.medium c.settle.new.disk) (g.D.Disk.medium c.open_settled.new.disk) (c.settle.ensures.now k) (c.in_ok-settle.ensures.takes k) (c.open_settled.ensures.takes k)

@@ -1,4 +1,4 @@
-use Rattle.std.proofs.Common.{◌≡◌, ◌≤◌, Bool, List, ℕ, length, refl, sym, ◌∙◌, ap, subst}
+use Rattle.std.proofs.Common.{◌≡◌, ◌≤◌, Bool, List, ℕ, length, refl, sym, ◌∙◌, ap, subst, arith}
 use Rattle.std.proofs.lemmas.Result.{err_from_is_err_and}
 use Rattle.affinity.specs.declared.geometry.Geometry.{Geometry}
 use Rattle.checkpoint.specs.declared.fault.OpenFault.{OpenFault}
@@ -9,13 +9,16 @@ use Rattle.checkpoint.specs.Refusals.{refused}
 use Rattle.checkpoint.proofs.OneGeometry.{same_geometry}
 use Rattle.checkpoint.proofs.Refusing.{behind_header, header_half, took_none}
 use Rattle.checkpoint.proofs.Replays.{same_bytes}
+use Rattle.journal.specs.Costs.{finish_takes}
 use Rattle.journal.specs.Parts.{IsMadeOf}
 use Rattle.journal.specs.Steps.{StandsStill}
 use Rattle.journal.specs.Stretches.{AreAllMarked}
+use Rattle.journal.proofs.Costs.{finish_few, no_call}
 use Rattle.journal.proofs.Loaded.{made, made_of}
 use Rattle.journal.proofs.Settling.{all_unwritten, alike_after, as_alike, as_before, as_still, still_after, still_now, still_synced, still_then, unread, unwritten_from, unwritten_then}
 use Rattle.oplog.specs.Beyond.{KeepsBeyond}
 use Rattle.oplog.specs.Layout.{device_size, layout_of}
+use Rattle.oplog.specs.Log.{Log}
 use Rattle.oplog.proofs.Beyond.{beyond_read, beyond_then}
 use Rattle.oplog.specs.Stands.{named_area}
 use Rattle.parcel.specs.Tree.{TreeView}
@@ -202,3 +205,52 @@ returns-clause-beyond g c = λ k h head.
     let w3 = g.D.Disk.medium c.last_point.new.disk in
     let last = subst (λ (x : Geometry). KeepsBeyond (layout_of x) w2 w3) c.in_ok-load_in_turn.ensures.geometry (c.last_point.ensures.beyond k) in
     subst (λ (x : Geometry). KeepsBeyond (layout_of x) w0 w3) (same_geometry t h (sym own ∙ head)) (beyond_then (layout_of t) w0 w2 w3 loaded last)
+
+pub returns-in_err-g-clause-takes : goal.returns-in_err-g-clause-takes
+returns-in_err-g-clause-takes g c =
+    let p = err_from_is_err_and c.from_residual.result c.from_residual.ensures.1 in
+    rw p.1
+    (λ k.
+    let read = no_call (g.D.Disk.medium c.args.disk.now) (g.D.Disk.medium c.read_header.new.disk) (c.read_header.ensures.untouched k) in
+    omega (arith, read))
+
+pub returns-in_err-parts-clause-takes : goal.returns-in_err-parts-clause-takes
+returns-in_err-parts-clause-takes g c =
+    let p = err_from_is_err_and c.from_residual-in_err-parts.result c.from_residual-in_err-parts.ensures.1 in
+    rw p.1
+    (λ k.
+    let read = no_call (g.D.Disk.medium c.args.disk.now) (g.D.Disk.medium c.read_header.new.disk) (c.read_header.ensures.untouched k) in
+    omega (arith, read))
+
+pub returns-in_err-load_in_turn-clause-takes : goal.returns-in_err-load_in_turn-clause-takes
+returns-in_err-load_in_turn-clause-takes g c =
+    let p = err_from_is_err_and c.from_residual-in_err-load_in_turn.result c.from_residual-in_err-load_in_turn.ensures.1 in
+    rw p.1
+    (λ k.
+    let read = no_call (g.D.Disk.medium c.args.disk.now) (g.D.Disk.medium c.read_header.new.disk) (c.read_header.ensures.untouched k) in
+    let few = finish_few c.in_ok-parts.parts.tree.geometry (g.D.Disk.medium c.read_header.new.disk).now in
+    omega (arith, read, few, c.in_err-load_in_turn.ensures.takes k))
+
+pub returns-in_err-last_point-clause-takes : goal.returns-in_err-last_point-clause-takes
+returns-in_err-last_point-clause-takes g c =
+    let p = err_from_is_err_and c.from_residual-in_err-last_point.result c.from_residual-in_err-last_point.ensures.1 in
+    rw p.1
+    (λ k.
+    let read = no_call (g.D.Disk.medium c.args.disk.now) (g.D.Disk.medium c.read_header.new.disk) (c.read_header.ensures.untouched k) in
+    let few = finish_few c.in_ok-parts.parts.tree.geometry (g.D.Disk.medium c.read_header.new.disk).now in
+    omega (arith, read, few, c.in_ok-load_in_turn.ensures.takes k, c.in_err-last_point.ensures.takes k))
+
+pub returns-clause-takes : goal.returns-clause-takes
+returns-clause-takes g c = λ k.
+    let w0 = g.D.Disk.medium c.args.disk.now in
+    let w1 = g.D.Disk.medium c.read_header.new.disk in
+    let only = c.read_header.ensures.untouched k in
+    let read = no_call w0 w1 only in
+    let geometry : c.last_point.new.parts.halves.geometry ≡ c.in_ok-parts.parts.tree.geometry = ap (λ (l : Log). l.geometry) c.in_ok-last_point.ensures.log ∙ c.in_ok-load_in_turn.ensures.geometry in
+    let is : finish_takes c.in_ok-parts.parts.tree.geometry w1.now ≡ finish_takes c.last_point.new.parts.halves.geometry w0.now = λ i. finish_takes (sym geometry i) (same_bytes w0 w1 only i) in
+    omega (arith, read, is, c.in_ok-load_in_turn.ensures.takes k, c.in_ok-last_point.ensures.takes k)
+
+pub returns-in_err-load_in_turn-clause-synced : goal.returns-in_err-load_in_turn-clause-synced
+returns-in_err-load_in_turn-clause-synced g c =
+    let p = err_from_is_err_and c.from_residual-in_err-load_in_turn.result c.from_residual-in_err-load_in_turn.ensures.1 in
+    rw (p.1, p.2) (λ other k. c.in_err-load_in_turn.ensures.synced other k)

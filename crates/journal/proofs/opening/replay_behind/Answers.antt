@@ -9,12 +9,12 @@ use Rattle.disk.proofs.Leaves.{itself}
 use Rattle.disk.proofs.Moments.{leaves_now, same}
 use Rattle.image.specs.Image.{read}
 use Rattle.journal.specs.Opening.{area_state}
-use Rattle.journal.specs.Parts.{KeepsRoom}
 use Rattle.journal.specs.Steps.{IsAlone, finished_now}
+use Rattle.journal.proofs.Costs.{no_call}
 use Rattle.journal.proofs.Loaded.{are_loaded, behind_fine, behind_holds, behind_refused}
 use Rattle.journal.proofs.Settling.{alone_finished, bad_half, still_synced}
 use Rattle.oplog.specs.Front.{front}
-use Rattle.oplog.specs.Layout.{device_size, image, layout_of, other, part_bytes}
+use Rattle.oplog.specs.Layout.{image, layout_of, other, part_bytes}
 use Rattle.oplog.specs.Log.{Log}
 use Rattle.oplog.proofs.Beyond.{beyond_read, beyond_then}
 use Rattle.oplog.specs.Stands.{named_area, run}
@@ -144,3 +144,20 @@ pub returns-clause-beyond : goal.returns-clause-beyond
 returns-clause-beyond g c = λ k.
     let l = layout_of c.args.parts.now.halves.geometry in
     beyond_then l _ _ _ (c.finish_cut.ensures.beyond k) (beyond_read l _ _ (c.replay.ensures.untouched k))
+
+pub returns-in_err-finish_cut-clause-takes : goal.returns-in_err-finish_cut-clause-takes
+returns-in_err-finish_cut-clause-takes g c =
+    let p = err_from_is_err_and c.from_residual.result c.from_residual.ensures.1 in
+    rw p.1 (λ k. c.in_err-finish_cut.ensures.takes k)
+
+pub returns-in_err-replay-clause-takes : goal.returns-in_err-replay-clause-takes
+returns-in_err-replay-clause-takes g c =
+    let p = err_from_is_err_and c.from_residual-in_err-replay.result c.from_residual-in_err-replay.ensures.1 in
+    rw p.1
+    (λ k.
+    let read = no_call (g.D.Disk.medium c.finish_cut.new.disk) (g.D.Disk.medium c.replay.new.disk) (c.replay.ensures.untouched k) in
+    omega (arith, read, c.in_ok-finish_cut.ensures.takes k))
+
+pub returns-clause-takes : goal.returns-clause-takes
+returns-clause-takes g c = λ k.
+    no_call (g.D.Disk.medium c.finish_cut.new.disk) (g.D.Disk.medium c.replay.new.disk) (c.replay.ensures.untouched k) ∙ c.in_ok-finish_cut.ensures.takes k

@@ -1,7 +1,9 @@
 use Rattle.std.proofs.Common.{◌≡◌, ◌<◌, ℕ, sym, ◌∙◌, subst, arith, true≢false}
+use Rattle.std.proofs.lemmas.Result.{err_from_is_err_and}
 use Rattle.affinity.specs.declared.geometry.Geometry.{Geometry}
 use Rattle.image.specs.Pieces.{piece_count}
 use Rattle.journal.specs.Stretches.{Imaged}
+use Rattle.journal.proofs.Costs.{one_run, takes_all, takes_most}
 use Rattle.journal.proofs.Finishing.{finish_image_moments, finish_moments, finished}
 use Rattle.journal.proofs.StillRefused.{finish_alike, image_alike}
 use Rattle.oplog.proofs.Answered.{on_ok}
@@ -95,3 +97,24 @@ returns-clause-beyond g c = λ k.
     let imaged = beyond l w0 w1 (IsSameBut l (image (other c.args.halves.now.named))) (λ o d h. h.rest) writes in
     let w2 = g.D.Disk.medium c.flip_root.new.disk in
     beyond_then l w0 w1 w2 imaged (beyond l w1 w2 (IsSameButRoot l) (λ o d h. h.same.rest) (c.flip_root.ensures.any_moment k))
+
+pub returns-then-is_err-clause-takes : goal.returns-then-is_err-clause-takes
+returns-then-is_err-clause-takes g c = λ k.
+    let one = one_run c.args.halves.now.geometry c.args.marks.now c.requires.marks c.requires.all in
+    let wrote = takes_most c.write_image.result _ _ _ (c.write_image.ensures.takes k) in
+    omega (arith, one, wrote)
+
+pub returns-in_err-flip_root-clause-takes : goal.returns-in_err-flip_root-clause-takes
+returns-in_err-flip_root-clause-takes g c =
+    let p = err_from_is_err_and c.from_residual.result c.from_residual.ensures.1 in
+    rw p.1
+    (λ k.
+    let one = one_run c.args.halves.now.geometry c.args.marks.now c.requires.marks c.requires.all in
+    let wrote = takes_all c.write_image.result _ _ _ (sym c.is_err.ensures.value ∙ c.if-is_err.false) (c.write_image.ensures.takes k) in
+    omega (arith, one, wrote, c.in_err-flip_root.ensures.takes k))
+
+pub returns-clause-takes : goal.returns-clause-takes
+returns-clause-takes g c = λ k.
+    let one = one_run c.args.halves.now.geometry c.args.marks.now c.requires.marks c.requires.all in
+    let wrote = takes_all c.write_image.result _ _ _ (sym c.is_err.ensures.value ∙ c.if-is_err.false) (c.write_image.ensures.takes k) in
+    omega (arith, one, wrote, c.in_ok-flip_root.ensures.takes k)

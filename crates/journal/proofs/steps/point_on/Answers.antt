@@ -1,6 +1,8 @@
 use Rattle.std.proofs.Common.{◌≡◌, ◌<◌, ℕ, sym, ◌∙◌, subst, arith}
+use Rattle.std.proofs.lemmas.Result.{err_from_is_err_and}
 use Rattle.affinity.specs.declared.geometry.Geometry.{Geometry}
 use Rattle.journal.specs.Stretches.{AgreeUnmarked, Imaged, image_in}
+use Rattle.journal.proofs.Costs.{takes_all, takes_most}
 use Rattle.journal.proofs.Pointing.{clear_moments, flip_moments, image_moments, now_emptied, now_is, now_kept, now_ready, now_stands, still_unmarked}
 use Rattle.oplog.proofs.Answered.{on_ok}
 use Rattle.oplog.proofs.Beyond.{beyond, beyond_then}
@@ -118,3 +120,26 @@ returns-clause-beyond g c = λ k.
     let w3 = g.D.Disk.medium c.flip_root.new.disk in
     let flips = subst (λ (log : Log). Flips log w2 w3) c.in_ok-clear_other.ensures.log (c.flip_root.ensures.any_moment k) in
     beyond_then l w0 w2 w3 imaged (beyond l w2 w3 (IsSameButRoot l) (λ o d h. h.same.rest) flips)
+
+pub returns-in_err-clear_other-clause-takes : goal.returns-in_err-clear_other-clause-takes
+returns-in_err-clear_other-clause-takes g c =
+    let p = err_from_is_err_and c.from_residual.result c.from_residual.ensures.1 in
+    rw p.1 (λ k. omega (arith, c.in_err-clear_other.ensures.takes k))
+
+pub returns-then-is_err-clause-takes : goal.returns-then-is_err-clause-takes
+returns-then-is_err-clause-takes g c = λ k.
+    let wrote = takes_most c.write_image.result _ _ _ (c.write_image.ensures.takes k) in
+    omega (arith, wrote, c.in_ok-clear_other.ensures.takes k)
+
+pub returns-in_err-flip_root-clause-takes : goal.returns-in_err-flip_root-clause-takes
+returns-in_err-flip_root-clause-takes g c =
+    let p = err_from_is_err_and c.from_residual-in_err-flip_root.result c.from_residual-in_err-flip_root.ensures.1 in
+    rw p.1
+    (λ k.
+    let wrote = takes_all c.write_image.result _ _ _ (sym c.is_err.ensures.value ∙ c.if-is_err.false) (c.write_image.ensures.takes k) in
+    omega (arith, wrote, c.in_ok-clear_other.ensures.takes k, c.in_err-flip_root.ensures.takes k))
+
+pub returns-clause-takes : goal.returns-clause-takes
+returns-clause-takes g c = λ k.
+    let wrote = takes_all c.write_image.result _ _ _ (sym c.is_err.ensures.value ∙ c.if-is_err.false) (c.write_image.ensures.takes k) in
+    omega (arith, wrote, c.in_ok-clear_other.ensures.takes k, c.in_ok-flip_root.ensures.takes k)

@@ -1,10 +1,13 @@
 use Rattle.std.proofs.Common.{◌≡◌, ◌+◌, ◌<◌, true, false, length, get_or, refl, sym, ◌∙◌, ap, arith}
 use Rattle.std.proofs.lemmas.Grind.{common_steps}
+use Rattle.std.proofs.lemmas.Result.{err_from_is_err_and}
+use Rattle.disk.specs.Moments.{moment}
 use Rattle.disk.proofs.Calls.{after_sync}
 use Rattle.image.specs.Pieces.{piece_count}
 use Rattle.journal.specs.Stretches.{stretch_at}
+use Rattle.journal.proofs.Costs.{run_closed, run_ended, run_failed, run_goes_on, runs_begun}
 use Rattle.journal.proofs.Patches.{along_patch, patch_begun, patch_moments, patch_passed, patch_synced, patched}
-use Rattle.journal.proofs.Places.{stretch_end, stretch_after, stretch_inside}
+use Rattle.journal.proofs.Places.{stretch_end, stretch_after, stretch_inside, stretch_some}
 use Rattle.oplog.specs.Layout.{image_size}
 use Rattle.journal.proofs.stretches.write_image.Goals as goal
 use Rattle.journal.proofs.stretches.write_image.Goals.{then-not-is_marked+in_ok-write_run, else-not-is_marked}
@@ -15,6 +18,7 @@ loop-n-init g c = record {
   order = omega arith;
   len = refl;
   faults = refl;
+  runs = λ k. runs_begun c.args.marks.now (moment (g.D.Disk.medium c.args.disk.now));
   so_far = λ k. patch_begun c.args.g.now c.args.area c.args.bytes.now (g.D.Disk.medium c.args.disk.now);
 }
 
@@ -48,6 +52,11 @@ loop-n-preserved g c =
             order = omega (arith, w.at-is, w.from-is);
             len = ap (λ d. length (g.D.Disk.medium d).now) w.disk-is ∙ w.write_run.ensures.call.1 ∙ c.loop-n.invariant.len;
             faults = ap (λ d. (g.D.Disk.medium d).faults) w.disk-is ∙ w.in_ok-write_run.ensures.call.0 ∙ c.loop-n.invariant.faults;
+            runs = λ k.
+                run_closed c.args.marks.now c.loop-n.n c.loop-n.from c.loop-n.at _ _ (moment (g.D.Disk.medium c.args.disk.now)) (moment (g.D.Disk.medium c.loop-n.disk)) _ (omega (arith, few, c.requires.marks)) unmarked (omega (arith, w.at-is, w.from-is))
+                (λ some. ap (λ d. moment (g.D.Disk.medium d)) w.disk-is ∙ w.in_ok-write_run.ensures.takes some k)
+                (λ none. ap (λ d. moment (g.D.Disk.medium d)) (w.disk-is ∙ w.write_run.ensures.none none))
+                (c.loop-n.invariant.runs k);
             so_far = λ k.
                 along_patch c.args.g.now c.args.area (c.loop-n.at + c.stretch_size.result) c.if-not-is_marked.from c.args.bytes.now (g.D.Disk.medium c.args.disk.now) (g.D.Disk.medium w.write_run.new.disk) (g.D.Disk.medium c.if-not-is_marked.disk) w.from-is (ap (λ d. g.D.Disk.medium d) w.disk-is)
                 (patch_passed c.args.g.now c.args.area c.loop-n.n c.loop-n.at (c.loop-n.at + c.stretch_size.result) c.args.bytes.now c.args.marks.now (g.D.Disk.medium c.args.disk.now) (g.D.Disk.medium w.write_run.new.disk) (c.requires.unmarked k) few unmarked c.loop-n.invariant.place (omega (arith, c.stretch_size.ensures.size))
@@ -55,11 +64,17 @@ loop-n-preserved g c =
                 c.loop-n.invariant.order (omega (arith, inside, c.loop-n.invariant.place)) (w.write_run.ensures.same k) (w.in_ok-write_run.ensures.written k)));
           }
       | else-not-is_marked w ↦
+          let is_marked : get_or c.args.marks.now c.loop-n.n true ≡ true = grind (arith, common_steps) in
+          let some = stretch_some c.args.g.now c.loop-n.n in
           record {
             place = w.at-is ∙ place;
             order = omega (arith, w.at-is, w.from-is, c.loop-n.invariant.order);
             len = ap (λ d. length (g.D.Disk.medium d).now) w.disk-is ∙ c.loop-n.invariant.len;
             faults = ap (λ d. (g.D.Disk.medium d).faults) w.disk-is ∙ c.loop-n.invariant.faults;
+            runs = λ k.
+                run_goes_on c.args.marks.now c.loop-n.n c.loop-n.from c.loop-n.at _ _ (moment (g.D.Disk.medium c.args.disk.now)) (moment (g.D.Disk.medium c.loop-n.disk)) _ (omega (arith, few, c.requires.marks)) is_marked w.from-is (omega (arith, w.at-is, c.stretch_size.ensures.size, some)) c.loop-n.invariant.order
+                (ap (λ d. moment (g.D.Disk.medium d)) w.disk-is)
+                (c.loop-n.invariant.runs k);
             so_far = λ k.
                 along_patch c.args.g.now c.args.area c.loop-n.from c.if-not-is_marked.from c.args.bytes.now (g.D.Disk.medium c.args.disk.now) (g.D.Disk.medium c.loop-n.disk) (g.D.Disk.medium c.if-not-is_marked.disk) w.from-is (ap (λ d. g.D.Disk.medium d) w.disk-is) (c.loop-n.invariant.so_far k);
           }
@@ -96,3 +111,42 @@ returns-clause-written g c = λ k.
     (patched c.args.g.now c.args.area c.loop-n.from c.loop-n.at c.args.bytes.now (g.D.Disk.medium c.args.disk.now) (g.D.Disk.medium c.loop-n.disk) (g.D.Disk.medium c.write_run-2.new.disk) c.requires.area c.requires.size c.requires.whole (c.loop-n.invariant.so_far k) (c.write_run-2.ensures.any_moment k)
     c.loop-n.invariant.order (omega (arith, end)) (c.write_run-2.ensures.same k) (c.in_ok-write_run-2.ensures.written k)))
     ((c.in_ok-make_last.ensures.syncs k).ok)
+
+pub returns-in_err-write_run-clause-takes : goal.returns-in_err-write_run-clause-takes
+returns-in_err-write_run-clause-takes g c =
+    let p = err_from_is_err_and c.from_residual.result c.from_residual.ensures.1 in
+    rw p.1
+    (λ k.
+    run_failed c.args.marks.now c.loop-n.n c.loop-n.from c.loop-n.at (moment (g.D.Disk.medium c.args.disk.now)) (moment (g.D.Disk.medium c.loop-n.disk)) _ (c.loop-n.invariant.runs k)
+    (λ some. c.in_err-write_run.ensures.takes some k)
+    (λ none. ap (λ d. moment (g.D.Disk.medium d)) (c.write_run.ensures.none none)))
+
+pub returns-in_err-write_run-2-clause-takes : goal.returns-in_err-write_run-2-clause-takes
+returns-in_err-write_run-2-clause-takes g c =
+    let p = err_from_is_err_and c.from_residual-in_err-write_run-2.result c.from_residual-in_err-write_run-2.ensures.1 in
+    rw p.1
+    (λ k.
+    run_failed c.args.marks.now c.loop-n.n c.loop-n.from c.loop-n.at (moment (g.D.Disk.medium c.args.disk.now)) (moment (g.D.Disk.medium c.loop-n.disk)) _ (c.loop-n.invariant.runs k)
+    (λ some. c.in_err-write_run-2.ensures.takes some k)
+    (λ none. ap (λ d. moment (g.D.Disk.medium d)) (c.write_run-2.ensures.none none)))
+
+pub returns-in_err-make_last-clause-takes : goal.returns-in_err-make_last-clause-takes
+returns-in_err-make_last-clause-takes g c =
+    let p = err_from_is_err_and c.from_residual-in_err-make_last.result c.from_residual-in_err-make_last.ensures.1 in
+    rw p.1
+    (λ k.
+    let all : c.loop-n.n ≡ piece_count c.args.g.now = grind (arith, common_steps) in
+    let ended =
+    run_ended c.args.marks.now c.loop-n.n c.loop-n.from c.loop-n.at (moment (g.D.Disk.medium c.args.disk.now)) (moment (g.D.Disk.medium c.loop-n.disk)) (moment (g.D.Disk.medium c.write_run-2.new.disk)) (omega (arith, all, c.requires.marks)) (c.loop-n.invariant.runs k)
+    (λ some. c.in_ok-write_run-2.ensures.takes some k)
+    (λ none. ap (λ d. moment (g.D.Disk.medium d)) (c.write_run-2.ensures.none none)) in
+    omega (arith, ended, c.in_err-make_last.ensures.takes k))
+
+pub returns-clause-takes : goal.returns-clause-takes
+returns-clause-takes g c = λ k.
+    let all : c.loop-n.n ≡ piece_count c.args.g.now = grind (arith, common_steps) in
+    let ended =
+    run_ended c.args.marks.now c.loop-n.n c.loop-n.from c.loop-n.at (moment (g.D.Disk.medium c.args.disk.now)) (moment (g.D.Disk.medium c.loop-n.disk)) (moment (g.D.Disk.medium c.write_run-2.new.disk)) (omega (arith, all, c.requires.marks)) (c.loop-n.invariant.runs k)
+    (λ some. c.in_ok-write_run-2.ensures.takes some k)
+    (λ none. ap (λ d. moment (g.D.Disk.medium d)) (c.write_run-2.ensures.none none)) in
+    omega (arith, ended, c.in_ok-make_last.ensures.takes k)

@@ -1,5 +1,7 @@
 use Rattle.std.proofs.Common.{◌≡◌, ◌≤◌, length}
+use Rattle.disk.specs.Moments.{moment}
 use Rattle.journal.specs.Stretches.{stretch_at}
+use Rattle.journal.proofs.Costs.{RunsLeft}
 use Rattle.journal.proofs.Patches.{IsPatched}
 use Rattle.journal.proofs.stretches.write_image.Given as goal
 
@@ -9,5 +11,6 @@ invariant-loop-n g l = record {
   order : l.from ≤ l.at;
   len : length (g.D.Disk.medium l.disk).now ≡ length (g.D.Disk.medium l.initial.disk).now;
   faults : (g.D.Disk.medium l.disk).faults ≡ (g.D.Disk.medium l.initial.disk).faults;
+  runs : g.D.Disk.keeps → RunsLeft l.marks l.n l.from l.at (moment (g.D.Disk.medium l.initial.disk)) (moment (g.D.Disk.medium l.disk));
   so_far : g.D.Disk.keeps → IsPatched l.g l.area l.from l.bytes (g.D.Disk.medium l.initial.disk) (g.D.Disk.medium l.disk);
 }

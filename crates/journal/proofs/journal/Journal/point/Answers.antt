@@ -2,13 +2,15 @@ use Rattle.std.proofs.Common.{◌≡◌, false, Option, Some, None, ℕ, Bool, L
 use Rattle.std.proofs.lemmas.List.{length-replicate}
 use Rattle.affinity.specs.declared.geometry.Geometry.{Geometry}
 use Rattle.checkpoint.specs.Recovery.{holds}
-use Rattle.disk.specs.Moments.{LeavesOnly}
+use Rattle.disk.specs.Moments.{LeavesOnly, moment}
 use Rattle.image.specs.Image.{image_of, read}
 use Rattle.image.specs.Pieces.{piece_count}
+use Rattle.journal.specs.Costs.{point_takes}
 use Rattle.journal.specs.Journal.{JournalView, settled}
 use Rattle.journal.specs.Keeping.{IsCutState, IsSoundJournal}
 use Rattle.journal.specs.Steps.{IsPointed}
 use Rattle.journal.specs.Stretches.{AgreeUnmarked, image_in}
+use Rattle.journal.proofs.Costs.{few_runs}
 use Rattle.journal.proofs.Logging.{settled_of}
 use Rattle.journal.proofs.Rows.{whole_items, whole_put}
 use Rattle.checkpoint.specs.Version.{named_version}
@@ -174,3 +176,31 @@ returns-in-Err-clause-beyond g c = λ k.
 pub returns-clause-beyond : goal.returns-clause-beyond
 returns-clause-beyond g c = λ k.
     subst (λ (h : JournalView). KeepsBeyond (layout_of h.geometry) h.medium (g.D.Disk.medium c.point_on.new.disk)) c.self.view_is (c.point_on.ensures.beyond k)
+
+pub returns-in-Err-clause-takes : goal.returns-in-Err-clause-takes
+returns-in-Err-clause-takes g c = λ k.
+    let marks = ap point_takes c.deref-3.ensures.value ∙ ap (λ (h : JournalView). point_takes h.marks.others) c.self.view_is in
+    let start = ap (λ (h : JournalView). moment h.medium) c.self.view_is in
+    let takes = c.in-Err.ensures.takes k in
+    omega (arith, marks, start, takes)
+
+pub returns-clause-takes : goal.returns-clause-takes
+returns-clause-takes g c = λ k.
+    let marks = ap point_takes c.deref-3.ensures.value ∙ ap (λ (h : JournalView). point_takes h.marks.others) c.self.view_is in
+    let start = ap (λ (h : JournalView). moment h.medium) c.self.view_is in
+    let takes = c.in_default.ensures.takes k in
+    omega (arith, marks, start, takes)
+
+pub returns-in-Err-clause-few : goal.returns-in-Err-clause-few
+returns-in-Err-clause-few g c =
+    let most = few_runs c.self.inside.other_marks.items in
+    let count = ap (λ (h : JournalView). point_takes h.marks.others) c.self.view_is in
+    let long : length c.self.inside.other_marks.items ≡ piece_count c.args.self.now.geometry = c.self.invariant.4 ∙ ap (λ (h : JournalView). piece_count h.geometry) c.self.view_is in
+    omega (arith, most, count, long)
+
+pub returns-clause-few : goal.returns-clause-few
+returns-clause-few g c =
+    let most = few_runs c.self.inside.other_marks.items in
+    let count = ap (λ (h : JournalView). point_takes h.marks.others) c.self.view_is in
+    let long : length c.self.inside.other_marks.items ≡ piece_count c.args.self.now.geometry = c.self.invariant.4 ∙ ap (λ (h : JournalView). piece_count h.geometry) c.self.view_is in
+    omega (arith, most, count, long)

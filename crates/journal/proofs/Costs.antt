@@ -1,0 +1,154 @@
+-- How many writes the marked pieces of an image take.
+use Rattle.std.specs.Prelude.{if◌then◌else◌, ◌==◌}
+use Rattle.std.specs.Result.{MatchResult, is_err}
+use Rattle.std.proofs.Common.{◌≡◌, ⊎_elim, ℕ, suc, ◌+◌, ◌/◌, ◌<◌, ◌≤◌, Bool, true, false, List, [], ◌∷◌, length, drop, get_or, Result, Ok, Err, refl, sym, ◌∙◌, ap, arith, true≢false}
+use Rattle.std.proofs.lemmas.Bool.{cases_lt}
+use Rattle.std.proofs.lemmas.List.{drop_all, drop_more}
+use Rattle.affinity.specs.declared.geometry.Geometry.{Geometry}
+use Rattle.checkpoint.specs.declared.fault.OpenFault.{OpenFault}
+use Rattle.checkpoint.specs.Loading.{NamedHolds}
+use Rattle.disk.specs.Device.{Medium, Moment, moments}
+use Rattle.disk.specs.Moments.{moment}
+use Rattle.image.specs.Pieces.{piece_count}
+use Rattle.journal.specs.declared.opening.Parts.{Parts}
+use Rattle.journal.specs.Costs.{count_runs, finish_takes, opening_takes, runs_after}
+use Rattle.journal.specs.Stretches.{AreAllMarked}
+use Rattle.journal.proofs.Places.{some_piece}
+use Rattle.oplog.specs.Costs.{Takes}
+use Rattle.oplog.specs.Front.{chain}
+use Rattle.oplog.specs.Layout.{layout_of}
+use Rattle.oplog.specs.Stands.{named_area}
+use Rattle.plain.specs.State.{State}
+
+-- ---- rows
+some_runs : count_runs (true ∷ true ∷ false ∷ true ∷ []) ≡ 2
+some_runs = refl
+
+no_run : count_runs (false ∷ false ∷ []) ≡ 0
+no_run = refl
+
+-- ---- there are at most half as many runs as pieces
+few_after : (before : Bool) (marks : List Bool) → runs_after before marks + runs_after before marks ≤ length marks + 1
+few_after before [] = omega arith
+few_after before (false ∷ marks) = let rest = few_after false marks in omega (arith, rest)
+few_after false (true ∷ []) = omega arith
+few_after false (true ∷ (false ∷ marks)) = let rest = few_after false marks in omega (arith, rest)
+few_after false (true ∷ (true ∷ marks)) = let rest = few_after true marks in omega (arith, rest)
+few_after true (true ∷ marks) = let rest = few_after true marks in omega (arith, rest)
+
+pub few_runs : (marks : List Bool) → count_runs marks ≤ (length marks + 1) / 2
+few_runs marks = let few = few_after false marks in omega (arith, few)
+
+-- ---- an image that is written in order
+
+-- After so many moments the pieces from n on are still to be looked at, and the bytes between two places are of a run that
+-- is still to be written.
+pub record RunsLeft (marks : List Bool) (n from at start now : ℕ) : Type 0 where
+  pub begun : from < at → now + 1 + runs_after true (drop n marks) ≡ start + count_runs marks
+  pub ended : at ≤ from → now + runs_after false (drop n marks) ≡ start + count_runs marks
+
+pub runs_begun : (marks : List Bool) (start : ℕ) → RunsLeft marks 0 0 0 start start
+runs_begun marks start = record { begun = λ some. absurd (omega (arith, some)); ended = λ none. refl }
+
+piece_next : (marks : List Bool) (n : ℕ) (is : Bool) → n < length marks → get_or marks n true ≡ is → drop n marks ≡ is ∷ drop (n + 1) marks
+piece_next marks n is few here = drop_more marks n true few ∙ ap (λ (b : Bool). b ∷ drop (n + 1) marks) here
+
+-- A piece that isn't marked ends a run, which is written then.
+pub run_closed : (marks : List Bool) (n from at from' at' start now now' : ℕ) → n < length marks → get_or marks n true ≡ false → from' ≡ at' → (from < at → now' ≡ now + 1) → (at ≤ from → now' ≡ now) → RunsLeft marks n from at start now → RunsLeft marks (n + 1) from' at' start now'
+run_closed marks n from at from' at' start now now' few off ends wrote kept left =
+    let next = piece_next marks n false few off in
+    let after : runs_after true (drop n marks) ≡ runs_after false (drop (n + 1) marks) = ap (runs_after true) next in
+    let before : runs_after false (drop n marks) ≡ runs_after false (drop (n + 1) marks) = ap (runs_after false) next in
+    record {
+      begun = λ some. absurd (omega (arith, some, ends));
+      ended = λ none.
+          ⊎_elim
+          (λ (more : from < at). omega (arith, after, wrote more, left.begun more))
+          (λ (none : at ≤ from). omega (arith, before, kept none, left.ended none))
+          (cases_lt from at);
+    }
+
+-- A marked piece begins a run, or goes on with it.
+pub run_goes_on : (marks : List Bool) (n from at from' at' start now now' : ℕ) → n < length marks → get_or marks n true ≡ true → from' ≡ from → at < at' → from ≤ at → now' ≡ now → RunsLeft marks n from at start now → RunsLeft marks (n + 1) from' at' start now'
+run_goes_on marks n from at from' at' start now now' few on begins rises order same left =
+    let next = piece_next marks n true few on in
+    let after : runs_after true (drop n marks) ≡ runs_after true (drop (n + 1) marks) = ap (runs_after true) next in
+    let before : runs_after false (drop n marks) ≡ suc (runs_after true (drop (n + 1) marks)) = ap (runs_after false) next in
+    record {
+      begun = λ some.
+          ⊎_elim
+          (λ (more : from < at). omega (arith, after, same, left.begun more))
+          (λ (none : at ≤ from). omega (arith, before, same, left.ended none))
+          (cases_lt from at);
+      ended = λ none. absurd (omega (arith, none, begins, rises, order));
+    }
+
+-- A write failed.
+pub run_failed : (marks : List Bool) (n from at start now new : ℕ) → RunsLeft marks n from at start now → (from < at → new ≤ now + 1) → (at ≤ from → new ≡ now) → new ≤ start + (count_runs marks + 1)
+run_failed marks n from at start now new left wrote kept =
+    ⊎_elim
+    (λ (more : from < at). omega (arith, wrote more, left.begun more))
+    (λ (none : at ≤ from). omega (arith, kept none, left.ended none))
+    (cases_lt from at)
+
+-- No piece is left, and the last run is written.
+pub run_ended : (marks : List Bool) (n from at start now new : ℕ) → length marks ≤ n → RunsLeft marks n from at start now → (from < at → new ≡ now + 1) → (at ≤ from → new ≡ now) → new ≡ start + count_runs marks
+run_ended marks n from at start now new all left wrote kept =
+    let none : drop n marks ≡ [] = drop_all n marks all in
+    let after : runs_after true (drop n marks) ≡ 0 = ap (runs_after true) none in
+    let before : runs_after false (drop n marks) ≡ 0 = ap (runs_after false) none in
+    ⊎_elim
+    (λ (more : from < at). omega (arith, after, wrote more, left.begun more))
+    (λ (none : at ≤ from). omega (arith, before, kept none, left.ended none))
+    (cases_lt from at)
+
+-- ---- the whole image
+
+all_after : (marks : List Bool) → ((n : ℕ) → n < length marks → get_or marks n true ≡ true) → runs_after true marks ≡ 0
+all_after [] all = refl
+all_after (true ∷ marks) all = all_after marks (λ n few. all (suc n) (omega (arith, few)))
+all_after (false ∷ marks) all = absurd (true≢false (sym (all 0 (omega arith))))
+
+whole_run : (marks : List Bool) → 0 < length marks → ((n : ℕ) → n < length marks → get_or marks n true ≡ true) → count_runs marks ≡ 1
+whole_run [] some all = absurd (omega (arith, some))
+whole_run (true ∷ marks) some all = ap suc (all_after marks (λ n few. all (suc n) (omega (arith, few))))
+whole_run (false ∷ marks) some all = absurd (true≢false (sym (all 0 (omega arith))))
+
+-- It is one run.
+pub one_run : (g : Geometry) (marks : List Bool) → length marks ≡ piece_count g → AreAllMarked g marks → count_runs marks ≡ 1
+one_run g marks size all =
+    let some = some_piece g in
+    whole_run marks (omega (arith, size, some)) (λ n few. all n (omega (arith, size, few)))
+
+-- ---- a call
+pub takes_most : {T E : Type 0} (r : Result T E) (n : ℕ) (old new : Medium) → Takes r n old new → moment new ≤ moment old + n
+takes_most (Ok x) n old new takes = omega (arith, takes)
+takes_most (Err e) n old new takes = takes
+
+pub takes_all : {T E : Type 0} (r : Result T E) (n : ℕ) (old new : Medium) → is_err r ≡ false → Takes r n old new → moment new ≡ moment old + n
+takes_all (Ok x) n old new fine takes = takes
+takes_all (Err e) n old new fine takes = absurd (true≢false fine)
+
+-- one that only reads
+pub no_call : (old new : Medium) → moments new ≡ moments old → moment new ≡ moment old
+no_call old new same = let all = ap (λ (ms : List Moment). length ms) same in omega (arith, all)
+
+-- ---- an opening
+pub finish_few : (g : Geometry) (c : List ℕ) → finish_takes g c ≤ 4
+finish_few g c = few (chain (layout_of g) (named_area (layout_of g) c) c == 1)
+  where
+    few : (chained : Bool) → (if chained then 4 else 0) ≤ 4
+    few true = omega arith
+    few false = omega arith
+
+-- whether it finishes a cut is what the loading tells
+pub finish_is : (g : Geometry) (c : List ℕ) (area : ℕ) (told chained : Bool) (x : State) → told ≡ chained → NamedHolds g c area told x → finish_takes g c ≡ if chained then 4 else 0
+finish_is g c area told chained x is held =
+    sym (ap (λ (b : Bool). if b then 4 else 0) (held.chain ∙ ap (λ (n : ℕ). chain (layout_of g) n c == 1) held.named)) ∙ ap (λ (b : Bool). if b then 4 else 0) is
+
+-- after the first sync
+pub opening_after : (r : Result Parts OpenFault) (w0 w1 w2 : Medium) → w1.now ≡ w0.now → moment w1 ≡ moment w0 + 1
+    → MatchResult r (λ p. moment w2 ≡ moment w1 + (finish_takes p.halves.geometry w1.now + 6)) (λ e. moment w2 ≤ moment w1 + 10)
+    → MatchResult r (λ p. moment w2 ≡ moment w0 + opening_takes p.halves.geometry w0.now) (λ e. moment w2 ≤ moment w0 + 11)
+opening_after (Ok p) w0 w1 w2 same one rest = let is : finish_takes p.halves.geometry w1.now ≡ finish_takes p.halves.geometry w0.now = ap (finish_takes p.halves.geometry) same in omega (arith, is, one, rest)
+opening_after (Err e) w0 w1 w2 same one rest = omega (arith, one, rest)

@@ -1,0 +1,35 @@
+-- How many writes and syncs a point and an opening take.
+use Rattle.std.specs.Prelude.{ℕ, suc, ◌+◌, ◌/◌, ◌==◌, if◌then◌else◌, Bool, true, false, List, [], ◌∷◌}
+use Rattle.affinity.specs.declared.geometry.Geometry.{Geometry}
+use Rattle.image.specs.Pieces.{piece_count}
+use Rattle.oplog.specs.Front.{chain}
+use Rattle.oplog.specs.Layout.{layout_of}
+use Rattle.oplog.specs.Stands.{named_area}
+
+-- how many runs of marked pieces begin among these, where the piece before them is marked or not
+abbrev pub runs_after : Bool → List Bool → ℕ
+runs_after before [] = 0
+runs_after before (false ∷ marks) = runs_after false marks
+runs_after false (true ∷ marks) = suc (runs_after true marks)
+runs_after true (true ∷ marks) = runs_after true marks
+
+-- how many writes the marked pieces of an image take: those side by side go with one
+abbrev pub count_runs : List Bool → ℕ
+count_runs marks = runs_after false marks
+
+-- A point writes these and syncs once; a write and a sync clear the other half before, and two more name the image.
+abbrev pub point_takes : List Bool → ℕ
+point_takes marks = count_runs marks + 5
+
+-- the most that it takes: where every other piece is marked, from the first one on
+abbrev pub longest_point : Geometry → ℕ
+longest_point g = (piece_count g + 1) / 2 + 5
+
+-- A cut in progress, of which the named half is chained, is finished by a write and a sync of the whole image, and by two
+-- calls that name it.
+abbrev pub finish_takes : Geometry → List ℕ → ℕ
+finish_takes g c = if chain (layout_of g) (named_area (layout_of g) c) c == 1 then 4 else 0
+
+-- An opening syncs before that, and makes a point of the whole image after it.
+abbrev pub opening_takes : Geometry → List ℕ → ℕ
+opening_takes g c = finish_takes g c + 7
