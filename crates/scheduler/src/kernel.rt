@@ -1,12 +1,14 @@
 //! The core: the messages that it has taken in, what they run on, and the journal of what was carried out.
-ghost use Rattle.std.specs.Prelude.{cond, nat_lt, ◌≡◌, ◌+◌, ◌*◌, ◌≤◌, ◌↔◌, ℕ, true, false, List, Some, None, [], length, OnOk, IfOk, IfErr, MatchResult};
+ghost use Rattle.std.specs.Prelude.{cond, nat_lt, ◌≡◌, ◌≢◌, ◌+◌, ◌*◌, ◌≤◌, ◌↔◌, ℕ, true, false, List, Some, None, [], length, OnOk, IfOk, IfErr, MatchResult};
 ghost use Rattle.affinity.specs.declared.geometry.Geometry.{Geometry};
 ghost use Rattle.checkpoint.specs.Header.{HasHeader};
 ghost use Rattle.checkpoint.specs.Recovery.{holds};
 ghost use Rattle.checkpoint.specs.Refusals.{IsRefused};
 ghost use Rattle.checkpoint.specs.declared.fault.OpenFault.{OpenFault};
 ghost use Rattle.checkpoint.specs.declared.fault.OpenFault.TheVariants as faults;
+ghost use Rattle.disk.specs.Moments.{moment};
 ghost use Rattle.image.specs.Pieces.{piece_count};
+ghost use Rattle.journal.specs.Costs.{longest_point, opening_takes};
 ghost use Rattle.journal.specs.Opening.{IsRefusedUnwritten, OpeningLeaves};
 ghost use Rattle.legal_runs.specs.Events.{answer, arrive, batch, flip_refusal, give_back, out_with, point_refusal, touches_device};
 ghost use Rattle.legal_runs.specs.Laws.{IsSoundWorld};
@@ -128,6 +130,9 @@ impl<D: Disk> Core<D> {
         ensures beyond { D.keeps → (g : Geometry) → HasHeader g (D.medium d).now → MatchResult result
             (λ core. KeepsBeyond (layout_of g) (D.medium d) core.medium)
             (λ e. KeepsBeyond (layout_of g) (D.medium d) (D.medium e.disk)) }
+        ensures takes { D.keeps → MatchResult result
+            (λ core. moment core.medium ≡ moment (D.medium d) + opening_takes core.geometry (D.medium d).now)
+            (λ e. moment (D.medium e.disk) ≤ moment (D.medium d) + 11) }
         ensures refused { IfErr result (λ e. D.keeps → IsRefused (D.medium d).now e.fault) }
         ensures unwritten { IfErr result (λ e. D.keeps → IsRefusedUnwritten (D.medium d) e.fault (D.medium e.disk)) }
 
@@ -340,6 +345,7 @@ impl<D: Disk> Core<D> {
         ensures beyond { D.keeps → KeepsBeyond (layout_of self.old.geometry) self.old.medium self.new.medium }
         ensures emptied { OnOk result (D.keeps → in_force (layout_of self.new.geometry)
             (named_area (layout_of self.new.geometry) self.new.medium.now) self.new.medium.now ≡ []) }
+        ensures takes { D.keeps → moment self.new.medium ≤ moment self.old.medium + longest_point self.old.geometry }
         ensures untouched { touches_device (world_of self.old) steps.Point ≡ false → self.new.medium ≡ self.old.medium }
     {
         if let Some(why) = self.point_refusal() {
@@ -360,6 +366,7 @@ impl<D: Disk> Core<D> {
         ensures counts { CountsFailure (point_rose result) self.old.medium.faults self.new.medium.faults }
         ensures any_moment { D.keeps → StandsThroughout [] self.old self.new }
         ensures beyond { D.keeps → KeepsBeyond (layout_of self.old.geometry) self.old.medium self.new.medium }
+        ensures takes { D.keeps → Takes result 4 self.old.medium self.new.medium }
         ensures untouched { touches_device (world_of self.old) steps.Cut ≡ false → self.new.medium ≡ self.old.medium }
     {
         if let Some(why) = self.point_refusal() {
@@ -379,6 +386,7 @@ impl<D: Disk> Core<D> {
         ensures counts { CountsFailure (point_rose result) self.old.medium.faults self.new.medium.faults }
         ensures any_moment { D.keeps → StandsThroughout [] self.old self.new }
         ensures beyond { D.keeps → KeepsBeyond (layout_of self.old.geometry) self.old.medium self.new.medium }
+        ensures takes { self.old.left ≢ Some 0 → D.keeps → Takes result 1 self.old.medium self.new.medium }
         ensures untouched { touches_device (world_of self.old) steps.Piece ≡ false → self.new.medium ≡ self.old.medium }
     {
         if self.journal.failed() {
@@ -401,6 +409,7 @@ impl<D: Disk> Core<D> {
         ensures counts { CountsFailure (point_rose result) self.old.medium.faults self.new.medium.faults }
         ensures any_moment { D.keeps → StandsThroughout [] self.old self.new }
         ensures beyond { D.keeps → KeepsBeyond (layout_of self.old.geometry) self.old.medium self.new.medium }
+        ensures takes { D.keeps → Takes result 3 self.old.medium self.new.medium }
         ensures untouched { touches_device (world_of self.old) steps.Flip ≡ false → self.new.medium ≡ self.old.medium }
     {
         if self.journal.failed() {

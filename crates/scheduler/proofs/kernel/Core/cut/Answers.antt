@@ -1,6 +1,6 @@
-use Rattle.std.proofs.Common.{◌≡◌, ℕ, ◌≤◌, [], false, None, Some, refl, sym, ap, subst, ◌∙◌, rules}
+use Rattle.std.proofs.Common.{◌≡◌, ℕ, ◌+◌, ◌≤◌, [], false, None, Some, refl, sym, ap, subst, ◌∙◌, rules}
 use Rattle.std.specs.Prelude.{if◌then◌else◌, is_err}
-use Rattle.disk.specs.Moments.{LeavesOnly}
+use Rattle.disk.specs.Moments.{LeavesOnly, moment}
 use Rattle.image.specs.Pieces.{piece_count}
 use Rattle.journal.specs.Journal.{JournalView, HoldsSome}
 use Rattle.journal.specs.Marks.{count_marked}
@@ -11,6 +11,7 @@ use Rattle.oplog.proofs.Beyond.{beyond_none}
 use Rattle.oplog.specs.Beyond.{KeepsBeyond}
 use Rattle.oplog.specs.Layout.{layout_of}
 use Rattle.scheduler.proofs.Journaling.{still_standing}
+use Rattle.scheduler.proofs.LogCall.{broken_takes, made_takes, none_taken}
 use Rattle.scheduler.proofs.Pointing.{cut_core, point_state, point_whole, point_works, step_moment}
 use Rattle.scheduler.specs.Kept.{CoreView, StandsThroughout, world_of}
 use Rattle.scheduler.specs.Parts.{kept_of, parts, world_in}
@@ -74,3 +75,16 @@ returns-then-is_err-clause-beyond g c = λ keep.
 pub returns-clause-beyond : goal.returns-clause-beyond
 returns-clause-beyond g c = λ keep.
     subst (λ (o : CoreView). KeepsBeyond (layout_of o.geometry) o.medium c.cut.new.self.medium) c.self.view_is (c.cut.ensures.beyond keep)
+
+pub returns-in-Some-clause-takes : goal.returns-in-Some-clause-takes
+returns-in-Some-clause-takes g c = λ keep. none_taken c.args.self.now.medium 4
+
+pub returns-then-is_err-clause-takes : goal.returns-then-is_err-clause-takes
+returns-then-is_err-clause-takes g c = λ keep.
+    subst (λ (o : CoreView). moment c.cut.new.self.medium ≤ moment o.medium + 4) c.self.view_is
+    (broken_takes c.cut.result _ _ _ (sym c.is_err.ensures.value ∙ c.if-is_err.true) (c.cut.ensures.takes keep))
+
+pub returns-clause-takes : goal.returns-clause-takes
+returns-clause-takes g c = λ keep.
+    subst (λ (o : CoreView). moment c.cut.new.self.medium ≡ moment o.medium + 4) c.self.view_is
+    (made_takes c.cut.result _ _ _ (sym c.is_err.ensures.value ∙ c.if-is_err.false) (c.cut.ensures.takes keep))

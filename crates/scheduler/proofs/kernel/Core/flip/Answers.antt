@@ -1,11 +1,12 @@
-use Rattle.std.proofs.Common.{[], refl, sym, subst, ◌∙◌}
+use Rattle.std.proofs.Common.{◌≡◌, ◌≤◌, ◌+◌, [], refl, sym, subst, ◌∙◌}
 use Rattle.std.specs.Prelude.{if◌then◌else◌}
-use Rattle.disk.specs.Moments.{LeavesOnly}
+use Rattle.disk.specs.Moments.{LeavesOnly, moment}
 use Rattle.journal.specs.Journal.{HoldsSome}
 use Rattle.oplog.proofs.Beyond.{beyond_none}
 use Rattle.oplog.specs.Beyond.{KeepsBeyond}
 use Rattle.oplog.specs.Layout.{layout_of}
 use Rattle.scheduler.proofs.Journaling.{still_standing}
+use Rattle.scheduler.proofs.LogCall.{broken_takes, made_takes, none_taken}
 use Rattle.scheduler.proofs.Pointing.{flip_core, step_moment}
 use Rattle.scheduler.specs.Kept.{CoreView, StandsThroughout, world_of}
 use Rattle.scheduler.specs.Parts.{kept_of, parts}
@@ -70,3 +71,22 @@ returns-then-is_err-clause-beyond g c = λ keep.
 pub returns-clause-beyond : goal.returns-clause-beyond
 returns-clause-beyond g c = λ keep.
     subst (λ (o : CoreView). KeepsBeyond (layout_of o.geometry) o.medium c.flip.new.self.medium) c.self.view_is (c.flip.ensures.beyond keep)
+
+pub returns-then-failed-clause-takes : goal.returns-then-failed-clause-takes
+returns-then-failed-clause-takes g c = λ keep. none_taken c.args.self.now.medium 3
+
+pub returns-in_default-clause-takes : goal.returns-in_default-clause-takes
+returns-in_default-clause-takes g c = λ keep. none_taken c.args.self.now.medium 3
+
+pub returns-then-left-gt0-clause-takes : goal.returns-then-left-gt0-clause-takes
+returns-then-left-gt0-clause-takes g c = λ keep. none_taken c.args.self.now.medium 3
+
+pub returns-then-is_err-clause-takes : goal.returns-then-is_err-clause-takes
+returns-then-is_err-clause-takes g c = λ keep.
+    subst (λ (o : CoreView). moment c.flip.new.self.medium ≤ moment o.medium + 3) c.self.view_is
+    (broken_takes c.flip.result _ _ _ (sym c.is_err.ensures.value ∙ c.if-is_err.true) (c.flip.ensures.takes keep))
+
+pub returns-clause-takes : goal.returns-clause-takes
+returns-clause-takes g c = λ keep.
+    subst (λ (o : CoreView). moment c.flip.new.self.medium ≡ moment o.medium + 3) c.self.view_is
+    (made_takes c.flip.result _ _ _ (sym c.is_err.ensures.value ∙ c.if-is_err.false) (c.flip.ensures.takes keep))

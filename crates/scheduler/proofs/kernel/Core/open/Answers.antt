@@ -1,5 +1,5 @@
 -- Where there is no memory nothing was called; and what was opened keeps what a core keeps.
-use Rattle.std.proofs.Common.{◌≡◌, ◌∙◌, ◌≤◌, ℕ, Some, refl, inl, sym, ap, subst}
+use Rattle.std.proofs.Common.{◌≡◌, ◌∙◌, ◌≤◌, ℕ, Some, refl, inl, sym, ap, subst, arith}
 use Rattle.std.specs.Prelude.{vec_capacity}
 use Rattle.std.proofs.lemmas.Result.{err_from_is_err_and}
 use Rattle.affinity.specs.declared.geometry.Geometry.{Geometry}
@@ -70,3 +70,14 @@ returns-in_err-journal-clause-beyond g c =
 
 pub returns-clause-beyond : goal.returns-clause-beyond
 returns-clause-beyond g c = λ k h header. c.in_ok-journal.ensures.beyond k h header
+
+pub returns-in_default-clause-takes : goal.returns-in_default-clause-takes
+returns-in_default-clause-takes g c = λ k. omega arith
+
+pub returns-in_err-journal-clause-takes : goal.returns-in_err-journal-clause-takes
+returns-in_err-journal-clause-takes g c =
+    let p = err_from_is_err_and c.from_residual.result c.from_residual.ensures.1 in
+    rw (p.1, p.2) (λ k. c.in_err-journal.ensures.takes k)
+
+pub returns-clause-takes : goal.returns-clause-takes
+returns-clause-takes g c = λ k. c.in_ok-journal.ensures.takes k

@@ -1,12 +1,14 @@
-use Rattle.std.proofs.Common.{[], refl, sym, ap, subst, ◌∙◌}
+use Rattle.std.proofs.Common.{◌≤◌, ◌+◌, [], arith, refl, sym, ap, subst, ◌∙◌}
 use Rattle.std.specs.Prelude.{if◌then◌else◌}
-use Rattle.disk.specs.Moments.{LeavesOnly}
+use Rattle.disk.specs.Moments.{LeavesOnly, moment}
+use Rattle.journal.specs.Costs.{longest_point}
 use Rattle.journal.specs.Journal.{HoldsSome}
 use Rattle.legal_runs.specs.Events.{point_refusal}
 use Rattle.oplog.proofs.Beyond.{beyond_none}
 use Rattle.oplog.specs.Beyond.{KeepsBeyond}
 use Rattle.oplog.specs.Layout.{layout_of}
 use Rattle.scheduler.proofs.Journaling.{still_standing}
+use Rattle.scheduler.proofs.LogCall.{broken_takes, made_takes, none_taken}
 use Rattle.scheduler.proofs.Pointing.{point_core, point_state, point_whole, point_works, step_moment}
 use Rattle.scheduler.specs.Kept.{CoreView, StandsThroughout, world_of}
 use Rattle.scheduler.specs.Parts.{kept_of, parts}
@@ -61,3 +63,16 @@ returns-then-is_err-clause-beyond g c = λ keep.
 pub returns-clause-beyond : goal.returns-clause-beyond
 returns-clause-beyond g c = λ keep.
     subst (λ (o : CoreView). KeepsBeyond (layout_of o.geometry) o.medium c.point.new.self.medium) c.self.view_is (c.point.ensures.beyond keep)
+
+pub returns-in-Some-clause-takes : goal.returns-in-Some-clause-takes
+returns-in-Some-clause-takes g c = λ keep. none_taken c.args.self.now.medium (longest_point c.args.self.now.geometry)
+
+pub returns-then-is_err-clause-takes : goal.returns-then-is_err-clause-takes
+returns-then-is_err-clause-takes g c = λ keep.
+    let took = broken_takes c.point.result _ _ _ (sym c.is_err.ensures.value ∙ c.if-is_err.true) (c.point.ensures.takes keep) in
+    subst (λ (o : CoreView). moment c.point.new.self.medium ≤ moment o.medium + longest_point o.geometry) c.self.view_is (omega (arith, took, c.point.ensures.few))
+
+pub returns-clause-takes : goal.returns-clause-takes
+returns-clause-takes g c = λ keep.
+    let took = made_takes c.point.result _ _ _ (sym c.is_err.ensures.value ∙ c.if-is_err.false) (c.point.ensures.takes keep) in
+    subst (λ (o : CoreView). moment c.point.new.self.medium ≤ moment o.medium + longest_point o.geometry) c.self.view_is (omega (arith, took, c.point.ensures.few))
