@@ -5,3 +5,4 @@ pub mod Opening
 pub mod Slots
 pub mod Parts
 pub mod Moving
+pub mod History

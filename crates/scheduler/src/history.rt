@@ -1,40 +1,50 @@
 //! What contracts know of a core and no memory holds: the tree when it was opened, and what was appended to its log since.
 ghost use Rattle.std.specs.Prelude.{◌≡◌, ◌++◌, []};
-ghost use Rattle.std.specs.Borrow.{ftrue};
-ghost use Rattle.std.specs.Prelude.{List};
-ghost use Rattle.message.specs.declared.Msg.{Msg};
-ghost use Rattle.parcel.specs.Tree.{TreeView};
 
 use message::Msg;
 use parcel::Tree;
-use std::marker::{Model, PhantomData};
+use std::marker::Model;
+use std::mem;
+use std::snapshot::Snapshot;
 
-/// It has no bytes, and its calls do nothing when they run. Once the device has failed neither its bytes nor the tree tell
-/// what was settled, so this does. The proofs of `begun` and `note` are written by hand, and no other proof sets ghost
-/// data.
+/// What was appended so far, and the last batch of it.
+#[derive(Drop)]
+pub(crate) enum Appended {
+    Nothing,
+    After(Snapshot<Vec<Msg>>, Snapshot<Appended>),
+}
+
+/// It has no bytes. Once the device has failed neither its bytes nor the tree tell what was settled, so this does.
 #[derive(Drop)]
 pub(crate) struct History {
-    marker: PhantomData<u8>,
-    pub ghost opened: { TreeView },
-    pub ghost since: { List Msg },
+    opened: Snapshot<Tree>,
+    appended: Snapshot<Appended>,
 }
 
 impl Model for History {
-    ghost also_owns = { λ _. ftrue };
+    ghost use Rattle.scheduler.specs.History.{HistoryView, messages_in};
+
+    ghost Value = { HistoryView };
+
+    ghost view = { λ h. record { opened = h.opened.value; since = messages_in h.appended.value } };
 }
 
 impl History {
     /// A core was opened with this tree.
-    pub(crate) fn begun(_tree: &Tree) -> History
-        ensures { (result.opened ≡ _tree.now) × (result.since ≡ []) }
+    pub(crate) fn begun(tree: &Tree) -> History
+        ensures { (result.opened ≡ tree.now) × (result.since ≡ []) }
     {
         History {
-            marker: PhantomData,
+            opened: Snapshot::of(tree),
+            appended: Snapshot::of(&Appended::Nothing),
         }
     }
 
-    /// Notes that these messages were appended to the log.
-    pub(crate) fn note(&mut self, _messages: &[Msg])
-        ensures { self.new ≡ record self.old { since = self.old.since ++ _messages.now } }
-    {}
+    /// Notes that this batch was appended to the log.
+    pub(crate) fn note(&mut self, batch: &Vec<Msg>)
+        ensures { self.new ≡ record self.old { since = self.old.since ++ batch.now.items } }
+    {
+        let before = mem::replace(&mut self.appended, Snapshot::of(&Appended::Nothing));
+        self.appended = Snapshot::of(&Appended::After(Snapshot::of(batch), before));
+    }
 }

@@ -66,11 +66,11 @@ overflow_sub-self g c = log_flight g.D.Disk.keeps c.self.inside.slots c.self.ins
 pub invariant_of-self-2 : goal.invariant_of-self-2
 invariant_of-self-2 g c = (
   c.move_ran.ensures.chains,
-  log_call_core g.D.Disk.keeps c.self.inside.slots c.self.inside.replies.items c.self.inside.tree c.self.inside.journal c.self.inside.turns c.self.inside.batch.items c.self.inside.next c.self.inside.flight c.self.inside.history.opened c.self.inside.history.since c.self.invariant.0 c.self.invariant.1 (sym c.failed.ensures ∙ c.if-failed.false) c.args.n c.min-count.result c.self.inside.ran c.self.invariant.4 c.min-count.ensures c.gather-changing.new.batch.items (c.gather-changing.ensures.batch ∙ ap (λ (rs : List Reply). gathered c.self.inside.slots rs (take c.min-count.result (chain_at c.self.inside.slots 2))) c.deref.ensures.value) c.deref-2.result.now c.deref-2.ensures.value c.log.new.self c.log.ensures.any_moment (made_from c.log.result _ c.self.inside.journal c.log.new.self (sym c.is_err.ensures.value ∙ c.if-is_err.false) c.log.ensures.after) (on_ok c.log.result _ (sym c.is_err.ensures.value ∙ c.if-is_err.false) c.log.ensures.settled) (on_ok c.log.result _ (sym c.is_err.ensures.value ∙ c.if-is_err.false) c.log.ensures.sound) c.move_ran.new.slots c.move_ran.ensures c.gather-changing.result c.gather-changing.ensures.changing c.note.new.self.opened (λ i. (c.note.ensures i).opened) c.note.new.self.since ((λ i. (c.note.ensures i).since) ∙ ap (λ (ms : List Msg). c.self.inside.history.since ++ ms) c.deref-3.ensures.value) c.clear.new.self.items c.clear.ensures.items,
-  subst (λ (n : ℕ). n ≤ vec_capacity c.clear.new.self) (sym (log_size g.D.Disk.keeps c.self.inside.slots c.self.inside.replies.items c.self.inside.tree c.self.inside.journal c.self.inside.turns c.self.inside.batch.items c.self.inside.next c.self.inside.flight c.self.inside.history.opened c.self.inside.history.since c.self.invariant.0 c.self.invariant.1 (sym c.failed.ensures ∙ c.if-failed.false) c.args.n c.min-count.result c.self.inside.ran c.self.invariant.4 c.min-count.ensures c.gather-changing.new.batch.items (c.gather-changing.ensures.batch ∙ ap (λ (rs : List Reply). gathered c.self.inside.slots rs (take c.min-count.result (chain_at c.self.inside.slots 2))) c.deref.ensures.value) c.deref-2.result.now c.deref-2.ensures.value c.log.new.self c.log.ensures.any_moment (made_from c.log.result _ c.self.inside.journal c.log.new.self (sym c.is_err.ensures.value ∙ c.if-is_err.false) c.log.ensures.after) (on_ok c.log.result _ (sym c.is_err.ensures.value ∙ c.if-is_err.false) c.log.ensures.settled) (on_ok c.log.result _ (sym c.is_err.ensures.value ∙ c.if-is_err.false) c.log.ensures.sound) c.move_ran.new.slots c.move_ran.ensures c.gather-changing.result c.gather-changing.ensures.changing c.note.new.self.opened (λ i. (c.note.ensures i).opened) c.note.new.self.since ((λ i. (c.note.ensures i).since) ∙ ap (λ (ms : List Msg). c.self.inside.history.since ++ ms) c.deref-3.ensures.value) c.clear.new.self.items c.clear.ensures.items))
+  log_call_core g.D.Disk.keeps c.self.inside.slots c.self.inside.replies.items c.self.inside.tree c.self.inside.journal c.self.inside.turns c.self.inside.batch.items c.self.inside.next c.self.inside.flight c.self.inside.history.opened c.self.inside.history.since c.self.invariant.0 c.self.invariant.1 (sym c.failed.ensures ∙ c.if-failed.false) c.args.n c.min-count.result c.self.inside.ran c.self.invariant.4 c.min-count.ensures c.gather-changing.new.batch.items (c.gather-changing.ensures.batch ∙ ap (λ (rs : List Reply). gathered c.self.inside.slots rs (take c.min-count.result (chain_at c.self.inside.slots 2))) c.deref.ensures.value) c.deref-2.result.now c.deref-2.ensures.value c.log.new.self c.log.ensures.any_moment (made_from c.log.result _ c.self.inside.journal c.log.new.self (sym c.is_err.ensures.value ∙ c.if-is_err.false) c.log.ensures.after) (on_ok c.log.result _ (sym c.is_err.ensures.value ∙ c.if-is_err.false) c.log.ensures.settled) (on_ok c.log.result _ (sym c.is_err.ensures.value ∙ c.if-is_err.false) c.log.ensures.sound) c.move_ran.new.slots c.move_ran.ensures c.gather-changing.result c.gather-changing.ensures.changing c.note.new.self.opened (λ i. (c.note.ensures i).opened) c.note.new.self.since (λ i. (c.note.ensures i).since) c.clear.new.self.items c.clear.ensures.items,
+  subst (λ (n : ℕ). n ≤ vec_capacity c.clear.new.self) (sym (log_size g.D.Disk.keeps c.self.inside.slots c.self.inside.replies.items c.self.inside.tree c.self.inside.journal c.self.inside.turns c.self.inside.batch.items c.self.inside.next c.self.inside.flight c.self.inside.history.opened c.self.inside.history.since c.self.invariant.0 c.self.invariant.1 (sym c.failed.ensures ∙ c.if-failed.false) c.args.n c.min-count.result c.self.inside.ran c.self.invariant.4 c.min-count.ensures c.gather-changing.new.batch.items (c.gather-changing.ensures.batch ∙ ap (λ (rs : List Reply). gathered c.self.inside.slots rs (take c.min-count.result (chain_at c.self.inside.slots 2))) c.deref.ensures.value) c.deref-2.result.now c.deref-2.ensures.value c.log.new.self c.log.ensures.any_moment (made_from c.log.result _ c.self.inside.journal c.log.new.self (sym c.is_err.ensures.value ∙ c.if-is_err.false) c.log.ensures.after) (on_ok c.log.result _ (sym c.is_err.ensures.value ∙ c.if-is_err.false) c.log.ensures.settled) (on_ok c.log.result _ (sym c.is_err.ensures.value ∙ c.if-is_err.false) c.log.ensures.sound) c.move_ran.new.slots c.move_ran.ensures c.gather-changing.result c.gather-changing.ensures.changing c.note.new.self.opened (λ i. (c.note.ensures i).opened) c.note.new.self.since (λ i. (c.note.ensures i).since) c.clear.new.self.items c.clear.ensures.items))
       (subst (λ (n : ℕ). capacity_of c.self.inside.slots ≤ n) (sym (c.clear.ensures.capacity ∙ c.gather-changing.ensures.capacity)) c.self.invariant.2),
-  c.self.invariant.3 ∙ sym (log_size g.D.Disk.keeps c.self.inside.slots c.self.inside.replies.items c.self.inside.tree c.self.inside.journal c.self.inside.turns c.self.inside.batch.items c.self.inside.next c.self.inside.flight c.self.inside.history.opened c.self.inside.history.since c.self.invariant.0 c.self.invariant.1 (sym c.failed.ensures ∙ c.if-failed.false) c.args.n c.min-count.result c.self.inside.ran c.self.invariant.4 c.min-count.ensures c.gather-changing.new.batch.items (c.gather-changing.ensures.batch ∙ ap (λ (rs : List Reply). gathered c.self.inside.slots rs (take c.min-count.result (chain_at c.self.inside.slots 2))) c.deref.ensures.value) c.deref-2.result.now c.deref-2.ensures.value c.log.new.self c.log.ensures.any_moment (made_from c.log.result _ c.self.inside.journal c.log.new.self (sym c.is_err.ensures.value ∙ c.if-is_err.false) c.log.ensures.after) (on_ok c.log.result _ (sym c.is_err.ensures.value ∙ c.if-is_err.false) c.log.ensures.settled) (on_ok c.log.result _ (sym c.is_err.ensures.value ∙ c.if-is_err.false) c.log.ensures.sound) c.move_ran.new.slots c.move_ran.ensures c.gather-changing.result c.gather-changing.ensures.changing c.note.new.self.opened (λ i. (c.note.ensures i).opened) c.note.new.self.since ((λ i. (c.note.ensures i).since) ∙ ap (λ (ms : List Msg). c.self.inside.history.since ++ ms) c.deref-3.ensures.value) c.clear.new.self.items c.clear.ensures.items),
-  log_ran g.D.Disk.keeps c.self.inside.slots c.self.inside.replies.items c.self.inside.tree c.self.inside.journal c.self.inside.turns c.self.inside.batch.items c.self.inside.next c.self.inside.flight c.self.inside.history.opened c.self.inside.history.since c.self.invariant.0 c.self.invariant.1 (sym c.failed.ensures ∙ c.if-failed.false) c.args.n c.min-count.result c.self.inside.ran c.self.invariant.4 c.min-count.ensures c.gather-changing.new.batch.items (c.gather-changing.ensures.batch ∙ ap (λ (rs : List Reply). gathered c.self.inside.slots rs (take c.min-count.result (chain_at c.self.inside.slots 2))) c.deref.ensures.value) c.deref-2.result.now c.deref-2.ensures.value c.log.new.self c.log.ensures.any_moment (made_from c.log.result _ c.self.inside.journal c.log.new.self (sym c.is_err.ensures.value ∙ c.if-is_err.false) c.log.ensures.after) (on_ok c.log.result _ (sym c.is_err.ensures.value ∙ c.if-is_err.false) c.log.ensures.settled) (on_ok c.log.result _ (sym c.is_err.ensures.value ∙ c.if-is_err.false) c.log.ensures.sound) c.move_ran.new.slots c.move_ran.ensures c.gather-changing.result c.gather-changing.ensures.changing c.note.new.self.opened (λ i. (c.note.ensures i).opened) c.note.new.self.since ((λ i. (c.note.ensures i).since) ∙ ap (λ (ms : List Msg). c.self.inside.history.since ++ ms) c.deref-3.ensures.value) c.clear.new.self.items c.clear.ensures.items,
+  c.self.invariant.3 ∙ sym (log_size g.D.Disk.keeps c.self.inside.slots c.self.inside.replies.items c.self.inside.tree c.self.inside.journal c.self.inside.turns c.self.inside.batch.items c.self.inside.next c.self.inside.flight c.self.inside.history.opened c.self.inside.history.since c.self.invariant.0 c.self.invariant.1 (sym c.failed.ensures ∙ c.if-failed.false) c.args.n c.min-count.result c.self.inside.ran c.self.invariant.4 c.min-count.ensures c.gather-changing.new.batch.items (c.gather-changing.ensures.batch ∙ ap (λ (rs : List Reply). gathered c.self.inside.slots rs (take c.min-count.result (chain_at c.self.inside.slots 2))) c.deref.ensures.value) c.deref-2.result.now c.deref-2.ensures.value c.log.new.self c.log.ensures.any_moment (made_from c.log.result _ c.self.inside.journal c.log.new.self (sym c.is_err.ensures.value ∙ c.if-is_err.false) c.log.ensures.after) (on_ok c.log.result _ (sym c.is_err.ensures.value ∙ c.if-is_err.false) c.log.ensures.settled) (on_ok c.log.result _ (sym c.is_err.ensures.value ∙ c.if-is_err.false) c.log.ensures.sound) c.move_ran.new.slots c.move_ran.ensures c.gather-changing.result c.gather-changing.ensures.changing c.note.new.self.opened (λ i. (c.note.ensures i).opened) c.note.new.self.since (λ i. (c.note.ensures i).since) c.clear.new.self.items c.clear.ensures.items),
+  log_ran g.D.Disk.keeps c.self.inside.slots c.self.inside.replies.items c.self.inside.tree c.self.inside.journal c.self.inside.turns c.self.inside.batch.items c.self.inside.next c.self.inside.flight c.self.inside.history.opened c.self.inside.history.since c.self.invariant.0 c.self.invariant.1 (sym c.failed.ensures ∙ c.if-failed.false) c.args.n c.min-count.result c.self.inside.ran c.self.invariant.4 c.min-count.ensures c.gather-changing.new.batch.items (c.gather-changing.ensures.batch ∙ ap (λ (rs : List Reply). gathered c.self.inside.slots rs (take c.min-count.result (chain_at c.self.inside.slots 2))) c.deref.ensures.value) c.deref-2.result.now c.deref-2.ensures.value c.log.new.self c.log.ensures.any_moment (made_from c.log.result _ c.self.inside.journal c.log.new.self (sym c.is_err.ensures.value ∙ c.if-is_err.false) c.log.ensures.after) (on_ok c.log.result _ (sym c.is_err.ensures.value ∙ c.if-is_err.false) c.log.ensures.settled) (on_ok c.log.result _ (sym c.is_err.ensures.value ∙ c.if-is_err.false) c.log.ensures.sound) c.move_ran.new.slots c.move_ran.ensures c.gather-changing.result c.gather-changing.ensures.changing c.note.new.self.opened (λ i. (c.note.ensures i).opened) c.note.new.self.since (λ i. (c.note.ensures i).since) c.clear.new.self.items c.clear.ensures.items,
 )
 
 pub returns-clause-world : goal.returns-clause-world
@@ -78,7 +78,7 @@ returns-clause-world g c =
     subst (λ (o : CoreView). (o.failed ≡ false) × (c.min-count.result ≡ length (take c.args.n o.ran)) × (world_in (parts c.move_ran.new.slots c.self.inside.replies.items c.self.inside.tree c.log.new.self c.self.inside.turns c.clear.new.self.items c.self.inside.next (c.self.inside.flight - c.gather-changing.result) c.note.new.self.opened c.note.new.self.since) ≡ log o.geometry (world_of o) c.args.n)) c.self.view_is (
       (sym c.failed.ensures ∙ c.if-failed.false),
       log_count g.D.Disk.keeps c.self.inside.slots c.self.inside.replies.items c.self.inside.tree c.self.inside.journal c.self.inside.turns c.self.inside.batch.items c.self.inside.next c.self.inside.flight c.self.inside.history.opened c.self.inside.history.since c.self.invariant.0 c.self.invariant.1 (sym c.failed.ensures ∙ c.if-failed.false) c.args.n c.min-count.result c.self.inside.ran c.self.invariant.4 c.min-count.ensures,
-      log_call_world g.D.Disk.keeps c.self.inside.slots c.self.inside.replies.items c.self.inside.tree c.self.inside.journal c.self.inside.turns c.self.inside.batch.items c.self.inside.next c.self.inside.flight c.self.inside.history.opened c.self.inside.history.since c.self.invariant.0 c.self.invariant.1 (sym c.failed.ensures ∙ c.if-failed.false) c.args.n c.min-count.result c.self.inside.ran c.self.invariant.4 c.min-count.ensures c.gather-changing.new.batch.items (c.gather-changing.ensures.batch ∙ ap (λ (rs : List Reply). gathered c.self.inside.slots rs (take c.min-count.result (chain_at c.self.inside.slots 2))) c.deref.ensures.value) c.deref-2.result.now c.deref-2.ensures.value c.log.new.self c.log.ensures.any_moment (made_from c.log.result _ c.self.inside.journal c.log.new.self (sym c.is_err.ensures.value ∙ c.if-is_err.false) c.log.ensures.after) (on_ok c.log.result _ (sym c.is_err.ensures.value ∙ c.if-is_err.false) c.log.ensures.settled) (on_ok c.log.result _ (sym c.is_err.ensures.value ∙ c.if-is_err.false) c.log.ensures.sound) c.move_ran.new.slots c.move_ran.ensures c.gather-changing.result c.gather-changing.ensures.changing c.note.new.self.opened (λ i. (c.note.ensures i).opened) c.note.new.self.since ((λ i. (c.note.ensures i).since) ∙ ap (λ (ms : List Msg). c.self.inside.history.since ++ ms) c.deref-3.ensures.value) c.clear.new.self.items c.clear.ensures.items,
+      log_call_world g.D.Disk.keeps c.self.inside.slots c.self.inside.replies.items c.self.inside.tree c.self.inside.journal c.self.inside.turns c.self.inside.batch.items c.self.inside.next c.self.inside.flight c.self.inside.history.opened c.self.inside.history.since c.self.invariant.0 c.self.invariant.1 (sym c.failed.ensures ∙ c.if-failed.false) c.args.n c.min-count.result c.self.inside.ran c.self.invariant.4 c.min-count.ensures c.gather-changing.new.batch.items (c.gather-changing.ensures.batch ∙ ap (λ (rs : List Reply). gathered c.self.inside.slots rs (take c.min-count.result (chain_at c.self.inside.slots 2))) c.deref.ensures.value) c.deref-2.result.now c.deref-2.ensures.value c.log.new.self c.log.ensures.any_moment (made_from c.log.result _ c.self.inside.journal c.log.new.self (sym c.is_err.ensures.value ∙ c.if-is_err.false) c.log.ensures.after) (on_ok c.log.result _ (sym c.is_err.ensures.value ∙ c.if-is_err.false) c.log.ensures.settled) (on_ok c.log.result _ (sym c.is_err.ensures.value ∙ c.if-is_err.false) c.log.ensures.sound) c.move_ran.new.slots c.move_ran.ensures c.gather-changing.result c.gather-changing.ensures.changing c.note.new.self.opened (λ i. (c.note.ensures i).opened) c.note.new.self.since (λ i. (c.note.ensures i).since) c.clear.new.self.items c.clear.ensures.items,
     )
 
 pub returns-clause-any_moment : goal.returns-clause-any_moment

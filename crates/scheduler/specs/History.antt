@@ -1,0 +1,15 @@
+-- What contracts know of a core's past. No clause of a public function cites this module.
+use Rattle.std.specs.Prelude.{List, [], ◌++◌}
+use Rattle.message.specs.declared.Msg.{Msg}
+use Rattle.parcel.specs.Tree.{TreeView}
+use Rattle.scheduler.specs.declared.history.Appended.{Appended, Nothing, After'}
+
+-- the tree when the core was opened, and the messages appended to the log since
+pub record HistoryView : Type 0 where
+  pub opened : TreeView
+  pub since : List Msg
+
+-- the messages of all batches, the oldest first
+abbrev pub messages_in : Appended → List Msg
+messages_in Nothing = []
+messages_in (After' batch shape before) = messages_in before ++ batch.value.items
