@@ -2,6 +2,7 @@
 pub mod Called
 pub mod Staying
 -- ---- this crate's own
+mod Examples
 mod Splits
 mod Lines
 mod Trees
