@@ -1,11 +1,10 @@
-use Rattle.std.proofs.Common.{◌≡◌, ℕ, ◌+◌, ◌*◌, ◌-◌, ◌≤◌, List, ◌++◌, length, take, true, false, refl, sym, ap, subst, ◌∙◌}
+use Rattle.std.proofs.Common.{◌≡◌, ℕ, ◌+◌, ◌*◌, ◌-◌, ◌≤◌, List, length, take, true, false, refl, sym, ap, subst, ◌∙◌}
 use Rattle.std.specs.Prelude.{if◌then◌else◌, vec_capacity}
 use Rattle.arena.specs.Row.{capacity_of, chain_at}
 use Rattle.disk.specs.Moments.{LeavesOnly, moment}
 use Rattle.journal.specs.Journal.{HoldsSome}
 use Rattle.legal_runs.specs.Events.{batch, log, touches_device}
 use Rattle.legal_runs.specs.declared.outcomes.Step.TheVariants as steps
-use Rattle.message.specs.declared.Msg.{Msg}
 use Rattle.message.specs.declared.Reply.{Reply}
 use Rattle.oplog.proofs.Answered.{on_ok}
 use Rattle.oplog.proofs.Beyond.{beyond_none}
