@@ -56,18 +56,18 @@ module _ (keeps : Type 0) (s : Service) (old new : Medium) (end : Result (Unit {
 pub keeps_what_was_told : (keeps : Type 0) (s : Service) (old new : Medium) (end : Result (Unit {0}) ServeFault) (input left before written : Option (List ℕ))
     → HasServedBy keeps s old new end input left before written → KeepsWhatWasTold keeps old new (as_told end) input before written
 keeps_what_was_told keeps s old new (Ok _) input left before written h =
-    held keeps s old new (Ok tt) input left before written h [] h.run.served
+    held keeps s old new (Ok tt) input left before written h [] h.served.run.served
 keeps_what_was_told keeps s old new (Err faults.Device) input left before written h =
-    held keeps s old new (Err faults.Device) input left before written h h.run.0 h.run.1
+    held keeps s old new (Err faults.Device) input left before written h h.served.run.0 h.served.run.1
 keeps_what_was_told keeps s old new (Err faults.Write) input left before written h = tt
 keeps_what_was_told keeps s old new (Err faults.Read) input left before written h =
-    held keeps s old new (Err faults.Read) input left before written h [] h.run
+    held keeps s old new (Err faults.Read) input left before written h [] h.served.run
 keeps_what_was_told keeps s old new (Err faults.Exhausted) input left before written h =
-    held keeps s old new (Err faults.Exhausted) input left before written h [] h.run
+    held keeps s old new (Err faults.Exhausted) input left before written h [] h.served.run
 keeps_what_was_told keeps s old new (Err faults.NoWorkers) input left before written h =
-    held keeps s old new (Err faults.NoWorkers) input left before written h [] h.run
+    held keeps s old new (Err faults.NoWorkers) input left before written h [] h.served.run
 keeps_what_was_told keeps s old new (Err faults.OutOfMemory) input left before written h =
-    held keeps s old new (Err faults.OutOfMemory) input left before written h [] h.run
+    held keeps s old new (Err faults.OutOfMemory) input left before written h [] h.served.run
 
 -- what follows of what is so follows of it at each end
 pub told_so : {P Q : Type 0} (end : Result (Unit {0}) Fault) (before written : Option (List ℕ)) → (P → Q)

@@ -1,6 +1,6 @@
 -- What a service on a device has done, from what its server promises.
 use Rattle.std.proofs.Common.{◌≡◌, ◌∙◌, ℕ, List, [], Option, Some, false, refl, sym, ap, subst, take, arith}
-use Rattle.std.specs.Prelude.{Result, Ok, Err, OnOk}
+use Rattle.std.specs.Prelude.{Result, Ok, Err}
 use Rattle.std.proofs.lemmas.List.{take_all}
 use Rattle.affinity.specs.declared.geometry.Geometry.{Geometry}
 use Rattle.checkpoint.specs.Header.{HasHeader}
@@ -13,8 +13,8 @@ use Rattle.machine.specs.Stages.{Stage}
 use Rattle.plain.specs.Serial.{fold}
 use Rattle.message.specs.declared.Msg.{Msg}
 use Rattle.scheduler.specs.Kept.{IsJustOpened, CoreView, StandsNow, world_of}
-use Rattle.serving.specs.Ends.{EndsSo, HasRunLines, settled_in}
-use Rattle.serving.specs.Serve.{HasEmptyLog, HasRunSo, RefusesNone}
+use Rattle.serving.specs.Ends.{HasRunLines, settled_in}
+use Rattle.serving.specs.Serve.{HasEmptyLog, ServesSo}
 use Rattle.serving.specs.declared.server.ServeFault.{ServeFault}
 use Rattle.serving.specs.declared.server.ServeFault.TheVariants as faults
 use Rattle.commands.specs.Faults.{as_told}
@@ -43,20 +43,19 @@ module _ (keeps : Type 0) (s : Service) (old : Medium) (start now : CoreView) (e
 
   abbrev pub has_served_by : IsJustOpened s.slots start → (keeps → HasHeader start.geometry old.now)
       → (keeps → holds start.geometry old.now ≡ Some (settled_in start)) → (keeps → OpeningLeaves old start.medium)
-      → HasRunSo keeps (machine_at_start s start) now input before written end → EndsSo start now input left before written end
+      → ServesSo keeps s.workers start (now, end) input left before written
       → (keeps → StandsNow now) → HasServedBy keeps s old now.medium end input left before written
-  has_served_by fresh header stood opening run ends leaves = record {
+  has_served_by fresh header stood opening served leaves = record {
     start = start;
     now = now;
     fresh = fresh;
     header = header;
     stood = stood;
     opening = opening;
-    run = run;
-    ends = ends;
+    served = served;
     leaves = leaves;
     given_back = refl;
-    life = let behind = run_behind keeps (machine_at_start s start) now input before written end run in is_life fresh header stood behind.0 behind.1 behind.2;
+    life = let behind = run_behind keeps (machine_at_start s start) now input before written end served.run in is_life fresh header stood behind.0 behind.1 behind.2;
   }
 
 -- such a service is one that has lived
@@ -120,26 +119,26 @@ module _ (keeps : Type 0) (s : Service) (old new : Medium) (end : Result (Unit {
 -- what a service says of each of its ends
 pub ends_on_device : (keeps : Type 0) (s : Service) (old new : Medium) (end : Result (Unit {0}) ServeFault) (input left before written : Option (List ℕ))
     → (h : HasServedBy keeps s old new end input left before written) → (h.now.failed ≡ false → h.now.doubt ≡ []) → AreBytes new.now
-    → RefusesNone s.workers end → OnOk end (keeps → HasEmptyLog h.now) → EndsOnDevice keeps s old new (as_told end) input left before written
-ends_on_device keeps s old new (Ok _) input left before written h no_doubt bytes workers emptied =
-    let same = h.run.served.run.geometry in (
-      workers,
+    → EndsOnDevice keeps s old new (as_told end) input left before written
+ends_on_device keeps s old new (Ok _) input left before written h no_doubt bytes =
+    let same = h.served.run.served.run.geometry in (
+      h.served.no_workers,
       (
-        went keeps s old new (Ok tt) input left before written h no_doubt bytes same h.ends.1,
-        λ k. no_records h.now h.start.geometry new same h.given_back (emptied k),
-        h.ends.2,
-        h.ends.3,
+        went keeps s old new (Ok tt) input left before written h no_doubt bytes same h.served.ends.1,
+        λ k. no_records h.now h.start.geometry new same h.given_back (h.served.emptied k),
+        h.served.ends.2,
+        h.served.ends.3,
       ),
     )
-ends_on_device keeps s old new (Err faults.Read) input left before written h no_doubt bytes workers emptied =
-    (workers, (went keeps s old new (Err faults.Read) input left before written h no_doubt bytes h.run.run.geometry h.ends.1, h.ends.2))
-ends_on_device keeps s old new (Err faults.Exhausted) input left before written h no_doubt bytes workers emptied =
-    (workers, (went keeps s old new (Err faults.Exhausted) input left before written h no_doubt bytes h.run.run.geometry h.ends.1, h.ends.3))
-ends_on_device keeps s old new (Err faults.Device) input left before written h no_doubt bytes workers emptied =
-    (workers, (h.start.geometry, settled_in h.start, stood_for keeps s old new (Err faults.Device) input left before written h no_doubt bytes, h.ends.2))
-ends_on_device keeps s old new (Err faults.Write) input left before written h no_doubt bytes workers emptied =
-    (workers, (h.start.geometry, settled_in h.start, stood_for keeps s old new (Err faults.Write) input left before written h no_doubt bytes))
-ends_on_device keeps s old new (Err faults.NoWorkers) input left before written h no_doubt bytes workers emptied =
-    (workers, served_nothing keeps s old new (Err faults.NoWorkers) input left before written h no_doubt bytes h.ends.0 h.ends.1 h.ends.2)
-ends_on_device keeps s old new (Err faults.OutOfMemory) input left before written h no_doubt bytes workers emptied =
-    (workers, served_nothing keeps s old new (Err faults.OutOfMemory) input left before written h no_doubt bytes h.ends.0 h.ends.1 h.ends.2)
+ends_on_device keeps s old new (Err faults.Read) input left before written h no_doubt bytes =
+    (h.served.no_workers, (went keeps s old new (Err faults.Read) input left before written h no_doubt bytes h.served.run.run.geometry h.served.ends.1, h.served.ends.2))
+ends_on_device keeps s old new (Err faults.Exhausted) input left before written h no_doubt bytes =
+    (h.served.no_workers, (went keeps s old new (Err faults.Exhausted) input left before written h no_doubt bytes h.served.run.run.geometry h.served.ends.1, h.served.ends.3))
+ends_on_device keeps s old new (Err faults.Device) input left before written h no_doubt bytes =
+    (h.served.no_workers, (h.start.geometry, settled_in h.start, stood_for keeps s old new (Err faults.Device) input left before written h no_doubt bytes, h.served.ends.2))
+ends_on_device keeps s old new (Err faults.Write) input left before written h no_doubt bytes =
+    (h.served.no_workers, (h.start.geometry, settled_in h.start, stood_for keeps s old new (Err faults.Write) input left before written h no_doubt bytes))
+ends_on_device keeps s old new (Err faults.NoWorkers) input left before written h no_doubt bytes =
+    (h.served.no_workers, served_nothing keeps s old new (Err faults.NoWorkers) input left before written h no_doubt bytes h.served.ends.0 h.served.ends.1 h.served.ends.2)
+ends_on_device keeps s old new (Err faults.OutOfMemory) input left before written h no_doubt bytes =
+    (h.served.no_workers, served_nothing keeps s old new (Err faults.OutOfMemory) input left before written h no_doubt bytes h.served.ends.0 h.served.ends.1 h.served.ends.2)

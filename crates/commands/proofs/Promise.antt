@@ -48,11 +48,11 @@ unsent : (keeps : Type 0) (s : Service) (old new : Medium) (input left before wr
 unsent keeps s old new input left before written h keep c leaves =
     let g = h.start.geometry in
     let x = settled_in h.start in
-    let taken = h.run.0 in
-    let log = went (machine_of (machine_at_start s h.start)) (events_of h.run.1) in
+    let taken = h.served.run.0 in
+    let log = went (machine_of (machine_at_start s h.start)) (events_of h.served.run.1) in
     let on_device : HoldsLog g x (ticketed 0 (asked g taken)) log c =
     subst (λ (t : ℕ). HoldsLog g x (ticketed t (asked g taken)) log c) h.fresh.next
-    (holds_all keeps (machine_at_start s h.start) h.now input taken h.run.1 (is_idle s.slots h.start h.fresh) h.fresh.no_doubt h.run.2 keep c
+    (holds_all keeps (machine_at_start s h.start) h.now input taken h.served.run.1 (is_idle s.slots h.start h.fresh) h.fresh.no_doubt h.served.run.2 keep c
     (subst (λ (m : Medium). Leaves m c) h.given_back leaves)) in
     let state = fold g x (loggable (log ++ on_device.more)) in
     record {
@@ -60,7 +60,7 @@ unsent keeps s old new input left before written h keep c leaves =
       start = x;
       stood = record { header = λ _. h.header keep; stood = λ _. h.stood keep };
       taken = taken;
-      first = h.run.2.first;
+      first = h.served.run.2.first;
       told = [];
       output = tt;
       log = log;

@@ -23,9 +23,9 @@ use Rattle.oplog.specs.Stands.{in_force, named_area}
 use Rattle.plain.specs.Output.{IsBeginning, WritesOutput}
 use Rattle.plain.specs.State.{State}
 use Rattle.scheduler.specs.Kept.{IsJustOpened, CoreView, StandsNow}
-use Rattle.serving.specs.Ends.{AreServed, EndsSo, HasRunLines, ServesLinesBefore, ServesWholeLines, settled_in}
+use Rattle.serving.specs.Ends.{AreServed, HasRunLines, ServesLinesBefore, ServesWholeLines, settled_in}
 use Rattle.serving.specs.Runs.{with_lent}
-use Rattle.serving.specs.Serve.{HasRunSo}
+use Rattle.serving.specs.Serve.{HasRunSo, ServesSo}
 use Rattle.serving.specs.declared.server.ServeFault.{ServeFault}
 use Rattle.serving.specs.declared.server.ServeFault.TheVariants as serve_faults
 use Rattle.commands.specs.Faults.{as_told, fault_of_file}
@@ -139,11 +139,10 @@ pub record HasServedBy (keeps : Type 0) (s : Service) (old new : Medium) (end : 
   pub header : keeps → HasHeader start.geometry old.now
   pub stood : keeps → holds start.geometry old.now ≡ Some (settled_in start)
   pub opening : keeps → OpeningLeaves old start.medium
-  pub run : HasRunSo keeps (machine_at_start s start) now input before written end
-  pub ends : EndsSo start now input left before written end
+  pub served : ServesSo keeps s.workers start (now, end) input left before written
   pub leaves : keeps → StandsNow now
   pub given_back : new ≡ now.medium
-  pub life : keeps → let behind = run_behind keeps (machine_at_start s start) now input before written end run
+  pub life : keeps → let behind = run_behind keeps (machine_at_start s start) now input before written end served.run
       in IsLife s start old new behind.1
 
 -- So it was; or the device could not be opened. A crash while it is opened leaves what stands for the same, or is refused for the

@@ -1,10 +1,8 @@
 //! `waffd serve`: the lines of the input, answered on the device in a file by workers that run messages at once.
-ghost use Rattle.std.specs.Prelude.{◌≡◌, None, OnOk, false, replicate};
+ghost use Rattle.std.specs.Prelude.{◌≡◌, false};
 ghost use Rattle.legal_runs.specs.Laws.{IsIdle};
 ghost use Rattle.scheduler.specs.Kept.{world_of};
-ghost use Rattle.serving.specs.Ends.{EndsSo};
-ghost use Rattle.serving.specs.Runs.{with_lent};
-ghost use Rattle.serving.specs.Serve.{HasEmptyLog, HasRunSo, RefusesNone};
+ghost use Rattle.serving.specs.Serve.{ServesSo};
 ghost use Rattle.commands.specs.Faults.{as_told};
 ghost use Rattle.commands.specs.Kept.{KeepsWhatWasTold};
 ghost use Rattle.commands.specs.Promise.{LeavesRecovered};
@@ -44,11 +42,8 @@ fn serve_core<T: Threads + Wait + Sync, R: Read, W: Write, D: Disk + Drop>(
 ) -> (Core<D>, Result<(), ServeFault>)
     requires idle { IsIdle (world_of core) }
     requires works { core.failed ≡ false }
-    ensures run { HasRunSo D.keeps (with_lent core (replicate service.workers None)) result.0 (R.remaining r.old)
-        (W.contents w.old) (W.contents w.new) result.1 }
-    ensures ends { EndsSo core result.0 (R.remaining r.old) (R.remaining r.new) (W.contents w.old) (W.contents w.new) result.1 }
-    ensures no_workers { RefusesNone service.workers result.1 }
-    ensures emptied { OnOk result.1 (D.keeps → HasEmptyLog result.0) }
+    ensures { ServesSo D.keeps service.workers core result (R.remaining r.old) (R.remaining r.new) (W.contents w.old)
+        (W.contents w.new) }
 {
     let workers = usize::from(service.workers);
     let every = u64::from(service.every);

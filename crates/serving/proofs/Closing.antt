@@ -15,13 +15,13 @@ use Rattle.message.specs.Messages.{is_in_range}
 use Rattle.message.specs.Reader.{GivesLine}
 use Rattle.message.specs.declared.Msg.{Msg}
 use Rattle.parcel.specs.Run.{JobView}
-use Rattle.scheduler.specs.Kept.{CoreView, world_of}
+use Rattle.scheduler.specs.Kept.{CoreView, StandsNow, world_of}
 use Rattle.serving.specs.Ends.{EndsSo, IsWoundUp}
 use Rattle.serving.specs.Going.{Goes}
 use Rattle.serving.specs.Lending.{IsHome}
 use Rattle.serving.specs.Lines.{Line}
 use Rattle.line_row.specs.Rows.{RowView, comes_next}
-use Rattle.serving.specs.Serve.{HasEmptyLog, HasWorkers, PromisesAll, RefusesNone}
+use Rattle.serving.specs.Serve.{HasEmptyLog, HasRunSo, HasWorkers, RefusesNone, ServesSo}
 use Rattle.serving.specs.Runs.{Holds, lent_hand, with_lent}
 use Rattle.serving.specs.Session.{EndsBy, EndsOrDeclines, HasFinished, HasGone, HasHalted, HasStopped, CanBegin, IsServed, IsUnderWay, IsUnderWayFrom, SessionView, ReadsOrStops, machine, known_unless, end_of, reported}
 use Rattle.serving.specs.Telling.{Start, start_machine}
@@ -41,6 +41,12 @@ use Rattle.serving.proofs.Under.{begins_at, begun, gone, to_row}
 so_far_none : (contents : Option (List ℕ)) → so_far contents [] ≡ contents
 so_far_none None = refl
 so_far_none (Some bytes) = ap (λ (l : List ℕ). Some l) (append-nil bytes)
+
+-- Of the run behind it, where the core at the end is as it always is, and of its end.
+pub record PromisesAll (keeps : Type 0) (start : MachineView) (new : CoreView) (input behind before written : Option (List ℕ))
+    (result : Result (Unit {0}) ServeFault) : Type 0 where
+  pub run : (new.failed ≡ false → new.doubt ≡ []) → (keeps → StandsNow new) → HasRunSo keeps start new input before written result
+  pub ends : EndsSo start.core new input behind before written result
 
 -- nothing is out once all is home
 all_empty : (n : ℕ) → full (map hand_in (map lent_hand (replicate n None))) ≡ 0
@@ -284,21 +290,13 @@ refuses_none workers some (Err faults.Device) h = some
 refuses_none workers some (Err faults.OutOfMemory) h = some
 refuses_none workers some (Err faults.Exhausted) h = some
 
--- What holds of the core and of what is reported holds of what is handed back.
-pub handed_back : {E : Type 0} (core_of : E → CoreView) (fault_of : E → ServeFault) (core : CoreView) (end : Result (Unit {0}) ServeFault)
-    (r : Result CoreView E) → MatchResult r (λ after. (after ≡ core) × (end ≡ Ok tt)) (λ e. (core_of e ≡ core) × (end ≡ Err (fault_of e)))
-    → (P : CoreView → Result (Unit {0}) ServeFault → Type 0) → P core end
-    → MatchResult r (λ after. P after (Ok tt)) (λ e. P (core_of e) (Err (fault_of e)))
-handed_back core_of fault_of core end (Ok after) back P h = subst (λ (x : Result (Unit {0}) ServeFault). P after x) back.1
-    (subst (λ (k : CoreView). P k end) (sym back.0) h)
-handed_back core_of fault_of core end (Err e) back P h = subst (λ (x : Result (Unit {0}) ServeFault). P (core_of e) x) back.1
-    (subst (λ (k : CoreView). P k end) (sym back.0) h)
-
-pub emptied_back : {E : Type 0} (core_of : E → CoreView) (fault_of : E → ServeFault) (core : CoreView) (end : Result (Unit {0}) ServeFault)
-    (r : Result CoreView E) → MatchResult r (λ after. (after ≡ core) × (end ≡ Ok tt)) (λ e. (core_of e ≡ core) × (end ≡ Err (fault_of e)))
-    → (P : CoreView → Type 0) → OnOk end (P core) → IfOk r P
-emptied_back core_of fault_of core end (Ok after) back P h = subst P (sym back.0) (subst (λ (x : Result (Unit {0}) ServeFault). OnOk x (P core)) back.1 h)
-emptied_back core_of fault_of core end (Err e) back P h = tt
+-- The same of as many workers, where as much is left.
+pub serves_as : (keeps : Type 0) (core : CoreView) (back : CoreView × Result (Unit {0}) ServeFault) (input before written : Option (List ℕ))
+    (places workers : ℕ) (left behind : Option (List ℕ)) → places ≡ workers → left ≡ behind
+    → ServesSo keeps places core back input left before written → ServesSo keeps workers core back input behind before written
+serves_as keeps core back input before written places workers left behind as_many same h =
+    subst (λ (n : ℕ). ServesSo keeps n core back input behind before written) as_many
+    (subst (λ (l : Option (List ℕ)). ServesSo keeps places core back input l before written) same h)
 
 -- ---- where it begins
 

@@ -1,14 +1,16 @@
 -- What a server promises of its whole call, by the answer that it gives.
-use Rattle.std.specs.Prelude.{◌≡◌, ◌≢◌, ℕ, false, List, [], Option, Some, None, Result, Ok, Err}
+use Rattle.std.specs.Prelude.{◌≡◌, ◌≢◌, ℕ, false, List, [], Option, Some, None, Result, Ok, Err, OnOk, replicate}
 use Rattle.machine.specs.Machine.{MachineView}
 use Rattle.machine.specs.Stages.{Stage}
 use Rattle.message.specs.Lines.{lines}
 use Rattle.oplog.specs.Layout.{layout_of}
 use Rattle.oplog.specs.Stands.{in_force, named_area}
-use Rattle.scheduler.specs.Kept.{CoreView, StandsNow}
+use Rattle.scheduler.specs.Kept.{CoreView}
 use Rattle.serving.specs.Ends.{EndsSo, HasRunLines, HasServed}
 use Rattle.serving.specs.Lines.{Line}
+use Rattle.serving.specs.Runs.{with_lent}
 use Rattle.line_row.specs.Rows.{comes_next}
+use Rattle.serving.specs.declared.server.ServeError.{ServeError}
 use Rattle.serving.specs.declared.server.ServeFault.{ServeFault}
 use Rattle.serving.specs.declared.server.ServeFault.TheVariants as faults
 
@@ -47,9 +49,18 @@ HasWorkers _ = Unit {0}
 abbrev pub HasEmptyLog : CoreView → Type 0
 HasEmptyLog c = in_force (layout_of c.geometry) (named_area (layout_of c.geometry) c.medium.now) c.medium.now ≡ []
 
--- What a server promises of its whole call, by its answer: of the run behind it, where the core at the end is as it always is, and of
--- its end.
-pub record PromisesAll (keeps : Type 0) (start : MachineView) (new : CoreView) (input behind before written : Option (List ℕ))
-    (result : Result (Unit {0}) ServeFault) : Type 0 where
-  pub run : (new.failed ≡ false → new.doubt ≡ []) → (keeps → StandsNow new) → HasRunSo keeps start new input before written result
-  pub ends : EndsSo start.core new input behind before written result
+-- what a call of a server hands back: its core, and how it ended
+abbrev pub handed_back : {D : Type 0} → Result CoreView (ServeError D) → CoreView × Result (Unit {0}) ServeFault
+handed_back (Ok core) = (core, Ok tt)
+handed_back (Err e) = (e.core, Err e.fault)
+
+-- What a server promises of its whole call, from the core that it was given to what it hands back.
+pub record ServesSo (keeps : Type 0) (workers : ℕ) (old : CoreView) (back : CoreView × Result (Unit {0}) ServeFault)
+    (input left before written : Option (List ℕ)) : Type 0 where
+  -- behind what was written there is a run, with a place for each worker
+  pub run : HasRunSo keeps (with_lent old (replicate workers None)) back.0 input before written back.1
+  -- core, input and output are as this end says
+  pub ends : EndsSo old back.0 input left before written back.1
+  pub no_workers : RefusesNone workers back.1
+  -- at the end of the input no record is in force
+  pub emptied : OnOk back.1 (keeps → HasEmptyLog back.0)

@@ -1,11 +1,9 @@
 //! The whole call of a server: its memory, its workers and its end.
 
-ghost use Rattle.std.specs.Prelude.{◌≡◌, ◌≢◌, ◌≤◌, All, false, [], None, Ok, Err, IfOk, MatchResult, Some, replicate, vec_len};
+ghost use Rattle.std.specs.Prelude.{◌≡◌, ◌≢◌, ◌≤◌, All, false, [], None, IfOk, Some, replicate, vec_len};
 ghost use Rattle.legal_runs.specs.Laws.{IsIdle};
 ghost use Rattle.scheduler.specs.Kept.{StandsNow, world_of};
-ghost use Rattle.serving.specs.Ends.{EndsSo};
-ghost use Rattle.serving.specs.Runs.{with_lent};
-ghost use Rattle.serving.specs.Serve.{HasEmptyLog, HasRunSo, RefusesNone};
+ghost use Rattle.serving.specs.Serve.{ServesSo, handed_back};
 ghost use Rattle.serving.specs.Session.{CanBegin, reported};
 
 use crate::points::Course;
@@ -94,8 +92,7 @@ fn hand_back<D: Disk>(
     core: Core<D>,
     ended: Result<Result<(), ServeFault>, AllocError>,
 ) -> Result<Core<D>, ServeError<D>>
-    ensures ended { MatchResult result (λ after. (after ≡ core) × (reported ended ≡ Ok tt))
-        (λ e. (e.core ≡ core) × (reported ended ≡ Err e.fault)) }
+    ensures ended { handed_back result ≡ (core, reported ended) }
     ensures no_doubt { core.failed ≡ false → core.doubt ≡ [] }
     ensures stands { D.keeps → StandsNow core }
 {
@@ -131,19 +128,8 @@ fn serve_lent<
     requires can_begin { CanBegin L.start core room.bench.slots (R.remaining reader.now) (L.told teller) room.row }
     requires workers { room.bench.slots ≢ 0 }
     ensures same { result.1.ghost_name ≡ reader.entry.ghost_name }
-    ensures run { MatchResult result.0
-        (λ after. HasRunSo D.keeps (with_lent core (replicate room.bench.slots None)) after
-        (R.remaining reader.entry.now) (L.told teller) (L.told result.2) (Ok tt))
-        (λ e. HasRunSo D.keeps (with_lent core (replicate room.bench.slots None)) e.core
-        (R.remaining reader.entry.now) (L.told teller) (L.told result.2) (Err e.fault)) }
-    ensures ends { MatchResult result.0
-        (λ after. EndsSo core after (R.remaining reader.entry.now) (R.remaining result.1.now)
-        (L.told teller) (L.told result.2) (Ok tt))
-        (λ e. EndsSo core e.core (R.remaining reader.entry.now) (R.remaining result.1.now)
-        (L.told teller) (L.told result.2) (Err e.fault)) }
-    ensures no_workers { MatchResult result.0 (λ _. RefusesNone room.bench.slots (Ok tt))
-        (λ e. RefusesNone room.bench.slots (Err e.fault)) }
-    ensures emptied { IfOk result.0 (λ after. D.keeps → HasEmptyLog after) }
+    ensures serves { ServesSo D.keeps room.bench.slots core (handed_back result.0) (R.remaining reader.entry.now)
+        (R.remaining result.1.now) (L.told teller) (L.told result.2) }
 {
     let Room {
         input,
@@ -209,16 +195,8 @@ pub fn serve_to<T: Threads + Wait + Sync, R: Read, L: Teller<D>, D: Disk + Drop,
     requires idle { IsIdle (world_of core) }
     requires works { core.failed ≡ false }
     requires few { workers ≤ 64 }
-    ensures run { MatchResult result.0
-        (λ after. HasRunSo D.keeps (with_lent core (replicate workers None)) after (R.remaining r.old)
-        (L.told teller) (L.told result.1) (Ok tt))
-        (λ e. HasRunSo D.keeps (with_lent core (replicate workers None)) e.core (R.remaining r.old)
-        (L.told teller) (L.told result.1) (Err e.fault)) }
-    ensures ends { MatchResult result.0
-        (λ after. EndsSo core after (R.remaining r.old) (R.remaining r.new) (L.told teller) (L.told result.1) (Ok tt))
-        (λ e. EndsSo core e.core (R.remaining r.old) (R.remaining r.new) (L.told teller) (L.told result.1) (Err e.fault)) }
-    ensures no_workers { MatchResult result.0 (λ _. RefusesNone workers (Ok tt)) (λ e. RefusesNone workers (Err e.fault)) }
-    ensures emptied { IfOk result.0 (λ after. D.keeps → HasEmptyLog after) }
+    ensures { ServesSo D.keeps workers core (handed_back result.0) (R.remaining r.old) (R.remaining r.new) (L.told teller)
+        (L.told result.1) }
 {
     core.stands();
     if workers == 0 {
@@ -320,19 +298,8 @@ fn serve_writer<
     requires works { core.failed ≡ false }
     requires few { setting.workers ≤ 64 }
     ensures same { result.1.ghost_name ≡ w.entry.ghost_name }
-    ensures run { MatchResult result.0
-        (λ after. HasRunSo D.keeps (with_lent core (replicate setting.entry.workers None)) after (R.remaining r.old)
-        (W.contents w.entry.now) (W.contents result.1.now) (Ok tt))
-        (λ e. HasRunSo D.keeps (with_lent core (replicate setting.entry.workers None)) e.core (R.remaining r.old)
-        (W.contents w.entry.now) (W.contents result.1.now) (Err e.fault)) }
-    ensures ends { MatchResult result.0
-        (λ after. EndsSo core after (R.remaining r.old) (R.remaining r.new)
-        (W.contents w.entry.now) (W.contents result.1.now) (Ok tt))
-        (λ e. EndsSo core e.core (R.remaining r.old) (R.remaining r.new)
-        (W.contents w.entry.now) (W.contents result.1.now) (Err e.fault)) }
-    ensures no_workers { MatchResult result.0 (λ _. RefusesNone setting.entry.workers (Ok tt))
-        (λ e. RefusesNone setting.entry.workers (Err e.fault)) }
-    ensures emptied { IfOk result.0 (λ after. D.keeps → HasEmptyLog after) }
+    ensures serves { ServesSo D.keeps setting.entry.workers core (handed_back result.0) (R.remaining r.old) (R.remaining r.new)
+        (W.contents w.entry.now) (W.contents result.1.now) }
 {
     let Setting {
         rt,
@@ -370,18 +337,8 @@ pub fn serve<T: Threads + Wait + Sync, R: Read, W: Write, D: Disk + Drop, G: Gat
     requires idle { IsIdle (world_of core) }
     requires works { core.failed ≡ false }
     requires few { workers ≤ 64 }
-    ensures run { MatchResult result
-        (λ after. HasRunSo D.keeps (with_lent core (replicate workers None)) after (R.remaining r.old)
-        (W.contents w.old) (W.contents w.new) (Ok tt))
-        (λ e. HasRunSo D.keeps (with_lent core (replicate workers None)) e.core (R.remaining r.old)
-        (W.contents w.old) (W.contents w.new) (Err e.fault)) }
-    ensures ends { MatchResult result
-        (λ after. EndsSo core after (R.remaining r.old) (R.remaining r.new)
-        (W.contents w.old) (W.contents w.new) (Ok tt))
-        (λ e. EndsSo core e.core (R.remaining r.old) (R.remaining r.new)
-        (W.contents w.old) (W.contents w.new) (Err e.fault)) }
-    ensures no_workers { MatchResult result (λ _. RefusesNone workers (Ok tt)) (λ e. RefusesNone workers (Err e.fault)) }
-    ensures emptied { IfOk result (λ after. D.keeps → HasEmptyLog after) }
+    ensures { ServesSo D.keeps workers core (handed_back result) (R.remaining r.old) (R.remaining r.new) (W.contents w.old)
+        (W.contents w.new) }
 {
     let setting = Setting {
         rt,

@@ -1,13 +1,13 @@
 //! A client that doesn't trust: each time it is told lines it crashes a copy of the device, and keeps what had been told with what the
 //! crash left. That this holds all that was told is the contract of `serve_watched`.
 
-ghost use Rattle.std.specs.Prelude.{◌≡◌, ◌≤◌, ◌++◌, All, List, ℕ, [], false, IfOk, Ok, OnOk, Some, MatchResult, Err};
+ghost use Rattle.std.specs.Prelude.{◌≡◌, ◌≤◌, ◌++◌, All, List, ℕ, [], false, IfOk, OnOk, Some};
 ghost use Rattle.disk.specs.Device.{Leaves};
 ghost use Rattle.disk.specs.Memory.{medium_of};
 ghost use Rattle.disk.specs.Torn.{HasBytes};
 ghost use Rattle.legal_runs.specs.Laws.{IsIdle};
 ghost use Rattle.scheduler.specs.Kept.{world_of};
-ghost use Rattle.serving.specs.Ends.{EndsSo};
+ghost use Rattle.serving.specs.Serve.{ServesSo, handed_back};
 ghost use Rattle.serving_tests.specs.Sights.{AreHeld, IsHeld, IsToldAt};
 
 use disk::{MemDisk, Torn};
@@ -144,9 +144,8 @@ fn serve_client<T: Threads + Wait + Sync, R: Read, G: Gate + Sync, B: Beginning>
     requires works { core.failed ≡ false }
     requires few { plan.workers ≤ 64 }
     ensures seen { AreHeld B.start result.2.items }
-    ensures ends { MatchResult result.0
-        (λ after. EndsSo core after (R.remaining r.old) (R.remaining r.new) (Some client) (Some result.1.items) (Ok tt))
-        (λ e. EndsSo core e.core (R.remaining r.old) (R.remaining r.new) (Some client) (Some result.1.items) (Err e.fault)) }
+    ensures serves { ServesSo (Unit {0}) plan.workers core (handed_back result.0) (R.remaining r.old) (R.remaining r.new) (Some client)
+        (Some result.1.items) }
 {
     let alloc = client.alloc;
     let Plan { workers, every } = plan;
@@ -175,9 +174,8 @@ fn start_watching<T: Threads + Wait + Sync, R: Read, G: Gate + Sync, B: Beginnin
     requires few { plan.workers ≤ 64 }
     requires bytes { HasBytes torn }
     ensures seen { AreHeld B.start result.2.items }
-    ensures ends { MatchResult result.0
-        (λ after. EndsSo core after (R.remaining r.old) (R.remaining r.new) (Some []) (Some result.1.items) (Ok tt))
-        (λ e. EndsSo core e.core (R.remaining r.old) (R.remaining r.new) (Some []) (Some result.1.items) (Err e.fault)) }
+    ensures serves { ServesSo (Unit {0}) plan.workers core (handed_back result.0) (R.remaining r.old) (R.remaining r.new) (Some [])
+        (Some result.1.items) }
 {
     let client = Watch::<B> {
         alloc,
@@ -211,9 +209,8 @@ pub fn serve_watched<T: Threads + Wait + Sync, R: Read, G: Gate + Sync>(
     requires bytes { HasBytes torn }
     ensures seen { All (IsHeld (record { core = core; places = plan.workers; input = R.remaining r.old; before = Some [] }))
         result.2.items }
-    ensures ends { MatchResult result.0
-        (λ after. EndsSo core after (R.remaining r.old) (R.remaining r.new) (Some []) (Some result.1.items) (Ok tt))
-        (λ e. EndsSo core e.core (R.remaining r.old) (R.remaining r.new) (Some []) (Some result.1.items) (Err e.fault)) }
+    ensures serves { ServesSo (Unit {0}) plan.workers core (handed_back result.0) (R.remaining r.old) (R.remaining r.new) (Some [])
+        (Some result.1.items) }
 {
     start_watching::<T, R, G, Brand>(rt, alloc, torn, plan, core, r, gate, PhantomData)
 }

@@ -1,10 +1,16 @@
--- Where it ends with a fault, its run is that of `serve`, with as many workers.
-use Rattle.std.proofs.Common.{ℕ, replicate, None, Err, subst}
-use Rattle.serving.specs.Runs.{with_lent}
-use Rattle.serving.specs.Serve.{HasRunSo}
+-- What is promised is that of `serve`, with as many workers.
+use Rattle.std.proofs.Common.{ℕ, Ok, Err, subst}
+use Rattle.serving.specs.Serve.{ServesSo}
 use Rattle.commands.proofs.on_device.serve_core.Goals as goal
 
-pub returns-in-Err-clause-run : goal.returns-in-Err-clause-run
-returns-in-Err-clause-run g c =
-    subst (λ (workers : ℕ). HasRunSo g.D.Disk.keeps (with_lent c.args.core (replicate workers None)) c.in-Err.field-0.core (g.R.Read.remaining c.args.r.now)
-    (g.W.Write.contents c.args.w.now) (g.W.Write.contents c.serve.new.w) (Err c.in-Err.field-0.fault)) c.from-workers.ensures c.in-Err.ensures.run
+pub returns-in-Ok : goal.returns-in-Ok
+returns-in-Ok g c =
+    subst (λ (workers : ℕ). ServesSo g.D.Disk.keeps workers c.args.core (c.in-Ok.core, Ok tt) (g.R.Read.remaining c.args.r.now)
+    (g.R.Read.remaining c.serve.new.r) (g.W.Write.contents c.args.w.now) (g.W.Write.contents c.serve.new.w)) c.from-workers.ensures
+    c.in-Ok.ensures
+
+pub returns-in-Err : goal.returns-in-Err
+returns-in-Err g c =
+    subst (λ (workers : ℕ). ServesSo g.D.Disk.keeps workers c.args.core (c.in-Err.field-0.core, Err c.in-Err.field-0.fault)
+    (g.R.Read.remaining c.args.r.now) (g.R.Read.remaining c.serve.new.r) (g.W.Write.contents c.args.w.now)
+    (g.W.Write.contents c.serve.new.w)) c.from-workers.ensures c.in-Err.ensures

@@ -1,14 +1,12 @@
 -- Where it begins; and what it promises, since the core at the end is as it always is.
-use Rattle.std.proofs.Common.{None, ap, refl, replicate, sym, subst, ◌∙◌}
+use Rattle.std.proofs.Common.{ap, refl, sym, subst, ◌∙◌}
 use Rattle.std.specs.Prelude.{OnOk, Result}
 use Rattle.scheduler.specs.Kept.{CoreView}
-use Rattle.serving.specs.Ends.{EndsSo}
-use Rattle.serving.specs.Runs.{with_lent}
-use Rattle.serving.specs.Serve.{HasEmptyLog, HasRunSo, RefusesNone}
+use Rattle.serving.specs.Serve.{HasEmptyLog, ServesSo}
 use Rattle.serving.specs.Session.{IsUnderWayFrom, SessionView, reported}
 use Rattle.serving.specs.Telling.{Start}
 use Rattle.serving.specs.declared.server.ServeFault.{ServeFault}
-use Rattle.serving.proofs.Closing.{emptied_at_end, emptied_back, ends_or_declines, first_at, handed_back, has_workers, not_drained, promises_from, refuses_none}
+use Rattle.serving.proofs.Closing.{emptied_at_end, ends_or_declines, first_at, has_workers, not_drained, promises_from, refuses_none}
 use Rattle.serving.proofs.server.serve_lent.Goals as goal
 
 pub invariant_of-session : goal.invariant_of-session
@@ -40,17 +38,13 @@ returns g c =
     (ap (λ (l : _). g.R.Read.remaining l.reader.now) c.new.ensures.source) refl end ends _ _ _ core behind (ap (λ (p : SessionView). p.told) c.session.view_is) in
     record {
       same = c.into_inner-reader.result.same ∙ sym c.requires.reader;
-      run = handed_back (λ (e : _). e.core) (λ (e : _). e.fault) _ end _ c.hand_back.ensures.ended
-          (λ (k : CoreView) (r : Result (Unit {0}) ServeFault). HasRunSo g.D.Disk.keeps (with_lent c.args.core (replicate c.args.room.bench.slots None)) k
-          (g.R.Read.remaining c.args.reader.now) (g.L.Teller.told c.args.teller) (g.L.Teller.told last.teller) r)
-          (all.run c.hand_back.ensures.no_doubt c.hand_back.ensures.stands);
-      ends = handed_back (λ (e : _). e.core) (λ (e : _). e.fault) _ end _ c.hand_back.ensures.ended
-          (λ (k : CoreView) (r : Result (Unit {0}) ServeFault). EndsSo c.args.core k (g.R.Read.remaining c.args.reader.now)
-          (g.R.Read.remaining c.into_inner-reader.result.reader.now) (g.L.Teller.told c.args.teller) (g.L.Teller.told last.teller) r) all.ends;
-      no_workers = handed_back (λ (e : _). e.core) (λ (e : _). e.fault) _ end _ c.hand_back.ensures.ended
-          (λ (k : CoreView) (r : Result (Unit {0}) ServeFault). RefusesNone c.args.room.bench.slots r)
-          (refuses_none c.args.room.bench.slots c.requires.workers end (has_workers _ _ end ends));
-      emptied = emptied_back (λ (e : _). e.core) (λ (e : _). e.fault) _ _ _ c.hand_back.ensures.ended (λ (k : CoreView). g.D.Disk.keeps → HasEmptyLog k)
-          (subst (λ (k : CoreView). OnOk end (g.D.Disk.keeps → HasEmptyLog k)) (sym core)
-          (emptied_at_end now (g.D.Disk.keeps → HasEmptyLog now.core) _ c.with_workers-ended.result gives.gives _ refl));
+      serves = subst (λ (back : CoreView × Result (Unit {0}) ServeFault). ServesSo g.D.Disk.keeps c.args.room.bench.slots c.args.core back
+          (g.R.Read.remaining c.args.reader.now) (g.R.Read.remaining c.into_inner-reader.result.reader.now) (g.L.Teller.told c.args.teller)
+          (g.L.Teller.told last.teller)) (sym c.hand_back.ensures.ended) (record {
+            run = all.run c.hand_back.ensures.no_doubt c.hand_back.ensures.stands;
+            ends = all.ends;
+            no_workers = refuses_none c.args.room.bench.slots c.requires.workers end (has_workers _ _ end ends);
+            emptied = subst (λ (k : CoreView). OnOk end (g.D.Disk.keeps → HasEmptyLog k)) (sym core)
+                (emptied_at_end now (g.D.Disk.keeps → HasEmptyLog now.core) _ c.with_workers-ended.result gives.gives _ refl);
+          });
     }
