@@ -15,7 +15,7 @@ use Rattle.words.specs.declared.words.WordRefusal.{WordRefusal}
 use Rattle.words.specs.declared.words.WordRefusal.TheVariants as refusal
 
 -- What was written where the request came to this end, and what is left of the input: that of its command.
--- Help reads nothing. Its text, and whether it was written, is open. The service is that of the numbers that were given.
+-- Help and the version read nothing. Their text, and whether it was written, is open. The service is that of the numbers that were given.
 abbrev pub Ends : Request → Result (Unit {0}) Fault → Option (List ℕ) → Option (List ℕ) → Option (List ℕ) → Option (List ℕ) → Type 0
 Ends (Help text) (Ok _) input left old new = left ≡ input
 Ends (Help text) (Err Write) input left old new = left ≡ input
@@ -52,7 +52,7 @@ EndsShow status old new = (end : Result (Unit {0}) Fault) × (status ≡ status_
 abbrev pub EndsServe : Service → ℕ → Option (List ℕ) → Option (List ℕ) → Option (List ℕ) → Option (List ℕ) → Type 0
 EndsServe s status input left old new = (end : Result (Unit {0}) Fault) × (status ≡ status_at end) × EndsInFile s end input left old new
 
--- Help was printed, or could not be written, or there was no memory.
+-- Help or the version was printed, or could not be written, or there was no memory.
 abbrev pub EndsHelp : ℕ → Type 0
 EndsHelp status = (status ≡ 0) ⊎ ((status ≡ status_of Write) ⊎ (status ≡ status_of OutOfMemory))
 

@@ -3,7 +3,7 @@ ghost use Rattle.std.specs.Prelude.{◌≡◌, ◌⊎◌, ℕ, List, [], ◌∷�
 ghost use Rattle.affinity.specs.Geometry.{standard};
 ghost use Rattle.command_line.specs.Ends.{Ends, EndsFormat, EndsHelp, EndsPlain, EndsRefused, EndsServe, EndsShow, status_of_refusal};
 ghost use Rattle.command_line.specs.Services.{AsksServe, with_few_workers};
-ghost use Rattle.words.specs.Words.{AsksFormat, AsksHelp, AsksNoService, AsksPlain, AsksShow, AreRefused, service_numbers};
+ghost use Rattle.words.specs.Words.{AsksFormat, AsksHelp, AsksNoService, AsksPlain, AsksShow, AsksVersion, AreRefused, service_numbers};
 ghost use Rattle.affinity.specs.declared.geometry.Geometry.{Geometry};
 ghost use Rattle.commands.specs.Serving.{numbers_of_service};
 ghost use Rattle.commands.specs.declared.service.Service.{Service};
@@ -91,6 +91,8 @@ pub fn command<T: Files<File = File> + Threads + Wait + Sync, R: Read, W: Write,
         → EndsServe s result (R.remaining r.old) (R.remaining r.new)
         (W.contents w.old) (W.contents w.new) }
     ensures help { AsksHelp (map string_bytes words.now)
+        → EndsHelp result × (R.remaining r.new ≡ R.remaining r.old) }
+    ensures version { AsksVersion (map string_bytes words.now)
         → EndsHelp result × (R.remaining r.new ≡ R.remaining r.old) }
     ensures refused { AreRefused (map string_bytes words.now)
         → EndsRefused result × (r.new ≡ r.old) × (w.new ≡ w.old) }

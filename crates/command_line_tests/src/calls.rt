@@ -183,6 +183,17 @@ fn help_goes_to_the_output(rt: HostRuntime) -> Result<(), Fail> {
     expect_helps(&rt, &HELP, "Usage: waffd ")
 }
 
+/// That the version goes to the output. `by_hand/run` looks at the kit and the logic in it.
+#[test]
+fn the_version_names_what_it_is_proved_with(rt: HostRuntime) -> Result<(), Fail> {
+    expect_help(
+        &rt,
+        "waffd --version",
+        "waffd 0.1.0 (proved with rattle-kit-",
+    )?;
+    expect_help(&rt, "waffd -V", ", logic ")
+}
+
 const COMMANDS: [&str; 5] = [
     "A server for messages about files of 512-byte blocks\n",
     "  plain   Answers the messages",
@@ -236,7 +247,11 @@ fn expect_wrong<T: System>(rt: &T, rows: &[(&str, &str)]) -> Result<(), Fail> {
     Ok(())
 }
 
-const WRONG: [(&str, &str); 23] = [
+const WRONG: [(&str, &str); 24] = [
+    (
+        "waffd plain --version",
+        "error: unexpected argument '--version'",
+    ),
     (
         "waffd serve",
         "error: the following required arguments were not provided",
@@ -342,6 +357,7 @@ pub(crate) fn expect_write_fault<T: System, W: Write>(
 fn what_cannot_be_written_is_a_write_fault(rt: HostRuntime) -> Result<(), Fail> {
     expect_write_fault(&rt, "waffd --help", &mut Closed)?;
     expect_write_fault(&rt, "waffd --help", &mut Stuck)?;
+    expect_write_fault(&rt, "waffd --version", &mut Closed)?;
     expect_write_fault(&rt, "waffd plain", &mut Closed)
 }
 

@@ -2,7 +2,7 @@
 use Rattle.std.proofs.Common.{◌≡◌, ℕ, List, [], ◌∷◌, Option, Some, codes, refl, ap, sym, subst, lit≤, arith, ◌≤◌}
 use Rattle.affinity.specs.Geometry.{standard}
 use Rattle.clap.proofs.OnLiterals.{clap_on_literals}
-use Rattle.words.specs.Words.{AsksFormat, AsksHelp, AsksNoService, AsksOutOfRange, AsksPlain, AsksServeWith, AsksShow, IsWrong}
+use Rattle.words.specs.Words.{AsksFormat, AsksHelp, AsksNoService, AsksOutOfRange, AsksPlain, AsksServeWith, AsksShow, AsksVersion, IsWrong}
 
 -- two names are told apart by it
 abbrev first_letter : Option (List ℕ) → ℕ
@@ -36,6 +36,18 @@ asks_short_half program =
 pub asks_help : (program : List ℕ) → AsksHelp (program ∷ codes "--help" ∷ [])
 unfolding clap_on_literals
 asks_help program = refl
+
+pub asks_version : (program : List ℕ) → AsksVersion (program ∷ codes "--version" ∷ [])
+unfolding clap_on_literals
+asks_version program = refl
+
+pub asks_version_by_letter : (program : List ℕ) → AsksVersion (program ∷ codes "-V" ∷ [])
+unfolding clap_on_literals
+asks_version_by_letter program = refl
+
+pub version_of_a_command_is_wrong : (program : List ℕ) → IsWrong (program ∷ codes "plain" ∷ codes "--version" ∷ [])
+unfolding clap_on_literals
+version_of_a_command_is_wrong program = (λ e. cc, refl)
 
 pub help_is_no_service : (program : List ℕ) → AsksNoService (program ∷ codes "help" ∷ [])
 unfolding clap_on_literals

@@ -65,9 +65,9 @@ show = with_rule (new_app (codes "show")) device_rule
 abbrev pub serve : App
 serve = with_service (with_rule (new_app (codes "serve")) device_rule)
 
--- the program without its commands, of which one has to be given
+-- the program without its commands, of which one has to be given; it has a version
 abbrev pub bare : App
-bare = on_top (λ s. record s { subcommand_required = true; arg_required_else_help = true }) (new_app (codes "waffd"))
+bare = on_top (λ s. record s { has_version = true; subcommand_required = true; arg_required_else_help = true }) (new_app (codes "waffd"))
 
 -- the program
 abbrev pub waffd : App
@@ -115,7 +115,7 @@ service_in rows =
 abbrev pub device_in : List Row → Text
 device_in rows = unwrap_or (first_of (codes "device") rows) []
 
--- what `clap` may find in the words, the program's own name first: nothing, a call for help, or mistakes
+-- what `clap` may find in the words, the program's own name first: nothing, a call for help or the version, or mistakes
 abbrev pub findings : List Text → Kinds
 findings words = fault_of waffd words
 
@@ -198,12 +198,16 @@ AsksOutOfRange words =
 abbrev pub AsksHelp : List Text → Type 0
 AsksHelp words = findings words ≡ DisplayHelp ∷ []
 
--- The words ask for no command: they ask for help, or there are mistakes in them. Behind the word `help` it may be either, and `clap` tells
--- which.
+-- The words ask for the version.
+abbrev pub AsksVersion : List Text → Type 0
+AsksVersion words = findings words ≡ DisplayVersion ∷ []
+
+-- The words ask for no command: they ask for help or the version, or there are mistakes in them. Behind the word `help` there may be a
+-- mistake or none, and `clap` tells which.
 abbrev pub AsksNoService : List Text → Type 0
 AsksNoService words = findings words ≢ []
 
--- There are mistakes in the words, and they ask for no help.
+-- There are mistakes in the words, and they ask for no help and no version.
 abbrev pub IsWrong : List Text → Type 0
 IsWrong words = (findings words ≢ []) × (list_all is_mistake (findings words) ≡ true)
 

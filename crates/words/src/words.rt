@@ -10,6 +10,9 @@ use clap::error::ErrorKind;
 use clap::{Arg, ArgMatches, Command, value_parser};
 use std::alloc::{AllocError, Global};
 
+/// What `--version` prints behind the program's name: its version, and the kit and the logic with which it is proved.
+const VERSION: &str = "0.1.0 (proved with rattle-kit-13b, logic dac8208d650f15bf)";
+
 // What help says of the commands.
 const PLAIN: &str = "Answers the messages on standard input, one line each, from an empty state on";
 
@@ -62,7 +65,7 @@ pub struct ServiceNumbers {
 /// What the words ask for.
 #[derive(Drop)]
 pub enum Request<'a> {
-    /// Print this text of `clap`.
+    /// Print this text of `clap`: help, or the version.
     Help(clap::Error),
     /// Serve standard input to standard output, without a device.
     Plain(Geometry),
@@ -93,7 +96,7 @@ impl From<AllocError> for WordRefusal {
     }
 }
 
-/// What an error of `clap` stands for: help, a mistake in the words, or want of memory.
+/// What an error of `clap` stands for: help or the version, a mistake in the words, or want of memory.
 fn answered<'a>(error: clap::Error) -> Result<Request<'a>, WordRefusal>
     ensures { result ≡ answer_of error }
 {
@@ -183,6 +186,7 @@ fn commands<'a>(alloc: Global) -> Result<Command<'a>, AllocError>
     let serve = with_service(alloc, of_device(alloc, "serve", SERVE)?)?;
     Command::new(alloc, "waffd")
         .about("A server for messages about files of 512-byte blocks")
+        .version(VERSION)
         .subcommand_required(true)
         .arg_required_else_help(true)
         .subcommand(plain)?

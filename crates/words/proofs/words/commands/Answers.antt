@@ -7,7 +7,7 @@ use Rattle.words.specs.Words.{bare, format, plain, serve, show, with_numbers, wi
 use Rattle.words.proofs.words.commands.Goals as goal
 
 abbrev top_of : App → App
-top_of a = on_top (λ s. record s { subcommand_required = true; arg_required_else_help = true }) a
+top_of a = on_top (λ s. record s { has_version = true; subcommand_required = true; arg_required_else_help = true }) a
 
 pub returns : goal.returns
 returns c =
@@ -16,7 +16,7 @@ returns c =
     let format_is : app_of c.in_ok-format.format ≡ format = c.in_ok-format.ensures ∙ ap with_numbers c.in_ok-of_device.ensures in
     let show_is : app_of c.in_ok-show.show ≡ show = c.in_ok-show.ensures in
     let serve_is : app_of c.in_ok-serve.serve ≡ serve = c.in_ok-serve.ensures ∙ ap with_service c.in_ok-of_device-2.ensures in
-    let bare_is : app_of c.arg_required_else_help.result ≡ bare = rw (c.arg_required_else_help.ensures, c.subcommand_required.ensures, c.about-2.ensures) (ap top_of c.new-2.ensures.app) in
+    let bare_is : app_of c.arg_required_else_help.result ≡ bare = rw (c.arg_required_else_help.ensures, c.subcommand_required.ensures, c.version.ensures, c.about-2.ensures) (ap top_of c.new-2.ensures.app) in
     let one = c.in_ok-subcommand.ensures.shape (no_globals _ _ _ _ (ap (λ (a : App). a.top.is_plain) plain_is)) ∙ ap₂ with_subcommand bare_is (ap (λ (a : App). a.top) plain_is) in
     let two = c.in_ok-subcommand-2.ensures.shape (no_globals _ _ _ _ (ap (λ (a : App). a.top.is_plain) format_is)) ∙ ap₂ with_subcommand one (ap (λ (a : App). a.top) format_is) in
     let three = c.in_ok-subcommand-3.ensures.shape (no_globals _ _ _ _ (ap (λ (a : App). a.top.is_plain) show_is)) ∙ ap₂ with_subcommand two (ap (λ (a : App). a.top) show_is) in
