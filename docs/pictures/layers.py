@@ -3,6 +3,8 @@
 Each node has the nodes below it, and comes behind all of them in the list. A place is a node, or where an edge passes a layer.
 """
 
+from math import fsum
+
 
 def layered(below):
     """The nodes in layers, highest first, each right under the lowest that it is below; and each edge as its places from layer to layer."""
@@ -61,7 +63,7 @@ def placed(rows, paths, most):
     for turn in range(200):
         for row in rows if turn % 2 else rows[::-1]:
             for place in row:
-                x[place] = sum(x[other] for other in near[place]) / len(near[place])
+                x[place] = fsum(x[other] for other in near[place]) / len(near[place])
             for _ in range(12):  # pushed apart
                 for left, right in zip(row, row[1:]):
                     lack = max(0, (room[left] + room[right]) / 2 - (x[right] - x[left]))
