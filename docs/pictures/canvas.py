@@ -35,24 +35,24 @@ class Canvas:
         self.edges, self.areas = [], []
 
     def box(self, x, y, w, h, fill=WHITE, stroke=INK, hatched=False, round=0):
-        """A rectangle; hatched over its colour where its bytes are not synced."""
-        for colour in [fill, "url(#hatch)"] if hatched else [fill]:
+        """A rectangle; hatched over its color where its bytes are not synced."""
+        for color in [fill, "url(#hatch)"] if hatched else [fill]:
             place = " ".join(f'{name}="{number(n)}"' for name, n in (("x", x), ("y", y), ("width", w), ("height", h), ("rx", round)) if n)
-            self.shapes.append(f'<rect {place} fill="{colour}" stroke="{stroke}"/>')
+            self.shapes.append(f'<rect {place} fill="{color}" stroke="{stroke}"/>')
         corners = [(x, y), (x + w, y), (x + w, y + h), (x, y + h), (x, y)]
         if stroke != "none":
             self.edges += zip(corners, corners[1:])
 
-    def line(self, *points, arrow=True, dashed=False, colour=INK):
+    def line(self, *points, arrow=True, dashed=False, color=INK):
         """A line from point to point, with a head at its end."""
         path = "M" + "L".join(f"{number(x)} {number(y)}" for x, y in points)
         more = ' marker-end="url(#head)"' * arrow + ' stroke-dasharray="6 4"' * dashed
-        self.lines.append(f'<path d="{path}" fill="none" stroke="{colour}" stroke-width="1.3"{more}/>')
+        self.lines.append(f'<path d="{path}" fill="none" stroke="{color}" stroke-width="1.3"{more}/>')
         self.edges += zip(points, points[1:])
 
-    def text(self, x, y, words, size=13, at="start", bold=False, code=False, colour=INK):
+    def text(self, x, y, words, size=13, at="start", bold=False, code=False, color=INK):
         """One line of text, on the base line y, that begins, has its middle or ends at x."""
-        more = f' text-anchor="{at}"' * (at != "start") + ' font-weight="bold"' * bold + f' fill="{colour}"' * (colour != INK)
+        more = f' text-anchor="{at}"' * (at != "start") + ' font-weight="bold"' * bold + f' fill="{color}"' * (color != INK)
         more += """ font-family="Menlo, Consolas, 'DejaVu Sans Mono', monospace\"""" * code
         self.words.append(f'<text x="{number(x)}" y="{number(y)}" font-size="{size}"{more}>{escape(words)}</text>')
         width = len(words) * size * (0.68 if bold else 0.61)
