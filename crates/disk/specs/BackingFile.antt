@@ -1,8 +1,8 @@
--- What a device tells of what its file answers.
+-- What a device answers where its file answers this.
 use Rattle.std.specs.Prelude.{Result, Ok, Err}
 use Rattle.disk.specs.declared.fault.DiskFault.{DiskFault}
 use Rattle.disk.specs.declared.fault.DiskFault.TheVariants.{Device}
 
-abbrev pub told : {E : Type 0} → Result (Unit {0}) E → Result (Unit {0}) DiskFault
-told (Ok done) = Ok done
-told (Err _) = Err Device
+abbrev pub device_result : {E : Type 0} → Result (Unit {0}) E → Result (Unit {0}) DiskFault
+device_result (Ok done) = Ok done
+device_result (Err _) = Err Device

@@ -1,6 +1,6 @@
 //! A device over a file.
 ghost use Rattle.std.specs.Prelude.{◌≡◌};
-ghost use Rattle.disk.specs.BackingFile.{told};
+ghost use Rattle.disk.specs.BackingFile.{device_result};
 
 use crate::backing::BackingFile;
 use crate::ranges::start_of;
@@ -23,8 +23,8 @@ impl<F: BackingFile + Drop> FileBacked<F> {
 }
 
 /// What the device answers where its file answered this.
-fn tell(answer: io::Result<()>) -> Result<(), DiskFault>
-    ensures { result ≡ told answer }
+fn as_fault(answer: io::Result<()>) -> Result<(), DiskFault>
+    ensures { result ≡ device_result answer }
 {
     answer.map_err(|_| DiskFault::Device)
 }
@@ -40,16 +40,16 @@ impl<F: BackingFile + Drop> Disk for FileBacked<F> {
 
     fn read_at(&mut self, at: u64, out: &mut [u8]) -> Result<(), DiskFault> {
         start_of(self.len(), at, out.len())?;
-        tell(self.file.read_exact_at(out, at))
+        as_fault(self.file.read_exact_at(out, at))
     }
 
     fn write_at(&mut self, at: u64, bytes: &[u8]) -> Result<(), DiskFault> {
         start_of(self.len(), at, bytes.len())?;
-        tell(self.file.write_all_at(bytes, at))
+        as_fault(self.file.write_all_at(bytes, at))
     }
 
     fn sync(&mut self) -> Result<(), DiskFault> {
-        tell(self.file.sync_data())
+        as_fault(self.file.sync_data())
     }
 
     ghost fits = { λ d. F.BackingFile.fits d.file };

@@ -1,7 +1,7 @@
 //! What a device over a file asks of the file.
 ghost use Rattle.std.specs.Prelude.{◌≡◌, ◌+◌, ◌<◌, ◌≤◌, ◌^◌, length};
 ghost use Rattle.disk.specs.Device.{Medium, AreBytes, Reads, Writes, Syncs, IsDeviceCall};
-ghost use Rattle.disk.specs.BackingFile.{told};
+ghost use Rattle.disk.specs.BackingFile.{device_result};
 
 use std::io;
 
@@ -21,19 +21,19 @@ pub trait BackingFile {
     /// Reads all of `out`, from `at` on.
     fn read_exact_at(&mut self, out: &mut [u8], at: u64) -> io::Result<()>
         requires { at + length out.old ≤ length (medium self.old).now }
-        ensures call { IsDeviceCall (told result) (medium self.old) (medium self.new) }
-        ensures reads { keeps → Reads at out.new (told result) (medium self.old) (medium self.new) };
+        ensures call { IsDeviceCall (device_result result) (medium self.old) (medium self.new) }
+        ensures reads { keeps → Reads at out.new (device_result result) (medium self.old) (medium self.new) };
 
     /// Writes all of `bytes`, from `at` on.
     fn write_all_at(&mut self, bytes: &[u8], at: u64) -> io::Result<()>
         requires { at + length bytes.now ≤ length (medium self.old).now }
-        ensures call { IsDeviceCall (told result) (medium self.old) (medium self.new) }
-        ensures writes { keeps → Writes at bytes.now (told result) (medium self.old) (medium self.new) };
+        ensures call { IsDeviceCall (device_result result) (medium self.old) (medium self.new) }
+        ensures writes { keeps → Writes at bytes.now (device_result result) (medium self.old) (medium self.new) };
 
     /// Syncs what was written so far.
     fn sync_data(&mut self) -> io::Result<()>
-        ensures call { IsDeviceCall (told result) (medium self.old) (medium self.new) }
-        ensures syncs { keeps → Syncs (told result) (medium self.old) (medium self.new) };
+        ensures call { IsDeviceCall (device_result result) (medium self.old) (medium self.new) }
+        ensures syncs { keeps → Syncs (device_result result) (medium self.old) (medium self.new) };
 
     /// The length is a u64.
     ghost fits: { (f : Self) → length (medium f).now < 2 ^ 64 };

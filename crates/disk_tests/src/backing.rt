@@ -1,6 +1,6 @@
 //! A device over files that transfer little at a time, that are refused, and that are in memory.
 ghost use Rattle.std.specs.Prelude.{◌≡◌};
-ghost use Rattle.disk.specs.BackingFile.{told};
+ghost use Rattle.disk.specs.BackingFile.{device_result};
 
 use crate::calls::{Call, FAULT, FINE, OUTSIDE, answers, expect, holds, same};
 use crate::files::Place;
@@ -106,7 +106,7 @@ struct DeviceFile<D: Disk + Drop> {
 
 /// What a file answers where a device answers this.
 fn answer(of_device: Result<(), DiskFault>) -> io::Result<()>
-    ensures { told result ≡ told of_device }
+    ensures { device_result result ≡ device_result of_device }
 {
     of_device.map_err(|_| refused())
 }
