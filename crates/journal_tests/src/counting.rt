@@ -159,16 +159,6 @@ fn leaves(
     Ok(())
 }
 
-#[test]
-fn a_batch_is_four_calls(rt: HostRuntime) -> Result<(), Fail> {
-    let messages = messages_of(rt.alloc(), &["makevol 0 0", "seal 0 0", "unseal 0 0"])?;
-    for (stop, is_logged) in [(4, false), (5, true)] {
-        let (was_logged, _) = logged_until(rt.alloc(), messages.as_slice(), stop)?;
-        holds(&rt, was_logged == is_logged);
-    }
-    Ok(())
-}
-
 /// How many of 70 messages are in force where the device stopped at a call, with all old bytes, and with all new ones.
 /// The seventh call writes the gates of the second batch.
 const LEFT: [(u64, usize, usize); 8] = [
@@ -184,11 +174,6 @@ const LEFT: [(u64, usize, usize); 8] = [
 
 #[test]
 fn a_long_log_is_two_batches(rt: HostRuntime) -> Result<(), Fail> {
-    let many = seals(rt.alloc(), 70)?;
-    let (is_logged, device) = logged_until(rt.alloc(), many.as_slice(), 9)?;
-    holds(&rt, is_logged);
-    let calls = calls_of_opening(rt.alloc())?;
-    counts(&rt, device.calls(), calls.saturating_add(8));
     for (n, old, new) in LEFT {
         leaves(&rt, rt.alloc(), 70, n, OLD, old)?;
         leaves(&rt, rt.alloc(), 70, n, NEW, new)?;
