@@ -11,7 +11,7 @@ use clap::{Arg, ArgMatches, Command, value_parser};
 use std::alloc::{AllocError, Global};
 
 /// What `--version` prints behind the program's name: its version, and the kit and the logic with which it is proved.
-const VERSION: &str = "0.1.0 (proved with rattle-kit-13b, logic dac8208d650f15bf)";
+const VERSION: &str = "0.1.0 (proved with rattle-kit-13f, logic dac8208d650f15bf)";
 
 // What help says of the commands.
 const PLAIN: &str = "Answers the messages on standard input, one line each, from an empty state on";
