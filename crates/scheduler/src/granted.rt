@@ -30,8 +30,9 @@ pub(crate) fn choose(turns: &Turns, room: bool) -> Result<Turn, Granted>
     if let Some(turn) = turns.next(room) {
         return Ok(turn);
     }
-    match turns.next(true) {
-        Some(_) => Err(Granted::NoRoom),
-        None => Err(Granted::NoneEligible),
+    if !room && turns.next(true).is_some() {
+        Err(Granted::NoRoom)
+    } else {
+        Err(Granted::NoneEligible)
     }
 }

@@ -309,11 +309,11 @@ impl<D: Disk> Core<D> {
         ensures untouched { self.new.medium ≡ self.old.medium }
     {
         let slot = self.slots.front(LOGGED)?;
-        let reply = self.replies[slot];
         let Some(taken) = self.slots.take(slot) else {
             unreachable!()
         };
         self.turns.free(taken.affinity);
+        let reply = self.replies[slot];
         Some((taken.ticket, reply))
     }
 

@@ -64,14 +64,6 @@ impl Marks {
         self.clear.len()
     }
 
-    /// How many blocks they make.
-    pub(crate) fn blocks(&self) -> usize
-        ensures few { result ≤ 4097 }
-        ensures all { length self.now ≤ 16 * result }
-    {
-        self.least.len()
-    }
-
     /// The clear message at a number.
     pub(crate) fn at(&self, number: usize) -> Option<&Turn>
         ensures { option_copied result ≡ mark_at self.now number }

@@ -1,16 +1,16 @@
 //! Waiting and held messages, and whose turn it is among them.
-ghost use Rattle.std.specs.Prelude.{◌≡◌, ◌+◌, ◌<◌, ◌++◌, ◌∷◌, true, false, [], length, IfOk, IfSome, IfNone};
+ghost use Rattle.std.specs.Prelude.{◌≡◌, ◌+◌, ◌*◌, ◌<◌, ◌≤◌, ◌++◌, ◌∷◌, true, false, [], length, IfOk, IfSome, IfNone};
 ghost use Rattle.std.specs.List.{list_any};
-ghost use Rattle.affinity.specs.Interval.{IsAffinity};
+ghost use Rattle.affinity.specs.Interval.{IsAffinity, server_size};
 ghost use Rattle.turns.specs.Turns.{next_turn, has_slot, has_number, without_slot, without_number, holds_at};
 
 use crate::Turn;
 use crate::candidates::best_in;
 use crate::holders::Holders;
 use crate::marking::{mark, mark_near};
-use crate::marks::Marks;
+use crate::marks::{BLOCK, Marks};
 use crate::queues::Queues;
-use affinity::{Affinity, Geometry};
+use affinity::{Affinity, Geometry, Place};
 use std::alloc::{AllocError, Global};
 use std::marker::Model;
 
@@ -44,6 +44,14 @@ impl Model for Turns {
     } };
 
     ghost invariant = { λ t. TurnsRule t.geometry t.slots t.waiting t.held t.marks };
+}
+
+/// How many blocks of marks hold those of a geometry's affinities.
+fn blocks_of(g: &Geometry) -> usize
+    ensures few { result ≤ 4097 }
+    ensures all { server_size g.now ≤ 16 * result }
+{
+    usize::from(Affinity::at(g, Place::Serial).end()) / BLOCK + 1
 }
 
 impl Turns {
@@ -84,7 +92,7 @@ impl Turns {
         ensures { result ≡ next_turn room self.now.held self.now.waiting }
     {
         let mut best = self.marks.len(); // no one is marked there
-        for block in 0..self.marks.blocks() {
+        for block in 0..blocks_of(&self.geometry) {
             // Most are passed by their least ranks alone.
             if self.marks.least(block) <= self.marks.bound(best) {
                 best = best_in(room, &self.marks, best, block);

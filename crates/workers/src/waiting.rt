@@ -13,8 +13,8 @@ use std::thread::yield_now;
 const LOOKS: usize = 64;
 
 /// How many such rows of looks it makes before it sleeps, and lets other threads go first after each: for
-/// about as long as it takes to put a thread to sleep and to wake it.
-const ROUNDS: usize = 16;
+/// longer than the dispatcher takes to write the replies of 32 lines, after which it offers again.
+const ROUNDS: usize = 32;
 
 /// Sleeps while the bell of the deliveries has this number, and gives the one that it has then.
 pub fn hear<R: Wait>(words: &Words, seat: &mut Seat, rt: &R, heard: u64) -> u64

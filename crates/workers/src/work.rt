@@ -43,7 +43,10 @@ impl Bench {
                 break;
             }
             match serve_round(words, &mut pass, places, gate) {
-                Round::Idle if last == Round::Woke => sleep(words, &mut pass, rt, heard),
+                Round::Idle if last == Round::Woke => {
+                    sleep(words, &mut pass, rt, heard);
+                    last = Round::Idle;
+                }
                 Round::Idle => look_on(words, &mut pass, rt, heard),
                 round => last = round,
             }

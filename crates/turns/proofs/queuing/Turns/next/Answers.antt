@@ -37,10 +37,9 @@ returns c =
     let room = c.args.room in
     let held = c.self.inside.held.turns in
     let waiting = c.self.inside.waiting.turns in
-    let any = c.self.invariant.marked.numbers c.self.inside.geometry in
     c.copied.ensures
     ∙ c.at.ensures
     ∙ c.loop-block.invariant
     ∙ below-all c.self.inside.geometry room held waiting c.self.invariant.rows.waiting_placed c.self.invariant.rows.ascends (16 * c.loop-block.block)
-    (omega (arith, any, c.blocks-block-end.ensures.all, c.loop-block-test.false))
+    (omega (arith, c.blocks_of-block-end.ensures.all, c.loop-block-test.false))
     ∙ ap (λ (q : Queuing). next_turn room q.held q.waiting) c.self.view_is
