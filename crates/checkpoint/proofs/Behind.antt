@@ -15,7 +15,7 @@ use Rattle.image.proofs.Walk.{read_is_good}
 use Rattle.oplog.specs.Front.{chain, front}
 use Rattle.oplog.specs.Layout.{device_size, image, layout_of, other, part_bytes}
 use Rattle.oplog.specs.Stands.{named_area, run}
-use Rattle.plain.specs.State.{State}
+use Rattle.meaning.specs.State.{State}
 
 -- the image of a device, where it is one
 pub image_fine : (g : Geometry) (number : ℕ) (now : List ℕ) → number < 2 → device_size (layout_of g) ≤ length now → AreBytes now → is_some (read g (part_bytes (layout_of g) (image number) now)) ≡ true

@@ -7,7 +7,7 @@ use Rattle.image.specs.Image.{image_of}
 use Rattle.image.specs.Pieces.{joined_below, part_of, part_piece, piece_part_size, piece_count, piece_of, piece_size, aggregate_of, volume_of, stripe_entries}
 use Rattle.image.proofs.Joining.{length-pieces}
 use Rattle.oplog.specs.Layout.{image_size}
-use Rattle.plain.specs.State.{empty, sum_below}
+use Rattle.meaning.specs.State.{empty, sum_below}
 use Rattle.stripe.specs.Entries.{entry_bytes}
 use Rattle.stripe.specs.Stripe.{BlockEntry}
 

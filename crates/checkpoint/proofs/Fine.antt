@@ -17,7 +17,7 @@ use Rattle.oplog.specs.Front.{chain, front}
 use Rattle.oplog.specs.Layout.{Layout, layout_of, device_size, header, image, other, part_bytes}
 use Rattle.oplog.specs.Stands.{in_force, is_laid_out, named_area, run}
 use Rattle.oplog.proofs.Kept.{named_area-below, run-append}
-use Rattle.plain.specs.State.{State}
+use Rattle.meaning.specs.State.{State}
 
 -- Records lead to a state only from a state.
 some_before : (g : Geometry) (o : Option State) (rs : List (List ℕ)) (x : State) → run (means g) o rs ≡ Some x → (y : State) × (o ≡ Some y)

@@ -19,8 +19,8 @@ use Rattle.oplog.specs.Front.{chain, front, gates, open_gates, rows}
 use Rattle.oplog.specs.Layout.{Layout, slice, layout_of, part_bytes, part_at, device_size, half, half_size, header, image, image_size}
 use Rattle.oplog.specs.Stands.{named_area, in_force, is_laid_out, run, stands_as}
 use Rattle.oplog.proofs.Slices.{slice_slice}
-use Rattle.plain.specs.State.{State, empty}
-use Rattle.plain.proofs.Kept.{empty_is_state}
+use Rattle.meaning.specs.State.{State, empty}
+use Rattle.meaning.proofs.Kept.{empty_is_state}
 
 -- ---- bytes that stand somewhere
 

@@ -10,7 +10,7 @@ use Rattle.checkpoint.specs.Recovery.{holds, means}
 use Rattle.checkpoint.proofs.Heads.{numbers_there, two_bytes}
 use Rattle.oplog.specs.Layout.{device_size, header, layout_of, part_bytes}
 use Rattle.oplog.specs.Stands.{is_laid_out}
-use Rattle.plain.specs.State.{State}
+use Rattle.meaning.specs.State.{State}
 
 numbers_again : (g : Geometry) → IsRead little_number 2 (take 16 (drop 8 (header_of g))) (numbers_of g)
 numbers_again g zero few = sym (two_bytes g.aggregates [] (omega (arith, g.aggregates_range)))

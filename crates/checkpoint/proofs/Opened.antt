@@ -15,7 +15,7 @@ use Rattle.disk.proofs.Overlays.{item-overlaid, length-overlaid, overlaid_outsid
 use Rattle.oplog.specs.Changes.{ChangesOnly}
 use Rattle.oplog.specs.Layout.{device_size, layout_of}
 use Rattle.oplog.specs.Store.{Stored}
-use Rattle.plain.specs.State.{empty}
+use Rattle.meaning.specs.State.{empty}
 
 module _ (g : Geometry) (w0 w1 : Medium) (bytes : List ℕ) (are : bytes ≡ drop 1 (header_of g)) (whole : device_size (layout_of g) ≤ length w0.now)
     (shut : IsShutNow (length w0.now) w0) (laid : IsLaid g w0.now) (first : ChangesOnly w0 w1 (SameOutside 1 (length bytes))) where

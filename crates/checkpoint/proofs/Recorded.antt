@@ -22,8 +22,8 @@ use Rattle.oplog.specs.declared.fault.LogFault.TheVariants.{Device, BadRecord}
 use Rattle.oplog.specs.Log.{IsAbout, IsOfRecord}
 use Rattle.oplog.specs.Logged.{IsLogged, IsNoRecord}
 use Rattle.oplog.proofs.BadRecords.{no_record_says_none}
-use Rattle.plain.specs.Serial.{is_done, is_loggable, next_state, reply_to}
-use Rattle.plain.specs.State.{State}
+use Rattle.meaning.specs.Serial.{is_done, is_loggable, next_state, reply_to}
+use Rattle.meaning.specs.State.{State}
 
 not_done : (r : Reply) → (r ≡ Done → ⊥) → is_done r ≡ false
 not_done Done differs = absurd (differs refl)

@@ -21,8 +21,8 @@ use Rattle.oplog.specs.Layout.{Layout, layout_of, device_size, header, image, ot
 use Rattle.oplog.specs.Stands.{in_force, is_laid_out, named_area, run}
 use Rattle.oplog.proofs.Kept.{run-append}
 use Rattle.parcel.specs.Tree.{state_in}
-use Rattle.plain.specs.Serial.{reply_to}
-use Rattle.plain.specs.State.{State}
+use Rattle.meaning.specs.Serial.{reply_to}
+use Rattle.meaning.specs.State.{State}
 
 -- ---- tests
 

@@ -14,7 +14,7 @@ use Rattle.oplog.specs.Layout.{Layout}
 use Rattle.oplog.specs.Log.{Log, layout}
 use Rattle.oplog.specs.Stands.{run}
 use Rattle.oplog.proofs.Reading.{front_record}
-use Rattle.plain.specs.State.{State}
+use Rattle.meaning.specs.State.{State}
 
 -- ---- what a read leaves
 

@@ -17,7 +17,7 @@ use Rattle.parcel.specs.declared.parts.Parcels.{Parcels}
 use Rattle.parcel.specs.declared.parts.Standing.{Standing}
 use Rattle.parcel.proofs.Holding.{ran_goes_back}
 use Rattle.parcel.proofs.SerialRuns.{served_step, served_is_in, served_state}
-use Rattle.plain.specs.State.{IsState}
+use Rattle.meaning.specs.State.{IsState}
 use Rattle.affinity.proofs.Preorder.{path_unique}
 
 -- the affinity that was asked for is that of the message's place

@@ -19,7 +19,7 @@ use Rattle.image.proofs.Walk.{good_is_read, good_is_seen}
 use Rattle.message.specs.Messages.{AreSizedBytes as Holds}
 use Rattle.oplog.specs.Layout.{device_size, image, image_size, layout_of, part_bytes, part_at, part_size, slice}
 use Rattle.oplog.proofs.Slices.{image_sized, part_inside, slice_slice}
-use Rattle.plain.specs.State.{State, empty, is_block_of, sum_below}
+use Rattle.meaning.specs.State.{State, empty, is_block_of, sum_below}
 
 -- ---- where pieces lie
 

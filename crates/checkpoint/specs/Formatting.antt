@@ -6,7 +6,7 @@ use Rattle.checkpoint.specs.Recovery.{holds}
 use Rattle.checkpoint.specs.Refusals.{IsUnformatted}
 use Rattle.disk.specs.Device.{Medium, Leaves}
 use Rattle.oplog.specs.Layout.{slice, layout_of, part_at, half, image, image_size}
-use Rattle.plain.specs.State.{empty}
+use Rattle.meaning.specs.State.{empty}
 
 -- What a crash before might have left, what isn't formatted, or a sound device that stands for the empty state.
 abbrev pub FormatLeaves : Geometry → Medium → List ℕ → Type 0

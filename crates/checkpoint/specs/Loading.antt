@@ -13,7 +13,7 @@ use Rattle.oplog.specs.declared.fault.LogFault.TheVariants as log
 use Rattle.oplog.specs.Front.{chain, front}
 use Rattle.oplog.specs.Layout.{Layout, device_size, image, layout_of, other, part_bytes}
 use Rattle.oplog.specs.Stands.{named_area, run}
-use Rattle.plain.specs.State.{State}
+use Rattle.meaning.specs.State.{State}
 
 -- A call adds one to the count of the device's failures exactly where it answers `Device`.
 abbrev pub CountsOpenFault : {T : Type 0} → Result T OpenFault → ℕ → ℕ → Type 0

@@ -9,8 +9,8 @@ use Rattle.message.specs.Messages.{is_in_range}
 use Rattle.message.specs.Records.{message_in_fields, record_of}
 use Rattle.oplog.specs.Layout.{layout_of}
 use Rattle.oplog.specs.Stands.{Meaning, stands}
-use Rattle.plain.specs.Serial.{is_loggable, next_state, reply_to}
-use Rattle.plain.specs.State.{State}
+use Rattle.meaning.specs.Serial.{is_loggable, next_state, reply_to}
+use Rattle.meaning.specs.State.{State}
 
 -- The bytes are the record of the message, which is in range, changing, and carried out there.
 abbrev pub is_record_there : Geometry → State → List ℕ → Msg → Bool

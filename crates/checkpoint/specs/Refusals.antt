@@ -10,7 +10,7 @@ use Rattle.image.specs.Pieces.{piece_count}
 use Rattle.oplog.specs.Front.{chain, front}
 use Rattle.oplog.specs.Layout.{layout_of, part_bytes, device_size, image, other}
 use Rattle.oplog.specs.Stands.{named_area, run}
-use Rattle.plain.specs.State.{State}
+use Rattle.meaning.specs.State.{State}
 
 -- the least of n numbers from i on that fails
 abbrev pub first_bad : (ℕ → Bool) → ℕ → ℕ → Option ℕ

@@ -10,8 +10,8 @@ use Rattle.message.specs.declared.Msg.TheVariants.{Summary}
 use Rattle.oplog.specs.Layout.{layout_of, image, part_bytes}
 use Rattle.oplog.specs.Stands.{in_force, named_area}
 use Rattle.parcel.specs.Tree.{state_in}
-use Rattle.plain.specs.Serial.{reply_to}
-use Rattle.plain.specs.State.{State}
+use Rattle.meaning.specs.Serial.{reply_to}
+use Rattle.meaning.specs.State.{State}
 
 -- All was loaded from a device with these bytes, which isn't refused: the tree has the state that it stands for.
 pub record IsLoaded (c : List ℕ) (l : Loaded) : Type 0 where

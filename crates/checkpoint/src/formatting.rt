@@ -12,7 +12,7 @@ ghost use Rattle.disk.specs.Moments.{LeavesOnly};
 ghost use Rattle.oplog.specs.Beyond.{KeepsBeyond};
 ghost use Rattle.oplog.specs.Changes.{ChangesOnly};
 ghost use Rattle.oplog.specs.Layout.{Layout, device_size, layout_of};
-ghost use Rattle.plain.specs.State.{empty};
+ghost use Rattle.meaning.specs.State.{empty};
 
 use crate::header::{OPEN, header_of};
 use crate::{FormatError, FormatFault};

@@ -8,7 +8,7 @@ ghost use Rattle.image.specs.Image.{has_head, is_version, read, version_in};
 ghost use Rattle.image.specs.Pieces.{aggregate_of, part_of, piece_count, piece_of, piece_size, volume_of, with_piece};
 ghost use Rattle.oplog.specs.Layout.{device_size, image, layout_of, part_bytes};
 ghost use Rattle.parcel.specs.Tree.{IsWholeTree, state_in};
-ghost use Rattle.plain.specs.State.{empty};
+ghost use Rattle.meaning.specs.State.{empty};
 
 use crate::OpenFault;
 use crate::reading::read;

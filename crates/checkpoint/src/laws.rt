@@ -5,7 +5,7 @@ ghost use Rattle.checkpoint.specs.Header.{HasHeader};
 ghost use Rattle.checkpoint.specs.Recovery.{holds};
 ghost use Rattle.checkpoint.specs.Refusals.{refused};
 ghost use Rattle.disk.specs.Device.{AreBytes};
-ghost use Rattle.plain.specs.State.{State};
+ghost use Rattle.meaning.specs.State.{State};
 
 /// A device that stands for a state isn't refused.
 pub fn a_device_that_stands_is_not_refused()

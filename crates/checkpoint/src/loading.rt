@@ -14,7 +14,7 @@ ghost use Rattle.oplog.specs.Layout.{device_size, image, layout_of, part_bytes};
 ghost use Rattle.oplog.specs.Log.{layout, new_log, renamed};
 ghost use Rattle.oplog.specs.Stands.{in_force, named_area, run};
 ghost use Rattle.parcel.specs.Tree.{IsWholeTree, state_in};
-ghost use Rattle.plain.specs.State.{empty};
+ghost use Rattle.meaning.specs.State.{empty};
 
 use crate::OpenFault;
 use crate::heading::named_area;

@@ -2,7 +2,7 @@
 ghost use Rattle.std.specs.Prelude.{◌≡◌, true};
 ghost use Rattle.message.specs.Messages.{is_in_range};
 ghost use Rattle.parcel.specs.Tree.{IsWholeTree, state_in};
-ghost use Rattle.plain.specs.Serial.{next_state, reply_to};
+ghost use Rattle.meaning.specs.Serial.{next_state, reply_to};
 
 use affinity::place_of;
 use message::{Msg, Reply, know_message};

@@ -8,8 +8,8 @@ use Rattle.affinity.specs.declared.geometry.Geometry.{Geometry}
 use Rattle.affinity.specs.Limits.{AreInRange}
 use Rattle.affinity.proofs.Numbers.{geometry_same}
 use Rattle.clap.specs.Words.{IsAmong, Text, kind_of}
-use Rattle.plain.specs.Output.{WritesOutput, IsBeginning}
-use Rattle.plain.specs.State.{empty}
+use Rattle.meaning.specs.Output.{WritesOutput, IsBeginning}
+use Rattle.meaning.specs.State.{empty}
 use Rattle.commands.specs.Ends.{EndsMaking, EndsServing}
 use Rattle.commands.specs.Serving.{EndsInFile}
 use Rattle.commands.specs.declared.service.Service.{Service}

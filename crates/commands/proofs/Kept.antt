@@ -7,7 +7,7 @@ use Rattle.legal_runs.specs.Events.{loggable}
 use Rattle.legal_runs.specs.Runs.{went}
 use Rattle.machine.specs.Machine.{machine_of}
 use Rattle.machine.specs.Stages.{events_of}
-use Rattle.plain.specs.Serial.{fold}
+use Rattle.meaning.specs.Serial.{fold}
 use Rattle.serving.proofs.Told.{holds_all, written_are_kept}
 use Rattle.serving.specs.Ends.{HasServed, settled_in}
 use Rattle.serving.specs.Lines.{asked, text, ticketed}

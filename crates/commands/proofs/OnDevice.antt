@@ -10,7 +10,7 @@ use Rattle.disk.specs.Device.{AreBytes, Leaves, Medium}
 use Rattle.journal.specs.Opening.{OpeningLeaves}
 use Rattle.legal_runs.specs.Laws.{IsIdle}
 use Rattle.machine.specs.Stages.{Stage}
-use Rattle.plain.specs.Serial.{fold}
+use Rattle.meaning.specs.Serial.{fold}
 use Rattle.message.specs.declared.Msg.{Msg}
 use Rattle.scheduler.specs.Kept.{IsJustOpened, CoreView, StandsNow, world_of}
 use Rattle.serving.specs.Ends.{HasRunLines, settled_in}

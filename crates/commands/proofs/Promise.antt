@@ -18,9 +18,9 @@ use Rattle.legal_runs.specs.Events.{loggable}
 use Rattle.legal_runs.specs.Runs.{went}
 use Rattle.machine.specs.Machine.{machine_of}
 use Rattle.machine.specs.Stages.{events_of}
-use Rattle.plain.specs.Output.{WritesOutput, serial_out}
-use Rattle.plain.specs.Serial.{fold}
-use Rattle.plain.specs.State.{State, empty}
+use Rattle.meaning.specs.Output.{WritesOutput, serial_out}
+use Rattle.meaning.specs.Serial.{fold}
+use Rattle.meaning.specs.State.{State, empty}
 use Rattle.serving.proofs.Recovering.{none_written, stands_recovered}
 use Rattle.serving.proofs.Told.{holds_all}
 use Rattle.serving.specs.Ends.{settled_in}

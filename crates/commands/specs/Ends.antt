@@ -2,8 +2,8 @@
 use Rattle.std.specs.Prelude.{◌≡◌, ℕ, List, Option, Result, Ok, Err}
 use Rattle.std.specs.Io.KnownBytes.{Appends, IsAtEnd}
 use Rattle.affinity.specs.declared.geometry.Geometry.{Geometry}
-use Rattle.plain.specs.State.{empty}
-use Rattle.plain.specs.Output.{serial_out, AnswersWholeLines, IsBeginning, WritesOutput}
+use Rattle.meaning.specs.State.{empty}
+use Rattle.meaning.specs.Output.{serial_out, AnswersWholeLines, IsBeginning, WritesOutput}
 use Rattle.checkpoint.specs.declared.inspecting.Shown.{Shown}
 use Rattle.checkpoint.specs.Refusals.{IsRefused}
 use Rattle.checkpoint.specs.Shown.{IsShown}

@@ -6,8 +6,8 @@ use Rattle.checkpoint.specs.Header.{HasHeader}
 use Rattle.checkpoint.specs.Refusals.{refused}
 use Rattle.disk.specs.Device.{Leaves, Medium}
 use Rattle.legal_runs.specs.World.{Replied}
-use Rattle.plain.specs.Output.{joined}
-use Rattle.plain.specs.State.{State}
+use Rattle.meaning.specs.Output.{joined}
+use Rattle.meaning.specs.State.{State}
 use Rattle.serving.specs.Ends.{AreFirst}
 use Rattle.serving.specs.Lines.{asked, ticketed}
 use Rattle.serving.specs.Told.{AreKept, HoldsLog}

@@ -2,8 +2,8 @@
 use Rattle.std.specs.Prelude.{◌≡◌, ℕ, List, Option, None, Result, Err, OnOk}
 use Rattle.affinity.specs.declared.geometry.Geometry.{Geometry}
 use Rattle.disk.specs.Device.{Leaves, Medium}
-use Rattle.plain.specs.Output.{WritesOutput, serial_out}
-use Rattle.plain.specs.State.{State, empty}
+use Rattle.meaning.specs.Output.{WritesOutput, serial_out}
+use Rattle.meaning.specs.State.{State, empty}
 use Rattle.serving.specs.Restart.{RecoversTo, StandsRecovered}
 use Rattle.commands.specs.Serving.{StoodFor}
 use Rattle.commands.specs.declared.faults.Fault.{Fault}

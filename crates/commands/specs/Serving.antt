@@ -20,8 +20,8 @@ use Rattle.machine.specs.Stages.{Stage, device_after, events_of}
 use Rattle.message.specs.Lines.{lines}
 use Rattle.oplog.specs.Layout.{layout_of}
 use Rattle.oplog.specs.Stands.{in_force, named_area}
-use Rattle.plain.specs.Output.{IsBeginning, WritesOutput}
-use Rattle.plain.specs.State.{State}
+use Rattle.meaning.specs.Output.{IsBeginning, WritesOutput}
+use Rattle.meaning.specs.State.{State}
 use Rattle.scheduler.specs.Kept.{IsJustOpened, CoreView, StandsNow}
 use Rattle.serving.specs.Ends.{AreServed, HasRunLines, ServesLinesBefore, ServesWholeLines, settled_in}
 use Rattle.serving.specs.Runs.{with_lent}

@@ -5,7 +5,7 @@ ghost use Rattle.commands.specs.Promise.{GoesOn};
 ghost use Rattle.disk.specs.Device.{IsSynced};
 ghost use Rattle.disk.specs.Memory.{medium_of};
 ghost use Rattle.disk.specs.Torn.{HasBytes};
-ghost use Rattle.plain.specs.State.{empty};
+ghost use Rattle.meaning.specs.State.{empty};
 
 use crate::faults::Fault;
 use crate::on_device::serve_on;

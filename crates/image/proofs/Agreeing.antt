@@ -5,7 +5,7 @@ use Rattle.std.proofs.lemmas.Bool.{eqb-true}
 use Rattle.affinity.specs.Geometry.{group}
 use Rattle.affinity.specs.declared.geometry.Geometry.{Geometry}
 use Rattle.message.specs.declared.Block.{Block}
-use Rattle.plain.specs.State.{State, empty}
+use Rattle.meaning.specs.State.{State, empty}
 use Rattle.stripe.specs.Entries.{stripe_bytes}
 use Rattle.stripe.specs.Stripe.{BlockEntry}
 use Rattle.image.specs.Pieces.{piece_size, piece_part_size, piece_of, part_piece, aggregate_of, volume_of, part_of, volume_piece_number, stripe_piece_number, has_volume, volume_piece, stripe_piece, stripe_entries, entry_if, joined_below, has_file_in, is_made_in, block_in, said_by}

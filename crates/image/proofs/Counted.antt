@@ -7,8 +7,8 @@ use Rattle.affinity.specs.Geometry.{group}
 use Rattle.affinity.specs.declared.geometry.Geometry.{Geometry}
 use Rattle.message.specs.Messages.{IsBlock}
 use Rattle.message.specs.declared.Block.{Block}
-use Rattle.plain.specs.State.{sum_below, count_below, one_if}
-use Rattle.plain.proofs.Sums.{sum_below-le, sum_below-add, sum_pick}
+use Rattle.meaning.specs.State.{sum_below, count_below, one_if}
+use Rattle.meaning.proofs.Sums.{sum_below-le, sum_below-add, sum_pick}
 use Rattle.stripe.specs.Entries.{entry_in, entries_in}
 use Rattle.stripe.specs.Stripe.{BlockEntry, content_at}
 use Rattle.image.proofs.Measures.{all-take, all-drop}

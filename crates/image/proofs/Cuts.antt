@@ -4,7 +4,7 @@ use Rattle.std.proofs.lemmas.Bool.{cases_lt}
 use Rattle.std.proofs.lemmas.List.{take_at, drop_at, drop-drop, append_assoc, append-nil}
 use Rattle.std.proofs.lemmas.Nat.{mul-add-lt}
 use Rattle.affinity.specs.declared.geometry.Geometry.{Geometry}
-use Rattle.plain.specs.State.{State, sum_below}
+use Rattle.meaning.specs.State.{State, sum_below}
 use Rattle.image.specs.Pieces.{pieces_of_volume, piece_count, volume_piece_number, stripe_piece_number, piece_size, piece_of, part_piece, volume_piece, stripe_piece, joined_below}
 use Rattle.image.specs.Image.{image_head, image_of, piece_in}
 use Rattle.image.proofs.Numbers.{part_there, aggregate_there, volume_there}

@@ -6,8 +6,8 @@ use Rattle.message.specs.declared.Msg.{Msg}
 use Rattle.message.specs.declared.Msg.TheVariants.{MakeVol, DropVol, Create, Delete, Seal, Unseal, Write, Punch, Read, List as ListFiles, Usage as AskUsage, Summary as AskSummary, SetLabel, Label as AskLabel}
 use Rattle.message.specs.declared.Reply.TheVariants.{Summary}
 use Rattle.message.specs.declared.Reply.{Reply}
-use Rattle.plain.specs.Serial.{fold, reply_to}
-use Rattle.plain.specs.State.{State, empty}
+use Rattle.meaning.specs.Serial.{fold, reply_to}
+use Rattle.meaning.specs.State.{State, empty}
 use Rattle.image.specs.Pieces.{piece_of}
 use Rattle.image.specs.Touched.{may_change}
 use Rattle.image.specs.Image.{image_of, read, said_before, is_good}

@@ -9,8 +9,8 @@ use Rattle.message.specs.Messages.{IsBlock, AreSizedBytes}
 use Rattle.message.specs.declared.Block.{Block}
 use Rattle.stripe.specs.Stripe.{BlockEntry}
 use Rattle.byteorder.specs.Endian.{little_bytes}
-use Rattle.plain.specs.Serial.{no_label, file_bits}
-use Rattle.plain.specs.State.{State, VolumeKey, BlockKey, IsState, sum_below, one_if, group_count}
+use Rattle.meaning.specs.Serial.{no_label, file_bits}
+use Rattle.meaning.specs.State.{State, VolumeKey, BlockKey, IsState, sum_below, one_if, group_count}
 use Rattle.stripe.specs.Entries.{entry_bytes, stripe_bytes}
 use Rattle.image.specs.Pieces.{joined_below, entry_if, stripe_entries, volume_piece, label_bytes, part_piece, piece_part_size, piece_of, piece_size, part_of, aggregate_of, volume_of}
 use Rattle.stripe.proofs.EntryBytes.{IsSpellable, length-entries}

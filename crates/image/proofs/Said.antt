@@ -12,8 +12,8 @@ use Rattle.byteorder.specs.Endian.{little_bytes, little_number}
 use Rattle.message.specs.Messages.{IsBlock, AreSizedBytes}
 use Rattle.message.specs.Replies.{has_file}
 use Rattle.message.specs.declared.Block.{Block}
-use Rattle.plain.specs.Serial.{file_bits, no_label}
-use Rattle.plain.specs.State.{State, VolumeKey, FileKey, BlockKey, IsState, group_count}
+use Rattle.meaning.specs.Serial.{file_bits, no_label}
+use Rattle.meaning.specs.State.{State, VolumeKey, FileKey, BlockKey, IsState, group_count}
 use Rattle.stripe.specs.Entries.{entry_bytes, entries_in}
 use Rattle.stripe.specs.Stripe.{BlockEntry, content_at}
 use Rattle.stripe.proofs.EntryBytes.{entries_again}

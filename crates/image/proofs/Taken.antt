@@ -5,7 +5,7 @@ use Rattle.std.proofs.lemmas.Bool.{cases_lt, and_parts, and_from, lt-ltb, ltb-tr
 use Rattle.affinity.specs.Geometry.{group}
 use Rattle.affinity.specs.declared.geometry.Geometry.{Geometry}
 use Rattle.affinity.proofs.Placed.{group_below}
-use Rattle.plain.specs.State.{State, VolumeKey, BlockKey, empty, is_volume, is_block_of}
+use Rattle.meaning.specs.State.{State, VolumeKey, BlockKey, empty, is_volume, is_block_of}
 use Rattle.stripe.specs.Entries.{entries_in}
 use Rattle.stripe.specs.Stripe.{content_at}
 use Rattle.image.specs.Pieces.{pieces_of_volume, piece_count, piece_size, aggregate_of, volume_of, part_of, volume_piece_number, stripe_piece_number, has_volume, is_made_in, is_sealed_in, has_file_in, label_in, block_in, said_by, with_piece, with_part}

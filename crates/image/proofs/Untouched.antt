@@ -9,8 +9,8 @@ use Rattle.message.specs.declared.Block.{Block}
 use Rattle.message.specs.declared.Msg.{Msg}
 use Rattle.message.specs.declared.Msg.TheVariants.{MakeVol, DropVol, Create, Delete, Seal, Unseal, Write, Punch, Read, List as ListFiles, Usage as AskUsage, Summary as AskSummary, SetLabel, Label as AskLabel}
 use Rattle.message.specs.declared.Refusal.{Refusal}
-use Rattle.plain.specs.Serial.{key, effect, outcome, accepted_reply, refusal, next_state, no_label}
-use Rattle.plain.specs.State.{State, IsState, sum_below, one_if, is_volume, is_file, is_block}
+use Rattle.meaning.specs.Serial.{key, effect, outcome, accepted_reply, refusal, next_state, no_label}
+use Rattle.meaning.specs.State.{State, IsState, sum_below, one_if, is_volume, is_file, is_block}
 use Rattle.stripe.specs.Entries.{stripe_bytes}
 use Rattle.image.specs.Pieces.{aggregate_of, volume_of, part_of, piece_of, part_piece, label_bytes, stripe_piece, entry_if}
 use Rattle.image.specs.Touched.{may_change, may_change_part}

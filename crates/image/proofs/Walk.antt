@@ -10,7 +10,7 @@ use Rattle.affinity.specs.declared.geometry.Geometry.{Geometry}
 use Rattle.affinity.proofs.Placed.{group_below}
 use Rattle.message.specs.Messages.{AreSizedBytes}
 use Rattle.message.specs.declared.Block.{Block}
-use Rattle.plain.specs.State.{State, VolumeKey, IsState, sum_below}
+use Rattle.meaning.specs.State.{State, VolumeKey, IsState, sum_below}
 use Rattle.image.specs.Pieces.{pieces_of_volume, piece_count, piece_at, piece_size, piece_of, aggregate_of, volume_of, part_of, volume_piece_number, has_volume, is_made_in, is_sealed_in, has_file_in, label_in, block_in, bytes_at, said_by}
 use Rattle.image.specs.Image.{image_head, image_of, read, is_image, is_version, has_head, version_in, piece_in, said_state, said_before, is_good, AreGood}
 use Rattle.image.proofs.Agreeing.{piece_same, zero_piece}

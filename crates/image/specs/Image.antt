@@ -4,7 +4,7 @@ use Rattle.std.specs.Prelude.{◌≡◌, ℕ, zero, suc, ◌<◌, Bool, true, �
 use Rattle.std.specs.Str.{bytes_eq}
 use Rattle.affinity.specs.declared.geometry.Geometry.{Geometry}
 use Rattle.oplog.specs.Layout.{image_head_size}
-use Rattle.plain.specs.State.{State, empty}
+use Rattle.meaning.specs.State.{State, empty}
 use Rattle.image.specs.Pieces.{piece_count, piece_at, piece_size, piece_of, joined_below, bytes_at, said_by, with_piece}
 
 -- ---- writing

@@ -7,8 +7,8 @@ use Rattle.message.specs.Replies.{has_file}
 use Rattle.message.specs.declared.Block.{Block}
 use Rattle.oplog.specs.Layout.{entry_size, image_head_size, volume_piece_size}
 use Rattle.stripe.specs.Stripe.{BlockEntry, content_at}
-use Rattle.plain.specs.Serial.{file_bits, no_label}
-use Rattle.plain.specs.State.{State, VolumeKey, is_volume, is_file_of, is_block_of, sum_below, one_if}
+use Rattle.meaning.specs.Serial.{file_bits, no_label}
+use Rattle.meaning.specs.State.{State, VolumeKey, is_volume, is_file_of, is_block_of, sum_below, one_if}
 use Rattle.stripe.specs.Entries.{stripe_bytes, entries_in}
 
 -- ---- which pieces there are

@@ -4,8 +4,8 @@ use Rattle.affinity.specs.Geometry.{group}
 use Rattle.affinity.specs.declared.geometry.Geometry.{Geometry}
 use Rattle.message.specs.declared.Msg.{Msg}
 use Rattle.message.specs.declared.Msg.TheVariants.{MakeVol, DropVol, Create, Delete, Seal, Unseal, Write, Punch, Read, List as ListFiles, Usage as AskUsage, Summary as AskSummary, SetLabel, Label as AskLabel}
-use Rattle.plain.specs.Serial.{key}
-use Rattle.plain.specs.State.{is_volume}
+use Rattle.meaning.specs.Serial.{key}
+use Rattle.meaning.specs.State.{is_volume}
 use Rattle.image.specs.Pieces.{aggregate_of, volume_of, part_of}
 
 -- of the message's own volume: 0 is the volume's piece, and `suc s` that of stripe s

@@ -10,8 +10,8 @@ ghost use Rattle.image.specs.Touched.{may_change};
 ghost use Rattle.message.specs.Messages.{AreSizedBytes};
 ghost use Rattle.message.specs.declared.Msg.{Msg};
 ghost use Rattle.oplog.specs.Layout.{image_size};
-ghost use Rattle.plain.specs.Serial.{next_state};
-ghost use Rattle.plain.specs.State.{State, IsState};
+ghost use Rattle.meaning.specs.Serial.{next_state};
+ghost use Rattle.meaning.specs.State.{State, IsState};
 ghost use Rattle.stripe.specs.Stripe.{BlockEntry, IsAscending, content_at};
 
 /// The image of a state is read as that state.

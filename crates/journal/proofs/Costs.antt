@@ -18,7 +18,7 @@ use Rattle.oplog.specs.Costs.{Takes}
 use Rattle.oplog.specs.Front.{chain}
 use Rattle.oplog.specs.Layout.{layout_of}
 use Rattle.oplog.specs.Stands.{named_area}
-use Rattle.plain.specs.State.{State}
+use Rattle.meaning.specs.State.{State}
 
 -- ---- rows
 some_runs : count_runs (true ∷ true ∷ false ∷ true ∷ []) ≡ 2

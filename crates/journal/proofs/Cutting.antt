@@ -25,7 +25,7 @@ use Rattle.oplog.proofs.AfterCrash.{chain_by_area, chained_by_area, flip_by_area
 use Rattle.oplog.proofs.Kept.{front_beside, named_area-below}
 use Rattle.oplog.proofs.Ready.{ready_kept}
 use Rattle.oplog.proofs.Slices.{same_but_none}
-use Rattle.plain.specs.State.{State}
+use Rattle.meaning.specs.State.{State}
 
 -- the area that a device names is 0 or 1
 pub named_below : (g : Geometry) (n h : ℕ) (x : Option State) (m : Medium) → AreBytes m.now → IsStanding g n h x m → n < 2

@@ -18,7 +18,7 @@ use Rattle.oplog.specs.Log.{Log}
 use Rattle.oplog.specs.Stands.{is_laid_out, named_area, stands_as}
 use Rattle.oplog.proofs.AfterCrash.{flip_by_area, image_by_area, torn_root_stands}
 use Rattle.oplog.proofs.Kept.{run-append}
-use Rattle.plain.specs.State.{State}
+use Rattle.meaning.specs.State.{State}
 
 module _ (log : Log) (bytes : List ℕ) (w0 : Medium) (is_area : log.named < 2) (unfinished : IsUnfinished log bytes w0) where
   abbrev n : ℕ

@@ -18,7 +18,7 @@ use Rattle.oplog.specs.Calls.{HasParts}
 use Rattle.oplog.specs.Changes.{IsReady}
 use Rattle.oplog.specs.Layout.{layout_of, image_size, other}
 use Rattle.oplog.specs.Log.{Log}
-use Rattle.plain.specs.State.{State}
+use Rattle.meaning.specs.State.{State}
 
 module _ (log : Log) (frozen : List ℕ) (named others due : List Bool) (left : Option ℕ) (w0 : Medium) (none_left : left ≡ Some 0) where
   pub flip_asks : HasParts log w0 → length frozen ≡ image_size log.geometry → length due ≡ piece_count log.geometry → AreBytes w0.now → IsCutState log due left → IsSoundJournal log frozen named others due left w0 → IsWritten log frozen w0

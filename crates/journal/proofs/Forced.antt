@@ -15,7 +15,7 @@ use Rattle.oplog.specs.Stands.{in_force, named_area}
 use Rattle.oplog.proofs.AfterCrash.{named_kept}
 use Rattle.oplog.proofs.Kept.{grown_force, named_area-below, same_forced, same_named}
 use Rattle.oplog.proofs.RecordRows.{length-rows}
-use Rattle.plain.specs.State.{State}
+use Rattle.meaning.specs.State.{State}
 
 -- ---- by one half, or by both
 

@@ -8,7 +8,7 @@ use Rattle.image.specs.Pieces.{joined_below, piece_at, piece_count, piece_of, pi
 use Rattle.image.proofs.Joining.{piece_inside, whole_image}
 use Rattle.journal.specs.Stretches.{AreSpelled, stretch_in, stretch_of}
 use Rattle.oplog.specs.Layout.{image_size, slice}
-use Rattle.plain.specs.State.{State, sum_below}
+use Rattle.meaning.specs.State.{State, sum_below}
 
 -- where the next piece begins
 pub piece_after : (g : Geometry) (n : ℕ) → piece_at g (n + 1) ≡ piece_at g n + piece_size g n

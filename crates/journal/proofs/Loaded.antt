@@ -33,7 +33,7 @@ use Rattle.oplog.specs.Layout.{layout_of, device_size, header, image_size, other
 use Rattle.oplog.specs.Log.{Log, new_log, renamed}
 use Rattle.oplog.specs.Stands.{in_force, is_laid_out, named_area, run, stands_as}
 use Rattle.parcel.specs.Tree.{IsWholeTree, state_in}
-use Rattle.plain.specs.State.{State, IsState}
+use Rattle.meaning.specs.State.{State, IsState}
 
 -- ---- where the named half has no chain
 

@@ -12,7 +12,7 @@ use Rattle.disk.proofs.Moments.{weaker}
 use Rattle.image.specs.Image.{image_head, read}
 use Rattle.image.specs.Touched.{may_change}
 use Rattle.image.proofs.Untouched.{piece_stays}
-use Rattle.plain.proofs.Kept.{step_kept}
+use Rattle.meaning.proofs.Kept.{step_kept}
 use Rattle.std.specs.List.{AllByRecursion}
 use Rattle.journal.specs.Journal.{AreCarriedOut, HoldsSome, IsSettled, records_in}
 use Rattle.journal.specs.Keeping.{IsCutOr, IsFresh, IsCutState, IsSoundJournal, coming, held_of}
@@ -35,8 +35,8 @@ use Rattle.oplog.specs.Logged.{records_of}
 use Rattle.oplog.specs.Stands.{run}
 use Rattle.oplog.proofs.AfterCrash.{append_stands, all_by_area}
 use Rattle.oplog.proofs.Kept.{run-append}
-use Rattle.plain.specs.Serial.{fold, is_loggable, next_state, reply_to}
-use Rattle.plain.specs.State.{State, IsState}
+use Rattle.meaning.specs.Serial.{fold, is_loggable, next_state, reply_to}
+use Rattle.meaning.specs.State.{State, IsState}
 
 -- ---- messages and their records
 

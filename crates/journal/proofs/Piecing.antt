@@ -26,7 +26,7 @@ use Rattle.oplog.specs.Stands.{named_area}
 use Rattle.oplog.specs.Layout.{layout_of, half, image, other}
 use Rattle.oplog.specs.Log.{Log}
 use Rattle.oplog.proofs.AfterCrash.{image_by_area}
-use Rattle.plain.specs.State.{State}
+use Rattle.meaning.specs.State.{State}
 
 -- ---- how many are left
 

@@ -17,7 +17,7 @@ use Rattle.oplog.specs.Layout.{layout_of, device_size, part_bytes, half, image, 
 use Rattle.oplog.specs.Stands.{in_force, named_area, stands_as}
 use Rattle.oplog.proofs.AfterCrash.{clear_by_area, flip_by_area, image_by_area, torn_root_stands}
 use Rattle.oplog.proofs.Ready.{ready_kept}
-use Rattle.plain.specs.State.{State}
+use Rattle.meaning.specs.State.{State}
 
 module _ (g : Geometry) (n : ℕ) (x : Option State) (is_area : n < 2) (w0 w1 : Medium) (stands : IsStanding g n n x w0) (clears : ChangesOnly w0 w1 (IsSameButGates (layout_of g) (other n))) where
   by_clear : LeavesOnly w0 w1 (StandsBy (means g) (layout_of g) n n x)

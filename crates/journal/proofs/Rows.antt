@@ -11,8 +11,8 @@ use Rattle.std.proofs.lemmas.List.{ext_get_or, get_or-set_other, get_or-set_same
 use Rattle.std.proofs.Math.Seq.{take-add}
 use Rattle.affinity.specs.declared.geometry.Geometry.{Geometry}
 use Rattle.image.specs.Pieces.{aggregate_of, part_of, piece_count, pieces_of_volume, volume_of, volume_piece_number}
-use Rattle.plain.specs.Serial.{key}
-use Rattle.plain.specs.State.{one_if}
+use Rattle.meaning.specs.Serial.{key}
+use Rattle.meaning.specs.State.{one_if}
 use Rattle.journal.specs.Keeping.{AreClearBefore}
 use Rattle.journal.specs.Marks.{MarksTouched, count_marked}
 use Rattle.journal.specs.Stretches.{stretch_at, stretch_in, stretch_size}

@@ -20,7 +20,7 @@ use Rattle.journal.proofs.Forced.{forced_calm}
 use Rattle.journal.proofs.Standing.{holds_now, run_none}
 use Rattle.oplog.specs.Layout.{other}
 use Rattle.oplog.specs.Log.{Log}
-use Rattle.plain.specs.State.{State, IsState}
+use Rattle.meaning.specs.State.{State, IsState}
 
 -- ---- the image of a state
 

@@ -22,7 +22,7 @@ use Rattle.journal.specs.Stretches.{image_in}
 use Rattle.oplog.specs.Layout.{device_size, layout_of, other}
 use Rattle.oplog.specs.Log.{Log}
 use Rattle.oplog.specs.Stands.{named_area}
-use Rattle.plain.specs.State.{State}
+use Rattle.meaning.specs.State.{State}
 
 -- ---- moments
 

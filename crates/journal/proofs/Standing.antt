@@ -14,7 +14,7 @@ use Rattle.oplog.specs.Crash.{StandsBy}
 use Rattle.oplog.specs.Front.{chain, front, front_in, rows}
 use Rattle.oplog.specs.Layout.{Layout, layout_of, part_bytes, device_size, header, half, image, other}
 use Rattle.oplog.specs.Stands.{current_of, in_force, is_laid_out, run, stands_as}
-use Rattle.plain.specs.State.{State}
+use Rattle.meaning.specs.State.{State}
 
 -- ---- by the area that it names
 

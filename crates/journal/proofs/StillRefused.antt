@@ -18,7 +18,7 @@ use Rattle.oplog.specs.Front.{chain, chain_in, front, front_in}
 use Rattle.oplog.specs.Layout.{device_size, half, header, image, layout_of, other, part_bytes, root}
 use Rattle.oplog.specs.Stands.{named_area, run}
 use Rattle.oplog.proofs.Kept.{named_area-below}
-use Rattle.plain.specs.State.{State}
+use Rattle.meaning.specs.State.{State}
 
 -- Header, halves and one image are the same.
 record AreSame (g : Geometry) (n : ℕ) (a c : List ℕ) : Type 0 where

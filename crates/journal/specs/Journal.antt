@@ -9,8 +9,8 @@ use Rattle.message.specs.Messages.{IsMessage}
 use Rattle.oplog.specs.Layout.{layout_of}
 use Rattle.oplog.specs.Logged.{IsLogged}
 use Rattle.oplog.specs.Stands.{in_force, named_area}
-use Rattle.plain.specs.Serial.{fold, is_loggable, next_state, reply_to}
-use Rattle.plain.specs.State.{State}
+use Rattle.meaning.specs.Serial.{fold, is_loggable, next_state, reply_to}
+use Rattle.meaning.specs.State.{State}
 
 pub record JournalView : Type 0 where
   pub geometry : Geometry

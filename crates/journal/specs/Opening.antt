@@ -15,7 +15,7 @@ use Rattle.image.specs.Image.{read}
 use Rattle.oplog.specs.Front.{front}
 use Rattle.oplog.specs.Layout.{image, layout_of, part_bytes}
 use Rattle.oplog.specs.Stands.{named_area, run}
-use Rattle.plain.specs.State.{State, IsState}
+use Rattle.meaning.specs.State.{State, IsState}
 
 -- A device was opened: it isn't refused, and the journal holds the state for which it stood, with no record in force, now
 -- and in whatever a crash leaves now. The named image is that of this state, in version 2; of the other one nothing is known.

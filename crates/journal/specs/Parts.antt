@@ -19,7 +19,7 @@ use Rattle.oplog.specs.Layout.{image_size, layout_of}
 use Rattle.oplog.specs.Log.{new_log}
 use Rattle.oplog.specs.Stands.{in_force, named_area}
 use Rattle.parcel.specs.Tree.{IsWholeTree, state_in}
-use Rattle.plain.specs.State.{empty}
+use Rattle.meaning.specs.State.{empty}
 
 -- The device failed; or a record of this half is bad, which was behind the named one, and the cut was finished.
 abbrev pub IsBad : Geometry → ℕ → Medium → Medium → OpenFault → Type 0

@@ -14,7 +14,7 @@ use Rattle.oplog.specs.Front.{chain, front}
 use Rattle.oplog.specs.Layout.{layout_of, other}
 use Rattle.oplog.specs.Log.{Log}
 use Rattle.oplog.specs.Stands.{is_laid_out, named_area, run}
-use Rattle.plain.specs.State.{State}
+use Rattle.meaning.specs.State.{State}
 
 -- A crash at any moment from `old` to `new` leaves a device that stands for what it stood for.
 abbrev pub StandsStill : Geometry → Medium → Medium → Type 0

@@ -6,7 +6,7 @@ use Rattle.image.specs.Image.{image_head}
 use Rattle.image.specs.Pieces.{piece_at, piece_count, piece_of, piece_size}
 use Rattle.oplog.specs.Changes.{IsSameBut}
 use Rattle.oplog.specs.Layout.{slice, layout_of, part_bytes, image}
-use Rattle.plain.specs.State.{State}
+use Rattle.meaning.specs.State.{State}
 
 -- where a stretch begins in its image, and how many bytes it has
 abbrev pub stretch_at : Geometry → ℕ → ℕ

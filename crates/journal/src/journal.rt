@@ -14,8 +14,8 @@ ghost use Rattle.oplog.specs.Layout.{layout_of};
 ghost use Rattle.oplog.specs.Log.{CountsLogFault, IsNotBad};
 ghost use Rattle.oplog.specs.Logged.{AreLogged, records_of};
 ghost use Rattle.parcel.specs.Tree.{IsWholeTree, state_in};
-ghost use Rattle.plain.specs.Serial.{fold};
-ghost use Rattle.plain.specs.State.{State};
+ghost use Rattle.meaning.specs.Serial.{fold};
+ghost use Rattle.meaning.specs.State.{State};
 
 use crate::freezing::freeze;
 use crate::marks::{clear_marks, count_marked, exchange_marks, first_marked, mark_touched};

@@ -3,7 +3,7 @@ ghost use Rattle.std.specs.Prelude.{◌≡◌, ◌<◌, ◌≤◌, ◌^◌, ◌�
 ghost use Rattle.image.specs.Pieces.{piece_count, volume_piece_number};
 ghost use Rattle.journal.specs.Keeping.{AreClearBefore};
 ghost use Rattle.journal.specs.Marks.{MarksTouched, count_marked};
-ghost use Rattle.plain.specs.Serial.{key};
+ghost use Rattle.meaning.specs.Serial.{key};
 
 use affinity::Geometry;
 use image::touched;

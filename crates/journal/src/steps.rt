@@ -14,7 +14,7 @@ ghost use Rattle.oplog.specs.Calls.{HasParts};
 ghost use Rattle.oplog.specs.Costs.{Takes};
 ghost use Rattle.oplog.specs.Layout.{image_size, layout_of, other};
 ghost use Rattle.oplog.specs.Log.{IsLogCall, IsNotBad};
-ghost use Rattle.plain.specs.State.{State};
+ghost use Rattle.meaning.specs.State.{State};
 
 use crate::stretches::{make_last, write_image};
 use disk::Disk;

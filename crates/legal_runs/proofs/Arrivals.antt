@@ -7,10 +7,10 @@ use Rattle.std.proofs.lemmas.Bool.{and_parts, or_parts, not-true, lt-ltb, trueâ‰
 use Rattle.std.proofs.lemmas.List.Sorted.{IsPermutation-append_left, IsPermutation-append_right, IsPermutation-middle, IsPermutation-refl, IsPermutation-trans}
 use Rattle.affinity.specs.declared.geometry.Geometry.{Geometry}
 use Rattle.message.specs.declared.Reply.{Reply}
-use Rattle.plain.specs.State.{State}
-use Rattle.plain.specs.Serial.{reply_to, fold}
-use Rattle.plain.specs.Order.{told, messages, by_ticket, IsBefore}
-use Rattle.plain.proofs.ByTicket.{by_ticket-ascending, AreAscending as AreEachLess}
+use Rattle.meaning.specs.State.{State}
+use Rattle.meaning.specs.Serial.{reply_to, fold}
+use Rattle.meaning.specs.Order.{told, messages, by_ticket, IsBefore}
+use Rattle.meaning.proofs.ByTicket.{by_ticket-ascending, AreAscending as AreEachLess}
 use Rattle.legal_runs.specs.World.{Entry, Replied, World, entries, held, are_related_entries}
 use Rattle.legal_runs.specs.Eligible.{is_clear, has_room, is_eligible}
 use Rattle.legal_runs.specs.Events.{Hands, Event, grant, give_back, log}

@@ -5,7 +5,7 @@ use Rattle.std.specs.List.{AllByRecursion, list_any}
 use Rattle.std.proofs.lemmas.Bool.{and_parts, ltb-true, lt-ltb, not-true, true≢false, false_from_ne_true}
 use Rattle.std.proofs.lemmas.List.Folds.{list_any-append}
 use Rattle.affinity.specs.declared.geometry.Geometry.{Geometry}
-use Rattle.plain.specs.Serial.{reply_to}
+use Rattle.meaning.specs.Serial.{reply_to}
 use Rattle.legal_runs.specs.World.{Entry, Replied, World, entry, entries, held, are_related_entries}
 use Rattle.legal_runs.specs.Eligible.{is_clear, has_room, is_eligible, next_eligible}
 use Rattle.legal_runs.specs.Events.{Hands, Event, IsAllowed, grant, give_back, out_with}

@@ -2,8 +2,8 @@
 use Rattle.std.proofs.Common.{◌≡◌, ℕ, zero, suc, ◌≤◌, List, [], ◌∷◌, ◌++◌, refl, ap, sym, ◌∙◌, append_assoc, take, drop, arith}
 use Rattle.affinity.specs.declared.geometry.Geometry.{Geometry}
 use Rattle.message.specs.declared.Msg.{Msg}
-use Rattle.plain.specs.State.{State}
-use Rattle.plain.specs.Serial.{fold}
+use Rattle.meaning.specs.State.{State}
+use Rattle.meaning.specs.Serial.{fold}
 use Rattle.legal_runs.specs.World.{Replied}
 use Rattle.legal_runs.specs.Events.{Hands, Event}
 use Rattle.legal_runs.specs.Runs.{IsLegal, last, appended, goes, journal, went}

@@ -10,9 +10,9 @@ use Rattle.message.specs.declared.Msg.TheVariants.{MakeVol, Create, Write, Read,
 use Rattle.message.specs.declared.Refusal.TheVariants.{Exists}
 use Rattle.message.specs.declared.Reply.{Reply}
 use Rattle.message.specs.declared.Reply.TheVariants.{Done, Summary, Refused}
-use Rattle.plain.specs.State.{State, empty}
-use Rattle.plain.specs.Order.{IsBefore}
-use Rattle.plain.specs.Serial.{fold, next_state}
+use Rattle.meaning.specs.State.{State, empty}
+use Rattle.meaning.specs.Order.{IsBefore}
+use Rattle.meaning.specs.Serial.{fold, next_state}
 use Rattle.legal_runs.specs.declared.outcomes.Step.{Step}
 use Rattle.legal_runs.specs.declared.outcomes.Step.TheVariants as steps
 use Rattle.legal_runs.specs.declared.outcomes.Outcome.{Outcome}

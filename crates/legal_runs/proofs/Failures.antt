@@ -7,7 +7,7 @@ use Rattle.std.proofs.lemmas.List.{append-nil}
 use Rattle.affinity.specs.declared.geometry.Geometry.{Geometry}
 use Rattle.message.specs.declared.Msg.{Msg}
 use Rattle.message.specs.Messages.{is_in_range}
-use Rattle.plain.specs.Serial.{reply_to}
+use Rattle.meaning.specs.Serial.{reply_to}
 use Rattle.legal_runs.specs.declared.outcomes.Step.{Step}
 use Rattle.legal_runs.specs.declared.outcomes.Step.TheVariants as steps
 use Rattle.legal_runs.specs.declared.outcomes.Outcome.{Outcome}

@@ -4,8 +4,8 @@ use Rattle.std.specs.Prelude.{if◌then◌else◌}
 use Rattle.std.proofs.lemmas.List.{drop-append-le, length-append, take-append-le}
 use Rattle.affinity.specs.declared.geometry.Geometry.{Geometry}
 use Rattle.message.specs.declared.Msg.{Msg}
-use Rattle.plain.specs.State.{State}
-use Rattle.plain.specs.Serial.{fold}
+use Rattle.meaning.specs.State.{State}
+use Rattle.meaning.specs.Serial.{fold}
 use Rattle.legal_runs.specs.World.{World}
 use Rattle.legal_runs.specs.Events.{Hands, Event}
 use Rattle.legal_runs.specs.Runs.{IsLegal, last, goes, appended, arrives, answers, journal}

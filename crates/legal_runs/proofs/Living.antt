@@ -3,8 +3,8 @@ use Rattle.std.proofs.Common.{◌≡◌, ℕ, List, [], ◌∷◌, ◌++◌, ref
 use Rattle.std.proofs.lemmas.List.{append-nil}
 use Rattle.affinity.specs.declared.geometry.Geometry.{Geometry}
 use Rattle.message.specs.declared.Msg.{Msg}
-use Rattle.plain.specs.State.{State, empty}
-use Rattle.plain.specs.Serial.{fold}
+use Rattle.meaning.specs.State.{State, empty}
+use Rattle.meaning.specs.Serial.{fold}
 use Rattle.legal_runs.specs.Events.{Hands, Event, loggable}
 use Rattle.legal_runs.specs.Runs.{IsLegal}
 use Rattle.legal_runs.specs.Crash.{IsLeftSince}

@@ -8,12 +8,12 @@ use Rattle.affinity.specs.declared.geometry.Geometry.{Geometry}
 use Rattle.affinity.specs.Path.{are_related}
 use Rattle.message.specs.declared.Msg.{Msg}
 use Rattle.message.specs.Messages.{place, is_in_range}
-use Rattle.plain.specs.Serial.{fold, is_loggable, next_state}
-use Rattle.plain.specs.Order.{messages}
-use Rattle.plain.specs.Shares.{AgreeOn}
-use Rattle.plain.specs.State.{State}
-use Rattle.plain.proofs.Agree.{agree-refl, agree-trans}
-use Rattle.plain.proofs.Frame.{left_alone}
+use Rattle.meaning.specs.Serial.{fold, is_loggable, next_state}
+use Rattle.meaning.specs.Order.{messages}
+use Rattle.meaning.specs.Shares.{AgreeOn}
+use Rattle.meaning.specs.State.{State}
+use Rattle.meaning.proofs.Agree.{agree-refl, agree-trans}
+use Rattle.meaning.proofs.Frame.{left_alone}
 use Rattle.legal_runs.specs.declared.outcomes.Outcome.{Outcome}
 use Rattle.legal_runs.specs.declared.outcomes.PointRefusal.{PointRefusal}
 use Rattle.legal_runs.specs.declared.outcomes.Step.{Step}

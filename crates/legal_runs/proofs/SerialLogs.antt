@@ -10,8 +10,8 @@ use Rattle.std.proofs.lemmas.List.Sorted.{IsPermutation-append_left}
 use Rattle.std.proofs.lemmas.Map.Keys.{IsDistinct-IsPermutation}
 use Rattle.affinity.specs.declared.geometry.Geometry.{Geometry}
 use Rattle.message.specs.declared.Msg.{Msg}
-use Rattle.plain.specs.State.{State}
-use Rattle.plain.specs.Order.{IsBefore, KeepsOrder, told}
+use Rattle.meaning.specs.State.{State}
+use Rattle.meaning.specs.Order.{IsBefore, KeepsOrder, told}
 use Rattle.legal_runs.specs.World.{Entry, Replied, World, entries, entry}
 use Rattle.legal_runs.specs.Events.{Hands, Event, loggable}
 use Rattle.legal_runs.specs.Runs.{IsLegal, answered_messages, arrived, journal, last, went}

@@ -4,7 +4,7 @@ use Rattle.std.specs.Prelude.{◌==◌}
 use Rattle.std.specs.List.{AllByRecursion}
 use Rattle.std.proofs.lemmas.List.{take-append-drop, length-append}
 use Rattle.affinity.specs.declared.geometry.Geometry.{Geometry}
-use Rattle.plain.specs.Serial.{reply_to}
+use Rattle.meaning.specs.Serial.{reply_to}
 use Rattle.legal_runs.specs.World.{Entry, Replied, World, entries, held}
 use Rattle.legal_runs.specs.Eligible.{is_eligible}
 use Rattle.legal_runs.specs.Events.{Hands, Event, IsAllowed, grant, give_back, log}

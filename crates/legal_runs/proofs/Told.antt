@@ -5,11 +5,11 @@ use Rattle.std.specs.List.{AllByRecursion}
 use Rattle.affinity.specs.declared.geometry.Geometry.{Geometry}
 use Rattle.message.specs.declared.Msg.{Msg}
 use Rattle.message.specs.declared.Reply.{Reply}
-use Rattle.plain.specs.State.{State}
-use Rattle.plain.specs.Serial.{reply_to, next_state, fold, is_loggable}
-use Rattle.plain.specs.Order.{told, messages}
-use Rattle.plain.proofs.Frame.{commute, same_reply}
-use Rattle.plain.proofs.Unchanged.{unlogged_changes_nothing}
+use Rattle.meaning.specs.State.{State}
+use Rattle.meaning.specs.Serial.{reply_to, next_state, fold, is_loggable}
+use Rattle.meaning.specs.Order.{told, messages}
+use Rattle.meaning.proofs.Frame.{commute, same_reply}
+use Rattle.meaning.proofs.Unchanged.{unlogged_changes_nothing}
 use Rattle.legal_runs.specs.World.{Entry, Replied, entry, entries, are_related_entries}
 use Rattle.legal_runs.specs.Events.{loggable}
 use Rattle.legal_runs.specs.Laws.{AreApart, AreReplied, ticket_replies}

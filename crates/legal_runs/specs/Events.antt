@@ -5,7 +5,7 @@ use Rattle.affinity.specs.declared.geometry.Geometry.{Geometry}
 use Rattle.message.specs.declared.Msg.{Msg}
 use Rattle.message.specs.Messages.{is_in_range}
 use Rattle.image.specs.Pieces.{piece_count}
-use Rattle.plain.specs.Serial.{reply_to, fold, is_loggable}
+use Rattle.meaning.specs.Serial.{reply_to, fold, is_loggable}
 use Rattle.legal_runs.specs.declared.outcomes.Step.{Step}
 use Rattle.legal_runs.specs.declared.outcomes.Step.TheVariants as steps
 use Rattle.legal_runs.specs.declared.outcomes.Outcome.{Outcome}

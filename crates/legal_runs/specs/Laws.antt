@@ -3,9 +3,9 @@ use Rattle.std.specs.Prelude.{◌≡◌, ℕ, ◌+◌, ◌<◌, ◌≤◌, Bool,
 use Rattle.std.specs.List.{AllByRecursion}
 use Rattle.affinity.specs.declared.geometry.Geometry.{Geometry}
 use Rattle.message.specs.declared.Reply.{Reply}
-use Rattle.plain.specs.State.{State}
-use Rattle.plain.specs.Serial.{reply_to}
-use Rattle.plain.specs.Order.{told, KeepsOrder}
+use Rattle.meaning.specs.State.{State}
+use Rattle.meaning.specs.Serial.{reply_to}
+use Rattle.meaning.specs.Order.{told, KeepsOrder}
 use Rattle.legal_runs.specs.declared.outcomes.Step.{Step}
 use Rattle.legal_runs.specs.declared.outcomes.Step.TheVariants as steps
 use Rattle.legal_runs.specs.declared.outcomes.Outcome.{Outcome}

@@ -2,8 +2,8 @@
 use Rattle.std.specs.Prelude.{◌≡◌, ℕ, ◌≤◌, List, [], ◌∷◌, ◌++◌, length, take}
 use Rattle.affinity.specs.declared.geometry.Geometry.{Geometry}
 use Rattle.message.specs.declared.Msg.{Msg}
-use Rattle.plain.specs.State.{State, empty}
-use Rattle.plain.specs.Serial.{fold}
+use Rattle.meaning.specs.State.{State, empty}
+use Rattle.meaning.specs.Serial.{fold}
 use Rattle.legal_runs.specs.Events.{Hands, Event}
 use Rattle.legal_runs.specs.Runs.{IsLegal, answered_changes}
 use Rattle.legal_runs.specs.Crash.{IsLogAfter}

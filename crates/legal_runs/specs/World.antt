@@ -5,7 +5,7 @@ use Rattle.affinity.specs.Path.{are_related}
 use Rattle.message.specs.declared.Msg.{Msg}
 use Rattle.message.specs.declared.Reply.{Reply}
 use Rattle.message.specs.Messages.{place}
-use Rattle.plain.specs.State.{State}
+use Rattle.meaning.specs.State.{State}
 
 -- a message with its ticket, and one with its reply too
 abbrev pub Entry : Type 0

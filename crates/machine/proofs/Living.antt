@@ -18,7 +18,7 @@ use Rattle.legal_runs.specs.Lives.{IsLeftByLives, Life, Ran, Unopened}
 use Rattle.legal_runs.specs.Runs.{IsLegal}
 use Rattle.machine.specs.Lives.{DeviceLife, HasLives, HaveGeometry, IsLifeOf, IsOfGeometry, IsPassedOn, IsRunLife, LeftByLast, StandsForLives, lives_of}
 use Rattle.machine.specs.Stages.{StandsForRun}
-use Rattle.plain.specs.State.{State, empty}
+use Rattle.meaning.specs.State.{State, empty}
 
 -- What a crash leaves while a device is opened, it might have left before, or it stands for the same.
 opening_leaves : (old new : Medium) (c : List ℕ) → OpeningLeaves old new → left_since new (moment old) c → Leaves old c ⊎ StandsAs old.now c

@@ -26,7 +26,7 @@ use Rattle.machine.specs.Machine.{MachineView, HasRun, HasStages, machine_of}
 use Rattle.machine.specs.Stages.{AreSafe, Stage, StandsForRun, TouchAsTold, device_after, events_of}
 use Rattle.machine.specs.Steps.{IsMachineStep}
 use Rattle.message.specs.declared.Msg.{Msg}
-use Rattle.plain.specs.Serial.{fold}
+use Rattle.meaning.specs.Serial.{fold}
 use Rattle.scheduler.specs.Calls.{CountsFailure}
 use Rattle.machine.specs.declared.hands.Hand.{Hand as Holding}
 use Rattle.scheduler.specs.Kept.{CoreView, StandsNow, world_of}

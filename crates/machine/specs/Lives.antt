@@ -13,8 +13,8 @@ use Rattle.legal_runs.specs.Lives.{AreLogsOf, HoldAnswered, Life, Ran, Unopened,
 use Rattle.legal_runs.specs.Runs.{IsLegal}
 use Rattle.machine.specs.Stages.{StandsForRun}
 use Rattle.message.specs.declared.Msg.{Msg}
-use Rattle.plain.specs.Serial.{fold}
-use Rattle.plain.specs.State.{empty}
+use Rattle.meaning.specs.Serial.{fold}
+use Rattle.meaning.specs.State.{empty}
 
 -- A life: the device when it was opened, and as the last call left it; since which moment the crash may have come; the
 -- numbers of the server that was opened; and the life that its messages had.

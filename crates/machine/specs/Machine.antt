@@ -13,7 +13,7 @@ use Rattle.machine.specs.Stages.{Stage, AreSafe, StandsForRun, TouchAsTold, devi
 use Rattle.machine.specs.declared.hands.Hand.{Hand as Holding}
 use Rattle.machine.specs.declared.hands.Hand.TheVariants as has
 use Rattle.message.specs.declared.Reply.{Reply}
-use Rattle.plain.specs.Order.{by_ticket, told}
+use Rattle.meaning.specs.Order.{by_ticket, told}
 use Rattle.scheduler.specs.Jobs.{IsJobOf, IsResultOf}
 use Rattle.scheduler.specs.Kept.{CoreView, StandsNow, world_of}
 

@@ -7,7 +7,7 @@ use Rattle.disk.specs.Moments.{LeavesOnly}
 use Rattle.journal.specs.Journal.{HoldsSome}
 use Rattle.legal_runs.specs.Crash.{IsLeftSince, in_doubt}
 use Rattle.legal_runs.specs.Events.{Event, Hands, touches_device}
-use Rattle.plain.specs.State.{State}
+use Rattle.meaning.specs.State.{State}
 use Rattle.scheduler.specs.Calls.{CountsFailure}
 
 pub record Stage : Type 0 where

@@ -15,7 +15,7 @@ ghost use Rattle.checkpoint.specs.Refusals.{refused};
 ghost use Rattle.disk.specs.Device.{IsSynced, Medium};
 ghost use Rattle.disk.specs.Moments.{moment};
 ghost use Rattle.machine.specs.Lives.{DeviceLife, HasLives, HaveGeometry, LeftByLast, StandsForLives, lives_of};
-ghost use Rattle.plain.specs.State.{empty};
+ghost use Rattle.meaning.specs.State.{empty};
 
 /// A device is formatted. Then it has any number of lives, one after the other: in each it is opened, a machine makes a run of
 /// any steps, and a crash comes at any moment, also while it is opened and within a call, and leaves any bytes where

@@ -9,13 +9,13 @@ use Rattle.affinity.proofs.Paths.{begins-refl, unrelated_below, unrelated_turned
 use Rattle.affinity.proofs.Placed.{IsPath-place}
 use Rattle.message.specs.declared.Msg.{Msg}
 use Rattle.message.specs.Messages.{place, is_in_range, kind, four_numbers, IsMessage}
-use Rattle.plain.specs.State.{State, IsState}
-use Rattle.plain.specs.Serial.{reply_to, next_state}
-use Rattle.plain.specs.Shares.{AgreeOn}
-use Rattle.plain.specs.Laws.{outside}
-use Rattle.plain.proofs.Agree.{agree-refl, agree-sym, agree-trans, agree_either, agree_everywhere, agree_within}
-use Rattle.plain.proofs.Frame.{changes_only}
-use Rattle.plain.proofs.Kept.{step_kept}
+use Rattle.meaning.specs.State.{State, IsState}
+use Rattle.meaning.specs.Serial.{reply_to, next_state}
+use Rattle.meaning.specs.Shares.{AgreeOn}
+use Rattle.meaning.specs.Laws.{outside}
+use Rattle.meaning.proofs.Agree.{agree-refl, agree-sym, agree-trans, agree_either, agree_everywhere, agree_within}
+use Rattle.meaning.proofs.Frame.{changes_only}
+use Rattle.meaning.proofs.Kept.{step_kept}
 use Rattle.parcel.specs.Fits.{Fits}
 use Rattle.parcel.specs.Holding.{TreeHolds, IsApart, IsJobOut, nowhere, with_place}
 use Rattle.parcel.specs.Nodes.{Node, Nodes, in_parcels, tree_state}

@@ -5,8 +5,8 @@ use Rattle.std.proofs.lemmas.Bool.{cond-false, not-true, true≢false}
 use Rattle.affinity.specs.declared.geometry.Geometry.{Geometry}
 use Rattle.affinity.specs.Geometry.{group}
 use Rattle.affinity.specs.Path.{Path, begins, volume, logical, stripe, label}
-use Rattle.plain.specs.Shares.{AgreeOn}
-use Rattle.plain.specs.Laws.{outside}
+use Rattle.meaning.specs.Shares.{AgreeOn}
+use Rattle.meaning.specs.Laws.{outside}
 use Rattle.parcel.specs.Nodes.{Node, Nodes, marks_made, marks_sealed, files_have, slots_hold, text_of, tree_state, put_at, TakesOut, PutsBack}
 
 -- nodes that are the same at the paths that a test picks hold the same state there

@@ -12,8 +12,8 @@ use Rattle.message.specs.declared.Refusal.TheVariants.{Range, Volume, Exists, Fi
 use Rattle.message.specs.declared.Reply.{Reply}
 use Rattle.message.specs.declared.Reply.TheVariants.{Refused}
 use Rattle.message.specs.Messages.{is_in_range}
-use Rattle.plain.specs.State.{State, group_count}
-use Rattle.plain.specs.Serial.{refusal, effect, accepted_reply, outcome}
+use Rattle.meaning.specs.State.{State, group_count}
+use Rattle.meaning.specs.Serial.{refusal, effect, accepted_reply, outcome}
 use Rattle.parcel.specs.Run.{IsSerialStep}
 use Rattle.parcel.specs.Steps.{unless, unless_closed}
 use Rattle.parcel.specs.Volume.{Facts, facts_if, only}

@@ -11,7 +11,7 @@ use Rattle.byteorder.specs.Endian.{little_number}
 use Rattle.message.specs.Messages.{AreSizedBytes}
 use Rattle.message.specs.Replies.{has_file}
 use Rattle.message.specs.declared.Block.{Block}
-use Rattle.plain.specs.State.{State, IsState}
+use Rattle.meaning.specs.State.{State, IsState}
 use Rattle.stripe.specs.Entries.{IsStripePiece}
 use Rattle.stripe.specs.Stripe.{StripePart}
 use Rattle.image.specs.Pieces.{block_in, bytes_at, piece_count, aggregate_of, volume_of as volume_number}

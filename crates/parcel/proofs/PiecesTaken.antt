@@ -9,11 +9,11 @@ use Rattle.affinity.specs.declared.geometry.Geometry.{Geometry}
 use Rattle.message.specs.Messages.{AreSizedBytes}
 use Rattle.message.specs.Replies.{has_file}
 use Rattle.message.specs.declared.Block.{Block}
-use Rattle.plain.specs.Laws.{outside}
-use Rattle.plain.specs.Shares.{AgreeOn}
-use Rattle.plain.specs.State.{State, VolumeKey, FileKey, BlockKey, IsState, is_volume, is_block_of}
-use Rattle.plain.proofs.Agree.{agree-sym, agree-trans}
-use Rattle.plain.proofs.ShareLaws.{agree_in_and_out}
+use Rattle.meaning.specs.Laws.{outside}
+use Rattle.meaning.specs.Shares.{AgreeOn}
+use Rattle.meaning.specs.State.{State, VolumeKey, FileKey, BlockKey, IsState, is_volume, is_block_of}
+use Rattle.meaning.proofs.Agree.{agree-sym, agree-trans}
+use Rattle.meaning.proofs.ShareLaws.{agree_in_and_out}
 use Rattle.image.specs.Pieces.{part_piece, piece_part_size, with_part, with_volume_piece, with_stripe_piece, is_made_in, is_sealed_in, has_file_in, label_in as said_label_in, block_in}
 use Rattle.parcel.specs.Nodes.{Nodes, in_child, in_logical, in_volume, files_bits, tree_state, PutsBack}
 use Rattle.parcel.specs.Pieces.{HasFacts, IsPartRead, IsRead, facts_with, spelled, said_piece}

@@ -6,14 +6,14 @@ use Rattle.affinity.specs.declared.geometry.Geometry.{Geometry}
 use Rattle.affinity.specs.Interval.{IsPath}
 use Rattle.affinity.specs.Path.{Path, begins, are_related}
 use Rattle.message.specs.Messages.{place, IsMessage}
-use Rattle.plain.specs.State.{State, IsState}
-use Rattle.plain.specs.Serial.{next_state}
-use Rattle.plain.specs.Shares.{AgreeOn, share, standing}
-use Rattle.plain.specs.Laws.{outside}
-use Rattle.plain.proofs.Agree.{agree-sym, agree-trans, agree_within}
-use Rattle.plain.proofs.Frame.{reads_only, changes_only}
-use Rattle.plain.proofs.Kept.{step_kept}
-use Rattle.plain.proofs.ShareLaws.{agree_in_and_out, part_from_agree}
+use Rattle.meaning.specs.State.{State, IsState}
+use Rattle.meaning.specs.Serial.{next_state}
+use Rattle.meaning.specs.Shares.{AgreeOn, share, standing}
+use Rattle.meaning.specs.Laws.{outside}
+use Rattle.meaning.proofs.Agree.{agree-sym, agree-trans, agree_within}
+use Rattle.meaning.proofs.Frame.{reads_only, changes_only}
+use Rattle.meaning.proofs.Kept.{step_kept}
+use Rattle.meaning.proofs.ShareLaws.{agree_in_and_out, part_from_agree}
 use Rattle.parcel.specs.Nodes.{Nodes, in_parcels, tree_state}
 use Rattle.parcel.specs.Run.{JobView, IsJobRun, IsSerialStep, Shows}
 use Rattle.parcel.specs.RunLaws.{IsLentOf, IsSerialStepOf, LendsRunsRestores}

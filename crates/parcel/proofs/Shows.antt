@@ -6,7 +6,7 @@ use Rattle.std.proofs.lemmas.Nat.Bits.{bit_at-zero}
 use Rattle.affinity.specs.declared.geometry.Geometry.{Geometry}
 use Rattle.affinity.specs.Geometry.{group}
 use Rattle.affinity.specs.Path.{Path, begins, are_related}
-use Rattle.plain.specs.Shares.{AgreeOn}
+use Rattle.meaning.specs.Shares.{AgreeOn}
 use Rattle.stripe.specs.Stripe.{StripePart}
 use Rattle.parcel.specs.Volume.{Facts, facts_if, state_by, only}
 use Rattle.parcel.specs.Shown.{has_file, blocks_in, by_stripe, by_logical, by_label, files_in, blocks_below, shown_label, volume_facts, by_child, by_aggregate, shown_state}

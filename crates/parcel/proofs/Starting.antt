@@ -6,7 +6,7 @@ use Rattle.std.proofs.lemmas.Bool.{true≢false}
 use Rattle.std.proofs.lemmas.Nat.{pow_pos}
 use Rattle.affinity.specs.declared.geometry.Geometry.{Geometry}
 use Rattle.affinity.specs.Geometry.{group}
-use Rattle.plain.specs.State.{empty}
+use Rattle.meaning.specs.State.{empty}
 use Rattle.stripe.specs.Stripe.{StripePart, content_at}
 use Rattle.parcel.specs.Shown.{has_file}
 use Rattle.parcel.specs.Fits.{EachFits, FitsStripe, FitsLogical, FitsVolume, FitsAggregate, FitsRoot, IsWholeChild, IsWholeLogical, IsWholeVolume, IsWholeAggregate, IsWholeRoot}

@@ -9,8 +9,8 @@ use Rattle.affinity.specs.declared.geometry.Geometry.{Geometry}
 use Rattle.message.specs.Messages.{IsBlock, AreSizedBytes}
 use Rattle.message.specs.Replies.{has_file}
 use Rattle.message.specs.declared.Block.{Block}
-use Rattle.plain.specs.State.{State, BlockKey, IsState, is_block_of, one_if, group_count}
-use Rattle.plain.proofs.Sums.{sum_same}
+use Rattle.meaning.specs.State.{State, BlockKey, IsState, is_block_of, one_if, group_count}
+use Rattle.meaning.proofs.Sums.{sum_same}
 use Rattle.stripe.specs.Entries.{entry_bytes, entries_in, stripe_bytes, can_stand, IsStripePiece}
 use Rattle.stripe.specs.Stripe.{BlockEntry, StripePart, content_at, IsAscending}
 use Rattle.stripe.proofs.EntryBytes.{IsSpellable, length-entries, entries_again}

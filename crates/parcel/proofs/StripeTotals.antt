@@ -3,8 +3,8 @@ use Rattle.std.proofs.Common.{◌≡◌, ℕ, ◌≤◌, false, List, Some, None
 use Rattle.std.specs.Prelude.{Option, IfSome}
 use Rattle.affinity.specs.declared.geometry.Geometry.{Geometry}
 use Rattle.message.specs.declared.Block.{Block}
-use Rattle.plain.specs.State.{State, group_count}
-use Rattle.plain.proofs.Sums.{sum_same, sum_zero}
+use Rattle.meaning.specs.State.{State, group_count}
+use Rattle.meaning.proofs.Sums.{sum_same, sum_zero}
 use Rattle.parcel.specs.Fits.{FitsStripe}
 use Rattle.parcel.specs.Shown.{blocks_in, blocks_of}
 use Rattle.stripe.specs.Stripe.{StripePart, StripeRule}

@@ -3,8 +3,8 @@ use Rattle.std.proofs.Common.{◌≡◌, ℕ, ◌+◌, ◌*◌, ◌≤◌, ap, s
 use Rattle.std.specs.Prelude.{is_some}
 use Rattle.std.proofs.lemmas.Nat.{mul-le}
 use Rattle.affinity.specs.declared.geometry.Geometry.{Geometry}
-use Rattle.plain.specs.State.{sum_below, count_below}
-use Rattle.plain.proofs.Sums.{one_if-le, count_below-le, sum_below-le_times}
+use Rattle.meaning.specs.State.{sum_below, count_below}
+use Rattle.meaning.proofs.Sums.{one_if-le, count_below-le, sum_below-le_times}
 use Rattle.parcel.specs.Totals.{totals_of, sum_totals}
 use Rattle.parcel.specs.Volume.{Facts}
 use Rattle.parcel.specs.declared.running.totals.Totals.{Totals}

@@ -11,8 +11,8 @@ use Rattle.byteorder.specs.Endian.{little_bytes, little_number}
 use Rattle.message.specs.Messages.{AreSizedBytes}
 use Rattle.message.specs.Replies.{has_file}
 use Rattle.message.specs.declared.Block.{Block}
-use Rattle.plain.specs.Serial.{file_bits, no_label}
-use Rattle.plain.specs.State.{State, VolumeKey, FileKey, BlockKey, IsState, is_volume, sum_below, one_if}
+use Rattle.meaning.specs.Serial.{file_bits, no_label}
+use Rattle.meaning.specs.State.{State, VolumeKey, FileKey, BlockKey, IsState, is_volume, sum_below, one_if}
 use Rattle.image.specs.Pieces.{volume_piece, label_bytes, bytes_at, is_made_in, is_sealed_in, has_file_in, label_in as said_label_in, with_volume_piece}
 use Rattle.image.proofs.Measures.{all-take, all-drop, all-zeros}
 use Rattle.parcel.specs.Fits.{FitsLogical, FitsVolume, IsWholeChild, IsWholeLogical, IsWholeVolume}

@@ -7,7 +7,7 @@ use Rattle.affinity.specs.declared.geometry.Geometry.{Geometry}
 use Rattle.message.specs.declared.Msg.TheVariants.{MakeVol, DropVol}
 use Rattle.message.specs.declared.Refusal.TheVariants.{Range, Exists}
 use Rattle.message.specs.Messages.{is_in_range}
-use Rattle.plain.specs.Serial.{refusal, effect, no_label}
+use Rattle.meaning.specs.Serial.{refusal, effect, no_label}
 use Rattle.parcel.specs.Shown.{by_aggregate, by_child, volume_facts}
 use Rattle.parcel.specs.Steps.{unless, unless_closed, at_aggregate}
 use Rattle.parcel.specs.Totals.{with_made}

@@ -3,8 +3,8 @@ use Rattle.std.specs.Prelude.{◌≡◌, Bool, true, false, not, ◌||◌, None}
 use Rattle.affinity.specs.declared.geometry.Geometry.{Geometry}
 use Rattle.affinity.specs.Interval.{IsPath}
 use Rattle.affinity.specs.Path.{Path, begins, are_related}
-use Rattle.plain.specs.Shares.{AgreeOn}
-use Rattle.plain.specs.State.{State, IsState}
+use Rattle.meaning.specs.Shares.{AgreeOn}
+use Rattle.meaning.specs.State.{State, IsState}
 use Rattle.parcel.specs.Nodes.{Nodes, tree_state}
 use Rattle.parcel.specs.Run.{JobView}
 use Rattle.parcel.specs.RunLaws.{IsLentOf, job_place}

@@ -6,8 +6,8 @@ use Rattle.affinity.specs.declared.geometry.Geometry.{Geometry}
 use Rattle.byteorder.specs.Endian.{little_bytes, little_number}
 use Rattle.stripe.specs.Entries.{IsStripePiece}
 use Rattle.stripe.specs.Stripe.{StripePart}
-use Rattle.plain.specs.State.{State, IsState, one_if}
-use Rattle.plain.specs.Serial.{no_label}
+use Rattle.meaning.specs.State.{State, IsState, one_if}
+use Rattle.meaning.specs.Serial.{no_label}
 use Rattle.image.specs.Pieces.{is_made_in, is_sealed_in, has_file_in, label_in as said_label_in, block_in, bytes_at, part_piece, with_part}
 use Rattle.parcel.specs.Fits.{FitsStripe, FitsVolume, IsWholeChild, IsWholeVolume}
 use Rattle.parcel.specs.Nodes.{Nodes, in_volume, files_bits, PutsBack}

@@ -5,9 +5,9 @@ use Rattle.affinity.specs.Path.{Path, are_related}
 use Rattle.message.specs.declared.Msg.{Msg}
 use Rattle.message.specs.declared.Reply.{Reply}
 use Rattle.message.specs.Messages.{place}
-use Rattle.plain.specs.State.{State}
-use Rattle.plain.specs.Serial.{reply_to, next_state}
-use Rattle.plain.specs.Shares.{AgreeOn}
+use Rattle.meaning.specs.State.{State}
+use Rattle.meaning.specs.Serial.{reply_to, next_state}
+use Rattle.meaning.specs.Shares.{AgreeOn}
 use Rattle.parcel.specs.Fits.{Suits}
 use Rattle.parcel.specs.Shown.{shown_state}
 use Rattle.parcel.specs.declared.parts.Parcels.{Parcels}

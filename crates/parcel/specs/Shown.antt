@@ -5,7 +5,7 @@ use Rattle.affinity.specs.Geometry.{group}
 use Rattle.affinity.specs.Path.{Path}
 use Rattle.message.specs.declared.Block.{Block}
 pub use Rattle.message.specs.Replies.{has_file}
-use Rattle.plain.specs.State.{State}
+use Rattle.meaning.specs.State.{State}
 use Rattle.stripe.specs.Stripe.{StripePart, content_at}
 use Rattle.parcel.specs.Volume.{Facts, nothing, facts_if, state_by, only}
 use Rattle.parcel.specs.declared.parts.Label.{Label}

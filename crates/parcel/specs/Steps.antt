@@ -6,7 +6,7 @@ use Rattle.message.specs.declared.Refusal.{Refusal}
 use Rattle.message.specs.declared.Refusal.TheVariants.{Volume, Sealed}
 use Rattle.message.specs.declared.Reply.{Reply}
 use Rattle.message.specs.Messages.{is_in_range}
-use Rattle.plain.specs.State.{State}
+use Rattle.meaning.specs.State.{State}
 use Rattle.parcel.specs.Run.{IsSerialStep}
 use Rattle.parcel.specs.Shown.{by_aggregate}
 use Rattle.parcel.specs.Volume.{Facts, facts_if, only, state_by}

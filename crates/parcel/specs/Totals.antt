@@ -2,8 +2,8 @@
 use Rattle.std.specs.Prelude.{ℕ, Bool, true, length, Option, Some, None, is_some}
 use Rattle.affinity.specs.declared.geometry.Geometry.{Geometry}
 use Rattle.message.specs.declared.Block.{Block}
-use Rattle.plain.specs.State.{sum_below, count_below, one_if}
-use Rattle.plain.specs.Serial.{no_label}
+use Rattle.meaning.specs.State.{sum_below, count_below, one_if}
+use Rattle.meaning.specs.Serial.{no_label}
 use Rattle.stripe.specs.Stripe.{StripePart}
 use Rattle.parcel.specs.Volume.{Facts}
 use Rattle.parcel.specs.declared.running.totals.Totals.{Totals}

@@ -3,10 +3,10 @@ use Rattle.std.specs.Prelude.{◌≡◌, zero, true, false, [], ◌∷◌, ◌++
 use Rattle.affinity.specs.declared.geometry.Geometry.{Geometry}
 use Rattle.affinity.specs.Interval.{IsPath}
 use Rattle.affinity.specs.Path.{Path, begins, are_related, volume, logical}
-use Rattle.plain.specs.State.{State, IsState}
+use Rattle.meaning.specs.State.{State, IsState}
 use Rattle.parcel.specs.Fits.{Fits, FitsRoot, IsKindOf}
 use Rattle.parcel.specs.Nodes.{Nodes, in_child, in_root, in_parcels, marks_made, marks_sealed, files_bits, tree_state, TakesOut, PutsBack}
-use Rattle.plain.specs.Shares.{AgreeOn}
+use Rattle.meaning.specs.Shares.{AgreeOn}
 use Rattle.parcel.specs.Run.{Shows}
 use Rattle.parcel.specs.Shown.{shown_state}
 use Rattle.parcel.specs.declared.parts.Root.{Root}

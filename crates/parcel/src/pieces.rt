@@ -3,7 +3,7 @@
 ghost use Rattle.std.specs.Prelude.{◌≡◌, ◌↔◌, ◌<◌, ◌≤◌, ℕ, length, [], ◌∷◌, None, IfSome, IsOk, OnOk};
 ghost use Rattle.image.specs.Pieces.{aggregate_of, volume_of, part_of, part_piece, piece_part_size};
 ghost use Rattle.image.specs.Pieces.{piece_count, piece_of, piece_size, with_piece};
-ghost use Rattle.plain.specs.State.{State, IsState};
+ghost use Rattle.meaning.specs.State.{State, IsState};
 ghost use Rattle.parcel.specs.Fits.{FitsAggregate, FitsRoot, FitsVolume};
 ghost use Rattle.parcel.specs.Fits.{IsWholeAggregate, IsWholeChild, IsWholeRoot, IsWholeVolume};
 ghost use Rattle.parcel.specs.Pieces.{HasFacts, IsPartRead, IsRead};

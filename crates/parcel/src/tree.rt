@@ -2,7 +2,7 @@
 ghost use Rattle.std.specs.Prelude.{◌≡◌, [], IfOk, IfNone, IfSome, OnOk, IfErr};
 ghost use Rattle.affinity.specs.Interval.{IsAffinity, IsAffinityOf};
 ghost use Rattle.affinity.specs.Path.{Path};
-ghost use Rattle.plain.specs.State.{empty};
+ghost use Rattle.meaning.specs.State.{empty};
 ghost use Rattle.parcel.specs.Fits.{Fits, IsKindOf};
 ghost use Rattle.parcel.specs.Nodes.{SameNodes};
 ghost use Rattle.parcel.specs.Tree.{TreeView, in_tree, state_in, IsIn, HasGap, IsOut, LendsAt, RestoresAt};

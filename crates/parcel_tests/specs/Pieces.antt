@@ -1,7 +1,7 @@
 -- A whole tree of the small geometry.
 use Rattle.std.specs.Prelude.{◌≡◌, [], ◌∷◌}
 use Rattle.affinity.specs.Geometry.{numbers_of}
-use Rattle.plain.specs.State.{empty}
+use Rattle.meaning.specs.State.{empty}
 use Rattle.parcel.specs.Tree.{TreeView, IsWholeTree, state_in}
 
 pub record IsSmallTree (t : TreeView) : Type 0 where

@@ -11,10 +11,10 @@ use Rattle.std.specs.BTreeSet.{BTreeSet}
 use Rattle.std.proofs.lemmas.Bool.{or_left, or_right}
 use Rattle.std.proofs.lemmas.Map.Keys.{IsDistinct-from_sorted, IsDistinct-head, IsDistinct-tail}
 use Rattle.affinity.specs.declared.geometry.Geometry.{Geometry}
-use Rattle.plain.specs.State.{VolumeKey, FileKey, BlockKey, sum_below, one_if, is_volume, is_file, is_block}
-use Rattle.plain.specs.Server.{volume_order, by_file, by_block}
-use Rattle.plain.proofs.Keys.{at_volume, at_file, at_block, the_volume, the_file, the_block, picks_volume, picks_file, picks_block}
-use Rattle.plain.proofs.Sums.{sum_same, sum_below-add, sum_zero, sum_pick}
+use Rattle.meaning.specs.State.{VolumeKey, FileKey, BlockKey, sum_below, one_if, is_volume, is_file, is_block}
+use Rattle.meaning.specs.KeyOrders.{volume_order, by_file, by_block}
+use Rattle.meaning.proofs.Keys.{at_volume, at_file, at_block, the_volume, the_file, the_block, picks_volume, picks_file, picks_block}
+use Rattle.meaning.proofs.Sums.{sum_same, sum_below-add, sum_zero, sum_pick}
 
 -- ---- a list of keys, by a sum over all keys that are in range
 

@@ -12,9 +12,9 @@ use Rattle.std.specs.BTreeMap.{BTreeMap}
 use Rattle.std.specs.BTreeSet.{BTreeSet}
 use Rattle.std.specs.BTreeMap.Range.{IsLeBy, IsRangeOf}
 use Rattle.std.proofs.lemmas.Bool.{true≢false, false_from_ne_true}
-use Rattle.plain.specs.State.{VolumeKey, FileKey, BlockKey, is_file_of, is_block_of_file}
-use Rattle.plain.specs.Server.{volume_order, by_file, by_block}
-use Rattle.plain.proofs.Keys.{at_volume, at_file, the_volume, the_file}
+use Rattle.meaning.specs.State.{VolumeKey, FileKey, BlockKey, is_file_of, is_block_of_file}
+use Rattle.meaning.specs.KeyOrders.{volume_order, by_file, by_block}
+use Rattle.meaning.proofs.Keys.{at_volume, at_file, the_volume, the_file}
 
 -- ---- an order by a first part, and then by a second one
 

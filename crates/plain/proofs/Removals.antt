@@ -6,11 +6,12 @@ use Rattle.std.proofs.lemmas.Bool.{true≢false}
 use Rattle.affinity.specs.declared.geometry.Geometry.{Geometry}
 use Rattle.affinity.specs.Geometry.{group}
 use Rattle.message.specs.declared.Msg.TheVariants.{Delete, Punch}
-use Rattle.plain.specs.State.{State, IsState, Set, Map, VolumeKey, FileKey, BlockKey, dropping, clearing, is_volume, is_file, is_block, is_file_of, is_block_of, is_block_of_file, one_if, group_count}
-use Rattle.plain.specs.Serial.{effect}
-use Rattle.plain.specs.Server.{StripeKey, is_stripe, volume_order, by_file}
-use Rattle.plain.specs.Removals.{without_blocks, without_files}
-use Rattle.plain.proofs.Keys.{and_cond, at_volume, at_file, the_block, picks_file, picks_block}
+use Rattle.meaning.specs.State.{State, IsState, Set, Map, VolumeKey, FileKey, BlockKey, dropping, clearing, is_volume, is_file, is_block, is_file_of, is_block_of, is_block_of_file, one_if, group_count}
+use Rattle.meaning.specs.Serial.{effect}
+use Rattle.meaning.specs.KeyOrders.{volume_order, by_file}
+use Rattle.plain.specs.Server.{StripeKey, is_stripe}
+use Rattle.meaning.specs.Removals.{without_blocks, without_files}
+use Rattle.meaning.proofs.Keys.{and_cond, at_volume, at_file, the_block, picks_file, picks_block}
 use Rattle.plain.proofs.ServerCounts.{one_more}
 use Rattle.plain.proofs.Writes.{AreCounts}
 

@@ -6,11 +6,12 @@ use Rattle.std.proofs.lemmas.Nat.{mul-le}
 use Rattle.std.proofs.Math.Nat.{pow-le-pow_right, lt_of_not-le}
 use Rattle.affinity.specs.declared.geometry.Geometry.{Geometry}
 use Rattle.plain.specs.declared.server.Server.{Server}
-use Rattle.plain.specs.State.{State, IsState, one_if, file_count, block_count, over_volumes}
-use Rattle.plain.specs.Serial.{file_bits}
-use Rattle.plain.specs.Server.{server_state, volume_order, by_file, by_block}
-use Rattle.plain.proofs.Sums.{one_if-le}
-use Rattle.plain.proofs.Counts.{bits-lt, file_count-le, block_count-le, over_volumes-le}
+use Rattle.meaning.specs.State.{State, IsState, one_if, file_count, block_count, over_volumes}
+use Rattle.meaning.specs.Serial.{file_bits}
+use Rattle.meaning.specs.KeyOrders.{volume_order, by_file, by_block}
+use Rattle.plain.specs.Server.{server_state}
+use Rattle.meaning.proofs.Sums.{one_if-le}
+use Rattle.meaning.proofs.Counts.{bits-lt, file_count-le, block_count-le, over_volumes-le}
 use Rattle.plain.proofs.Lengths.{volumes_length, files_length, blocks_length}
 
 -- ---- one volume

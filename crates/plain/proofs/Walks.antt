@@ -17,12 +17,13 @@ use Rattle.std.proofs.lemmas.Bool.{and_parts, true≢false, false_from_ne_true}
 use Rattle.std.proofs.lemmas.Map.Keys.{IsDistinct-from_sorted, IsDistinct-head, IsDistinct-tail}
 use Rattle.affinity.specs.declared.geometry.Geometry.{Geometry}
 use Rattle.plain.specs.declared.server.Server.{Server}
-use Rattle.plain.specs.State.{FileKey, is_file, sum_below, one_if, file_count, block_count}
-use Rattle.plain.specs.Serial.{file_bits}
-use Rattle.plain.specs.Server.{server_state, IsCounted, volume_order, by_file}
-use Rattle.plain.proofs.Keys.{at_volume, at_file, the_volume, the_file, picks_volume, picks_file}
-use Rattle.plain.proofs.Counts.{block_count-by_stripe}
-use Rattle.plain.proofs.Sums.{sum_same, sum_zero, sum_below-same, sum_below_changed}
+use Rattle.meaning.specs.State.{FileKey, is_file, sum_below, one_if, file_count, block_count}
+use Rattle.meaning.specs.Serial.{file_bits}
+use Rattle.meaning.specs.KeyOrders.{volume_order, by_file}
+use Rattle.plain.specs.Server.{server_state, IsCounted}
+use Rattle.meaning.proofs.Keys.{at_volume, at_file, the_volume, the_file, picks_volume, picks_file}
+use Rattle.meaning.proofs.Counts.{block_count-by_stripe}
+use Rattle.meaning.proofs.Sums.{sum_same, sum_zero, sum_below-same, sum_below_changed}
 
 -- what the elements of a list add up to, each by its weight
 abbrev pub total : {E : Type 0} → (E → ℕ) → List E → ℕ

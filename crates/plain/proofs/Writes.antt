@@ -5,10 +5,10 @@ use Rattle.affinity.specs.declared.geometry.Geometry.{Geometry}
 use Rattle.affinity.specs.Geometry.{group}
 use Rattle.message.specs.declared.Block.{Block}
 use Rattle.message.specs.declared.Msg.TheVariants.{Write, Punch}
-use Rattle.plain.specs.State.{State, BlockKey, one_if, group_count, is_block}
-use Rattle.plain.specs.Serial.{effect}
+use Rattle.meaning.specs.State.{State, BlockKey, one_if, group_count, is_block}
+use Rattle.meaning.specs.Serial.{effect}
 use Rattle.plain.specs.Server.{StripeKey, is_stripe}
-use Rattle.plain.proofs.Keys.{the_block, picks_block}
+use Rattle.meaning.proofs.Keys.{the_block, picks_block}
 use Rattle.plain.proofs.ServerCounts.{same_counts, one_more}
 
 -- what is noted by stripe is what a state has

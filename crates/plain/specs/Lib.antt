@@ -1,10 +1,1 @@
-pub mod State
-pub mod Serial
-pub mod Shares
-pub mod Order
-pub mod Laws
 pub mod Server
-pub mod ByKind
-pub mod Removals
-pub mod Output
-pub mod Progress

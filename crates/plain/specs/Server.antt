@@ -1,23 +1,11 @@
 -- What the maps of a server stand for. No public clause cites this module.
 use Rattle.std.specs.Prelude.{◌≡◌, ℕ, Bool, ◌&&◌, ◌==◌, unwrap_or}
-use Rattle.std.specs.Ordering.{nat_cmp, ordering_then}
-use Rattle.std.specs.declared.cmp.Ordering.{Ordering}
 use Rattle.std.specs.BTreeSet as set
 use Rattle.std.specs.BTreeMap as map
 use Rattle.affinity.specs.declared.geometry.Geometry.{Geometry}
+use Rattle.meaning.specs.State.{State, IsState, group_count}
+use Rattle.meaning.specs.KeyOrders.{volume_order, by_file, by_block}
 use Rattle.plain.specs.declared.server.Server.{Server}
-use Rattle.plain.specs.State.{State, IsState, VolumeKey, FileKey, BlockKey, group_count}
-
--- ---- the orders of the keys
-
-abbrev pub volume_order : VolumeKey → VolumeKey → Ordering
-volume_order x y = ordering_then (nat_cmp x.0 y.0) (nat_cmp x.1 y.1)
-
-abbrev pub by_file : FileKey → FileKey → Ordering
-by_file x y = ordering_then (volume_order (x.0, x.1) (y.0, y.1)) (nat_cmp x.2 y.2)
-
-abbrev pub by_block : BlockKey → BlockKey → Ordering
-by_block x y = ordering_then (by_file (x.0, x.1, x.2) (y.0, y.1, y.2)) (nat_cmp x.3 y.3)
 
 -- the state that the maps hold
 abbrev pub server_state : Server → State

@@ -8,13 +8,13 @@ ghost use Rattle.message.specs.Waiting.{FitsReply, so_far};
 ghost use Rattle.message.specs.Lines.{block_in_word};
 ghost use Rattle.message.specs.Heads.{IsAsked, asking, writing};
 ghost use Rattle.affinity.specs.Kind.{is_changing};
-ghost use Rattle.plain.specs.ByKind.{reply_when};
-ghost use Rattle.plain.specs.State.{State, empty};
+ghost use Rattle.meaning.specs.ByKind.{reply_when};
+ghost use Rattle.meaning.specs.State.{State, empty};
 ghost use Rattle.plain.specs.Server.{server_state, IsConsistent};
 ghost use Rattle.message.specs.Replies.{reply_line};
-ghost use Rattle.plain.specs.Serial.{accepted_reply, reply_to, next_state};
-ghost use Rattle.plain.specs.Progress.{HasAnswered};
-ghost use Rattle.plain.specs.Output.{serial_out, answer_line, state_after_line, AnswersWholeLines, IsBeginning, WritesOutput};
+ghost use Rattle.meaning.specs.Serial.{accepted_reply, reply_to, next_state};
+ghost use Rattle.meaning.specs.Progress.{HasAnswered};
+ghost use Rattle.meaning.specs.Output.{serial_out, answer_line, state_after_line, AnswersWholeLines, IsBeginning, WritesOutput};
 
 use crate::PlainFault;
 use crate::server::Server;

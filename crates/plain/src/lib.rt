@@ -1,13 +1,11 @@
-//! The serial server: what every message means, one after the other.
+//! The serial server: one message after the other, as `meaning` defines it.
 #![tactic(auto)]
 
 mod answering;
 mod fault;
-pub mod laws;
 mod server;
 mod serving;
-mod table;
 
 pub use fault::PlainFault;
+pub use meaning::{laws, tests_of};
 pub use serving::{serve_from, serve_plain};
-pub use table::tests_of;

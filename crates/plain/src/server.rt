@@ -3,10 +3,10 @@
 ghost use Rattle.std.specs.Prelude.{◌≡◌, true, Some, IfOk, OnOk, OnErr};
 ghost use Rattle.affinity.specs.Kind.{is_changing};
 ghost use Rattle.message.specs.Heads.{IsAsked, asking, writing};
-ghost use Rattle.plain.specs.ByKind.{reply_when};
+ghost use Rattle.meaning.specs.ByKind.{reply_when};
 ghost use Rattle.affinity.specs.declared.geometry.Geometry.{Geometry};
-ghost use Rattle.plain.specs.State.{empty};
-ghost use Rattle.plain.specs.Serial.{reply_to, next_state};
+ghost use Rattle.meaning.specs.State.{empty};
+ghost use Rattle.meaning.specs.Serial.{reply_to, next_state};
 ghost use Rattle.plain.specs.Server.{server_state, IsConsistent};
 
 use affinity::{Geometry, Kind};

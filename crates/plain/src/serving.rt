@@ -2,8 +2,8 @@
 
 ghost use Rattle.std.specs.Prelude.{◌≡◌, ℕ, List, Option, IfOk, OnOk, IsErrOf, vec_len};
 ghost use Rattle.std.specs.Io.KnownBytes.{IsAtEnd};
-ghost use Rattle.plain.specs.State.{empty};
-ghost use Rattle.plain.specs.Output.{serial_out, AnswersWholeLines, IsBeginning, WritesOutput};
+ghost use Rattle.meaning.specs.State.{empty};
+ghost use Rattle.meaning.specs.Output.{serial_out, AnswersWholeLines, IsBeginning, WritesOutput};
 
 use crate::PlainFault;
 use crate::answering::answer_lent;

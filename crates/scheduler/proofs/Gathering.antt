@@ -18,7 +18,7 @@ use Rattle.legal_runs.specs.World.{Replied}
 use Rattle.message.specs.declared.Msg.{Msg}
 use Rattle.message.specs.declared.Reply.{Reply}
 use Rattle.message.specs.declared.Reply.TheVariants.{Done}
-use Rattle.plain.specs.Serial.{is_loggable}
+use Rattle.meaning.specs.Serial.{is_loggable}
 use Rattle.scheduler.proofs.GrantCall.{some_value}
 use Rattle.scheduler.proofs.Shifting.{left_over, some_first}
 use Rattle.scheduler.proofs.Splits.{times-split}

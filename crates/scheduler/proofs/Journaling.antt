@@ -15,8 +15,8 @@ use Rattle.legal_runs.specs.World.{World}
 use Rattle.legal_runs.specs.declared.outcomes.Outcome.{Outcome}
 use Rattle.legal_runs.specs.declared.outcomes.Step.{Step}
 use Rattle.message.specs.declared.Msg.{Msg}
-use Rattle.plain.specs.Serial.{fold}
-use Rattle.plain.specs.State.{State}
+use Rattle.meaning.specs.Serial.{fold}
+use Rattle.meaning.specs.State.{State}
 use Rattle.scheduler.specs.Calls.{IsCalled}
 use Rattle.scheduler.specs.Kept.{CoreView, StandsNow, StandsThroughout}
 use Rattle.scheduler.specs.Parts.{IsCore, Parts, kept_of, world_in}

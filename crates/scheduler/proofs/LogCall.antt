@@ -23,8 +23,8 @@ use Rattle.oplog.specs.Costs.{Takes}
 use Rattle.oplog.specs.Logged.{AreLogged}
 use Rattle.oplog.specs.declared.fault.LogFault.{LogFault}
 use Rattle.parcel.specs.Tree.{TreeView, state_in}
-use Rattle.plain.specs.Serial.{fold}
-use Rattle.plain.specs.State.{State}
+use Rattle.meaning.specs.Serial.{fold}
+use Rattle.meaning.specs.State.{State}
 use Rattle.scheduler.proofs.Counting.{changing, changing-append, changing-cons, flight_of}
 use Rattle.scheduler.proofs.Lines.{same_line}
 use Rattle.scheduler.proofs.Logging.{batch_at, batch_carried, batch_fits, batch_logged, doubt_core, log_core, log_throughout, log_world, same_batch, with_doubt, with_log}

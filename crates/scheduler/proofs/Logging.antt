@@ -26,9 +26,9 @@ use Rattle.message.specs.declared.Msg.{Msg}
 use Rattle.oplog.specs.Logged.{AreLogged, IsLogged}
 use Rattle.parcel.specs.Holding.{TreeHolds}
 use Rattle.parcel.specs.Tree.{in_tree}
-use Rattle.plain.proofs.Unchanged.{unlogged_changes_nothing}
-use Rattle.plain.specs.Serial.{fold, is_loggable, next_state}
-use Rattle.plain.specs.State.{State}
+use Rattle.meaning.proofs.Unchanged.{unlogged_changes_nothing}
+use Rattle.meaning.specs.Serial.{fold, is_loggable, next_state}
+use Rattle.meaning.specs.State.{State}
 use Rattle.scheduler.proofs.Counting.{changing, changing-append, flight_of}
 use Rattle.scheduler.proofs.Journaling.{with_none}
 use Rattle.scheduler.proofs.Tests.{any_logged}

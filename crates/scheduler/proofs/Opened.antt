@@ -12,7 +12,7 @@ use Rattle.parcel.proofs.Holding.{holds_alike, holds_whole}
 use Rattle.parcel.specs.Holding.{TreeHolds, nowhere}
 use Rattle.parcel.specs.Nodes.{tree_state}
 use Rattle.parcel.specs.Tree.{IsIn, IsWholeTree, TreeView, in_tree, state_in}
-use Rattle.plain.specs.State.{IsState}
+use Rattle.meaning.specs.State.{IsState}
 use Rattle.scheduler.specs.Parts.{IsCore, Parts, is_below, parts, world_in}
 use Rattle.scheduler.specs.Slots.{HasChains, line}
 use Rattle.scheduler.specs.declared.slot.Slot.{Slot}

@@ -20,7 +20,7 @@ use Rattle.parcel.proofs.Holding.{whole_holds}
 use Rattle.parcel.specs.Holding.{TreeHolds, nowhere}
 use Rattle.parcel.specs.Tree.{IsIn, IsWholeTree, in_tree, state_in}
 use Rattle.parcel.specs.Nodes.{tree_state}
-use Rattle.plain.specs.State.{IsState}
+use Rattle.meaning.specs.State.{IsState}
 use Rattle.scheduler.proofs.Called.{cut_called, point_called}
 use Rattle.scheduler.proofs.Counting.{held_count}
 use Rattle.scheduler.proofs.Journaling.{called_sound, step_core, step_throughout, with_journal}

@@ -13,7 +13,7 @@ use Rattle.checkpoint.specs.declared.fault.OpenFault.{OpenFault}
 use Rattle.checkpoint.specs.declared.fault.OpenFault.TheVariants.{Device, TooShort, NotFormatted, BadGeometry, OutOfMemory, BadVersion, BadPiece, BadChain, BadRecord}
 use Rattle.disk.specs.Device.{AreBytes}
 use Rattle.oplog.specs.Layout.{device_size, layout_of}
-use Rattle.plain.specs.State.{State}
+use Rattle.meaning.specs.State.{State}
 use Rattle.scheduler.specs.Opening.{IsOfBytes}
 
 -- what is found first, and the answer to it

@@ -29,7 +29,7 @@ use Rattle.parcel.specs.Fits.{Fits, IsKindOf}
 use Rattle.parcel.specs.Run.{Shows}
 use Rattle.parcel.specs.Tree.{IsOut, RestoresAt, TreeView, in_tree}
 use Rattle.parcel.specs.declared.job.Done.{Done as Result}
-use Rattle.plain.specs.Serial.{next_state, reply_to}
+use Rattle.meaning.specs.Serial.{next_state, reply_to}
 use Rattle.scheduler.proofs.Answering.{entries_of, other_numbers}
 use Rattle.scheduler.proofs.Lines.{MovedLines, line_moved}
 use Rattle.scheduler.proofs.Returning.{out_is, return_core, return_world, returned_is_found, returned_is_placed, with_return}

@@ -20,7 +20,7 @@ use Rattle.parcel.specs.Run.{Shows}
 use Rattle.parcel.specs.Tree.{RestoresAt, TreeView, in_tree}
 use Rattle.parcel.specs.declared.parts.Parcels.{Parcels}
 use Rattle.parcel.specs.declared.parts.Standing.{Standing}
-use Rattle.plain.specs.Serial.{next_state, reply_to}
+use Rattle.meaning.specs.Serial.{next_state, reply_to}
 use Rattle.scheduler.proofs.Counting.{changing, changing-append, changing-cons, flight_of}
 use Rattle.scheduler.proofs.Tests.{any_back}
 use Rattle.scheduler.proofs.Trees.{back_reaches, back_tree}

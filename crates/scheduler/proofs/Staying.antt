@@ -14,10 +14,10 @@ use Rattle.parcel.specs.Fits.{Suits}
 use Rattle.parcel.specs.Run.{JobView, IsJobRun, Shows}
 use Rattle.parcel.specs.RunLaws.{IsSerialStepOf}
 use Rattle.parcel.specs.declared.job.Done.{Done}
-use Rattle.plain.proofs.Agree.{agree-sym, agree-trans}
-use Rattle.plain.proofs.Frame.{reads_only}
-use Rattle.plain.specs.Serial.{next_state, reply_to}
-use Rattle.plain.specs.Shares.{AgreeOn}
+use Rattle.meaning.proofs.Agree.{agree-sym, agree-trans}
+use Rattle.meaning.proofs.Frame.{reads_only}
+use Rattle.meaning.specs.Serial.{next_state, reply_to}
+use Rattle.meaning.specs.Shares.{AgreeOn}
 use Rattle.scheduler.specs.Jobs.{IsJobOf, IsResultOf}
 
 -- what a message that is out can read of the settled state stays

@@ -27,12 +27,12 @@ use Rattle.parcel.specs.Run.{Shows}
 use Rattle.parcel.specs.Tree.{HasGap, IsOut, LendsAt, RestoresAt}
 use Rattle.parcel.specs.declared.parts.Parcels.{Parcels}
 use Rattle.parcel.specs.declared.parts.Standing.{Standing}
-use Rattle.plain.proofs.Agree.{agree-sym, agree-trans}
-use Rattle.plain.proofs.Frame.{reads_only}
-use Rattle.plain.specs.Order.{messages}
-use Rattle.plain.specs.Serial.{fold, next_state}
-use Rattle.plain.specs.Shares.{AgreeOn}
-use Rattle.plain.specs.State.{State}
+use Rattle.meaning.proofs.Agree.{agree-sym, agree-trans}
+use Rattle.meaning.proofs.Frame.{reads_only}
+use Rattle.meaning.specs.Order.{messages}
+use Rattle.meaning.specs.Serial.{fold, next_state}
+use Rattle.meaning.specs.Shares.{AgreeOn}
+use Rattle.meaning.specs.State.{State}
 use Rattle.scheduler.specs.Parts.{is_below, reached}
 
 -- a place that is unrelated to those of some messages is unrelated to all below them

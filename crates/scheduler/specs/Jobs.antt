@@ -9,7 +9,7 @@ use Rattle.parcel.specs.Run.{JobView, Shows}
 use Rattle.parcel.specs.RunLaws.{IsLentOf}
 use Rattle.parcel.specs.declared.job.Done.{Done}
 use Rattle.parcel.specs.declared.parts.Standing.{Standing}
-use Rattle.plain.specs.Serial.{next_state, reply_to}
+use Rattle.meaning.specs.Serial.{next_state, reply_to}
 
 -- The job is of a message that is out, and it shows what the settled state has at the message's place.
 pub record IsJobOf (g : Geometry) (w : World) (job : JobView) : Type 0 where

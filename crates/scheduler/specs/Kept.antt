@@ -7,7 +7,7 @@ use Rattle.journal.specs.Journal.{HoldsSome}
 use Rattle.legal_runs.specs.World.{Entry, Replied, World}
 use Rattle.message.specs.declared.Msg.{Msg}
 use Rattle.parcel.specs.Tree.{TreeView, state_in}
-use Rattle.plain.specs.Serial.{fold}
+use Rattle.meaning.specs.Serial.{fold}
 
 pub record CoreView : Type 0 where
   pub geometry : Geometry

@@ -14,9 +14,9 @@ use Rattle.message.specs.declared.Msg.{Msg}
 use Rattle.message.specs.declared.Reply.{Reply}
 use Rattle.parcel.specs.Holding.{TreeHolds}
 use Rattle.parcel.specs.Tree.{TreeView, in_tree}
-use Rattle.plain.specs.Order.{messages}
-use Rattle.plain.specs.Serial.{fold}
-use Rattle.plain.specs.State.{State}
+use Rattle.meaning.specs.Order.{messages}
+use Rattle.meaning.specs.Serial.{fold}
+use Rattle.meaning.specs.State.{State}
 use Rattle.scheduler.specs.Kept.{CoreView, StandsNow, world_of}
 use Rattle.scheduler.specs.Slots.{Lines, SlotView, stages_of}
 use Rattle.scheduler.specs.declared.slot.Slot.{Slot}

@@ -18,7 +18,7 @@ ghost use Rattle.oplog.specs.Beyond.{KeepsBeyond};
 ghost use Rattle.oplog.specs.Costs.{Takes, batches};
 ghost use Rattle.oplog.specs.Layout.{layout_of};
 ghost use Rattle.oplog.specs.Stands.{in_force, named_area};
-ghost use Rattle.plain.specs.State.{State};
+ghost use Rattle.meaning.specs.State.{State};
 ghost use Rattle.scheduler.specs.Calls.{CountsFailure, IsGranted, IsLogStep, IsPieceStep, IsPointStep, answer_outcome, arrive_outcome, log_rose, point_rose};
 ghost use Rattle.arena.specs.Row.{chain_at};
 ghost use Rattle.scheduler.specs.Slots.{HasChains};

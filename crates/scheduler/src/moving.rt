@@ -2,7 +2,7 @@
 ghost use Rattle.std.specs.Prelude.{◌≡◌, ◌≤◌, ◌<◌, ◌+◌, [], ◌∷◌, ◌++◌, length, take, vec_capacity};
 ghost use Rattle.arena.specs.Row.{capacity_of, chain_at};
 ghost use Rattle.legal_runs.specs.Events.{loggable};
-ghost use Rattle.plain.specs.Serial.{is_loggable};
+ghost use Rattle.meaning.specs.Serial.{is_loggable};
 ghost use Rattle.scheduler.specs.Moving.{HasLogged, changing_in, gathered};
 ghost use Rattle.scheduler.specs.Slots.{HasChains};
 

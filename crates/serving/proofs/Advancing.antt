@@ -8,7 +8,7 @@ use Rattle.std.specs.List.{AllByRecursion}
 use Rattle.machine.specs.Machine.{MachineView}
 use Rattle.serving.specs.Going.{Goes}
 use Rattle.serving.specs.Lines.{AreKnown, Line, is_answered, text}
-use Rattle.plain.specs.Output.{joined}
+use Rattle.meaning.specs.Output.{joined}
 use Rattle.legal_runs.proofs.Lists.{all_join}
 
 -- ---- what lines say

@@ -22,7 +22,7 @@ use Rattle.machine.specs.Machine.{MachineView}
 use Rattle.message.specs.Grammar.{message_of}
 use Rattle.message.specs.declared.Msg.{Msg}
 use Rattle.message.specs.declared.Reply.{Reply}
-use Rattle.plain.specs.Order.{messages}
+use Rattle.meaning.specs.Order.{messages}
 use Rattle.serving.specs.Going.{IsServing}
 use Rattle.serving.specs.Lines.{AreKnown, IsKnown, Line, NoneIsTo, OutOfRange, Unanswered, asked, asked_in, next_ticket, ticketed, Answered, NoMessage}
 use Rattle.serving.specs.Reads.{IsRefusedLine, IsTaken}

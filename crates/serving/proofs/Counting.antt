@@ -3,7 +3,7 @@ use Rattle.std.proofs.Common.{◌≡◌, ◌+◌, List, [], ◌∷◌, ◌++◌,
 use Rattle.std.specs.Prelude.{◌==◌}
 use Rattle.std.proofs.lemmas.List.{length-append}
 use Rattle.affinity.specs.declared.geometry.Geometry.{Geometry}
-use Rattle.plain.specs.Serial.{reply_to}
+use Rattle.meaning.specs.Serial.{reply_to}
 use Rattle.legal_runs.specs.World.{Replied, World, entries, held}
 use Rattle.legal_runs.specs.Eligible.{is_eligible}
 use Rattle.legal_runs.specs.Events.{Hands, Event, give_back}

@@ -8,8 +8,8 @@ use Rattle.message.specs.Lines.{number_in_word}
 use Rattle.message.specs.declared.Msg.TheVariants.{MakeVol, Create, Summary as AskSummary}
 use Rattle.message.specs.declared.Reply.{Reply}
 use Rattle.message.specs.declared.Reply.TheVariants.{Done, Summary}
-use Rattle.plain.specs.Output.{joined, output_lines}
-use Rattle.plain.specs.State.{empty}
+use Rattle.meaning.specs.Output.{joined, output_lines}
+use Rattle.meaning.specs.State.{empty}
 use Rattle.serving.specs.Lines.{Answered, AreKnown, NoMessage, NoneIsTo, OutOfRange, Unanswered, asked, next_ticket, text, ticketed}
 
 -- ---- lines

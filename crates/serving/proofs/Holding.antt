@@ -9,8 +9,8 @@ use Rattle.legal_runs.proofs.Lists.{all_join}
 use Rattle.legal_runs.specs.Runs.{answered, went}
 use Rattle.machine.specs.Machine.{machine_of}
 use Rattle.machine.specs.Stages.{events_of}
-use Rattle.plain.specs.Output.{joined}
-use Rattle.plain.specs.Serial.{fold}
+use Rattle.meaning.specs.Output.{joined}
+use Rattle.meaning.specs.Serial.{fold}
 use Rattle.scheduler.specs.Kept.{CoreView}
 use Rattle.serving.specs.Ends.{HasServed, settled_in}
 use Rattle.serving.specs.Lines.{AreKnown, Line, is_answered, text}

@@ -6,7 +6,7 @@ use Rattle.std.proofs.lemmas.Option.{none-some, same_Some}
 use Rattle.legal_runs.specs.Laws.{IsIdle}
 use Rattle.machine.specs.Machine.{MachineView}
 use Rattle.message.specs.Lines.{lines}
-use Rattle.plain.specs.Progress.{TakesLines}
+use Rattle.meaning.specs.Progress.{TakesLines}
 use Rattle.scheduler.specs.Kept.{CoreView, StandsNow, world_of}
 use Rattle.serving.specs.Ends.{HasServed}
 use Rattle.serving.specs.Going.{Goes}

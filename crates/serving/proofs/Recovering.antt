@@ -14,10 +14,10 @@ use Rattle.message.specs.declared.Msg.{Msg}
 use Rattle.message.specs.declared.Refusal.TheVariants.{Range}
 use Rattle.message.specs.declared.Reply.{Reply}
 use Rattle.message.specs.declared.Reply.TheVariants.{Refused}
-use Rattle.plain.specs.Order.{by_ticket, messages, told}
-use Rattle.plain.specs.Output.{WritesOutput, answer_line, joined, output_lines, state_after_line, state_after_lines}
-use Rattle.plain.specs.Serial.{fold, next_state, reply_to}
-use Rattle.plain.specs.State.{State}
+use Rattle.meaning.specs.Order.{by_ticket, messages, told}
+use Rattle.meaning.specs.Output.{WritesOutput, answer_line, joined, output_lines, state_after_line, state_after_lines}
+use Rattle.meaning.specs.Serial.{fold, next_state, reply_to}
+use Rattle.meaning.specs.State.{State}
 use Rattle.legal_runs.specs.Events.{loggable}
 use Rattle.legal_runs.specs.Laws.{AreAscending, IsSerialLog, ticket_replies}
 use Rattle.legal_runs.specs.World.{Entry, Replied, are_related_entries, entries}

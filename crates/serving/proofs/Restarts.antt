@@ -5,8 +5,8 @@ use Rattle.std.proofs.lemmas.Bool.{true≢false}
 use Rattle.affinity.specs.Geometry.{small}
 use Rattle.message.specs.Grammar.{kind_named, message_of}
 use Rattle.message.specs.Lines.{lines, number_in_word}
-use Rattle.plain.specs.Output.{joined, output_lines, state_after_lines}
-use Rattle.plain.specs.State.{State, empty}
+use Rattle.meaning.specs.Output.{joined, output_lines, state_after_lines}
+use Rattle.meaning.specs.State.{State, empty}
 use Rattle.serving.specs.Restart.{IsClosedPart, RecoversTo, are_related_lines}
 
 abbrev make : List ℕ

@@ -15,11 +15,11 @@ use Rattle.message.specs.declared.Refusal.{Refusal}
 use Rattle.message.specs.declared.Refusal.TheVariants.{Range}
 use Rattle.message.specs.declared.Reply.{Reply}
 use Rattle.message.specs.declared.Reply.TheVariants.{Refused}
-use Rattle.plain.proofs.OutputLemmas.{take-output_lines}
-use Rattle.plain.specs.Order.{messages, told}
-use Rattle.plain.specs.Output.{answer_line, output_lines, state_after_line, state_after_lines}
-use Rattle.plain.specs.Serial.{accepted_reply, effect, fold, next_state, outcome, passes, refusal, reply_to, step, tests}
-use Rattle.plain.specs.State.{State}
+use Rattle.meaning.proofs.OutputLemmas.{take-output_lines}
+use Rattle.meaning.specs.Order.{messages, told}
+use Rattle.meaning.specs.Output.{answer_line, output_lines, state_after_line, state_after_lines}
+use Rattle.meaning.specs.Serial.{accepted_reply, effect, fold, next_state, outcome, passes, refusal, reply_to, step, tests}
+use Rattle.meaning.specs.State.{State}
 use Rattle.serving.specs.Lines.{Answered, AreKnown, IsKnown, Line, NoMessage, OutOfRange, Unanswered, asked, asked_in, is_answered, next_ticket, text, ticketed}
 
 -- ---- a message that is out of range

@@ -21,11 +21,11 @@ use Rattle.message.specs.Messages.{is_in_range}
 use Rattle.message.specs.Reader.{GivesLine, LosesFront, behind_first_line}
 use Rattle.message.specs.declared.Msg.{Msg}
 use Rattle.message.specs.declared.Reply.{Reply}
-use Rattle.plain.specs.Order.{by_ticket, messages, told}
-use Rattle.plain.specs.Output.{AnswersWholeLines, joined, output_lines, state_after_lines, with_newlines}
-use Rattle.plain.specs.Progress.{AreTaken, TakesLines}
-use Rattle.plain.specs.Serial.{fold}
-use Rattle.plain.specs.State.{State}
+use Rattle.meaning.specs.Order.{by_ticket, messages, told}
+use Rattle.meaning.specs.Output.{AnswersWholeLines, joined, output_lines, state_after_lines, with_newlines}
+use Rattle.meaning.specs.Progress.{AreTaken, TakesLines}
+use Rattle.meaning.specs.Serial.{fold}
+use Rattle.meaning.specs.State.{State}
 use Rattle.scheduler.specs.Kept.{StandsNow, world_of}
 use Rattle.serving.specs.Ends.{AreFirst, AreServed, EndsSo, HasServed, IsWoundUp, settled_in}
 use Rattle.serving.specs.Going.{Goes, IsServing}

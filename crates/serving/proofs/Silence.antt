@@ -17,8 +17,8 @@ use Rattle.message.specs.declared.Msg.{Msg}
 use Rattle.message.specs.declared.Reply.{Reply}
 use Rattle.message.specs.declared.Refusal.TheVariants.{Range}
 use Rattle.message.specs.declared.Reply.TheVariants.{Done, Refused}
-use Rattle.plain.specs.Order.{messages}
-use Rattle.plain.specs.Output.{joined}
+use Rattle.meaning.specs.Order.{messages}
+use Rattle.meaning.specs.Output.{joined}
 use Rattle.scheduler.specs.Kept.{CoreView, world_of}
 use Rattle.serving.specs.Lines.{Answered, AreAnswered, AreKnown, IsKnown, Line, NoMessage, OutOfRange, Unanswered, asked_in, next_ticket, text}
 use Rattle.serving.specs.Runs.{inside}

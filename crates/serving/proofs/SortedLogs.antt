@@ -9,12 +9,12 @@ use Rattle.std.proofs.lemmas.List.Sorted.{IsPermutation-sym, IsPermutation-trans
 use Rattle.std.proofs.lemmas.Map.Keys.{IsDistinct-IsPermutation}
 use Rattle.affinity.specs.declared.geometry.Geometry.{Geometry}
 use Rattle.message.specs.declared.Reply.{Reply}
-use Rattle.plain.specs.Laws.{AreInOrder}
-use Rattle.plain.specs.Order.{by_ticket, messages, put, told, IsBefore, KeepsOrder}
-use Rattle.plain.specs.Serial.{fold, is_loggable, next_state, reply_to}
-use Rattle.plain.specs.State.{State}
-use Rattle.plain.proofs.ByTicket.{all-by_ticket, fold-by_ticket, in_order-by_ticket, permutation-by_ticket, told-by_ticket}
-use Rattle.plain.proofs.Unchanged.{unlogged_changes_nothing}
+use Rattle.meaning.specs.Laws.{AreInOrder}
+use Rattle.meaning.specs.Order.{by_ticket, messages, put, told, IsBefore, KeepsOrder}
+use Rattle.meaning.specs.Serial.{fold, is_loggable, next_state, reply_to}
+use Rattle.meaning.specs.State.{State}
+use Rattle.meaning.proofs.ByTicket.{all-by_ticket, fold-by_ticket, in_order-by_ticket, permutation-by_ticket, told-by_ticket}
+use Rattle.meaning.proofs.Unchanged.{unlogged_changes_nothing}
 use Rattle.legal_runs.specs.Events.{loggable}
 use Rattle.legal_runs.specs.Laws.{AreAscending, IsSerialLog, ticket_replies}
 use Rattle.legal_runs.specs.World.{Entry, Replied, are_related_entries, entries}

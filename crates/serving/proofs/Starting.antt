@@ -5,7 +5,7 @@ use Rattle.std.proofs.lemmas.Option.{none-some}
 use Rattle.legal_runs.specs.Laws.{IsSoundWorld}
 use Rattle.machine.specs.Machine.{MachineView, IsHandOf, hand_at, ticket_in}
 use Rattle.machine.specs.declared.hands.Hand.TheVariants as has
-use Rattle.plain.specs.Progress.{TakesLines}
+use Rattle.meaning.specs.Progress.{TakesLines}
 use Rattle.scheduler.specs.Kept.{CoreView, world_of}
 use Rattle.serving.specs.Going.{Goes}
 use Rattle.serving.specs.Runs.{Holds, Passes, lent_hand, with_lent}

@@ -12,7 +12,7 @@ use Rattle.machine.specs.declared.hands.Hand.{Hand}
 use Rattle.message.specs.Grammar.{message_of}
 use Rattle.message.specs.Reader.{GivesLine, IsAtEndOf, IsClosed, PassesLine}
 use Rattle.message.specs.declared.Msg.{Msg}
-use Rattle.plain.proofs.Taking.{takes_line, takes_long_line}
+use Rattle.meaning.proofs.Taking.{takes_line, takes_long_line}
 use Rattle.scheduler.specs.Calls.{ArrivesByLine, arrive_outcome}
 use Rattle.scheduler.specs.Kept.{CoreView, StandsNow, world_of}
 use Rattle.serving.specs.Going.{Goes}

@@ -9,7 +9,7 @@ use Rattle.machine.specs.Machine.{MachineView, machine_of}
 use Rattle.machine.specs.Stages.{events_of}
 use Rattle.message.specs.declared.Msg.{Msg}
 use Rattle.message.specs.declared.Reply.{Reply}
-use Rattle.plain.specs.Order.{messages}
+use Rattle.meaning.specs.Order.{messages}
 use Rattle.serving.specs.Lines.{next_ticket, ticketed}
 use Rattle.serving.specs.Runs.{Passes}
 

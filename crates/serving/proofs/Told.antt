@@ -24,8 +24,8 @@ use Rattle.machine.specs.Stages.{Stage, StandsForRun, device_after, events_of}
 use Rattle.message.specs.Grammar.{message_of}
 use Rattle.message.specs.declared.Msg.{Msg}
 use Rattle.message.specs.declared.Reply.{Reply}
-use Rattle.plain.specs.Serial.{fold}
-use Rattle.plain.specs.State.{State}
+use Rattle.meaning.specs.Serial.{fold}
+use Rattle.meaning.specs.State.{State}
 use Rattle.scheduler.specs.Kept.{CoreView, world_of}
 use Rattle.serving.specs.Ends.{HasRunLines, HasServed, settled_in}
 use Rattle.serving.specs.Lines.{Answered, AreKnown, IsKnown, Line, NoMessage, OutOfRange, Unanswered, asked, asked_in, is_answered, next_ticket, text, ticketed}

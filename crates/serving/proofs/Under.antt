@@ -17,7 +17,7 @@ use Rattle.message.specs.declared.Msg.{Msg}
 use Rattle.message.specs.declared.Reply.{Reply}
 use Rattle.scheduler.specs.Kept.{CoreView, StandsNow, world_of}
 use Rattle.serving.specs.Going.{Goes}
-use Rattle.plain.specs.Output.{joined}
+use Rattle.meaning.specs.Output.{joined}
 use Rattle.serving.specs.Lines.{AreAnswered, Answered, Line, NoMessage, OutOfRange, Unanswered, answer_one, is_answered, text}
 use Rattle.serving.specs.Reads.{IsTaken}
 use Rattle.line_row.specs.Rows.{AreConsecutive, RowView, comes_next, next_text, with_tickets}

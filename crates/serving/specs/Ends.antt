@@ -13,8 +13,8 @@ use Rattle.message.specs.Grammar.{message_of}
 use Rattle.message.specs.Lines.{lines}
 use Rattle.message.specs.Messages.{is_in_range}
 use Rattle.message.specs.declared.Msg.{Msg}
-use Rattle.plain.specs.Output.{AnswersWholeLines, IsBeginning, WritesOutput, joined, output_lines, state_after_lines}
-use Rattle.plain.specs.State.{State}
+use Rattle.meaning.specs.Output.{AnswersWholeLines, IsBeginning, WritesOutput, joined, output_lines, state_after_lines}
+use Rattle.meaning.specs.State.{State}
 use Rattle.scheduler.specs.Kept.{CoreView, world_of}
 use Rattle.serving.specs.Lines.{AreKnown, Line, asked, is_answered, text, ticketed}
 use Rattle.serving.specs.declared.server.ServeFault.{ServeFault}

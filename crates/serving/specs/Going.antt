@@ -4,8 +4,8 @@ use Rattle.std.specs.Io.KnownBytes.{Appends}
 use Rattle.std.specs.List.{AllByRecursion}
 use Rattle.machine.specs.Machine.{MachineView}
 use Rattle.message.specs.declared.Reply.{Reply}
-use Rattle.plain.specs.Output.{joined}
-use Rattle.plain.specs.Progress.{TakesLines}
+use Rattle.meaning.specs.Output.{joined}
+use Rattle.meaning.specs.Progress.{TakesLines}
 use Rattle.serving.specs.Lines.{AreKnown, Line, asked, is_answered, text, ticketed}
 use Rattle.serving.specs.Runs.{Passes}
 

@@ -8,8 +8,8 @@ use Rattle.message.specs.Grammar.{message_of}
 use Rattle.message.specs.Lines.{lines}
 use Rattle.message.specs.Messages.{is_in_range, place}
 use Rattle.message.specs.declared.Msg.{Msg}
-use Rattle.plain.specs.Output.{WritesOutput, joined, output_lines, state_after_lines}
-use Rattle.plain.specs.State.{State}
+use Rattle.meaning.specs.Output.{WritesOutput, joined, output_lines, state_after_lines}
+use Rattle.meaning.specs.State.{State}
 
 -- Two lines are related if the messages that they spell are in range, at related places.
 abbrev pub are_related_lines : Geometry → Option Msg → Option Msg → Bool

@@ -10,7 +10,7 @@ use Rattle.message.specs.Grammar.{message_of}
 use Rattle.message.specs.Messages.{is_in_range}
 use Rattle.message.specs.Reader.{GivesLine, LosesFront}
 use Rattle.message.specs.declared.Msg.{Msg}
-use Rattle.plain.specs.Output.{joined}
+use Rattle.meaning.specs.Output.{joined}
 use Rattle.scheduler.specs.Kept.{CoreView, world_of}
 use Rattle.serving.specs.Going.{Goes}
 use Rattle.serving.specs.Lending.{IsHome}

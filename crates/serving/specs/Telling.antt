@@ -10,7 +10,7 @@ use Rattle.machine.specs.Machine.{MachineView}
 use Rattle.message.specs.Replies.{no_message, reply_line}
 use Rattle.message.specs.declared.Refusal.TheVariants.{Range}
 use Rattle.message.specs.declared.Reply.TheVariants.{Refused}
-use Rattle.plain.specs.Output.{joined}
+use Rattle.meaning.specs.Output.{joined}
 use Rattle.scheduler.specs.Kept.{CoreView, world_of}
 use Rattle.serving.specs.Ends.{AreFirst, HasServed, settled_in}
 use Rattle.serving.specs.Lines.{Answered, AreAnswered, Line, Unanswered, asked, text, ticketed}

@@ -13,8 +13,8 @@ use Rattle.message.specs.declared.Msg.{Msg}
 use Rattle.message.specs.declared.Reply.{Reply}
 use Rattle.message.specs.declared.Reply.TheVariants.{Refused}
 use Rattle.message.specs.declared.Refusal.TheVariants.{Range}
-use Rattle.plain.specs.Serial.{fold}
-use Rattle.plain.specs.State.{State}
+use Rattle.meaning.specs.Serial.{fold}
+use Rattle.meaning.specs.State.{State}
 use Rattle.serving.specs.Lines.{asked_in, next_ticket}
 
 -- The output has this line for a line of this message, or of none: that it is none, that it is out of range, or a reply with which

@@ -2,7 +2,7 @@
 ghost use Rattle.std.specs.Prelude.{◌≡◌, ◌↔◌, ◌*◌, ◌<◌, ◌^◌, ◌==◌, ℕ, length, if◌then◌else◌, IfSome, IsTrue};
 ghost use Rattle.affinity.specs.Geometry.{group};
 ghost use Rattle.image.specs.Pieces.{block_in, stripe_piece};
-ghost use Rattle.plain.specs.State.{State, IsState};
+ghost use Rattle.meaning.specs.State.{State, IsState};
 ghost use Rattle.stripe.specs.Entries.{IsStripePiece};
 ghost use Rattle.stripe.specs.Stripe.{StripePart, content_at};
 ghost use Rattle.parcel.specs.Fits.{FitsLogical, FitsStripe, IsWholeChild, IsWholeLogical};

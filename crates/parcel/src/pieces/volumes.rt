@@ -1,6 +1,6 @@
 //! A volume's piece of an image: its marks, its files and its label, in 64 bytes.
 ghost use Rattle.std.specs.Prelude.{◌≡◌, ◌↔◌, ◌^◌, ◌-◌, length, unwrap_or, if◌then◌else◌, Some, None, IsTrue, IsFalse};
-ghost use Rattle.plain.specs.Serial.{no_label};
+ghost use Rattle.meaning.specs.Serial.{no_label};
 ghost use Rattle.parcel.specs.Pieces.{volume_piece_of, said_label, said_piece, spelled, volume_with};
 ghost use Rattle.parcel.specs.Shown.{shown_label};
 

@@ -5,7 +5,7 @@ ghost use Rattle.affinity.specs.declared.geometry.Geometry.{Geometry};
 ghost use Rattle.message.specs.declared.Msg.{Msg};
 ghost use Rattle.message.specs.Messages.{is_in_range, place};
 ghost use Rattle.parcel.specs.Dropping.{Empties};
-ghost use Rattle.plain.specs.Serial.{tests};
+ghost use Rattle.meaning.specs.Serial.{tests};
 ghost use Rattle.parcel.specs.Fits.{FitsAggregate, FitsLogical, FitsVolume, IsWholeAggregate, IsWholeChild, IsWholeLogical, IsWholeVolume, Suits};
 ghost use Rattle.parcel.specs.Run.{IsSerialStep};
 ghost use Rattle.parcel.specs.Shown.{blocks_of, by_child, volume_facts, shown_state};

@@ -3,7 +3,7 @@
 ghost use Rattle.std.specs.Prelude.{◌≡◌};
 ghost use Rattle.message.specs.declared.Msg.{Msg};
 ghost use Rattle.message.specs.Messages.{place};
-ghost use Rattle.plain.specs.Serial.{tests};
+ghost use Rattle.meaning.specs.Serial.{tests};
 ghost use Rattle.parcel.specs.Fits.{Suits};
 ghost use Rattle.parcel.specs.Run.{IsSerialStep};
 ghost use Rattle.parcel.specs.Shown.{by_label, shown_state};

@@ -4,7 +4,7 @@ ghost use Rattle.std.specs.Prelude.{◌≡◌};
 ghost use Rattle.affinity.specs.declared.geometry.Geometry.{Geometry};
 ghost use Rattle.message.specs.declared.Msg.{Msg};
 ghost use Rattle.message.specs.Messages.{place};
-ghost use Rattle.plain.specs.Serial.{tests};
+ghost use Rattle.meaning.specs.Serial.{tests};
 ghost use Rattle.parcel.specs.Fits.{FitsVolume, Suits};
 ghost use Rattle.parcel.specs.Run.{IsSerialStep};
 ghost use Rattle.parcel.specs.Shown.{volume_facts, shown_state};

@@ -2,12 +2,12 @@
 
 ghost use Rattle.std.specs.Prelude.{◌≡◌, ◌<◌, ◌∷◌, [], not, find, None};
 ghost use Rattle.message.specs.declared.Refusal.TheVariants.{Range, Volume, Exists, Sealed, File, Space};
-ghost use Rattle.plain.specs.Serial.{tests};
+ghost use Rattle.meaning.specs.Serial.{tests};
 ghost use Rattle.parcel.specs.Shown.{has_file};
 ghost use Rattle.parcel.specs.Steps.{unless, unless_closed};
 
+use meaning::tests_of;
 use message::{Msg, Refusal};
-use plain::tests_of;
 
 /// What the tests of a message look at, where its numbers are in range.
 #[derive(Clone, Copy)]

@@ -3,8 +3,8 @@
 ghost use Rattle.std.specs.Prelude.{◌≡◌, ◌+◌, ◌<◌, IfOk, OnOk, OnErr, is_some, true, not, IsTrue, IsFalse};
 ghost use Rattle.message.specs.declared.Msg.{Msg};
 ghost use Rattle.message.specs.declared.Refusal.{Refusal};
-ghost use Rattle.plain.specs.State.{one_if};
-ghost use Rattle.plain.specs.Serial.{passes, effect};
+ghost use Rattle.meaning.specs.State.{one_if};
+ghost use Rattle.meaning.specs.Serial.{passes, effect};
 ghost use Rattle.plain.specs.Server.{StripeKey, is_stripe, server_state, noted, IsCounted};
 
 use super::Server;

@@ -1,11 +1,11 @@
-//! The first of its tests that a message fails. `table` has the tests of each kind; they are made here without a loop over them.
+//! The first of its tests that a message fails. `meaning` has the tests of each kind; they are made here without a loop over them.
 
 ghost use Rattle.std.specs.Prelude.{◌≡◌, ◌||◌, if◌then◌else◌, None, Some, is_some, nat_lt};
 ghost use Rattle.affinity.specs.Geometry.{group};
 ghost use Rattle.message.specs.declared.Refusal.TheVariants.{File, Sealed, Volume};
-ghost use Rattle.plain.specs.State.{group_count};
-ghost use Rattle.plain.specs.Serial.{refusal};
-ghost use Rattle.plain.specs.ByKind.{refusal_by};
+ghost use Rattle.meaning.specs.State.{group_count};
+ghost use Rattle.meaning.specs.Serial.{refusal};
+ghost use Rattle.meaning.specs.ByKind.{refusal_by};
 ghost use Rattle.plain.specs.Server.{server_state, IsCounted};
 
 use super::Server;

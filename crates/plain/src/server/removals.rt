@@ -5,10 +5,10 @@ ghost use Rattle.std.specs.BTreeMap.{btree_map_len};
 ghost use Rattle.std.specs.BTreeSet.{btree_set_len};
 ghost use Rattle.affinity.specs.declared.geometry.Geometry.{Geometry};
 ghost use Rattle.message.specs.declared.Msg.{Msg};
-ghost use Rattle.plain.specs.State.{FileKey, BlockKey, one_if, is_block_of_file, is_file_of};
-ghost use Rattle.plain.specs.Serial.{effect};
+ghost use Rattle.meaning.specs.State.{FileKey, BlockKey, one_if, is_block_of_file, is_file_of};
+ghost use Rattle.meaning.specs.Serial.{effect};
 ghost use Rattle.plain.specs.Server.{StripeKey, is_stripe, server_state, noted, IsCounted, IsConsistent};
-ghost use Rattle.plain.specs.Removals.{without_blocks, without_files};
+ghost use Rattle.meaning.specs.Removals.{without_blocks, without_files};
 
 use super::Server;
 use affinity::{Geometry, group_of};

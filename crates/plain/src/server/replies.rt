@@ -7,7 +7,7 @@ ghost use Rattle.message.specs.declared.Reply.TheVariants.{Block as shows, Hole}
 ghost use Rattle.affinity.specs.Kind.{is_changing};
 ghost use Rattle.affinity.specs.declared.kinds.Kind.TheVariants as kinds;
 ghost use Rattle.message.specs.Heads.{asking};
-ghost use Rattle.plain.specs.Serial.{refusal, accepted_reply, step};
+ghost use Rattle.meaning.specs.Serial.{refusal, accepted_reply, step};
 ghost use Rattle.plain.specs.Server.{server_state, IsConsistent};
 
 use super::Server;

@@ -3,8 +3,8 @@
 ghost use Rattle.std.specs.Prelude.{◌≡◌};
 ghost use Rattle.affinity.specs.declared.geometry.Geometry.{Geometry};
 ghost use Rattle.message.specs.declared.Msg.{Msg};
-ghost use Rattle.plain.specs.State.{file_count, block_count};
-ghost use Rattle.plain.specs.Serial.{accepted_reply};
+ghost use Rattle.meaning.specs.State.{file_count, block_count};
+ghost use Rattle.meaning.specs.Serial.{accepted_reply};
 ghost use Rattle.plain.specs.Server.{server_state, IsCounted, IsConsistent};
 
 use super::Server;

@@ -2,7 +2,7 @@ use Rattle.std.proofs.Common.{◌≡◌, ◌⊎◌, Some, ◌∙◌, subst, arit
 use Rattle.checkpoint.specs.Formatting.{IsShut}
 use Rattle.checkpoint.specs.Recovery.{holds}
 use Rattle.disk.specs.Moments.{LeavesOnly}
-use Rattle.plain.specs.State.{empty}
+use Rattle.meaning.specs.State.{empty}
 use Rattle.checkpoint.proofs.Opened.{shut_moments, laid_moments, opened_moments}
 use Rattle.oplog.specs.Layout.{layout_of}
 use Rattle.oplog.proofs.Beyond.{beyond_then, beyond_write}

@@ -1,8 +1,8 @@
 use Rattle.std.proofs.Common.{[], sym, subst}
 use Rattle.affinity.specs.declared.geometry.Geometry.{Geometry}
 use Rattle.parcel.specs.Tree.{IsIn, in_tree}
-use Rattle.plain.specs.State.{IsState, State}
-use Rattle.plain.proofs.Kept.{empty_is_state}
+use Rattle.meaning.specs.State.{IsState, State}
+use Rattle.meaning.proofs.Kept.{empty_is_state}
 use Rattle.checkpoint.proofs.loading.take_room.Goals as goal
 
 pub returns-clause-whole : goal.returns-clause-whole

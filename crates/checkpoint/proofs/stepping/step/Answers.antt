@@ -2,8 +2,8 @@ use Rattle.std.proofs.Common.{◌≡◌, [], sym, ◌∙◌, subst}
 use Rattle.affinity.specs.declared.geometry.Geometry.{Geometry}
 use Rattle.parcel.specs.Nodes.{tree_state}
 use Rattle.parcel.specs.Tree.{IsIn, in_tree}
-use Rattle.plain.specs.Serial.{next_state}
-use Rattle.plain.specs.State.{IsState}
+use Rattle.meaning.specs.Serial.{next_state}
+use Rattle.meaning.specs.State.{IsState}
 use Rattle.checkpoint.proofs.Served.{placed, fits_there, goes, stepped, all_in_again, state_again}
 use Rattle.checkpoint.proofs.stepping.step.Goals as goal
 

@@ -2,7 +2,7 @@ use Rattle.std.proofs.Common.{◌≡◌, ◌+◌, ◌-◌, ◌<◌, ◌≤◌, �
 use Rattle.std.proofs.lemmas.Grind.{common_steps}
 use Rattle.image.specs.Image.{image_of}
 use Rattle.image.proofs.Measures.{length-piece, state_is_measured}
-use Rattle.plain.specs.State.{IsState}
+use Rattle.meaning.specs.State.{IsState}
 use Rattle.image.specs.Pieces.{piece_count, piece_of}
 use Rattle.journal.specs.Stretches.{AreSpelled}
 use Rattle.image.proofs.Joining.{piece_inside, whole_image}

@@ -7,7 +7,7 @@ use Rattle.journal.proofs.Loaded.{unfinished_cut}
 use Rattle.journal.proofs.Rows.{whole_put}
 use Rattle.journal.proofs.Saving.{all_right}
 use Rattle.parcel.specs.Tree.{state_in}
-use Rattle.plain.specs.State.{IsState}
+use Rattle.meaning.specs.State.{IsState}
 use Rattle.journal.proofs.opening.finish_cut.Goals as goal
 
 pub finish_on-requires-clause-all : goal.finish_on-requires-clause-all

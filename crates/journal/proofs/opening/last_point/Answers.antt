@@ -9,7 +9,7 @@ use Rattle.journal.proofs.Costs.{one_run}
 use Rattle.journal.proofs.Rows.{whole_put}
 use Rattle.journal.proofs.Saving.{all_right}
 use Rattle.parcel.specs.Tree.{state_in}
-use Rattle.plain.specs.State.{IsState}
+use Rattle.meaning.specs.State.{IsState}
 use Rattle.journal.proofs.opening.last_point.Goals as goal
 
 pub point_on-requires-clause-image : goal.point_on-requires-clause-image

@@ -1,4 +1,4 @@
-use Rattle.plain.proofs.ShareLaws.{agree_from_share}
+use Rattle.meaning.proofs.ShareLaws.{agree_from_share}
 use Rattle.parcel.specs.Shown.{shown_state}
 use Rattle.parcel.proofs.SerialRuns.{shown_share, shown_standing}
 use Rattle.parcel.proofs.laws.shown_is_share_and_standing.Goals as goal

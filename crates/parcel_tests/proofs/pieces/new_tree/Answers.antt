@@ -2,8 +2,8 @@
 use Rattle.std.proofs.Common.{[], sym, ◌∙◌, ap, subst}
 use Rattle.affinity.specs.Geometry.{numbers_of}
 use Rattle.affinity.specs.declared.geometry.Geometry.{Geometry}
-use Rattle.plain.specs.State.{IsState}
-use Rattle.plain.proofs.Kept.{empty_is_state}
+use Rattle.meaning.specs.State.{IsState}
+use Rattle.meaning.proofs.Kept.{empty_is_state}
 use Rattle.parcel.specs.Tree.{TreeView, IsIn, in_tree}
 use Rattle.parcel_tests.proofs.pieces.new_tree.Goals as goal
 

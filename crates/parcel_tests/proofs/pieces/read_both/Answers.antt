@@ -1,6 +1,6 @@
 -- A new tree has no block.
 use Rattle.std.proofs.Common.{◌≡◌, None, ap}
-use Rattle.plain.specs.State.{State, BlockKey, empty}
+use Rattle.meaning.specs.State.{State, BlockKey, empty}
 use Rattle.parcel_tests.proofs.pieces.read_both.Goals as goal
 
 no_block : (x : State) → x ≡ empty → (k : BlockKey) → x.blocks k ≡ None

@@ -1,7 +1,7 @@
 use Rattle.message.specs.Reader.{unread, is_drained, KnowsEnd}
 use Rattle.message.specs.Waiting.{so_far}
 use Rattle.plain.specs.Server.{server_state, IsConsistent}
-use Rattle.plain.specs.Progress.{HasAnswered}
+use Rattle.meaning.specs.Progress.{HasAnswered}
 use Rattle.plain.proofs.answering.answer_all.Given as goal
 
 abbrev pub invariant-loop : goal.invariant-loop

@@ -6,7 +6,7 @@ use Rattle.message.specs.Replies.{no_message}
 use Rattle.message.specs.Waiting.{so_far}
 use Rattle.message.proofs.Adding.{adds_so_far}
 use Rattle.plain.specs.Server.{server_state}
-use Rattle.plain.specs.Output.{answer_line as line_answer, state_after_line}
+use Rattle.meaning.specs.Output.{answer_line as line_answer, state_after_line}
 use Rattle.plain.proofs.SessionSteps.{goes_on, answers_line, answers_long_line, ends, fails, stops_short}
 use Rattle.plain.proofs.answering.answer_next.Goals as goal
 

@@ -1,5 +1,5 @@
-use Rattle.plain.specs.State.{empty}
-use Rattle.plain.specs.Output.{IsBeginning}
+use Rattle.meaning.specs.State.{empty}
+use Rattle.meaning.specs.Output.{IsBeginning}
 use Rattle.plain.proofs.SessionSteps.{writes_sent}
 use Rattle.plain.proofs.serving.serve_from.Goals as goal
 

@@ -1,7 +1,7 @@
 -- The lemmas on known lines.
 use Rattle.std.proofs.Common.{[], ap, inr, ◌∙◌, append-nil, take, length}
 use Rattle.legal_runs.proofs.Elements.{contains_in, in_contained}
-use Rattle.plain.specs.Output.{output_lines}
+use Rattle.meaning.specs.Output.{output_lines}
 use Rattle.serving.proofs.Serial.{asked_leads_there, said_is_serial}
 use Rattle.serving.proofs.laws.known_lines_are_serial.Goals as goal
 

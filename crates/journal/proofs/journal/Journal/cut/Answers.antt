@@ -17,7 +17,7 @@ use Rattle.oplog.specs.Beyond.{KeepsBeyond}
 use Rattle.oplog.specs.Layout.{device_size, image_size, other, layout_of}
 use Rattle.oplog.specs.Log.{Log, layout}
 use Rattle.parcel.specs.Tree.{state_in}
-use Rattle.plain.specs.State.{IsState}
+use Rattle.meaning.specs.State.{IsState}
 use Rattle.journal.proofs.journal.Journal.cut.Goals as goal
 
 pub returns-in-Err-clause-any_moment : goal.returns-in-Err-clause-any_moment

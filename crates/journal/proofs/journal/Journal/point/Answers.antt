@@ -20,7 +20,7 @@ use Rattle.oplog.specs.Layout.{layout_of, device_size, image_size, other}
 use Rattle.oplog.specs.Log.{Log, layout}
 use Rattle.oplog.specs.Stands.{in_force, named_area}
 use Rattle.parcel.specs.Tree.{state_in}
-use Rattle.plain.specs.State.{IsState}
+use Rattle.meaning.specs.State.{IsState}
 use Rattle.journal.proofs.journal.Journal.point.Goals as goal
 
 pub point_on-requires-clause-alone : goal.point_on-requires-clause-alone

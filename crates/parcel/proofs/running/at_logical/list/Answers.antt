@@ -2,7 +2,7 @@ use Rattle.std.proofs.Common.{◌^◌, refl, ap, sym, ◌∙◌}
 use Rattle.std.specs.Prelude.{if◌then◌else◌}
 use Rattle.message.specs.declared.Msg.TheVariants.{List as ListFiles}
 use Rattle.message.specs.declared.Reply.TheVariants.{Files}
-use Rattle.plain.specs.State.{sum_below}
+use Rattle.meaning.specs.State.{sum_below}
 use Rattle.parcel.specs.Shown.{by_logical}
 use Rattle.parcel.specs.Volume.{only}
 use Rattle.image.proofs.FileNumber.{bits_back}

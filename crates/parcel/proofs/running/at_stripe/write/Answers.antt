@@ -1,7 +1,7 @@
 use Rattle.std.proofs.Common.{◌≡◌, refl, ap, sym, ◌∙◌, length}
 use Rattle.affinity.specs.Geometry.{group}
 use Rattle.message.specs.declared.Msg.TheVariants.{Write}
-use Rattle.plain.specs.State.{group_count}
+use Rattle.meaning.specs.State.{group_count}
 use Rattle.std.specs.Prelude.{None}
 use Rattle.message.specs.declared.Refusal.TheVariants.{File, Space}
 use Rattle.parcel.specs.Shown.{by_stripe, has_file}

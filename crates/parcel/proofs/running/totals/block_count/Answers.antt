@@ -1,8 +1,8 @@
 use Rattle.std.proofs.Common.{◌≡◌, ◌<◌, ap, sym, ◌∙◌, length, slice_index_or, arith}
 use Rattle.std.specs.Prelude.{None, IfSome}
 use Rattle.std.proofs.lemmas.List.{get_or_read}
-use Rattle.plain.specs.State.{sum_below, group_count}
-use Rattle.plain.proofs.Counts.{block_count-by_stripe}
+use Rattle.meaning.specs.State.{sum_below, group_count}
+use Rattle.meaning.proofs.Counts.{block_count-by_stripe}
 use Rattle.parcel.specs.Fits.{FitsStripe}
 use Rattle.parcel.specs.Shown.{blocks_of}
 use Rattle.parcel.proofs.StripeTotals.{holding, count_at, few_entries, quota_of}

@@ -1,5 +1,5 @@
 use Rattle.std.proofs.Common.{◌≡◌, ◌≤◌, ◌*◌}
-use Rattle.plain.specs.State.{sum_below, group_count}
+use Rattle.meaning.specs.State.{sum_below, group_count}
 use Rattle.parcel.specs.Shown.{blocks_of}
 use Rattle.parcel.proofs.StripeTotals.{holding}
 use Rattle.parcel.proofs.running.totals.block_count.Given as goal

@@ -1,5 +1,5 @@
 use Rattle.std.proofs.Common.{arith}
-use Rattle.plain.proofs.Sums.{count_below-le}
+use Rattle.meaning.proofs.Sums.{count_below-le}
 use Rattle.parcel.specs.Shown.{has_file}
 use Rattle.parcel.proofs.running.totals.file_count.Goals as goal
 

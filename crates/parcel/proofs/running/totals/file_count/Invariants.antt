@@ -1,5 +1,5 @@
 use Rattle.std.proofs.Common.{◌≡◌}
-use Rattle.plain.specs.State.{count_below}
+use Rattle.meaning.specs.State.{count_below}
 use Rattle.parcel.specs.Shown.{has_file}
 use Rattle.parcel.proofs.running.totals.file_count.Given as goal
 

@@ -1,6 +1,6 @@
 use Rattle.std.proofs.Common.{◌≡◌, Bool, true, false, refl, ap, sym, ◌∙◌}
 use mir.Val.{bool_byte}
-use Rattle.plain.specs.State.{one_if}
+use Rattle.meaning.specs.State.{one_if}
 use Rattle.parcel.specs.Shown.{files_in, blocks_below}
 use Rattle.parcel.specs.Totals.{file_total, block_total}
 use Rattle.parcel.proofs.StripeTotals.{no_files, no_blocks}

@@ -1,8 +1,8 @@
 use Rattle.std.proofs.Common.{rules, ◌≡◌, ap, sym, ◌∙◌, subst, None}
-use Rattle.plain.specs.State.{IsState}
-use Rattle.plain.specs.Serial.{refusal, accepted_reply, effect, outcome}
+use Rattle.meaning.specs.State.{IsState}
+use Rattle.meaning.specs.Serial.{refusal, accepted_reply, effect, outcome}
 use Rattle.plain.specs.Server.{server_state}
-use Rattle.plain.proofs.Kept.{step_kept}
+use Rattle.meaning.proofs.Kept.{step_kept}
 use Rattle.plain.proofs.server.Server.answer.Goals as goal
 
 pub returns-clause-sound : goal.returns-clause-sound

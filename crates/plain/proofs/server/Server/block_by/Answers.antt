@@ -6,10 +6,10 @@ use Rattle.affinity.specs.declared.kinds.Kind.TheVariants as kinds
 use Rattle.message.specs.declared.Block.{Block}
 use Rattle.message.specs.declared.Msg.TheVariants.{Read}
 use Rattle.message.specs.declared.Reply.TheVariants.{Block as shows, Hole}
-use Rattle.plain.specs.State.{State, IsState}
-use Rattle.plain.specs.Serial.{accepted_reply, block_reply, step}
+use Rattle.meaning.specs.State.{State, IsState}
+use Rattle.meaning.specs.Serial.{accepted_reply, block_reply, step}
 use Rattle.plain.specs.Server.{server_state}
-use Rattle.plain.proofs.ByKind.{read_told}
+use Rattle.meaning.proofs.ByKind.{read_told}
 use Rattle.plain.proofs.server.Server.block_by.Goals as goal
 
 looked_up : (g : Geometry) (x : State) → IsState g x → (a v f b : ℕ) (r : Option (Bor Block)) → option_copied r ≡ x.blocks (a, v, f, b) → IfSome r (λ content. step g x (Read a v f b) ≡ (shows content.now, x))

@@ -4,8 +4,8 @@ use Rattle.std.specs.Option.{option_copied}
 use Rattle.message.specs.declared.Block.{Block}
 use Rattle.message.specs.declared.Reply.{Reply}
 use Rattle.message.specs.declared.Reply.TheVariants.{Block as shows}
-use Rattle.plain.specs.State.{State}
-use Rattle.plain.specs.Serial.{accepted_reply, block_reply, effect, outcome}
+use Rattle.meaning.specs.State.{State}
+use Rattle.meaning.specs.Serial.{accepted_reply, block_reply, effect, outcome}
 use Rattle.plain.specs.Server.{server_state}
 use Rattle.plain.proofs.server.Server.block_shown.Goals as goal
 

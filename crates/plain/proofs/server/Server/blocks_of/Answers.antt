@@ -1,5 +1,5 @@
 use Rattle.std.proofs.Common.{ℕ, ap, ◌∙◌, arith}
-use Rattle.plain.specs.State.{FileKey}
+use Rattle.meaning.specs.State.{FileKey}
 use Rattle.plain.specs.Server.{server_state}
 use Rattle.plain.proofs.Totals.{blocks-few_in_volume}
 use Rattle.plain.proofs.Walks.{total, blocks_walked}

@@ -1,5 +1,5 @@
 use Rattle.std.proofs.Common.{◌≡◌, ℕ, ◌+◌}
-use Rattle.plain.specs.State.{FileKey, block_count}
+use Rattle.meaning.specs.State.{FileKey, block_count}
 use Rattle.plain.specs.Server.{server_state}
 use Rattle.plain.proofs.Walks.{total}
 use Rattle.plain.proofs.server.Server.blocks_of.Given as goal

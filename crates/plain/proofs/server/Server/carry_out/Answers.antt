@@ -1,10 +1,10 @@
 use Rattle.std.proofs.Common.{◌≡◌, None, ap, sym, ◌∙◌, subst}
 use Rattle.message.specs.Heads.{asking}
-use Rattle.plain.specs.State.{IsState}
-use Rattle.plain.specs.Serial.{refusal, accepted_reply, effect, outcome}
+use Rattle.meaning.specs.State.{IsState}
+use Rattle.meaning.specs.Serial.{refusal, accepted_reply, effect, outcome}
 use Rattle.plain.specs.Server.{server_state}
-use Rattle.plain.proofs.ByKind.{refusal_asked, asking_is_message}
-use Rattle.plain.proofs.Kept.{step_kept}
+use Rattle.meaning.proofs.ByKind.{refusal_asked, asking_is_message}
+use Rattle.meaning.proofs.Kept.{step_kept}
 use Rattle.plain.proofs.server.Server.carry_out.Goals as goal
 
 pub returns-in_ok-apply_by-in-None-clause-sound : goal.returns-in_ok-apply_by-in-None-clause-sound

@@ -1,6 +1,7 @@
 use Rattle.std.specs.BTreeMap as map
-use Rattle.plain.specs.Server.{server_state, by_block}
-use Rattle.plain.proofs.Keys.{no_block}
+use Rattle.meaning.specs.KeyOrders.{by_block}
+use Rattle.plain.specs.Server.{server_state}
+use Rattle.meaning.proofs.Keys.{no_block}
 use Rattle.plain.proofs.server.Server.clear_block.Goals as goal
 
 pub returns-clause-state : goal.returns-clause-state

@@ -1,8 +1,8 @@
 use Rattle.std.proofs.Common.{◌≡◌, arith, ap, sym, ◌∙◌, subst}
-use Rattle.plain.specs.State.{IsState, one_if, is_block_of_file, is_block}
+use Rattle.meaning.specs.State.{IsState, one_if, is_block_of_file, is_block}
 use Rattle.plain.specs.Server.{server_state}
-use Rattle.plain.specs.Removals.{without_blocks}
-use Rattle.plain.proofs.Kept.{clearing_kept}
+use Rattle.meaning.specs.Removals.{without_blocks}
+use Rattle.meaning.proofs.Kept.{clearing_kept}
 use Rattle.plain.proofs.Removals.{block_before_others, nothing_cleared}
 use Rattle.plain.proofs.server.Server.clear_file.Goals as goal
 

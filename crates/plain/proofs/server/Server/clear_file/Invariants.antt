@@ -1,8 +1,8 @@
 use Rattle.std.proofs.Common.{◌≡◌}
 use Rattle.std.specs.BTreeMap.{btree_map_len}
-use Rattle.plain.specs.State.{is_block_of_file}
+use Rattle.meaning.specs.State.{is_block_of_file}
 use Rattle.plain.specs.Server.{server_state, IsConsistent}
-use Rattle.plain.specs.Removals.{without_blocks}
+use Rattle.meaning.specs.Removals.{without_blocks}
 use Rattle.plain.proofs.server.Server.clear_file.Given as goal
 
 abbrev pub invariant-loop-b : goal.invariant-loop-b

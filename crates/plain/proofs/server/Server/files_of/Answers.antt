@@ -1,8 +1,8 @@
 use Rattle.std.proofs.Common.{◌≡◌, ◌∙◌, arith}
 use Rattle.std.proofs.lemmas.Iterator.Consumers.{count_from_yields_List, YieldsList-from_rest}
-use Rattle.plain.specs.State.{file_count}
+use Rattle.meaning.specs.State.{file_count}
 use Rattle.plain.specs.Server.{server_state}
-use Rattle.plain.proofs.Counts.{file_count-le}
+use Rattle.meaning.proofs.Counts.{file_count-le}
 use Rattle.plain.proofs.Walks.{count_walked}
 use Rattle.plain.proofs.server.Server.files_of.Goals as goal
 

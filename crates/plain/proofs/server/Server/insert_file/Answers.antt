@@ -1,6 +1,7 @@
 use Rattle.std.specs.BTreeSet as set
-use Rattle.plain.specs.Server.{server_state, by_file}
-use Rattle.plain.proofs.Keys.{one_file}
+use Rattle.meaning.specs.KeyOrders.{by_file}
+use Rattle.plain.specs.Server.{server_state}
+use Rattle.meaning.proofs.Keys.{one_file}
 use Rattle.plain.proofs.server.Server.insert_file.Goals as goal
 
 pub returns-clause-state : goal.returns-clause-state

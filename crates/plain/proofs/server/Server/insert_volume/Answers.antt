@@ -1,7 +1,7 @@
 use Rattle.std.proofs.Common.{ap, ◌∙◌}
 use Rattle.std.specs.BTreeSet as set
-use Rattle.plain.specs.Server.{volume_order}
-use Rattle.plain.proofs.Keys.{one_volume, no_volume, volume_taken_back}
+use Rattle.meaning.specs.KeyOrders.{volume_order}
+use Rattle.meaning.proofs.Keys.{one_volume, no_volume, volume_taken_back}
 use Rattle.plain.proofs.server.Server.insert_volume.Goals as goal
 
 pub returns-in-Err-clause-unchanged : goal.returns-in-Err-clause-unchanged

@@ -1,6 +1,6 @@
 use Rattle.std.proofs.Common.{◌^◌, ap, ◌∙◌, arith}
 use Rattle.std.proofs.lemmas.Nat.{one_shl}
-use Rattle.plain.specs.State.{FileKey}
+use Rattle.meaning.specs.State.{FileKey}
 use Rattle.plain.specs.Server.{server_state}
 use Rattle.plain.proofs.Totals.{bits-few_in_volume, small_power}
 use Rattle.plain.proofs.Walks.{total, bits_walked}

@@ -1,6 +1,6 @@
 use Rattle.std.proofs.Common.{◌≡◌, ◌+◌, ◌^◌}
-use Rattle.plain.specs.State.{FileKey}
-use Rattle.plain.specs.Serial.{file_bits}
+use Rattle.meaning.specs.State.{FileKey}
+use Rattle.meaning.specs.Serial.{file_bits}
 use Rattle.plain.specs.Server.{server_state}
 use Rattle.plain.proofs.Walks.{total}
 use Rattle.plain.proofs.server.Server.list_files.Given as goal

@@ -2,12 +2,13 @@ use Rattle.std.proofs.Common.{◌≡◌, ap, sym, ◌∙◌, subst}
 use Rattle.std.specs.Prelude.{unwrap_or}
 use Rattle.std.specs.Map.{lookup}
 use Rattle.std.specs.BTreeMap.{is_at}
-use Rattle.plain.specs.State.{empty, IsState}
-use Rattle.plain.specs.Server.{server_state, volume_order, by_file, by_block}
+use Rattle.meaning.specs.State.{empty, IsState}
+use Rattle.meaning.specs.KeyOrders.{volume_order, by_file, by_block}
+use Rattle.plain.specs.Server.{server_state}
 use Rattle.std.specs.List.{list_any}
 use Rattle.plain.specs.declared.server.Server.{Server}
 use Rattle.plain.proofs.ServerCounts.{none_counted}
-use Rattle.plain.proofs.Kept.{empty_is_state}
+use Rattle.meaning.proofs.Kept.{empty_is_state}
 use Rattle.plain.proofs.server.Server.new.Goals as goal
 
 -- the server that is made

@@ -3,7 +3,8 @@ use Rattle.std.specs.Prelude.{unwrap_or}
 use Rattle.std.specs.BTreeMap as map
 use Rattle.std.specs.BTreeMap.{is_at}
 use Rattle.std.specs.Map.{lookup}
-use Rattle.plain.specs.Server.{StripeKey, by_file}
+use Rattle.meaning.specs.KeyOrders.{by_file}
+use Rattle.plain.specs.Server.{StripeKey}
 use Rattle.plain.proofs.ServerCounts.{noted_one_more}
 use Rattle.plain.proofs.server.Server.note_one_more.Goals as goal
 

@@ -1,7 +1,8 @@
 use Rattle.std.proofs.Common.{rules}
 use Rattle.std.specs.BTreeMap as map
-use Rattle.plain.specs.Server.{server_state, by_block}
-use Rattle.plain.proofs.Keys.{one_block}
+use Rattle.meaning.specs.KeyOrders.{by_block}
+use Rattle.plain.specs.Server.{server_state}
+use Rattle.meaning.proofs.Keys.{one_block}
 use Rattle.plain.proofs.server.Server.overwrite.Goals as goal
 
 pub returns-in-Some-clause-state : goal.returns-in-Some-clause-state

@@ -1,10 +1,11 @@
 use Rattle.std.proofs.Common.{◌≡◌, ◌+◌, Bool, true, false, ap, sym, ◌∙◌, subst}
 use Rattle.std.specs.Prelude.{not, is_some, unwrap_or}
 use Rattle.std.specs.BTreeMap as map
-use Rattle.plain.specs.State.{one_if}
+use Rattle.meaning.specs.State.{one_if}
 use Rattle.message.specs.declared.Msg.TheVariants.{Punch}
-use Rattle.plain.specs.Serial.{effect}
-use Rattle.plain.specs.Server.{is_stripe, server_state, noted, by_file}
+use Rattle.meaning.specs.Serial.{effect}
+use Rattle.meaning.specs.KeyOrders.{by_file}
+use Rattle.plain.specs.Server.{is_stripe, server_state, noted}
 use Rattle.plain.proofs.Removals.{is_none}
 use Rattle.plain.proofs.Writes.{AreCounts, replaced_counts, added_counts, taken_back}
 use Rattle.plain.proofs.server.Server.put_block.Goals as goal

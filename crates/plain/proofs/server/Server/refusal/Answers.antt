@@ -1,8 +1,8 @@
 use Rattle.std.proofs.Common.{ap, ◌∙◌}
 use Rattle.message.specs.Messages.{kind}
 use Rattle.plain.specs.Server.{server_state}
-use Rattle.plain.specs.ByKind.{refusal_by}
-use Rattle.plain.proofs.ByKind.{refusal_by_kind}
+use Rattle.meaning.specs.ByKind.{refusal_by}
+use Rattle.meaning.proofs.ByKind.{refusal_by_kind}
 use Rattle.plain.proofs.server.Server.refusal.Goals as goal
 
 pub returns : goal.returns

@@ -1,9 +1,10 @@
 use Rattle.std.proofs.Common.{rules, ◌≡◌, ◌+◌, true, false, sym, ◌∙◌, subst}
 use Rattle.std.specs.Prelude.{is_some}
 use Rattle.std.specs.BTreeMap as map
-use Rattle.plain.specs.State.{one_if, group_count}
-use Rattle.plain.specs.Server.{StripeKey, is_stripe, server_state, noted, by_block}
-use Rattle.plain.proofs.Keys.{no_block}
+use Rattle.meaning.specs.State.{one_if, group_count}
+use Rattle.meaning.specs.KeyOrders.{by_block}
+use Rattle.plain.specs.Server.{StripeKey, is_stripe, server_state, noted}
+use Rattle.meaning.proofs.Keys.{no_block}
 use Rattle.plain.proofs.Writes.{AreCounts}
 use Rattle.plain.proofs.Removals.{some_noted, less_counts, no_block_there}
 use Rattle.plain.proofs.server.Server.remove_block.Goals as goal

@@ -1,7 +1,8 @@
 use Rattle.std.proofs.Common.{ap, ◌∙◌}
 use Rattle.std.specs.BTreeSet as set
-use Rattle.plain.specs.State.{State, dropping, is_file}
-use Rattle.plain.specs.Server.{server_state, by_file}
+use Rattle.meaning.specs.State.{State, dropping, is_file}
+use Rattle.meaning.specs.KeyOrders.{by_file}
+use Rattle.plain.specs.Server.{server_state}
 use Rattle.plain.proofs.Removals.{no_file}
 use Rattle.plain.proofs.server.Server.remove_file.Goals as goal
 

@@ -1,8 +1,8 @@
 use Rattle.std.proofs.Common.{◌≡◌, arith, ap, sym, ◌∙◌, subst}
-use Rattle.plain.specs.State.{IsState, one_if}
+use Rattle.meaning.specs.State.{IsState, one_if}
 use Rattle.plain.specs.Server.{server_state}
-use Rattle.plain.specs.Removals.{without_files}
-use Rattle.plain.proofs.Kept.{delete_kept}
+use Rattle.meaning.specs.Removals.{without_files}
+use Rattle.meaning.proofs.Kept.{delete_kept}
 use Rattle.plain.proofs.Removals.{file_before_others, no_files_left}
 use Rattle.plain.proofs.server.Server.remove_files.Goals as goal
 

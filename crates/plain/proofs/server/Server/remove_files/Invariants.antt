@@ -1,7 +1,7 @@
 use Rattle.std.proofs.Common.{◌≡◌}
 use Rattle.std.specs.BTreeSet.{btree_set_len}
 use Rattle.plain.specs.Server.{server_state, IsConsistent}
-use Rattle.plain.specs.Removals.{without_files}
+use Rattle.meaning.specs.Removals.{without_files}
 use Rattle.plain.proofs.server.Server.remove_files.Given as goal
 
 abbrev pub invariant-loop-f : goal.invariant-loop-f

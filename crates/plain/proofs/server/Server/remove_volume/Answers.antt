@@ -1,9 +1,10 @@
 use Rattle.std.proofs.Common.{ap, ◌∙◌}
 use Rattle.std.specs.BTreeSet as set
 use Rattle.std.specs.BTreeMap as map
-use Rattle.plain.specs.State.{State, dropping, clearing, is_volume}
-use Rattle.plain.specs.Server.{server_state, volume_order}
-use Rattle.plain.proofs.Keys.{no_volume}
+use Rattle.meaning.specs.State.{State, dropping, clearing, is_volume}
+use Rattle.meaning.specs.KeyOrders.{volume_order}
+use Rattle.plain.specs.Server.{server_state}
+use Rattle.meaning.proofs.Keys.{no_volume}
 use Rattle.plain.proofs.Removals.{no_label_of}
 use Rattle.plain.proofs.server.Server.remove_volume.Goals as goal
 

@@ -1,5 +1,5 @@
 use Rattle.std.proofs.Common.{ap, sym, ◌∙◌}
-use Rattle.plain.specs.Serial.{accepted_reply}
+use Rattle.meaning.specs.Serial.{accepted_reply}
 use Rattle.plain.specs.Server.{server_state}
 use Rattle.plain.proofs.server.Server.reply.Goals as goal
 

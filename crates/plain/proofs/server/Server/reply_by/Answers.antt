@@ -1,6 +1,6 @@
 use Rattle.std.proofs.Common.{sym, ap, ◌∙◌}
 use Rattle.message.specs.Heads.{asking}
-use Rattle.plain.specs.Serial.{accepted_reply}
+use Rattle.meaning.specs.Serial.{accepted_reply}
 use Rattle.plain.specs.Server.{server_state}
 use Rattle.plain.proofs.server.Server.reply_by.Goals as goal
 

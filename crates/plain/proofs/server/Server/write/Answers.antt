@@ -2,11 +2,12 @@ use Rattle.std.proofs.Common.{◌≡◌, None, ap, sym, ◌∙◌, subst}
 use Rattle.std.specs.Prelude.{unwrap_or}
 use Rattle.std.specs.BTreeMap as map
 use Rattle.message.specs.Heads.{writing}
-use Rattle.plain.specs.State.{IsState}
-use Rattle.plain.specs.Serial.{refusal, accepted_reply, effect, outcome}
-use Rattle.plain.specs.Server.{server_state, noted, by_file}
-use Rattle.plain.proofs.ByKind.{write_passes}
-use Rattle.plain.proofs.Kept.{step_kept}
+use Rattle.meaning.specs.State.{IsState}
+use Rattle.meaning.specs.Serial.{refusal, accepted_reply, effect, outcome}
+use Rattle.meaning.specs.KeyOrders.{by_file}
+use Rattle.plain.specs.Server.{server_state, noted}
+use Rattle.meaning.proofs.ByKind.{write_passes}
+use Rattle.meaning.proofs.Kept.{step_kept}
 use Rattle.plain.proofs.Writes.{AreCounts, replaced_counts}
 use Rattle.plain.proofs.server.Server.write.Goals as goal
 

@@ -1,10 +1,10 @@
 use Rattle.std.proofs.Common.{◌≡◌, None, ap, sym, ◌∙◌, subst}
 use Rattle.message.specs.Heads.{writing}
-use Rattle.plain.specs.State.{IsState}
-use Rattle.plain.specs.Serial.{refusal, accepted_reply, effect, outcome}
+use Rattle.meaning.specs.State.{IsState}
+use Rattle.meaning.specs.Serial.{refusal, accepted_reply, effect, outcome}
 use Rattle.plain.specs.Server.{server_state}
-use Rattle.plain.proofs.ByKind.{refusal_by_kind}
-use Rattle.plain.proofs.Kept.{step_kept}
+use Rattle.meaning.proofs.ByKind.{refusal_by_kind}
+use Rattle.meaning.proofs.Kept.{step_kept}
 use Rattle.plain.proofs.server.Server.write_tested.Goals as goal
 
 pub returns-in_ok-put_block-in-None-clause-sound : goal.returns-in_ok-put_block-in-None-clause-sound

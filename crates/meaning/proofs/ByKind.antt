@@ -1,0 +1,107 @@
+-- What the tests, the effect and the reply of a message are by its kind and its numbers.
+use Rattle.std.proofs.Common.{◌≡◌, ℕ, true, false, Bool, List, [], ◌∷◌, None, Some, refl, ap, sym, ◌∙◌}
+use Rattle.std.specs.Prelude.{not, find, is_some}
+use Rattle.std.specs.List.{AllByRecursion}
+use Rattle.std.proofs.lemmas.Bool.{and_from, or_left, lt-ltb}
+use Rattle.affinity.specs.declared.geometry.Geometry.{Geometry}
+use Rattle.affinity.specs.declared.kinds.Kind.{Kind}
+use Rattle.affinity.specs.declared.kinds.Kind.TheVariants as kinds
+use Rattle.message.specs.declared.Msg.{Msg}
+use Rattle.message.specs.declared.Msg.TheVariants.{MakeVol, DropVol, Create, Delete, Seal, Unseal, Write, Punch, Read, List as ListFiles, Usage, Summary, SetLabel, Label}
+use Rattle.message.specs.declared.Block.{Block}
+use Rattle.message.specs.declared.Refusal.{Refusal}
+use Rattle.message.specs.declared.Refusal.TheVariants.{Range}
+use Rattle.message.specs.declared.Reply.TheVariants.{Block as shows}
+use Rattle.message.specs.Messages.{kind, four_numbers, IsMessage}
+use Rattle.message.specs.Heads.{asking, has_data, IsAsked}
+use Rattle.meaning.specs.State.{State, IsState}
+use Rattle.meaning.specs.Serial.{tests, passes, refusal, block_reply, outcome, step}
+use Rattle.meaning.specs.ByKind.{tests_by, refusal_by}
+
+pub tests_by_kind : (m : Msg) → tests_by (kind m) ≡ tests m
+tests_by_kind (MakeVol a v) = refl
+tests_by_kind (DropVol a v) = refl
+tests_by_kind (Create a v f) = refl
+tests_by_kind (Delete a v f) = refl
+tests_by_kind (Seal a v) = refl
+tests_by_kind (Unseal a v) = refl
+tests_by_kind (Write a v f b content) = refl
+tests_by_kind (Punch a v f b) = refl
+tests_by_kind (Read a v f b) = refl
+tests_by_kind (ListFiles a v) = refl
+tests_by_kind (Usage a v) = refl
+tests_by_kind Summary = refl
+tests_by_kind (SetLabel a v bytes) = refl
+tests_by_kind (Label a v) = refl
+
+pub refusal_by_kind : (g : Geometry) (x : State) (m : Msg) → refusal_by g x (kind m) (four_numbers m) ≡ refusal g x m
+refusal_by_kind g x (MakeVol a v) = refl
+refusal_by_kind g x (DropVol a v) = refl
+refusal_by_kind g x (Create a v f) = refl
+refusal_by_kind g x (Delete a v f) = refl
+refusal_by_kind g x (Seal a v) = refl
+refusal_by_kind g x (Unseal a v) = refl
+refusal_by_kind g x (Write a v f b content) = refl
+refusal_by_kind g x (Punch a v f b) = refl
+refusal_by_kind g x (Read a v f b) = refl
+refusal_by_kind g x (ListFiles a v) = refl
+refusal_by_kind g x (Usage a v) = refl
+refusal_by_kind g x Summary = refl
+refusal_by_kind g x (SetLabel a v bytes) = refl
+refusal_by_kind g x (Label a v) = refl
+
+-- a message without data has no bytes to be right
+pub asking_is_message : (k : Kind) (ns : List ℕ) → has_data k ≡ false → IsMessage (asking k ns)
+asking_is_message kinds.MakeVol ns h = tt
+asking_is_message kinds.DropVol ns h = tt
+asking_is_message kinds.Create ns h = tt
+asking_is_message kinds.Delete ns h = tt
+asking_is_message kinds.Seal ns h = tt
+asking_is_message kinds.Unseal ns h = tt
+asking_is_message kinds.Write ns h = cc h
+asking_is_message kinds.Punch ns h = tt
+asking_is_message kinds.Read ns h = tt
+asking_is_message kinds.List ns h = tt
+asking_is_message kinds.Usage ns h = tt
+asking_is_message kinds.Summary ns h = tt
+asking_is_message kinds.SetLabel ns h = cc h
+asking_is_message kinds.Label ns h = tt
+
+pub refusal_asked : (g : Geometry) (x : State) (k : Kind) (ns : List ℕ) → IsAsked k ns (Some (asking k ns)) → refusal_by g x k ns ≡ refusal g x (asking k ns)
+refusal_asked g x k ns h =
+    ap (λ j. refusal_by g x j ns) (sym h.kind_is)
+    ∙ ap (λ ms. refusal_by g x (kind (asking k ns)) ms) (sym h.numbers_are)
+    ∙ refusal_by_kind g x (asking k ns)
+
+-- no test fails where all are passed
+none_fails : (p : Refusal → Bool) (ts : List Refusal) → AllByRecursion (λ t. p t ≡ true) ts → find (λ t. not (p t)) ts ≡ None
+none_fails p [] h = refl
+none_fails p (t ∷ ts) h = rw h.0 (none_fails p ts h.1)
+
+-- the numbers of a block that is there are in range
+block_in_range : (g : Geometry) (x : State) → IsState g x → (a v f b : ℕ) → is_some (x.blocks (a, v, f, b)) ≡ true → passes g x (Read a v f b) Range ≡ true
+block_in_range g x s a v f b there =
+    let block = s.blocks (a, v, f, b) there in
+    let file = s.files (a, v, f) block.1 in
+    let made = s.made (a, v) file.1 in
+    and_from _ _ (lt-ltb a g.aggregates made.0) (and_from _ _ (lt-ltb v g.volumes made.1) (and_from _ _ (lt-ltb f g.files file.0) (and_from _ _ (lt-ltb b g.blocks block.0) refl)))
+
+-- a block may be written where one is, unless its volume is sealed
+pub write_passes : (g : Geometry) (x : State) → IsState g x → (a v f b : ℕ) (content : Block) → x.sealed (a, v) ≡ false → is_some (x.blocks (a, v, f, b)) ≡ true → refusal g x (Write a v f b content) ≡ None
+write_passes g x s a v f b content unsealed there =
+    let block = s.blocks (a, v, f, b) there in
+    let file = s.files (a, v, f) block.1 in
+    none_fails (passes g x (Write a v f b content)) (tests (Write a v f b content)) (block_in_range g x s a v f b there, (file.1, (ap not unsealed, (block.1, (or_left _ _ there, tt)))))
+
+-- a block that is there has a file and a volume, and its numbers are in range
+pub read_passes : (g : Geometry) (x : State) → IsState g x → (a v f b : ℕ) → is_some (x.blocks (a, v, f, b)) ≡ true → refusal g x (Read a v f b) ≡ None
+read_passes g x s a v f b there =
+    let block = s.blocks (a, v, f, b) there in
+    let file = s.files (a, v, f) block.1 in
+    none_fails (passes g x (Read a v f b)) (tests (Read a v f b)) (block_in_range g x s a v f b there, (file.1, (block.1, tt)))
+
+-- a block that is there answers a read
+pub read_told : (g : Geometry) (x : State) → IsState g x → (a v f b : ℕ) (content : Block) → x.blocks (a, v, f, b) ≡ Some content → step g x (Read a v f b) ≡ (shows content, x)
+read_told g x s a v f b content found =
+    ap (λ r. outcome r (block_reply (x.blocks (a, v, f, b))) x x) (read_passes g x s a v f b (ap is_some found))
+    ∙ ap (λ o. (block_reply o, x)) found

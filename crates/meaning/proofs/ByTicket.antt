@@ -1,0 +1,113 @@
+-- Running messages in any order that keeps related ones in ticket order gives each message the reply that it has in ticket order, and the same state.
+use Rattle.std.proofs.Common.{◌≡◌, ℕ, ◌<◌, ◌≤◌, true, false, List, [], ◌∷◌, refl, ap, sym, ◌∙◌, arith}
+use Rattle.std.specs.Prelude.{nat_lt, if◌then◌else◌, IsPermutation}
+use Rattle.std.specs.List.{AllByRecursion}
+use Rattle.std.proofs.lemmas.Bool.{lt-ltb, ltb-true, ltb-false, true≢false, false_from_ne_true}
+use Rattle.std.proofs.lemmas.List.Sorted.{IsPermutation-refl, IsPermutation-cons, IsPermutation-middle, IsPermutation-trans}
+use Rattle.affinity.specs.declared.geometry.Geometry.{Geometry}
+use Rattle.affinity.specs.Path.{are_related}
+use Rattle.message.specs.declared.Msg.{Msg}
+use Rattle.message.specs.Messages.{place}
+use Rattle.meaning.specs.State.{State}
+use Rattle.meaning.specs.Serial.{reply_to, next_state, fold}
+use Rattle.meaning.specs.Order.{told, messages, put, by_ticket, IsBefore, KeepsOrder}
+use Rattle.meaning.specs.Laws.{SameByTicket, AreInOrder}
+use Rattle.meaning.proofs.Frame.{commute}
+
+module _ {A : Type 0} (P : ℕ × A → Type 0) where
+  all-put : (e : ℕ × A) (ds : List (ℕ × A)) → P e → AllByRecursion P ds → AllByRecursion P (put e ds)
+  all-put e [] p h = (p, h)
+  all-put e (d ∷ ds) p h = elim (nat_lt e.0 d.0) as (λ b. AllByRecursion P (if b then e ∷ d ∷ ds else d ∷ put e ds)) [ true ↦ (p, h) | false ↦ (h.0, all-put e ds p h.1) ]
+
+  pub all-by_ticket : (es : List (ℕ × A)) → AllByRecursion P es → AllByRecursion P (by_ticket es)
+  all-by_ticket [] h = h
+  all-by_ticket (e ∷ es) h = all-put e (by_ticket es) h.0 (all-by_ticket es h.1)
+
+-- each ticket is less than those after it
+abbrev pub AreAscending : {A : Type 0} → List (ℕ × A) → Type 0
+AreAscending [] = Unit {0}
+AreAscending (e ∷ es) = AllByRecursion (λ d. e.0 < d.0) es × AreAscending es
+
+-- ---- the order by ticket is an order, of the same elements
+
+module _ {A : Type 0} where
+  all_weaker : (P Q : A → Type 0) → ((e : A) → P e → Q e) → (es : List A) → AllByRecursion P es → AllByRecursion Q es
+  all_weaker P Q weaker [] h = h
+  all_weaker P Q weaker (e ∷ es) h = (weaker e h.0, all_weaker P Q weaker es h.1)
+
+module _ {A : Type 0} where
+  in_order-put : (e : ℕ × A) (ds : List (ℕ × A)) → AreInOrder ds → AreInOrder (put e ds)
+  in_order-put e [] h = (tt, tt)
+  in_order-put e (d ∷ ds) h =
+      elim (nat_lt e.0 d.0) as (λ b. nat_lt e.0 d.0 ≡ b → AreInOrder (if b then e ∷ d ∷ ds else d ∷ put e ds)) [
+        | true ↦ λ first.
+            let less : e.0 < d.0 = ltb-true e.0 d.0 first in
+            ((omega (arith, less), all_weaker (λ c. d.0 ≤ c.0) (λ c. e.0 ≤ c.0) (λ c le. omega (arith, less, le)) ds h.0), h)
+        | false ↦ λ late. (all-put (λ c. d.0 ≤ c.0) e ds (ltb-false e.0 d.0 late) h.0, in_order-put e ds h.1)
+      ] refl
+
+  pub in_order-by_ticket : (es : List (ℕ × A)) → AreInOrder (by_ticket es)
+  in_order-by_ticket [] = tt
+  in_order-by_ticket (e ∷ es) = in_order-put e (by_ticket es) (in_order-by_ticket es)
+
+  permutation-put : (e : ℕ × A) (ds : List (ℕ × A)) → IsPermutation (e ∷ ds) (put e ds)
+  permutation-put e [] = IsPermutation-refl (e ∷ [])
+  permutation-put e (d ∷ ds) =
+      elim (nat_lt e.0 d.0) as (λ b. IsPermutation (e ∷ d ∷ ds) (if b then e ∷ d ∷ ds else d ∷ put e ds)) [
+        | true ↦ IsPermutation-refl (e ∷ d ∷ ds)
+        | false ↦ IsPermutation-trans (e ∷ d ∷ ds) (d ∷ e ∷ ds) (d ∷ put e ds) (IsPermutation-middle (e ∷ []) d ds) (IsPermutation-cons d (e ∷ ds) (put e ds) (permutation-put e ds))
+      ]
+
+  pub permutation-by_ticket : (es : List (ℕ × A)) → IsPermutation es (by_ticket es)
+  permutation-by_ticket [] = IsPermutation-refl []
+  permutation-by_ticket (e ∷ es) =
+      IsPermutation-trans (e ∷ es) (e ∷ by_ticket es) (put e (by_ticket es)) (IsPermutation-cons e es (by_ticket es) (permutation-by_ticket es)) (permutation-put e (by_ticket es))
+
+  -- a list that is in order already
+  put_first : (e : ℕ × A) (ds : List (ℕ × A)) → AllByRecursion (λ d. e.0 < d.0) ds → put e ds ≡ e ∷ ds
+  put_first e [] h = refl
+  put_first e (d ∷ ds) h = ap (λ b. if b then e ∷ d ∷ ds else d ∷ put e ds) (lt-ltb e.0 d.0 h.0)
+
+  pub by_ticket-ascending : (es : List (ℕ × A)) → AreAscending es → by_ticket es ≡ es
+  by_ticket-ascending [] h = refl
+  by_ticket-ascending (e ∷ es) h = ap (put e) (by_ticket-ascending es h.1) ∙ put_first e es h.0
+
+-- ---- what is told
+
+-- one that isn't before by its ticket is at an unrelated place
+unrelated : (g : Geometry) (e d : ℕ × Msg) → IsBefore g e d → nat_lt e.0 d.0 ≡ false → are_related (place g e.1) (place g d.1) ≡ false
+unrelated g e d h late = false_from_ne_true _ (λ r. true≢false (sym (lt-ltb e.0 d.0 (h r)) ∙ late))
+
+module _ (g : Geometry) (e : ℕ × Msg) where
+  -- a message that comes first may as well come at its ticket
+  pub told-put : (x : State) (ds : List (ℕ × Msg)) → AllByRecursion (IsBefore g e) ds → told g x (put e ds) ≡ put (e.0, reply_to g x e.1) (told g (next_state g x e.1) ds)
+  told-put x [] h = refl
+  told-put x (d ∷ ds) h =
+      let rest = told-put (next_state g x d.1) ds h.1 in
+      elim (nat_lt e.0 d.0) as (λ b. nat_lt e.0 d.0 ≡ b
+      → told g x (if b then e ∷ d ∷ ds else d ∷ put e ds)
+      ≡ (if b then (e.0, reply_to g x e.1) ∷ told g (next_state g x e.1) (d ∷ ds) else (d.0, reply_to g (next_state g x e.1) d.1) ∷ put (e.0, reply_to g x e.1) (told g (next_state g (next_state g x e.1) d.1) ds))) [
+        | true ↦ λ late. refl
+        | false ↦ λ late.
+            let c = commute g x e.1 d.1 (unrelated g e d h.0 late) in
+            λ i. ◌∷◌ (d.0, (sym c.second) i) ((rest ∙ (λ j. put (e.0, c.first j) (told g (sym c.state j) ds))) i)
+      ] refl
+
+  pub fold-put : (x : State) (ds : List (ℕ × Msg)) → AllByRecursion (IsBefore g e) ds → fold g x (messages (put e ds)) ≡ fold g (next_state g x e.1) (messages ds)
+  fold-put x [] h = refl
+  fold-put x (d ∷ ds) h =
+      elim (nat_lt e.0 d.0) as (λ b. nat_lt e.0 d.0 ≡ b → fold g x (messages (if b then e ∷ d ∷ ds else d ∷ put e ds)) ≡ fold g (next_state g (next_state g x e.1) d.1) (messages ds)) [
+        | true ↦ λ late. refl
+        | false ↦ λ late. fold-put (next_state g x d.1) ds h.1 ∙ ap (λ y. fold g y (messages ds)) (sym (commute g x e.1 d.1 (unrelated g e d h.0 late)).state)
+      ] refl
+
+pub told-by_ticket : (g : Geometry) (x : State) (es : List (ℕ × Msg)) → KeepsOrder g es → told g x (by_ticket es) ≡ by_ticket (told g x es)
+told-by_ticket g x [] h = refl
+told-by_ticket g x (e ∷ es) h = told-put g e x (by_ticket es) (all-by_ticket (IsBefore g e) es h.0) ∙ ap (put (e.0, reply_to g x e.1)) (told-by_ticket g (next_state g x e.1) es h.1)
+
+pub fold-by_ticket : (g : Geometry) (x : State) (es : List (ℕ × Msg)) → KeepsOrder g es → fold g x (messages (by_ticket es)) ≡ fold g x (messages es)
+fold-by_ticket g x [] h = refl
+fold-by_ticket g x (e ∷ es) h = fold-put g e x (by_ticket es) (all-by_ticket (IsBefore g e) es h.0) ∙ fold-by_ticket g (next_state g x e.1) es h.1
+
+pub same_by_ticket : (g : Geometry) (x : State) (es : List (ℕ × Msg)) → KeepsOrder g es → SameByTicket g x es
+same_by_ticket g x es h = record { told = told-by_ticket g x es h; state = fold-by_ticket g x es h }

@@ -1,0 +1,98 @@
+-- The orders of the keys, and the tests that pick them.
+use Rattle.std.proofs.Common.{◌≡◌, ℕ, Bool, true, false, cond, Some, None, refl, ap, sym, ◌∙◌}
+use Rattle.std.specs.Prelude.{◌&&◌, ◌||◌, ◌==◌, not}
+use Rattle.std.specs.Ordering.{ordering_then, is_eq}
+use Rattle.std.specs.declared.cmp.Ordering.{Ordering}
+use Rattle.std.specs.declared.cmp.Ordering.TheVariants.{Less, Equal, Greater}
+use Rattle.std.specs.Cmp.{unsigned_tied}
+use Rattle.std.specs.BTreeMap.{is_at}
+use Rattle.std.proofs.lemmas.Bool.{and_parts, eqb-true, eq-eqb, false_from_ne_true}
+use Rattle.meaning.specs.State.{VolumeKey, FileKey, BlockKey, Set, Map, adding, dropping, setting, clearing, is_volume, is_file, is_block}
+use Rattle.meaning.specs.KeyOrders.{volume_order, by_file, by_block}
+
+then_eq : (r s : Ordering) → is_eq (ordering_then r s) ≡ (is_eq r && is_eq s)
+then_eq Less s = refl
+then_eq Equal s = refl
+then_eq Greater s = refl
+
+-- ---- a key ties in its order with the keys that its test picks
+
+pub at_volume : (a v : ℕ) (k : VolumeKey) → is_at (volume_order (a, v)) k ≡ is_volume a v k
+at_volume a v k = then_eq _ _ ∙ (λ i. unsigned_tied a k.0 i && unsigned_tied v k.1 i)
+
+pub at_file : (a v f : ℕ) (k : FileKey) → is_at (by_file (a, v, f)) k ≡ is_file a v f k
+at_file a v f k = then_eq _ _ ∙ (λ i. at_volume a v (k.0, k.1) i && unsigned_tied f k.2 i)
+
+pub at_block : (a v f b : ℕ) (k : BlockKey) → is_at (by_block (a, v, f, b)) k ≡ is_block a v f b k
+at_block a v f b k = then_eq _ _ ∙ (λ i. at_file a v f (k.0, k.1, k.2) i && unsigned_tied b k.3 i)
+
+-- ---- a test picks one key
+
+pub the_volume : (a v : ℕ) (k : VolumeKey) → is_volume a v k ≡ true → (a, v) ≡ k
+the_volume a v k e = let p = and_parts (a == k.0) (v == k.1) e in λ i. (eqb-true a k.0 p.0 i, eqb-true v k.1 p.1 i)
+
+pub the_file : (a v f : ℕ) (k : FileKey) → is_file a v f k ≡ true → (a, v, f) ≡ k
+the_file a v f k e =
+    let p = and_parts ((a == k.0) && (v == k.1)) (f == k.2) e in
+    let q = the_volume a v (k.0, k.1) p.0 in
+    λ i. ((q i).0, (q i).1, eqb-true f k.2 p.1 i)
+
+pub the_block : (a v f b : ℕ) (k : BlockKey) → is_block a v f b k ≡ true → (a, v, f, b) ≡ k
+the_block a v f b k e =
+    let p = and_parts ((a == k.0) && (v == k.1) && (f == k.2)) (b == k.3) e in
+    let q = the_file a v f (k.0, k.1, k.2) p.0 in
+    λ i. ((q i).0, (q i).1, (q i).2, eqb-true b k.3 p.1 i)
+
+pub itself : (n : ℕ) → (n == n) ≡ true
+itself n = eq-eqb n n refl
+
+pub picks_volume : (a v : ℕ) → is_volume a v (a, v) ≡ true
+picks_volume a v = λ i. itself a i && itself v i
+
+pub picks_file : (a v f : ℕ) → is_file a v f (a, v, f) ≡ true
+picks_file a v f = λ i. picks_volume a v i && itself f i
+
+pub picks_block : (a v f b : ℕ) → is_block a v f b (a, v, f, b) ≡ true
+picks_block a v f b = λ i. picks_file a v f i && itself b i
+
+pub other_file : (a v f : ℕ) (a' v' f' b b' : ℕ) → (f' ≡ f → ⊥) → is_block a v f b (a', v', f', b') ≡ false
+other_file a v f a' v' f' b b' ne = false_from_ne_true _ (λ e. ne (ap (λ k. k.2) (sym (the_block a v f b (a', v', f', b') e))))
+
+pub other_place : (a v f : ℕ) (a' v' f' b b' : ℕ) → (b' ≡ b → ⊥) → is_block a v f b (a', v', f', b') ≡ false
+other_place a v f a' v' f' b b' ne = false_from_ne_true _ (λ e. ne (ap (λ k. k.3) (sym (the_block a v f b (a', v', f', b') e))))
+
+-- ---- what answers as an insert says is the set or map with the key
+
+or_cond : (b c : Bool) → cond b true c ≡ (b || c)
+or_cond true c = refl
+or_cond false c = refl
+
+pub and_cond : (b c : Bool) → cond b false c ≡ (not b && c)
+and_cond true c = refl
+and_cond false c = refl
+
+pub one_volume : (s t : Set VolumeKey) (a v : ℕ) → ((k : VolumeKey) → t k ≡ cond (is_at (volume_order (a, v)) k) true (s k)) → t ≡ adding (is_volume a v) s
+one_volume s t a v h i k = (h k ∙ ap (λ b. cond b true (s k)) (at_volume a v k) ∙ or_cond (is_volume a v k) (s k)) i
+
+pub no_volume : (s t : Set VolumeKey) (a v : ℕ) → ((k : VolumeKey) → t k ≡ cond (is_at (volume_order (a, v)) k) false (s k)) → t ≡ dropping (is_volume a v) s
+no_volume s t a v h i k = (h k ∙ ap (λ b. cond b false (s k)) (at_volume a v k) ∙ and_cond (is_volume a v k) (s k)) i
+
+pub one_file : (s t : Set FileKey) (a v f : ℕ) → ((k : FileKey) → t k ≡ cond (is_at (by_file (a, v, f)) k) true (s k)) → t ≡ adding (is_file a v f) s
+one_file s t a v f h i k = (h k ∙ ap (λ b. cond b true (s k)) (at_file a v f k) ∙ or_cond (is_file a v f k) (s k)) i
+
+pub no_block : {X : Type 0} (m n : Map BlockKey X) (a v f b : ℕ) → ((k : BlockKey) → n k ≡ cond (is_at (by_block (a, v, f, b)) k) None (m k)) → n ≡ clearing (is_block a v f b) m
+no_block m n a v f b h i k = (h k ∙ ap (λ t. cond t None (m k)) (at_block a v f b k)) i
+
+pub one_block : {X : Type 0} (m n : Map BlockKey X) (a v f b : ℕ) (value : X) → ((k : BlockKey) → n k ≡ cond (is_at (by_block (a, v, f, b)) k) (Some value) (m k)) → n ≡ setting (is_block a v f b) value m
+one_block m n a v f b value h i k = (h k ∙ ap (λ t. cond t (Some value) (m k)) (at_block a v f b k)) i
+
+-- a new key that is taken out again leaves the set that was
+pub volume_taken_back : (s t u : Set VolumeKey) (a v : ℕ) → t ≡ adding (is_volume a v) s → u ≡ dropping (is_volume a v) t → s (a, v) ≡ false → u ≡ s
+volume_taken_back s t u a v added dropped absent i k = at k i
+  where
+    at : (k : VolumeKey) → u k ≡ s k
+    at k = ap (λ r. r k) dropped ∙ ap (λ r. not (is_volume a v k) && r k) added
+        ∙ elim (is_volume a v k) as (λ p. is_volume a v k ≡ p → (not p && (p || s k)) ≡ s k) [
+          | true ↦ λ is. sym absent ∙ ap s (the_volume a v k is)
+          | false ↦ λ e. refl
+        ] refl

@@ -1,0 +1,19 @@
+-- Sums and counts, states that agree, what a step keeps, reads and changes, orders by ticket.
+pub mod Sums
+pub mod Counts
+pub mod Agree
+pub mod ShareLaws
+pub mod Kept
+pub mod Frame
+pub mod ByTicket
+pub mod Unchanged
+-- Lines and their output, and lines taken.
+pub mod LineLemmas
+pub mod OutputLemmas
+pub mod Taking
+-- For the serial server: the keys of ordered maps, and the tests by kind.
+pub mod Keys
+pub mod ByKind
+-- For this crate.
+mod Effects
+mod Examples

@@ -1,0 +1,5 @@
+use Rattle.meaning.proofs.Frame.{commute}
+use Rattle.meaning.proofs.laws.unrelated_steps_commute.Goals as goal
+
+pub returns : goal.returns
+returns c = commute

@@ -1,0 +1,13 @@
+-- The orders of the keys: by aggregate, then volume, file and block. No public clause cites this module.
+use Rattle.std.specs.Ordering.{nat_cmp, ordering_then}
+use Rattle.std.specs.declared.cmp.Ordering.{Ordering}
+use Rattle.meaning.specs.State.{VolumeKey, FileKey, BlockKey}
+
+abbrev pub volume_order : VolumeKey → VolumeKey → Ordering
+volume_order x y = ordering_then (nat_cmp x.0 y.0) (nat_cmp x.1 y.1)
+
+abbrev pub by_file : FileKey → FileKey → Ordering
+by_file x y = ordering_then (volume_order (x.0, x.1) (y.0, y.1)) (nat_cmp x.2 y.2)
+
+abbrev pub by_block : BlockKey → BlockKey → Ordering
+by_block x y = ordering_then (by_file (x.0, x.1, x.2) (y.0, y.1, y.2)) (nat_cmp x.3 y.3)

@@ -1,0 +1,10 @@
+pub mod State
+pub mod Serial
+pub mod Shares
+pub mod Order
+pub mod Laws
+pub mod Output
+pub mod ByKind
+pub mod Removals
+pub mod Progress
+pub mod KeyOrders

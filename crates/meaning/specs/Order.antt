@@ -1,0 +1,37 @@
+-- Messages with tickets: what each is told, and their order by ticket.
+use Rattle.std.specs.Prelude.{◌≡◌, ℕ, ◌<◌, true, nat_lt, List, [], ◌∷◌, map, if◌then◌else◌}
+use Rattle.std.specs.List.{AllByRecursion}
+use Rattle.affinity.specs.declared.geometry.Geometry.{Geometry}
+use Rattle.affinity.specs.Path.{are_related}
+use Rattle.message.specs.declared.Msg.{Msg}
+use Rattle.message.specs.declared.Reply.{Reply}
+use Rattle.message.specs.Messages.{place}
+use Rattle.meaning.specs.State.{State}
+use Rattle.meaning.specs.Serial.{reply_to, next_state}
+
+-- each ticket with the reply to its message, where the messages run in this order
+abbrev pub told : Geometry → State → List (ℕ × Msg) → List (ℕ × Reply)
+told g x [] = []
+told g x (e ∷ es) = (e.0, reply_to g x e.1) ∷ told g (next_state g x e.1) es
+
+abbrev pub messages : List (ℕ × Msg) → List Msg
+messages es = map (λ e. e.1) es
+
+-- in front of the first one with a greater ticket
+abbrev pub put : {A : Type 0} → ℕ × A → List (ℕ × A) → List (ℕ × A)
+put e [] = e ∷ []
+put e (d ∷ ds) = if nat_lt e.0 d.0 then e ∷ d ∷ ds else d ∷ put e ds
+
+-- the same in order of their tickets
+abbrev pub by_ticket : {A : Type 0} → List (ℕ × A) → List (ℕ × A)
+by_ticket [] = []
+by_ticket (e ∷ es) = put e (by_ticket es)
+
+-- two messages at related places have their tickets in order
+abbrev pub IsBefore : Geometry → ℕ × Msg → ℕ × Msg → Type 0
+IsBefore g e d = are_related (place g e.1) (place g d.1) ≡ true → e.0 < d.0
+
+-- Of messages at related places the one with the smaller ticket comes first.
+abbrev pub KeepsOrder : Geometry → List (ℕ × Msg) → Type 0
+KeepsOrder g [] = Unit {0}
+KeepsOrder g (e ∷ es) = AllByRecursion (IsBefore g e) es × KeepsOrder g es

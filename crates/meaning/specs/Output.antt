@@ -1,0 +1,69 @@
+-- The output of a serial server, from any state on: one line for each line of the input. A server that runs messages at once is to write
+-- the same.
+use Rattle.std.specs.Prelude.{◌≡◌, ◌≢◌, ℕ, List, [], ◌∷◌, ◌++◌, take, Option, Some, None}
+use Rattle.std.specs.Io.KnownBytes.{Appends}
+use Rattle.std.specs.List.{flat_map, AllByRecursion}
+use Rattle.affinity.specs.declared.geometry.Geometry.{Geometry}
+use Rattle.message.specs.declared.Msg.{Msg}
+use Rattle.message.specs.Lines.{lines}
+use Rattle.message.specs.Grammar.{message_of}
+use Rattle.message.specs.Replies.{reply_line, no_message}
+use Rattle.meaning.specs.State.{State}
+use Rattle.meaning.specs.Serial.{reply_to, next_state}
+
+-- what a line is answered, and the state after it, by the message that it spells
+abbrev pub answer_line : Geometry → State → Option Msg → List ℕ
+answer_line g x None = no_message
+answer_line g x (Some m) = reply_line (reply_to g x m)
+
+abbrev pub state_after_line : Geometry → State → Option Msg → State
+state_after_line g x None = x
+state_after_line g x (Some m) = next_state g x m
+
+-- the lines that answer the lines of an input, from a state on
+abbrev pub output_lines : Geometry → State → List (List ℕ) → List (List ℕ)
+output_lines g x [] = []
+output_lines g x (line ∷ ls) = answer_line g x (message_of line) ∷ output_lines g (state_after_line g x (message_of line)) ls
+
+abbrev pub joined : List (List ℕ) → List ℕ
+joined pieces = flat_map (λ piece. piece) pieces
+
+-- all that the serial server writes for an input, from a state on
+abbrev pub serial_out : Geometry → State → List ℕ → List ℕ
+serial_out g x input = joined (output_lines g x (lines input))
+
+-- the state after all of some lines
+abbrev pub state_after_lines : Geometry → State → List (List ℕ) → State
+state_after_lines g x [] = x
+state_after_lines g x (line ∷ ls) = state_after_lines g (state_after_line g x (message_of line)) ls
+
+-- ---- what a server that began in a state has written when it ends
+
+-- each line with its newline
+abbrev pub with_newlines : List (List ℕ) → List ℕ
+with_newlines ls = flat_map (λ line. line ++ 10 ∷ []) ls
+
+-- none of the bytes is a newline
+abbrev pub HasNoNewline : List ℕ → Type 0
+HasNoNewline bytes = AllByRecursion (λ b. b ≢ 10) bytes
+
+-- What was taken of the input is some whole lines and a beginning of a further one, and this is what is left of it: just the whole lines
+-- were answered, from a state on.
+pub record AnswersWholeLines (g : Geometry) (start : State) (left : Option (List ℕ)) (input written : List ℕ) : Type 0 where
+  pub whole : List (List ℕ)
+  pub begun : List ℕ
+  pub rest : List ℕ
+  pub parts : input ≡ with_newlines whole ++ begun ++ rest
+  pub left_is : left ≡ Some rest
+  pub are_lines : AllByRecursion HasNoNewline whole
+  pub no_line : HasNoNewline begun
+  pub answered : written ≡ joined (output_lines g start whole)
+
+-- The first lines of the output from a state on were written, and no part of a further one.
+abbrev pub IsBeginning : Geometry → State → List ℕ → List ℕ → Type 0
+IsBeginning g start input written = (n : ℕ) × (written ≡ joined (take n (output_lines g start (lines input))))
+
+-- Where the input is known, what was written behind the old bytes is so.
+abbrev pub WritesOutput : Option (List ℕ) → Option (List ℕ) → Option (List ℕ) → (List ℕ → List ℕ → Type 0) → Type 0
+WritesOutput None old new P = Unit {0}
+WritesOutput (Some input) old new P = (written : List ℕ) × Appends old new written × P input written

@@ -1,0 +1,29 @@
+-- How far a session has come: the lines that it has taken of its input and answered, what is left of the input, and what was written. No
+-- public clause of this crate cites this module.
+use Rattle.std.specs.Prelude.{◌≡◌, ◌⊎◌, ℕ, Bool, true, List, ◌++◌, Option, Some, None}
+use Rattle.std.specs.List.{AllByRecursion}
+use Rattle.std.specs.Io.KnownBytes.{Appends}
+use Rattle.affinity.specs.declared.geometry.Geometry.{Geometry}
+use Rattle.message.specs.Lines.{lines}
+use Rattle.meaning.specs.State.{State}
+use Rattle.meaning.specs.Output.{state_after_lines, output_lines, joined, with_newlines, HasNoNewline}
+
+-- These lines were taken of the input and the rest is left of it, unless the input has ended.
+pub record AreTaken (input rest : List ℕ) (ended : Bool) (taken : List (List ℕ)) : Type 0 where
+  pub to_come : lines input ≡ taken ++ lines rest
+  pub are_lines : AllByRecursion HasNoNewline taken
+  pub whole : (ended ≡ true) ⊎ (input ≡ with_newlines taken ++ rest)
+
+-- the same of an input that may be unknown
+abbrev pub TakesLines : Option (List ℕ) → Option (List ℕ) → Bool → List (List ℕ) → Type 0
+TakesLines None left ended taken = Unit {0}
+TakesLines (Some input) left ended taken = (rest : List ℕ) × (left ≡ Some rest) × AreTaken input rest ended taken
+
+-- From a state on, a session has answered lines of its input behind what was written before. So much of the input is left, this is its
+-- state now, and this is what was written.
+pub record HasAnswered (g : Geometry) (start : State) (input left : Option (List ℕ)) (ended : Bool) (now : State)
+    (before written : Option (List ℕ)) : Type 0 where
+  pub answered : List (List ℕ)
+  pub taken : TakesLines input left ended answered
+  pub state : now ≡ state_after_lines g start answered
+  pub output : Appends before written (joined (output_lines g start answered))

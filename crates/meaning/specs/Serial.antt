@@ -1,0 +1,142 @@
+-- What each message means: its tests, its effect and its reply; and lists of messages, one after the other.
+use Rattle.std.specs.Prelude.{ℕ, ◌^◌, Bool, true, false, not, ◌||◌, ◌&&◌, nat_lt, List, [], ◌∷◌, find, replicate, unwrap_or, if◌then◌else◌, Option, Some, None, is_some}
+use Rattle.affinity.specs.declared.geometry.Geometry.{Geometry}
+use Rattle.affinity.specs.Geometry.{group}
+use Rattle.affinity.specs.Kind.{is_changing}
+use Rattle.message.specs.declared.Block.{Block}
+use Rattle.message.specs.declared.Msg.{Msg}
+use Rattle.message.specs.declared.Msg.TheVariants.{MakeVol, DropVol, Create, Delete, Seal, Unseal, Write, Punch, Read, List as ListFiles, Usage as AskUsage, Summary as AskSummary, SetLabel, Label as AskLabel}
+use Rattle.message.specs.declared.Refusal.{Refusal}
+use Rattle.message.specs.declared.Refusal.TheVariants.{Range, Volume, Exists, Sealed, File, Space}
+use Rattle.message.specs.declared.Reply.{Reply}
+use Rattle.message.specs.declared.Reply.TheVariants.{Done, Hole, Block as Found, Files, Usage, Summary, Refused, Label}
+use Rattle.message.specs.Messages.{kind, four_numbers, is_in_range}
+use Rattle.meaning.specs.State.{State, BlockKey, adding, dropping, setting, clearing, is_volume, is_file, is_block, is_file_of, is_block_of, is_block_of_file, sum_below, one_if, file_count, block_count, group_count, over_volumes}
+
+-- ---- the tests
+
+-- what four numbers are, in this order: an aggregate, a volume, a file and a block
+abbrev pub key_of : List ℕ → BlockKey
+key_of (a ∷ v ∷ f ∷ b ∷ []) = (a, v, f, b)
+key_of _ = (0, 0, 0, 0)
+
+-- what a message speaks of: its volume, its file and its block, where a number that it doesn't have is 0
+abbrev pub key : Msg → BlockKey
+key m = key_of (four_numbers m)
+
+-- the tests of each kind, in order
+abbrev pub tests : Msg → List Refusal
+tests (MakeVol a v) = Range ∷ Exists ∷ []
+tests (DropVol a v) = Range ∷ Volume ∷ Sealed ∷ []
+tests (Create a v f) = Range ∷ Volume ∷ Sealed ∷ Exists ∷ []
+tests (Delete a v f) = Range ∷ Volume ∷ Sealed ∷ File ∷ []
+tests (ListFiles a v) = Range ∷ Volume ∷ []
+tests (Seal a v) = Range ∷ Volume ∷ []
+tests (Unseal a v) = Range ∷ Volume ∷ []
+tests (AskUsage a v) = Range ∷ Volume ∷ []
+tests (Write a v f b content) = Range ∷ Volume ∷ Sealed ∷ File ∷ Space ∷ []
+tests (Punch a v f b) = Range ∷ Volume ∷ Sealed ∷ File ∷ []
+tests (Read a v f b) = Range ∷ Volume ∷ File ∷ []
+tests AskSummary = []
+tests (SetLabel a v bytes) = Range ∷ Volume ∷ Sealed ∷ []
+tests (AskLabel a v) = Range ∷ Volume ∷ []
+
+-- whether what the message makes is there already
+abbrev pub exists : State → Msg → Bool
+exists x (MakeVol a v) = x.made (a, v)
+exists x (Create a v f) = x.files (a, v, f)
+exists x _ = false
+
+-- whether the message passes a test
+abbrev pub passes : Geometry → State → Msg → Refusal → Bool
+passes g x m Range = is_in_range g m
+passes g x m Volume = let n = key m in x.made (n.0, n.1)
+passes g x m Exists = not (exists x m)
+passes g x m Sealed = let n = key m in not (x.sealed (n.0, n.1))
+passes g x m File = let n = key m in x.files (n.0, n.1, n.2)
+passes g x m Space = let n = key m in is_some (x.blocks n) || nat_lt (group_count g x n.0 n.1 (group g n.2 n.3)) g.quota
+
+-- the first test that fails
+abbrev pub refusal : Geometry → State → Msg → Option Refusal
+refusal g x m = find (λ test. not (passes g x m test)) (tests m)
+
+-- ---- the step
+
+-- the label of a volume to which none was given
+abbrev pub no_label : List ℕ
+no_label = replicate 32 0
+
+-- the state after a message that passes its tests
+abbrev pub effect : State → Msg → State
+effect x (MakeVol a v) = record x { made = adding (is_volume a v) x.made; labels = setting (is_volume a v) no_label x.labels }
+effect x (DropVol a v) = record {
+  made = dropping (is_volume a v) x.made;
+  sealed = dropping (is_volume a v) x.sealed;
+  files = dropping (is_file_of a v) x.files;
+  blocks = clearing (is_block_of a v) x.blocks;
+  labels = clearing (is_volume a v) x.labels;
+}
+effect x (Create a v f) = record x { files = adding (is_file a v f) x.files }
+effect x (Delete a v f) = record x { files = dropping (is_file a v f) x.files; blocks = clearing (is_block_of_file a v f) x.blocks }
+effect x (Seal a v) = record x { sealed = adding (is_volume a v) x.sealed }
+effect x (Unseal a v) = record x { sealed = dropping (is_volume a v) x.sealed }
+effect x (Write a v f b content) = record x { blocks = setting (is_block a v f b) content x.blocks }
+effect x (Punch a v f b) = record x { blocks = clearing (is_block a v f b) x.blocks }
+effect x (SetLabel a v bytes) = record x { labels = setting (is_volume a v) bytes x.labels }
+effect x (Read a v f b) = x
+effect x (ListFiles a v) = x
+effect x (AskUsage a v) = x
+effect x AskSummary = x
+effect x (AskLabel a v) = x
+
+abbrev pub block_reply : Option Block → Reply
+block_reply None = Hole
+block_reply (Some content) = Found content
+
+-- the number whose bits are the files of a volume
+abbrev pub file_bits : Geometry → State → ℕ → ℕ → ℕ
+file_bits g x a v = sum_below g.files (λ f. if x.files (a, v, f) then 2 ^ f else 0)
+
+-- the reply to a message that passes its tests
+abbrev pub accepted_reply : Geometry → State → Msg → Reply
+accepted_reply g x (Read a v f b) = block_reply (x.blocks (a, v, f, b))
+accepted_reply g x (ListFiles a v) = Files (file_bits g x a v)
+accepted_reply g x (AskUsage a v) = Usage (file_count g x a v) (block_count g x a v) (x.sealed (a, v))
+accepted_reply g x AskSummary = Summary (over_volumes g (λ a v. one_if (x.made (a, v)))) (over_volumes g (file_count g x))
+    (over_volumes g (block_count g x))
+accepted_reply g x (AskLabel a v) = Label (unwrap_or (x.labels (a, v)) no_label)
+accepted_reply g x _ = Done
+
+abbrev pub outcome : Option Refusal → Reply → State → State → Reply × State
+outcome None reply new old = (reply, new)
+outcome (Some why) reply new old = (Refused why, old)
+
+-- the reply and the new state: a refusal changes nothing
+abbrev pub step : Geometry → State → Msg → Reply × State
+step g x m = outcome (refusal g x m) (accepted_reply g x m) (effect x m) x
+
+abbrev pub reply_to : Geometry → State → Msg → Reply
+reply_to g x m = (step g x m).0
+
+abbrev pub next_state : Geometry → State → Msg → State
+next_state g x m = (step g x m).1
+
+-- ---- messages one after the other
+
+abbrev pub fold : Geometry → State → List Msg → State
+fold g x [] = x
+fold g x (m ∷ ms) = fold g (next_state g x m) ms
+
+abbrev pub replies : Geometry → State → List Msg → List Reply
+replies g x [] = []
+replies g x (m ∷ ms) = reply_to g x m ∷ replies g (next_state g x m) ms
+
+-- ---- which messages are logged
+
+abbrev pub is_done : Reply → Bool
+is_done Done = true
+is_done _ = false
+
+-- a changing message that was carried out
+abbrev pub is_loggable : Msg → Reply → Bool
+is_loggable m reply = is_changing (kind m) && is_done reply

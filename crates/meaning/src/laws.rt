@@ -1,0 +1,58 @@
+//! What holds of every server, whatever state it is in: laws of the definitions alone. No function
+//! here does anything; its contract is the law.
+
+ghost use Rattle.std.specs.Prelude.{◌≡◌, ℕ, true, false, List, Some, IsPermutation};
+ghost use Rattle.std.specs.List.{AllByRecursion};
+ghost use Rattle.affinity.specs.declared.geometry.Geometry.{Geometry};
+ghost use Rattle.affinity.specs.Path.{are_related};
+ghost use Rattle.message.specs.declared.Msg.{Msg};
+ghost use Rattle.message.specs.declared.Refusal.{Refusal};
+ghost use Rattle.message.specs.declared.Reply.TheVariants.{Refused};
+ghost use Rattle.message.specs.Messages.{place, IsMessage};
+ghost use Rattle.meaning.specs.State.{State, IsState, empty};
+ghost use Rattle.meaning.specs.Serial.{refusal, reply_to, next_state, fold, is_loggable};
+ghost use Rattle.meaning.specs.Shares.{AgreeOn, share, standing};
+ghost use Rattle.meaning.specs.Order.{by_ticket, KeepsOrder};
+ghost use Rattle.meaning.specs.Laws.{outside, RunAlike, Commute, SameByTicket, is_refused, logged, AreInOrder};
+
+/// Nothing is a state, and each message leads from a state to a state: all numbers stay in range,
+/// blocks and labels keep their lengths, and no stripe gets more blocks than its quota.
+pub fn step_keeps_state()
+    ensures nothing { (g : Geometry) → IsState g empty }
+    ensures step { (g : Geometry) (x : State) (m : Msg) → IsState g x → IsMessage m → IsState g (next_state g x m) }
+    ensures steps { (g : Geometry) (x : State) (ms : List Msg) → IsState g x → AllByRecursion IsMessage ms → IsState g (fold g x ms) }
+{}
+
+/// A message whose test fails is answered with that refusal, and a message that is answered with a
+/// refusal changes nothing.
+pub fn refusal_changes_nothing()
+    ensures refused { (g : Geometry) (x : State) (m : Msg) (why : Refusal) → refusal g x m ≡ Some why → reply_to g x m ≡ Refused why }
+    ensures unchanged { (g : Geometry) (x : State) (m : Msg) → is_refused (reply_to g x m) ≡ true → next_state g x m ≡ x }
+{}
+
+/// A message reads only what lies at its place, below it and above it, and changes only what lies
+/// at its place and below.
+pub fn step_reads_and_changes_only()
+    ensures reads { (g : Geometry) (x y : State) (m : Msg) → share g (place g m) x ≡ share g (place g m) y
+        → standing g (place g m) x ≡ standing g (place g m) y → RunAlike g x y m }
+    ensures changes { (g : Geometry) (x : State) (m : Msg) → AgreeOn g (outside (place g m)) (next_state g x m) x }
+{}
+
+/// Two messages at unrelated places may come in either order.
+pub fn unrelated_steps_commute()
+    ensures { (g : Geometry) (x : State) (m n : Msg) → are_related (place g m) (place g n) ≡ false → Commute g x m n }
+{}
+
+/// Where messages at related places run in the order of their tickets, each message gets the reply
+/// that it gets if all run in that order, and the state in the end is the same.
+pub fn order_by_ticket()
+    ensures in_order { (es : List (ℕ × Msg)) → AreInOrder (by_ticket es) }
+    ensures same_messages { (es : List (ℕ × Msg)) → IsPermutation es (by_ticket es) }
+    ensures same { (g : Geometry) (x : State) (es : List (ℕ × Msg)) → KeepsOrder g es → SameByTicket g x es }
+{}
+
+/// What isn't logged changes nothing, so the messages that are logged lead to the state of all.
+pub fn logged_messages_are_enough()
+    ensures unlogged { (g : Geometry) (x : State) (m : Msg) → is_loggable m (reply_to g x m) ≡ false → next_state g x m ≡ x }
+    ensures logged { (g : Geometry) (x : State) (ms : List Msg) → fold g x (logged g x ms) ≡ fold g x ms }
+{}

@@ -1,0 +1,33 @@
+//! The tests of each kind of message.
+
+ghost use Rattle.std.specs.Prelude.{◌≡◌};
+ghost use Rattle.meaning.specs.Serial.{tests};
+ghost use Rattle.meaning.specs.ByKind.{tests_by};
+
+use affinity::Kind;
+use message::Refusal::{Exists, File, Range, Sealed, Space, Volume};
+use message::{Msg, Refusal};
+
+/// The tests of a message, in order. Each is named by the refusal where it fails. The first that
+/// fails gives the reply.
+pub fn tests_of(m: &Msg) -> &'static [Refusal]
+    ensures { result.now ≡ tests m.now }
+{
+    tests_by(m.kind())
+}
+
+/// The tests of the messages of a kind, in order.
+pub(crate) fn tests_by(kind: Kind) -> &'static [Refusal]
+    ensures { result.now ≡ tests_by kind }
+{
+    match kind {
+        Kind::Summary => &[],
+        Kind::MakeVol => &[Range, Exists],
+        Kind::DropVol | Kind::SetLabel => &[Range, Volume, Sealed],
+        Kind::Create => &[Range, Volume, Sealed, Exists],
+        Kind::Delete | Kind::Punch => &[Range, Volume, Sealed, File],
+        Kind::Write => &[Range, Volume, Sealed, File, Space],
+        Kind::Read => &[Range, Volume, File],
+        Kind::Seal | Kind::Unseal | Kind::List | Kind::Usage | Kind::Label => &[Range, Volume],
+    }
+}

@@ -1,5 +1,0 @@
-use Rattle.plain.proofs.Unchanged.{fold_logged}
-use Rattle.plain.proofs.laws.logged_messages_are_enough.Goals as goal
-
-pub returns-clause-logged : goal.returns-clause-logged
-returns-clause-logged c = fold_logged
