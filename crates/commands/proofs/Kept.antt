@@ -5,8 +5,8 @@ use Rattle.checkpoint.proofs.Fine.{fine, head}
 use Rattle.disk.specs.Device.{Leaves, Medium}
 use Rattle.legal_runs.specs.Events.{loggable}
 use Rattle.legal_runs.specs.Runs.{went}
-use Rattle.machine.specs.Machine.{machine_of}
-use Rattle.machine.specs.Stages.{events_of}
+use Rattle.runs.specs.Machine.{machine_of}
+use Rattle.runs.specs.Stages.{events_of}
 use Rattle.meaning.specs.Serial.{fold}
 use Rattle.serving.proofs.Told.{holds_all, written_are_kept}
 use Rattle.serving.specs.Ends.{HasServed, settled_in}

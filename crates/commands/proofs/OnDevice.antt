@@ -9,7 +9,7 @@ use Rattle.disk.proofs.Leaves.{itself}
 use Rattle.disk.specs.Device.{AreBytes, Leaves, Medium}
 use Rattle.journal.specs.Opening.{OpeningLeaves}
 use Rattle.legal_runs.specs.Laws.{IsIdle}
-use Rattle.machine.specs.Stages.{Stage}
+use Rattle.runs.specs.Stages.{Stage}
 use Rattle.meaning.specs.Serial.{fold}
 use Rattle.message.specs.declared.Msg.{Msg}
 use Rattle.scheduler.specs.Kept.{IsJustOpened, CoreView, StandsNow, world_of}

@@ -16,8 +16,8 @@ use Rattle.disk.specs.declared.torn.Torn.{Torn}
 use Rattle.journal.specs.Opening.{IsPastSync, OpeningLeaves, StandsAs}
 use Rattle.legal_runs.specs.Events.{loggable}
 use Rattle.legal_runs.specs.Runs.{went}
-use Rattle.machine.specs.Machine.{machine_of}
-use Rattle.machine.specs.Stages.{events_of}
+use Rattle.runs.specs.Machine.{machine_of}
+use Rattle.runs.specs.Stages.{events_of}
 use Rattle.meaning.specs.Output.{WritesOutput, serial_out}
 use Rattle.meaning.specs.Serial.{fold}
 use Rattle.meaning.specs.State.{State, empty}

@@ -14,9 +14,9 @@ use Rattle.disk.specs.declared.fault.FileFault.{FileFault}
 use Rattle.disk.specs.declared.torn.Torn.{Torn}
 use Rattle.journal.specs.Opening.{IsRefusedUnwritten, OpeningLeaves}
 use Rattle.legal_runs.specs.Lives.{Ran}
-use Rattle.machine.specs.Lives.{IsRunLife}
-use Rattle.machine.specs.Machine.{MachineView, machine_of}
-use Rattle.machine.specs.Stages.{Stage, device_after, events_of}
+use Rattle.runs.specs.Lives.{IsRunLife}
+use Rattle.runs.specs.Machine.{MachineView, machine_of}
+use Rattle.runs.specs.Stages.{Stage, device_after, events_of}
 use Rattle.message.specs.Lines.{lines}
 use Rattle.oplog.specs.Layout.{layout_of}
 use Rattle.oplog.specs.Stands.{in_force, named_area}

@@ -5,9 +5,9 @@ use Rattle.affinity.specs.declared.geometry.Geometry.{Geometry}
 use Rattle.legal_runs.specs.Events.{Empty, Hand}
 use Rattle.legal_runs.specs.Laws.{IsSoundWorld}
 use Rattle.legal_runs.specs.World.{World}
-use Rattle.machine.specs.Machine.{HoldsJobs, IsHandOf, hand_at, hand_of, ticket_in}
-use Rattle.machine.specs.declared.hands.Hand.{Hand as Holding}
-use Rattle.machine.specs.declared.hands.Hand.TheVariants as has
+use Rattle.runs.specs.Machine.{HoldsJobs, IsHandOf, hand_at, hand_of, ticket_in}
+use Rattle.runs.specs.declared.hands.Holding.{Holding}
+use Rattle.runs.specs.declared.hands.Holding.TheVariants as has
 
 empty_at : (n i : ℕ) → hand_at (replicate n has.Empty) i ≡ has.Empty
 empty_at zero zero = refl

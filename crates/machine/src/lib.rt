@@ -1,12 +1,12 @@
 //! A machine: the core of a server with a row of hands for the jobs that are out, that makes lists of steps.
 //!
-//! The steps and their outcomes are those of `legal_runs`, and what any list of them does is stated over its definitions.
-//! `laws` has what follows for a device over many lives.
+//! The steps and their outcomes are those of `legal_runs`, and what any list of them does is stated over the definitions of `runs`,
+//! whose `laws` say what follows for a device over many lives.
 #![tactic(auto)]
 
 mod hands;
-pub mod laws;
 mod machine;
 mod stepping;
 
 pub use machine::{Machine, MachineError};
+pub use runs::laws;

@@ -1,14 +1,14 @@
 //! The machine itself.
 ghost use Rattle.std.specs.Prelude.{◌≡◌, IfErr, IfOk, length, replicate};
 ghost use Rattle.legal_runs.specs.Events.{Empty};
-ghost use Rattle.machine.specs.Machine.{HasRun, machine_of};
-ghost use Rattle.machine.specs.declared.hands.Hand.TheVariants as has;
+ghost use Rattle.runs.specs.Machine.{HasRun, machine_of};
+ghost use Rattle.runs.specs.declared.hands.Holding.TheVariants as has;
 ghost use Rattle.scheduler.specs.Kept.{world_of};
 
-use crate::hands::Hand;
 use crate::stepping::make_step;
 use disk::Disk;
 use legal_runs::{Outcome, Step};
+use runs::Holding;
 use scheduler::Core;
 use std::alloc::{AllocError, Global};
 use std::marker::Model;
@@ -17,7 +17,7 @@ use std::marker::Model;
 #[derive(Drop)]
 pub struct Machine<D: Disk> {
     core: Core<D>,
-    hands: Vec<Hand>,
+    hands: Vec<Holding>,
 }
 
 /// There was no memory for the hands. The core is as it was.
@@ -27,7 +27,7 @@ pub struct MachineError<D: Disk> {
 }
 
 impl<D: Disk> Model for Machine<D> {
-    ghost use Rattle.machine.specs.Machine.{MachineView, HoldsJobs};
+    ghost use Rattle.runs.specs.Machine.{MachineView, HoldsJobs};
     ghost use Rattle.scheduler.specs.Kept.{world_of};
 
     ghost Value = { MachineView };
@@ -77,12 +77,12 @@ impl<D: Disk> Machine<D> {
 }
 
 // A row of empty hands.
-fn empty_hands(alloc: Global, count: usize) -> Result<Vec<Hand>, AllocError>
+fn empty_hands(alloc: Global, count: usize) -> Result<Vec<Holding>, AllocError>
     ensures { IfOk result (λ hands. hands.items ≡ replicate count has.Empty) }
 {
     let mut hands = Vec::with_capacity(alloc, count)?;
     for _ in 0..count {
-        hands.push(Hand::Empty)?;
+        hands.push(Holding::Empty)?;
     }
     Ok(hands)
 }

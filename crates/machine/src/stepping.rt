@@ -2,18 +2,19 @@
 ghost use Rattle.std.specs.Prelude.{◌≡◌, false};
 ghost use Rattle.legal_runs.specs.Events.{touches_device};
 ghost use Rattle.legal_runs.specs.declared.outcomes.Step.TheVariants as steps;
-ghost use Rattle.machine.specs.Machine.{HoldsJobs};
-ghost use Rattle.machine.specs.Steps.{IsCoreStep, IsMachineStep};
+ghost use Rattle.runs.specs.Machine.{HoldsJobs};
+ghost use Rattle.runs.specs.Steps.{IsCoreStep, IsMachineStep};
 ghost use Rattle.scheduler.specs.Kept.{world_of};
 
-use crate::hands::{Hand, first_empty, run_in, take_result};
+use crate::hands::{first_empty, run_in, take_result};
 use disk::Disk;
 use legal_runs::{Outcome, Step};
 use message::Msg;
+use runs::Holding;
 use scheduler::{Core, Granted};
 
 /// Makes one step, and tells what came of it.
-pub(crate) fn make_step<D: Disk>(core: &mut Core<D>, hands: &mut [Hand], step: &Step) -> Outcome
+pub(crate) fn make_step<D: Disk>(core: &mut Core<D>, hands: &mut [Holding], step: &Step) -> Outcome
     requires { HoldsJobs core.old.geometry (world_of core.old) hands.old }
     ensures step { IsMachineStep D.keeps (record { core = core.old; hands = hands.old })
         (record { core = core.new; hands = hands.new }) step.now result }
@@ -37,7 +38,7 @@ pub(crate) fn make_step<D: Disk>(core: &mut Core<D>, hands: &mut [Hand], step: &
 // ---- with the hands
 
 // Lets the eligible message with the least ticket go to the least empty hand.
-fn grant<D: Disk>(core: &mut Core<D>, hands: &mut [Hand]) -> Outcome
+fn grant<D: Disk>(core: &mut Core<D>, hands: &mut [Holding]) -> Outcome
     requires { HoldsJobs core.old.geometry (world_of core.old) hands.old }
     ensures step { IsMachineStep D.keeps (record { core = core.old; hands = hands.old })
         (record { core = core.new; hands = hands.new }) steps.Grant result }
@@ -51,7 +52,7 @@ fn grant<D: Disk>(core: &mut Core<D>, hands: &mut [Hand]) -> Outcome
     match core.grant() {
         Granted::Job(job) => {
             let ticket = job.ticket();
-            hands[hand] = Hand::Job(job);
+            hands[hand] = Holding::Job(job);
             Outcome::Granted(hand, ticket)
         }
         Granted::NoneEligible => Outcome::NoneEligible,
@@ -61,7 +62,7 @@ fn grant<D: Disk>(core: &mut Core<D>, hands: &mut [Hand]) -> Outcome
 }
 
 // Runs the job in a hand. The core is left alone.
-fn run_job<D: Disk>(core: &Core<D>, hands: &mut [Hand], hand: usize) -> Outcome
+fn run_job<D: Disk>(core: &Core<D>, hands: &mut [Holding], hand: usize) -> Outcome
     requires { HoldsJobs core.now.geometry (world_of core.now) hands.old }
     ensures step { IsMachineStep D.keeps (record { core = core.now; hands = hands.old })
         (record { core = core.now; hands = hands.new }) (steps.Run hand) result }
@@ -79,7 +80,7 @@ fn run_job<D: Disk>(core: &Core<D>, hands: &mut [Hand], hand: usize) -> Outcome
 }
 
 // Gives back the result in a hand.
-fn give_back<D: Disk>(core: &mut Core<D>, hands: &mut [Hand], hand: usize) -> Outcome
+fn give_back<D: Disk>(core: &mut Core<D>, hands: &mut [Holding], hand: usize) -> Outcome
     requires { HoldsJobs core.old.geometry (world_of core.old) hands.old }
     ensures step { IsMachineStep D.keeps (record { core = core.old; hands = hands.old })
         (record { core = core.new; hands = hands.new }) (steps.Back hand) result }

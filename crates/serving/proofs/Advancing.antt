@@ -5,7 +5,7 @@ use Rattle.std.proofs.lemmas.Bool.{true≢false}
 use Rattle.std.proofs.KnownBytes.{Appends-trans}
 use Rattle.std.specs.Io.KnownBytes.{Appends}
 use Rattle.std.specs.List.{AllByRecursion}
-use Rattle.machine.specs.Machine.{MachineView}
+use Rattle.runs.specs.Machine.{MachineView}
 use Rattle.serving.specs.Going.{Goes}
 use Rattle.serving.specs.Lines.{AreKnown, Line, is_answered, text}
 use Rattle.meaning.specs.Output.{joined}

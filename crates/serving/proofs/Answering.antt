@@ -11,10 +11,10 @@ use Rattle.legal_runs.specs.World.{Entry, Replied, World}
 use Rattle.legal_runs.specs.declared.outcomes.Outcome.{Outcome}
 use Rattle.legal_runs.specs.declared.outcomes.Outcome.TheVariants as outcomes
 use Rattle.legal_runs.specs.declared.outcomes.Step.TheVariants as steps
-use Rattle.machine.proofs.Events.{core_holds, core_step}
-use Rattle.machine.specs.Machine.{MachineView}
-use Rattle.machine.specs.Steps.{IsCoreStep}
-use Rattle.machine.specs.declared.hands.Hand.{Hand}
+use Rattle.runs.proofs.Events.{core_holds, core_step}
+use Rattle.runs.specs.Machine.{MachineView}
+use Rattle.runs.specs.Steps.{IsCoreStep}
+use Rattle.runs.specs.declared.hands.Holding.{Holding}
 use Rattle.message.specs.Grammar.{message_of}
 use Rattle.message.specs.declared.Msg.{Msg}
 use Rattle.message.specs.declared.Reply.{Reply}
@@ -118,7 +118,7 @@ IsAnswered keeps old new None = IsQuiet keeps old new
 IsAnswered keeps old new (Some told) = Holds new × Passes keeps old new [] (told ∷ [])
 
 pub is_answered_so : (keeps : Type 0) (old new : CoreView) (r : Option (ℕ × Reply)) → IsCoreStep keeps old new steps.Answer (answer_outcome r)
-    → (hands : List Hand) → Holds (record { core = old; hands = hands })
+    → (hands : List Holding) → Holds (record { core = old; hands = hands })
     → IsAnswered keeps (record { core = old; hands = hands }) (record { core = new; hands = hands }) r
 is_answered_so keeps old new None k hands h = core_is_quiet keeps old new steps.Answer outcomes.Idle k refl refl refl hands h
 is_answered_so keeps old new (Some a) k hands h =

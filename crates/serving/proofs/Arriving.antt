@@ -11,14 +11,14 @@ use Rattle.legal_runs.specs.declared.outcomes.ArriveRefusal.TheVariants as arriv
 use Rattle.legal_runs.specs.declared.outcomes.Outcome.{Outcome}
 use Rattle.legal_runs.specs.declared.outcomes.Outcome.TheVariants as outcomes
 use Rattle.legal_runs.specs.declared.outcomes.Step.TheVariants as steps
-use Rattle.machine.proofs.Events.{core_holds, core_step}
-use Rattle.machine.specs.Stages.{events_of}
-use Rattle.machine.specs.Steps.{IsCoreStep}
-use Rattle.machine.specs.declared.hands.Hand.{Hand}
+use Rattle.runs.proofs.Events.{core_holds, core_step}
+use Rattle.runs.specs.Stages.{events_of}
+use Rattle.runs.specs.Steps.{IsCoreStep}
+use Rattle.runs.specs.declared.hands.Holding.{Holding}
 use Rattle.message.specs.Messages.{is_in_range}
 use Rattle.scheduler.specs.Calls.{arrive_outcome as arrived_so}
 use Rattle.scheduler.specs.Kept.{CoreView, world_of}
-use Rattle.machine.specs.Machine.{MachineView}
+use Rattle.runs.specs.Machine.{MachineView}
 use Rattle.message.specs.Grammar.{message_of}
 use Rattle.message.specs.declared.Msg.{Msg}
 use Rattle.message.specs.declared.Reply.{Reply}
@@ -136,7 +136,7 @@ module _ (k : ℕ) (w x : World) where
   is_refused false true false true new e = let o : outcomes.ArriveRefused arrivals.Range ≡ outcomes.ArriveRefused arrivals.Full = ap (λ (z : Outcome × World). z.0) e in cc
   is_refused false true false false new e = let o : outcomes.ArriveRefused arrivals.Range ≡ outcomes.Ticket k = ap (λ (z : Outcome × World). z.0) e in cc
 
-module _ (keeps : Type 0) (old new : CoreView) (m : Msg) (hands : List Hand) (h : Holds (record { core = old; hands = hands })) where
+module _ (keeps : Type 0) (old new : CoreView) (m : Msg) (hands : List Holding) (h : Holds (record { core = old; hands = hands })) where
   abbrev was : MachineView
   was = record { core = old; hands = hands }
 

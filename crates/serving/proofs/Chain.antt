@@ -10,9 +10,9 @@ use Rattle.legal_runs.specs.Events.{Event, Hands}
 use Rattle.legal_runs.specs.Runs.{IsLegal, answered, arrived, last}
 use Rattle.legal_runs.specs.World.{Entry}
 use Rattle.message.specs.declared.Reply.{Reply}
-use Rattle.machine.proofs.Running.{after-append, safe-append}
-use Rattle.machine.specs.Machine.{MachineView, machine_of}
-use Rattle.machine.specs.Stages.{AreSafe, Stage, device_after, events_of}
+use Rattle.runs.proofs.Running.{after-append, safe-append}
+use Rattle.runs.specs.Machine.{MachineView, machine_of}
+use Rattle.runs.specs.Stages.{AreSafe, Stage, device_after, events_of}
 use Rattle.serving.specs.Runs.{Passes}
 
 -- how many of the events tell that the device failed

@@ -8,8 +8,8 @@ use Rattle.legal_runs.proofs.Full.{last_none_out}
 use Rattle.legal_runs.proofs.Idle.{idle_sound, none_out}
 use Rattle.legal_runs.specs.Events.{Hands}
 use Rattle.legal_runs.specs.Laws.{IsIdle, full}
-use Rattle.machine.specs.Machine.{MachineView, hand_of as hand_in, machine_of}
-use Rattle.machine.specs.Stages.{events_of}
+use Rattle.runs.specs.Machine.{MachineView, hand_of as hand_in, machine_of}
+use Rattle.runs.specs.Stages.{events_of}
 use Rattle.message.specs.Grammar.{message_of}
 use Rattle.message.specs.Messages.{is_in_range}
 use Rattle.message.specs.Reader.{GivesLine}

@@ -7,8 +7,8 @@ use Rattle.disk.specs.Device.{Leaves}
 use Rattle.legal_runs.specs.Events.{loggable}
 use Rattle.legal_runs.proofs.Lists.{all_join}
 use Rattle.legal_runs.specs.Runs.{answered, went}
-use Rattle.machine.specs.Machine.{machine_of}
-use Rattle.machine.specs.Stages.{events_of}
+use Rattle.runs.specs.Machine.{machine_of}
+use Rattle.runs.specs.Stages.{events_of}
 use Rattle.meaning.specs.Output.{joined}
 use Rattle.meaning.specs.Serial.{fold}
 use Rattle.scheduler.specs.Kept.{CoreView}

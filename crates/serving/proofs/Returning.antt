@@ -7,11 +7,11 @@ use Rattle.legal_runs.specs.Events.{give_back, out_with}
 use Rattle.legal_runs.specs.World.{Entry}
 use Rattle.legal_runs.specs.declared.outcomes.Outcome.TheVariants as outcomes
 use Rattle.legal_runs.specs.declared.outcomes.Step.TheVariants as steps
-use Rattle.machine.proofs.Events.{a_job, back_holds, back_step, was_result}
-use Rattle.machine.specs.Machine.{MachineView}
-use Rattle.machine.specs.Steps.{IsMachineStep}
-use Rattle.machine.specs.declared.hands.Hand.{Hand}
-use Rattle.machine.specs.declared.hands.Hand.TheVariants as has
+use Rattle.runs.proofs.Events.{a_job, back_holds, back_step, was_result}
+use Rattle.runs.specs.Machine.{MachineView}
+use Rattle.runs.specs.Steps.{IsMachineStep}
+use Rattle.runs.specs.declared.hands.Holding.{Holding}
+use Rattle.runs.specs.declared.hands.Holding.TheVariants as has
 use Rattle.parcel.specs.Run.{JobView, IsJobRun}
 use Rattle.parcel.specs.declared.job.Done.{Done}
 use Rattle.scheduler.specs.Jobs.{IsResultOf}
@@ -27,13 +27,13 @@ pub hands-set : (lent : List (Option JobView)) (k : ℕ) (o : Option JobView) �
 hands-set [] zero o = refl
 hands-set [] (suc k) o = refl
 hands-set (x ∷ lent) zero o = refl
-hands-set (x ∷ lent) (suc k) o = ap (λ (l : List Hand). lent_hand x ∷ l) (hands-set lent k o)
+hands-set (x ∷ lent) (suc k) o = ap (λ (l : List Holding). lent_hand x ∷ l) (hands-set lent k o)
 
-set-twice : (hands : List Hand) (k : ℕ) (a b : Hand) → set (set hands k a) k b ≡ set hands k b
+set-twice : (hands : List Holding) (k : ℕ) (a b : Holding) → set (set hands k a) k b ≡ set hands k b
 set-twice [] zero a b = refl
 set-twice [] (suc k) a b = refl
 set-twice (x ∷ hands) zero a b = refl
-set-twice (x ∷ hands) (suc k) a b = ap (λ (l : List Hand). x ∷ l) (set-twice hands k a b)
+set-twice (x ∷ hands) (suc k) a b = ap (λ (l : List Holding). x ∷ l) (set-twice hands k a b)
 
 read_at : {A : Type 0} (xs : List A) (k : ℕ) (d x : A) → k < length xs → get_or xs k d ≡ x → slice_get xs k ≡ Some x
 read_at xs k d x lt e = slice_get-get_or xs k d lt ∙ ap (λ (y : _). Some y) e
@@ -49,10 +49,10 @@ set-length (y ∷ xs) (suc k) x = ap suc (set-length xs k x)
 module _ (keeps : Type 0) (core : CoreView) (lent : List (Option JobView)) (none : core.failed ≡ false → core.doubt ≡ [])
     (stands : keeps → StandsNow core) (h : Holds (with_lent core lent)) (k : ℕ) (within : k < length lent) (job : JobView) (done : Done)
     (is : lent_at lent k ≡ Some job) (run : IsJobRun job done) where
-  abbrev hands : List Hand
+  abbrev hands : List Holding
   hands = map lent_hand lent
 
-  abbrev ran : List Hand
+  abbrev ran : List Holding
   ran = set hands k (has.Result done)
 
   job_there : slice_get hands k ≡ Some (has.Job job)
@@ -75,7 +75,7 @@ module _ (keeps : Type 0) (core : CoreView) (lent : List (Option JobView)) (none
   module _ (new : CoreView) (geometry : new.geometry ≡ core.geometry) (same : new.medium ≡ core.medium) (found : Entry × List Entry)
       (one_out : out_with (world_of core) done.ticket ≡ Some found) (told : found.0 ≡ (done.ticket, done.message))
       (world : world_of new ≡ give_back core.geometry (world_of core) found) where
-    abbrev at : List Hand → CoreView → MachineView
+    abbrev at : List Holding → CoreView → MachineView
     at l c = record { core = c; hands = l }
 
     emptied : set ran k has.Empty ≡ map lent_hand (set lent k None)
@@ -88,7 +88,7 @@ module _ (keeps : Type 0) (core : CoreView) (lent : List (Option JobView)) (none
         (back_step keeps core ran none stands moved.1 k done result_there new geometry same found one_out told world))
 
     pub gives_back : IsQuiet keeps (with_lent core lent) (with_lent new (set lent k None))
-    gives_back = subst (λ (l : List Hand). IsQuiet keeps (at hands core) (at l new)) emptied (record {
+    gives_back = subst (λ (l : List Holding). IsQuiet keeps (at hands core) (at l new)) emptied (record {
       holds = back_holds keeps core ran none stands moved.1 k done result_there new geometry same found one_out told world;
       passes = passes;
     })

@@ -12,11 +12,11 @@ use Rattle.legal_runs.specs.declared.outcomes.Outcome.{Outcome}
 use Rattle.legal_runs.specs.declared.outcomes.Outcome.TheVariants as outcomes
 use Rattle.legal_runs.specs.declared.outcomes.Step.TheVariants as steps
 use Rattle.legal_runs.specs.Runs.{answers}
-use Rattle.machine.proofs.Events.{failed_step, grant_holds, grant_step, no_grant_step, position_within, still_holds}
-use Rattle.machine.specs.Machine.{MachineView, hand_of as to_hand}
-use Rattle.machine.specs.Steps.{IsMachineStep}
-use Rattle.machine.specs.declared.hands.Hand.{Hand}
-use Rattle.machine.specs.declared.hands.Hand.TheVariants as has
+use Rattle.runs.proofs.Events.{failed_step, grant_holds, grant_step, no_grant_step, position_within, still_holds}
+use Rattle.runs.specs.Machine.{MachineView, hand_of as to_hand}
+use Rattle.runs.specs.Steps.{IsMachineStep}
+use Rattle.runs.specs.declared.hands.Holding.{Holding}
+use Rattle.runs.specs.declared.hands.Holding.TheVariants as has
 use Rattle.message.specs.declared.Reply.{Reply}
 use Rattle.parcel.specs.Run.{JobView}
 use Rattle.scheduler.specs.Calls.{IsGrantOf, IsGranted, IsNoGrant}
@@ -32,7 +32,7 @@ use Rattle.workers.specs.Rule.{lent_at}
 
 -- ---- the first place where nothing is lent is the least empty hand
 
-abbrev vacant : Hand → Bool
+abbrev vacant : Holding → Bool
 vacant h = is_empty (to_hand h)
 
 same_test : (o : Option JobView) → vacant (lent_hand o) ≡ is_none o
@@ -65,14 +65,14 @@ offered o P Q none h = subst (λ (o : Option JobView). MatchOption o P Q) none h
 module _ (keeps : Type 0) (old new : CoreView) (lent : List (Option JobView)) (none : old.failed ≡ false → old.doubt ≡ [])
     (stands : keeps → StandsNow old) (geometry : new.geometry ≡ old.geometry) (same : new.medium ≡ old.medium)
     (h : Holds (with_lent old lent)) (k : ℕ) (first : position is_none lent ≡ Some k) where
-  abbrev hands : List Hand
+  abbrev hands : List Holding
   hands = map lent_hand lent
 
   least : position vacant hands ≡ Some k
   least = first_place lent ∙ first
 
   -- a step that answers nothing
-  quiet : (after : List Hand) (outcome : Outcome) → answers outcome ≡ [] → Holds (record { core = new; hands = after })
+  quiet : (after : List Holding) (outcome : Outcome) → answers outcome ≡ [] → Holds (record { core = new; hands = after })
       → IsMachineStep keeps (record { core = old; hands = hands }) (record { core = new; hands = after }) steps.Grant outcome
       → IsQuiet keeps (with_lent old lent) (record { core = new; hands = after })
   quiet after outcome none_told holds step =
@@ -85,7 +85,7 @@ module _ (keeps : Type 0) (old new : CoreView) (lent : List (Option JobView)) (n
 
   goes_out : (job : JobView) → IsGrantOf old.geometry (world_of old) (world_of new) job
       → IsQuiet keeps (with_lent old lent) (with_lent new (set lent k (Some job)))
-  goes_out job g = subst (λ (l : List Hand). IsQuiet keeps (with_lent old lent) (record { core = new; hands = l })) (sym (hands-set lent k (Some job)))
+  goes_out job g = subst (λ (l : List Holding). IsQuiet keeps (with_lent old lent) (record { core = new; hands = l })) (sym (hands-set lent k (Some job)))
       (quiet (set hands k (has.Job job)) (outcomes.Granted k job.ticket) refl
       (grant_holds keeps old new hands none stands geometry same k least job g h (position_within hands k least))
       (grant_step keeps old new hands none stands geometry same k least job g))

@@ -6,7 +6,7 @@ use Rattle.std.proofs.lemmas.Bool.{true≢false}
 use Rattle.std.proofs.lemmas.List.Elements.{recursion_from_All}
 use Rattle.std.proofs.lemmas.Option.{none-some, same_Some}
 use Rattle.affinity.specs.declared.geometry.Geometry.{Geometry}
-use Rattle.machine.proofs.Running.{left_since_event}
+use Rattle.runs.proofs.Running.{left_since_event}
 use Rattle.legal_runs.proofs.Arrivals.{answered_by_ticket, arrived_by_ticket, settled_by_ticket}
 use Rattle.legal_runs.proofs.Idle.{idle_sound}
 use Rattle.legal_runs.proofs.Told.{IsIn}
@@ -30,8 +30,8 @@ use Rattle.scheduler.specs.Kept.{StandsNow, world_of}
 use Rattle.serving.specs.Ends.{AreFirst, AreServed, EndsSo, HasServed, IsWoundUp, settled_in}
 use Rattle.serving.specs.Going.{Goes, IsServing}
 use Rattle.serving.specs.Lines.{AreKnown, Line, asked, next_ticket, text, ticketed}
-use Rattle.machine.specs.Machine.{MachineView, machine_of}
-use Rattle.machine.specs.Stages.{events_of}
+use Rattle.runs.specs.Machine.{MachineView, machine_of}
+use Rattle.runs.specs.Stages.{events_of}
 use Rattle.serving.specs.declared.server.ServeFault.TheVariants as faults
 use Rattle.serving.proofs.Inside.{idle_again}
 use Rattle.serving.proofs.Serial.{AreTold, all_said, asked_leads_there, messages-ticketed, next_from, said_is_serial, told_earlier}

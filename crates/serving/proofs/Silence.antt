@@ -9,8 +9,8 @@ use Rattle.legal_runs.proofs.Elements.{in_contained}
 use Rattle.legal_runs.specs.Events.{Hands}
 use Rattle.legal_runs.specs.Runs.{answered, arrived}
 use Rattle.legal_runs.specs.World.{Entry}
-use Rattle.machine.specs.Machine.{machine_of}
-use Rattle.machine.specs.Stages.{events_of}
+use Rattle.runs.specs.Machine.{machine_of}
+use Rattle.runs.specs.Stages.{events_of}
 use Rattle.message.specs.Grammar.{message_of}
 use Rattle.message.specs.Replies.{no_message, reply_line}
 use Rattle.message.specs.declared.Msg.{Msg}

@@ -11,8 +11,8 @@ use Rattle.legal_runs.specs.World.{Entry, World}
 use Rattle.legal_runs.specs.declared.outcomes.ArriveRefusal.TheVariants as arrivals
 use Rattle.legal_runs.specs.declared.outcomes.Outcome.{Outcome}
 use Rattle.legal_runs.specs.declared.outcomes.Outcome.TheVariants as outcomes
-use Rattle.machine.specs.Machine.{MachineView, machine_of}
-use Rattle.machine.specs.Stages.{events_of}
+use Rattle.runs.specs.Machine.{MachineView, machine_of}
+use Rattle.runs.specs.Stages.{events_of}
 use Rattle.message.specs.Messages.{is_in_range}
 use Rattle.message.specs.declared.Msg.{Msg}
 use Rattle.message.specs.declared.Reply.{Reply}

@@ -3,8 +3,8 @@ use Rattle.std.proofs.Common.{◌≡◌, ℕ, zero, suc, false, List, [], Option
 use Rattle.std.specs.Io.KnownBytes.{Appends}
 use Rattle.std.proofs.lemmas.Option.{none-some}
 use Rattle.legal_runs.specs.Laws.{IsSoundWorld}
-use Rattle.machine.specs.Machine.{MachineView, IsHandOf, hand_at, ticket_in}
-use Rattle.machine.specs.declared.hands.Hand.TheVariants as has
+use Rattle.runs.specs.Machine.{MachineView, IsHandOf, hand_at, ticket_in}
+use Rattle.runs.specs.declared.hands.Holding.TheVariants as has
 use Rattle.meaning.specs.Progress.{TakesLines}
 use Rattle.scheduler.specs.Kept.{CoreView, world_of}
 use Rattle.serving.specs.Going.{Goes}

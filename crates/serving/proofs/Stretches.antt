@@ -14,10 +14,10 @@ use Rattle.legal_runs.specs.declared.outcomes.Outcome.TheVariants as outcomes
 use Rattle.legal_runs.specs.declared.outcomes.PointRefusal.{PointRefusal}
 use Rattle.legal_runs.specs.declared.outcomes.Step.{Step}
 use Rattle.legal_runs.specs.declared.outcomes.Step.TheVariants as steps
-use Rattle.machine.proofs.Events.{core_holds, core_step}
-use Rattle.machine.specs.Machine.{MachineView, machine_of}
-use Rattle.machine.specs.Steps.{IsCoreStep, IsMachineStep}
-use Rattle.machine.specs.declared.hands.Hand.{Hand}
+use Rattle.runs.proofs.Events.{core_holds, core_step}
+use Rattle.runs.specs.Machine.{MachineView, machine_of}
+use Rattle.runs.specs.Steps.{IsCoreStep, IsMachineStep}
+use Rattle.runs.specs.declared.hands.Holding.{Holding}
 use Rattle.message.specs.declared.Reply.{Reply}
 use Rattle.scheduler.specs.Calls.{CountsFailure, IsCalled, IsLogStep, log_rose, log_outcome, point_rose, step_outcome}
 use Rattle.scheduler.specs.Kept.{CoreView, StandsThroughout, world_of}
@@ -83,7 +83,7 @@ still_failed keeps old new come told p failed =
 
 -- A step of the core alone, in which nothing arrives or is answered, and nothing goes out or comes back.
 pub core_is_quiet : (keeps : Type 0) (old new : CoreView) (step : Step) (outcome : Outcome) → IsCoreStep keeps old new step outcome
-    → moves_what_is_out step ≡ false → arrives step outcome ≡ [] → answers outcome ≡ [] → (hands : List Hand)
+    → moves_what_is_out step ≡ false → arrives step outcome ≡ [] → answers outcome ≡ [] → (hands : List Holding)
     → Holds (record { core = old; hands = hands }) → IsQuiet keeps (record { core = old; hands = hands }) (record { core = new; hands = hands })
 core_is_quiet keeps old new step outcome k still none_come none_told hands h =
     let was : MachineView = record { core = old; hands = hands } in
@@ -104,7 +104,7 @@ no_answer_of_log (Err why) = refl
 pub log_is_quiet : (keeps : Type 0) (old new : CoreView) (n : ℕ) (r : Result ℕ CoreFault)
     → IsCalled old.geometry (world_of old) (world_of new) (steps.Log n) (log_outcome r) (log_rose r) → new.geometry ≡ old.geometry
     → CountsFailure (log_rose r) old.medium.faults new.medium.faults → (keeps → StandsThroughout (batch (world_of old) n) old new)
-    → (hands : List Hand) → Holds (record { core = old; hands = hands })
+    → (hands : List Holding) → Holds (record { core = old; hands = hands })
     → IsQuiet keeps (record { core = old; hands = hands }) (record { core = new; hands = hands })
 log_is_quiet keeps old new n r called geometry counts moments = core_is_quiet keeps old new (steps.Log n) (log_outcome r)
     (record { rose = log_rose r; called = called; geometry = geometry; failures = counts; any_moment = moments }) refl refl (no_answer_of_log r)
@@ -136,7 +136,7 @@ no_answer_of_point made none (Err why) = refl
 module _ (keeps : Type 0) (old new : CoreView) (geometry : new.geometry ≡ old.geometry) (moments : keeps → StandsThroughout [] old new) where
   abbrev IsStepOf : Step → Outcome → Bool → Type 0
   IsStepOf step outcome rose = IsCalled old.geometry (world_of old) (world_of new) step outcome rose → CountsFailure rose old.medium.faults new.medium.faults
-      → (hands : List Hand) → Holds (record { core = old; hands = hands })
+      → (hands : List Holding) → Holds (record { core = old; hands = hands })
       → IsQuiet keeps (record { core = old; hands = hands }) (record { core = new; hands = hands })
 
   pub point_is_quiet : (r : Result (Unit {0}) PointRefusal) → IsStepOf steps.Point (step_outcome (λ _. outcomes.Pointed) r) (point_rose r)

@@ -6,9 +6,9 @@ use Rattle.legal_runs.specs.Events.{arrive}
 use Rattle.legal_runs.specs.Laws.{IsIdle}
 use Rattle.legal_runs.specs.declared.outcomes.ArriveRefusal.{ArriveRefusal}
 use Rattle.legal_runs.specs.declared.outcomes.ArriveRefusal.TheVariants as arrivals
-use Rattle.machine.proofs.Events.{arrive_step}
-use Rattle.machine.specs.Machine.{MachineView}
-use Rattle.machine.specs.declared.hands.Hand.{Hand}
+use Rattle.runs.proofs.Events.{arrive_step}
+use Rattle.runs.specs.Machine.{MachineView}
+use Rattle.runs.specs.declared.hands.Holding.{Holding}
 use Rattle.message.specs.Grammar.{message_of}
 use Rattle.message.specs.Reader.{GivesLine, IsAtEndOf, IsClosed, PassesLine}
 use Rattle.message.specs.declared.Msg.{Msg}
@@ -29,7 +29,7 @@ takes_none keeps m h = record { holds = h; passes = stays keeps m; is_known = tt
 -- ---- a line that has come to the core
 
 module _ (keeps : Type 0) (old new : CoreView) (none : old.failed ≡ false → old.doubt ≡ []) (stands : keeps → StandsNow old)
-    (geometry : new.geometry ≡ old.geometry) (same : new.medium ≡ old.medium) (hands : List Hand) (h : Holds (record { core = old; hands = hands })) where
+    (geometry : new.geometry ≡ old.geometry) (same : new.medium ≡ old.medium) (hands : List Holding) (h : Holds (record { core = old; hands = hands })) where
   abbrev was : MachineView
   was = record { core = old; hands = hands }
 

@@ -5,8 +5,8 @@ use Rattle.legal_runs.proofs.Moves.{Answers, Arrives, Backs, Grants, Logs, Move,
 use Rattle.legal_runs.specs.Events.{Event, Hands}
 use Rattle.legal_runs.specs.Runs.{IsLegal, arrived, arrives, last}
 use Rattle.legal_runs.specs.World.{Entry, World}
-use Rattle.machine.specs.Machine.{MachineView, machine_of}
-use Rattle.machine.specs.Stages.{events_of}
+use Rattle.runs.specs.Machine.{MachineView, machine_of}
+use Rattle.runs.specs.Stages.{events_of}
 use Rattle.message.specs.declared.Msg.{Msg}
 use Rattle.message.specs.declared.Reply.{Reply}
 use Rattle.meaning.specs.Order.{messages}

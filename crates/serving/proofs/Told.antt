@@ -19,8 +19,8 @@ use Rattle.legal_runs.specs.Events.{Event, Hands, loggable}
 use Rattle.legal_runs.specs.Laws.{AreAscending, IsIdle, IsSerialLog, ticket_replies}
 use Rattle.legal_runs.specs.Runs.{answered, answered_messages, arrived, arrives, last, went}
 use Rattle.legal_runs.specs.World.{Entry, Replied, entry}
-use Rattle.machine.specs.Machine.{MachineView, machine_of}
-use Rattle.machine.specs.Stages.{Stage, StandsForRun, device_after, events_of}
+use Rattle.runs.specs.Machine.{MachineView, machine_of}
+use Rattle.runs.specs.Stages.{Stage, StandsForRun, device_after, events_of}
 use Rattle.message.specs.Grammar.{message_of}
 use Rattle.message.specs.declared.Msg.{Msg}
 use Rattle.message.specs.declared.Reply.{Reply}

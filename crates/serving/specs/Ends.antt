@@ -6,9 +6,9 @@ use Rattle.affinity.specs.declared.geometry.Geometry.{Geometry}
 use Rattle.disk.specs.Moments.{left_since, moment}
 use Rattle.legal_runs.specs.Laws.{IsIdle}
 use Rattle.legal_runs.specs.Runs.{IsLegal, answered, arrived, last}
-use Rattle.machine.specs.Machine.{MachineView, machine_of}
-use Rattle.machine.specs.Stages.{AreSafe, Stage, StandsForRun, device_after, events_of}
-use Rattle.machine.specs.declared.hands.Hand.{Hand}
+use Rattle.runs.specs.Machine.{MachineView, machine_of}
+use Rattle.runs.specs.Stages.{AreSafe, Stage, StandsForRun, device_after, events_of}
+use Rattle.runs.specs.declared.hands.Holding.{Holding}
 use Rattle.message.specs.Grammar.{message_of}
 use Rattle.message.specs.Lines.{lines}
 use Rattle.message.specs.Messages.{is_in_range}
@@ -56,7 +56,7 @@ pub record HasRunLines (keeps : Type 0) (start : MachineView) (new : CoreView)
     (input : Option (List ℕ)) (taken : List (List ℕ)) (stages : List Stage) : Type 0 where
   pub first : AreFirst input taken
   pub legal : IsLegal start.core.geometry (machine_of start) (events_of stages)
-  pub hands : List Hand
+  pub hands : List Holding
   pub ends : last (machine_of start) (events_of stages) ≡ machine_of (record { core = new; hands = hands })
   pub geometry : new.geometry ≡ start.core.geometry
   pub arrived_are : arrived (events_of stages) ≡ ticketed start.core.next (asked start.core.geometry taken)

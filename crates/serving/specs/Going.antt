@@ -2,7 +2,7 @@
 use Rattle.std.specs.Prelude.{◌≡◌, ℕ, Bool, true, List, ◌++◌, map, Option}
 use Rattle.std.specs.Io.KnownBytes.{Appends}
 use Rattle.std.specs.List.{AllByRecursion}
-use Rattle.machine.specs.Machine.{MachineView}
+use Rattle.runs.specs.Machine.{MachineView}
 use Rattle.message.specs.declared.Reply.{Reply}
 use Rattle.meaning.specs.Output.{joined}
 use Rattle.meaning.specs.Progress.{TakesLines}

@@ -2,10 +2,10 @@
 use Rattle.std.specs.Prelude.{◌≡◌, ◌+◌, ℕ, List, [], map, length, count_by, Option, Some, None}
 use Rattle.legal_runs.specs.Runs.{IsLegal, answered, arrived, last}
 use Rattle.legal_runs.specs.World.{Entry, World, held}
-use Rattle.machine.specs.Machine.{MachineView, HoldsJobs, machine_of}
-use Rattle.machine.specs.Stages.{AreSafe, Stage, device_after, events_of}
-use Rattle.machine.specs.declared.hands.Hand.{Hand}
-use Rattle.machine.specs.declared.hands.Hand.TheVariants as has
+use Rattle.runs.specs.Machine.{MachineView, HoldsJobs, machine_of}
+use Rattle.runs.specs.Stages.{AreSafe, Stage, device_after, events_of}
+use Rattle.runs.specs.declared.hands.Holding.{Holding}
+use Rattle.runs.specs.declared.hands.Holding.TheVariants as has
 use Rattle.message.specs.declared.Reply.{Reply}
 use Rattle.parcel.specs.Run.{JobView}
 use Rattle.scheduler.specs.Kept.{CoreView, world_of}
@@ -13,7 +13,7 @@ use Rattle.scheduler.specs.Kept.{CoreView, world_of}
 -- ---- the core and the places
 
 -- each place is a hand: empty where nothing is lent, and else with the job that is lent there
-abbrev pub lent_hand : Option JobView → Hand
+abbrev pub lent_hand : Option JobView → Holding
 lent_hand None = has.Empty
 lent_hand (Some job) = has.Job job
 

@@ -1,7 +1,7 @@
 -- What a server promises of its whole call, by the answer that it gives.
 use Rattle.std.specs.Prelude.{◌≡◌, ◌≢◌, ℕ, false, List, [], Option, Some, None, Result, Ok, Err, OnOk, replicate}
-use Rattle.machine.specs.Machine.{MachineView}
-use Rattle.machine.specs.Stages.{Stage}
+use Rattle.runs.specs.Machine.{MachineView}
+use Rattle.runs.specs.Stages.{Stage}
 use Rattle.message.specs.Lines.{lines}
 use Rattle.oplog.specs.Layout.{layout_of}
 use Rattle.oplog.specs.Stands.{in_force, named_area}

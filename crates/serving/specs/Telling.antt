@@ -6,7 +6,7 @@ use Rattle.checkpoint.specs.Header.{HasHeader}
 use Rattle.checkpoint.specs.Refusals.{refused}
 use Rattle.legal_runs.specs.Laws.{IsIdle}
 use Rattle.legal_runs.specs.World.{Replied}
-use Rattle.machine.specs.Machine.{MachineView}
+use Rattle.runs.specs.Machine.{MachineView}
 use Rattle.message.specs.Replies.{no_message, reply_line}
 use Rattle.message.specs.declared.Refusal.TheVariants.{Range}
 use Rattle.message.specs.declared.Reply.TheVariants.{Refused}

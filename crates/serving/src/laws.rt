@@ -31,8 +31,8 @@ ghost use Rattle.serving.specs.Restart.{StandsRecovered};
 ghost use Rattle.serving.specs.Told.{AreKept, HoldsLog};
 ghost use Rattle.serving.specs.Telling.{HoldsTold, MayTell, Start, TellsNoReply};
 ghost use Rattle.serving.specs.Lines.{AreKnown, Line, asked, is_answered, text, ticketed};
-ghost use Rattle.machine.specs.Machine.{MachineView, machine_of};
-ghost use Rattle.machine.specs.Stages.{Stage, device_after, events_of};
+ghost use Rattle.runs.specs.Machine.{MachineView, machine_of};
+ghost use Rattle.runs.specs.Stages.{Stage, device_after, events_of};
 ghost use Rattle.serving.specs.Runs.{Passes, inside};
 ghost use Rattle.serving.specs.declared.server.ServeFault.TheVariants as faults;
 

@@ -2,7 +2,7 @@
 
 ghost use Rattle.std.specs.Prelude.{◌≡◌, ◌<◌, ◌↔◌, ◌+◌, ◌++◌, List, [], ◌∷◌, IsTrue, None, OnErr, is_none, length};
 ghost use Rattle.message.specs.Grammar.{message_of};
-ghost use Rattle.machine.specs.declared.hands.Hand.{Hand};
+ghost use Rattle.runs.specs.declared.hands.Holding.{Holding};
 ghost use Rattle.serving.specs.Lines.{Unanswered};
 ghost use Rattle.serving.specs.Reads.{TakesLine};
 ghost use Rattle.line_row.specs.Rows.{AreConsecutive, with_tickets};
@@ -22,7 +22,7 @@ use std::io::Read;
 fn take<D: Disk>(core: &mut Core<D>, row: &mut LineRow, line: &[u8]) -> Result<(), Stop>
     requires room { length row.old.lines < row.old.slots }
     requires order { AreConsecutive (with_tickets row.old.lines ++ Unanswered core.old.next ∷ []) }
-    ensures takes { (hands : List Hand) → Holds (record { core = core.old; hands = hands })
+    ensures takes { (hands : List Holding) → Holds (record { core = core.old; hands = hands })
         → TakesLine D.keeps (record { core = core.old; hands = hands }) row.old.lines
         (record { core = core.new; hands = hands }) row.new.lines (message_of line.now) result }
     ensures slots { row.new.slots ≡ row.old.slots }

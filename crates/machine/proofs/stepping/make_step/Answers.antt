@@ -1,7 +1,7 @@
 -- The lemma on steps of the core.
 use Rattle.std.proofs.Common.{refl}
 use Rattle.legal_runs.specs.declared.outcomes.Step.TheVariants as steps
-use Rattle.machine.proofs.Events.{core_holds}
+use Rattle.runs.proofs.Events.{core_holds}
 use Rattle.machine.proofs.stepping.make_step.Goals as goal
 
 pub returns-in-Arrive-clause-holds : goal.returns-in-Arrive-clause-holds

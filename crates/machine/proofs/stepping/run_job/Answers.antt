@@ -1,7 +1,7 @@
 -- The lemmas on what is done in one hand.
 use Rattle.std.proofs.Common.{get_or}
 use Rattle.std.proofs.lemmas.Option.{slice_get-get_or}
-use Rattle.machine.proofs.Events.{a_job, no_job, run_nowhere}
+use Rattle.runs.proofs.Events.{a_job, no_job, run_nowhere}
 use Rattle.machine.proofs.stepping.run_job.Goals as goal
 
 pub returns-then-hand-hands-clause-step : goal.returns-then-hand-hands-clause-step

@@ -1,7 +1,7 @@
 use Rattle.std.proofs.Common.{List, map, ap, sym, subst, ◌∙◌}
 use Rattle.machine.proofs.Starting.{all_empty, empty_hold}
-use Rattle.machine.specs.Machine.{HoldsJobs, hand_of}
-use Rattle.machine.specs.declared.hands.Hand.{Hand as Holding}
+use Rattle.runs.specs.Machine.{HoldsJobs, hand_of}
+use Rattle.runs.specs.declared.hands.Holding.{Holding}
 use Rattle.scheduler.specs.Kept.{world_of}
 use Rattle.machine.proofs.machine.Machine.new.Goals as goal
 

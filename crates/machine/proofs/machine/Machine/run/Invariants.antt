@@ -1,6 +1,6 @@
 -- The steps so far had these outcomes, and the hands have what they are to have.
 use Rattle.std.proofs.Common.{take}
-use Rattle.machine.specs.Machine.{HasStages, HoldsJobs}
+use Rattle.runs.specs.Machine.{HasStages, HoldsJobs}
 use Rattle.scheduler.specs.Kept.{world_of}
 use Rattle.machine.proofs.machine.Machine.run.Given as goal
 

@@ -1,7 +1,7 @@
 -- The message is answered, and so is its line; and the session stays under way.
 use Rattle.std.proofs.Common.{◌≡◌, ◌+◌, ℕ, Option, ap, length, refl, subst}
 use Rattle.legal_runs.specs.Events.{answer}
-use Rattle.machine.proofs.Events.{answer_step}
+use Rattle.runs.proofs.Events.{answer_step}
 use Rattle.message.specs.declared.Reply.{Reply}
 use Rattle.scheduler.specs.Calls.{answer_outcome}
 use Rattle.scheduler.specs.Kept.{world_of}

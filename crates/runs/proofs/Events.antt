@@ -25,13 +25,13 @@ use Rattle.legal_runs.specs.declared.outcomes.Outcome.{Outcome}
 use Rattle.legal_runs.specs.declared.outcomes.Outcome.TheVariants as outcomes
 use Rattle.legal_runs.specs.declared.outcomes.Step.{Step}
 use Rattle.legal_runs.specs.declared.outcomes.Step.TheVariants as steps
-use Rattle.machine.proofs.Holding.{granted_is_fresh, granted_stays, hands_stay, holds_set, one_or_other, returned_stays}
-use Rattle.machine.proofs.Jobs.{job_ran}
-use Rattle.machine.specs.Hands.{IsRunIn, IsTakenFrom}
-use Rattle.machine.specs.Machine.{HoldsJobs, IsHandOf, hand_at, hand_of, machine_of, ticket_in}
-use Rattle.machine.specs.Steps.{IsCoreStep, IsMachineStep}
-use Rattle.machine.specs.declared.hands.Hand.{Hand as Holding}
-use Rattle.machine.specs.declared.hands.Hand.TheVariants as has
+use Rattle.runs.proofs.InHands.{granted_is_fresh, granted_stays, hands_stay, holds_set, one_or_other, returned_stays}
+use Rattle.runs.proofs.Jobs.{job_ran}
+use Rattle.runs.specs.Hands.{IsRunIn, IsTakenFrom}
+use Rattle.runs.specs.Machine.{HoldsJobs, IsHandOf, hand_at, hand_of, machine_of, ticket_in}
+use Rattle.runs.specs.Steps.{IsCoreStep, IsMachineStep}
+use Rattle.runs.specs.declared.hands.Holding.{Holding}
+use Rattle.runs.specs.declared.hands.Holding.TheVariants as has
 use Rattle.message.specs.declared.Msg.{Msg}
 use Rattle.message.specs.declared.Reply.{Reply}
 use Rattle.parcel.specs.Run.{JobView, IsJobRun}

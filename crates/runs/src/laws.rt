@@ -5,8 +5,8 @@ ghost use Rattle.disk.specs.Device.{Leaves};
 ghost use Rattle.legal_runs.specs.Events.{Event};
 ghost use Rattle.legal_runs.specs.Laws.{IsIdle, IsSoundWorld};
 ghost use Rattle.legal_runs.specs.Lives.{HoldsAnswered, Ran};
-ghost use Rattle.machine.specs.Machine.{MachineView, IsEndOfRun, machine_of};
-ghost use Rattle.machine.specs.Stages.{StandsForRun};
+ghost use Rattle.runs.specs.Machine.{MachineView, IsEndOfRun, machine_of};
+ghost use Rattle.runs.specs.Stages.{StandsForRun};
 ghost use Rattle.scheduler.specs.Kept.{CoreView, world_of};
 ghost use Rattle.affinity.specs.declared.geometry.Geometry.{Geometry};
 ghost use Rattle.checkpoint.specs.Header.{HasHeader};
@@ -14,7 +14,7 @@ ghost use Rattle.checkpoint.specs.Recovery.{holds};
 ghost use Rattle.checkpoint.specs.Refusals.{refused};
 ghost use Rattle.disk.specs.Device.{IsSynced, Medium};
 ghost use Rattle.disk.specs.Moments.{moment};
-ghost use Rattle.machine.specs.Lives.{DeviceLife, HasLives, HaveGeometry, LeftByLast, StandsForLives, lives_of};
+ghost use Rattle.runs.specs.Lives.{DeviceLife, HasLives, HaveGeometry, LeftByLast, StandsForLives, lives_of};
 ghost use Rattle.meaning.specs.State.{empty};
 
 /// A device is formatted. Then it has any number of lives, one after the other: in each it is opened, a machine makes a run of

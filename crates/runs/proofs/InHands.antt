@@ -14,10 +14,10 @@ use Rattle.legal_runs.specs.Eligible.{is_eligible, next_eligible}
 use Rattle.legal_runs.specs.Events.{give_back, grant, out_with}
 use Rattle.legal_runs.specs.Laws.{IsSoundWorld}
 use Rattle.legal_runs.specs.World.{Entry, World}
-use Rattle.machine.proofs.Jobs.{SeesSame, job_stays, result_stays}
-use Rattle.machine.specs.Machine.{HoldsJobs, IsHandOf, hand_at, ticket_in}
-use Rattle.machine.specs.declared.hands.Hand.{Hand as Holding}
-use Rattle.machine.specs.declared.hands.Hand.TheVariants as has
+use Rattle.runs.proofs.Jobs.{SeesSame, job_stays, result_stays}
+use Rattle.runs.specs.Machine.{HoldsJobs, IsHandOf, hand_at, ticket_in}
+use Rattle.runs.specs.declared.hands.Holding.{Holding}
+use Rattle.runs.specs.declared.hands.Holding.TheVariants as has
 use Rattle.message.specs.declared.Msg.{Msg}
 
 -- two numbers are one, or not

@@ -16,8 +16,8 @@ use Rattle.legal_runs.proofs.Living.{all_answered, life_of_run, next_life, no_li
 use Rattle.legal_runs.specs.Events.{Event, Hands}
 use Rattle.legal_runs.specs.Lives.{IsLeftByLives, Life, Ran, Unopened}
 use Rattle.legal_runs.specs.Runs.{IsLegal}
-use Rattle.machine.specs.Lives.{DeviceLife, HasLives, HaveGeometry, IsLifeOf, IsOfGeometry, IsPassedOn, IsRunLife, LeftByLast, StandsForLives, lives_of}
-use Rattle.machine.specs.Stages.{StandsForRun}
+use Rattle.runs.specs.Lives.{DeviceLife, HasLives, HaveGeometry, IsLifeOf, IsOfGeometry, IsPassedOn, IsRunLife, LeftByLast, StandsForLives, lives_of}
+use Rattle.runs.specs.Stages.{StandsForRun}
 use Rattle.meaning.specs.State.{State, empty}
 
 -- What a crash leaves while a device is opened, it might have left before, or it stands for the same.

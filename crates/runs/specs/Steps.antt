@@ -6,7 +6,7 @@ use Rattle.legal_runs.specs.Crash.{in_doubt, to_append}
 use Rattle.legal_runs.specs.Events.{IsAllowed}
 use Rattle.legal_runs.specs.declared.outcomes.Outcome.{Outcome}
 use Rattle.legal_runs.specs.declared.outcomes.Step.{Step}
-use Rattle.machine.specs.Machine.{MachineView, machine_of}
+use Rattle.runs.specs.Machine.{MachineView, machine_of}
 use Rattle.scheduler.specs.Calls.{CountsFailure, IsCalled}
 use Rattle.scheduler.specs.Kept.{CoreView, StandsThroughout, world_of}
 

@@ -9,9 +9,9 @@ use Rattle.legal_runs.specs.Runs.{IsLegal, IsRun, answered, arrived, last, went}
 use Rattle.legal_runs.specs.World.{World, entries, held}
 use Rattle.legal_runs.specs.declared.outcomes.Outcome.{Outcome}
 use Rattle.legal_runs.specs.declared.outcomes.Step.{Step}
-use Rattle.machine.specs.Stages.{Stage, AreSafe, StandsForRun, TouchAsTold, device_after, events_of}
-use Rattle.machine.specs.declared.hands.Hand.{Hand as Holding}
-use Rattle.machine.specs.declared.hands.Hand.TheVariants as has
+use Rattle.runs.specs.Stages.{Stage, AreSafe, StandsForRun, TouchAsTold, device_after, events_of}
+use Rattle.runs.specs.declared.hands.Holding.{Holding}
+use Rattle.runs.specs.declared.hands.Holding.TheVariants as has
 use Rattle.message.specs.declared.Reply.{Reply}
 use Rattle.meaning.specs.Order.{by_ticket, told}
 use Rattle.scheduler.specs.Jobs.{IsJobOf, IsResultOf}

@@ -21,14 +21,14 @@ use Rattle.legal_runs.specs.Runs.{IsLegal, IsRun, journal, last}
 use Rattle.legal_runs.specs.World.{held}
 use Rattle.legal_runs.specs.declared.outcomes.Outcome.{Outcome}
 use Rattle.legal_runs.specs.declared.outcomes.Step.{Step}
-use Rattle.machine.proofs.Events.{some_of}
-use Rattle.machine.specs.Machine.{MachineView, HasRun, HasStages, machine_of}
-use Rattle.machine.specs.Stages.{AreSafe, Stage, StandsForRun, TouchAsTold, device_after, events_of}
-use Rattle.machine.specs.Steps.{IsMachineStep}
+use Rattle.runs.proofs.Events.{some_of}
+use Rattle.runs.specs.Machine.{MachineView, HasRun, HasStages, machine_of}
+use Rattle.runs.specs.Stages.{AreSafe, Stage, StandsForRun, TouchAsTold, device_after, events_of}
+use Rattle.runs.specs.Steps.{IsMachineStep}
 use Rattle.message.specs.declared.Msg.{Msg}
 use Rattle.meaning.specs.Serial.{fold}
 use Rattle.scheduler.specs.Calls.{CountsFailure}
-use Rattle.machine.specs.declared.hands.Hand.{Hand as Holding}
+use Rattle.runs.specs.declared.hands.Holding.{Holding}
 use Rattle.scheduler.specs.Kept.{CoreView, StandsNow, world_of}
 
 -- ---- what a crash of a run leaves

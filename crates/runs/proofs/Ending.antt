@@ -11,11 +11,11 @@ use Rattle.legal_runs.specs.Events.{Event, Hands, loggable}
 use Rattle.legal_runs.specs.Laws.{IsIdle, IsSoundWorld}
 use Rattle.legal_runs.specs.Lives.{HoldsAnswered, Ran}
 use Rattle.legal_runs.specs.Runs.{IsLegal, last}
-use Rattle.machine.proofs.Events.{some_of}
-use Rattle.machine.proofs.Running.{StandsSince, stands_for_run}
-use Rattle.machine.specs.Machine.{MachineView, machine_of}
-use Rattle.machine.specs.Stages.{StandsForRun}
-use Rattle.machine.specs.declared.hands.Hand.{Hand as Holding}
+use Rattle.runs.proofs.Events.{some_of}
+use Rattle.runs.proofs.Running.{StandsSince, stands_for_run}
+use Rattle.runs.specs.Machine.{MachineView, machine_of}
+use Rattle.runs.specs.Stages.{StandsForRun}
+use Rattle.runs.specs.declared.hands.Holding.{Holding}
 use Rattle.scheduler.specs.Kept.{CoreView, StandsNow, world_of}
 
 module _ (start : MachineView) (new : CoreView) (hands : List Holding) (events : List Event)

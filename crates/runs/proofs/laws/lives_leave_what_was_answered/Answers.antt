@@ -1,6 +1,6 @@
 -- The lemmas on lives.
-use Rattle.machine.proofs.Living.{lives_agree, lives_open, lives_stand}
-use Rattle.machine.proofs.laws.lives_leave_what_was_answered.Goals as goal
+use Rattle.runs.proofs.Living.{lives_agree, lives_open, lives_stand}
+use Rattle.runs.proofs.laws.lives_leave_what_was_answered.Goals as goal
 
 pub returns-clause-geometry : goal.returns-clause-geometry
 returns-clause-geometry c = lives_agree

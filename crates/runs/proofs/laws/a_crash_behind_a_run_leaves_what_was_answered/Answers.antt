@@ -1,8 +1,8 @@
 -- The lemmas.
 use Rattle.legal_runs.proofs.Idle.{idle_sound}
-use Rattle.machine.proofs.Ending.{ended_so, holds_answered}
+use Rattle.runs.proofs.Ending.{ended_so, holds_answered}
 use Rattle.scheduler.specs.Kept.{world_of}
-use Rattle.machine.proofs.laws.a_crash_behind_a_run_leaves_what_was_answered.Goals as goal
+use Rattle.runs.proofs.laws.a_crash_behind_a_run_leaves_what_was_answered.Goals as goal
 
 pub returns-clause-run : goal.returns-clause-run
 returns-clause-run c = λ start events new b sound h left.

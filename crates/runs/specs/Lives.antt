@@ -11,7 +11,7 @@ use Rattle.legal_runs.specs.Events.{Event, Hands}
 use Rattle.legal_runs.specs.Laws.{IsIdle}
 use Rattle.legal_runs.specs.Lives.{AreLogsOf, HoldAnswered, Life, Ran, Unopened, in_order}
 use Rattle.legal_runs.specs.Runs.{IsLegal}
-use Rattle.machine.specs.Stages.{StandsForRun}
+use Rattle.runs.specs.Stages.{StandsForRun}
 use Rattle.message.specs.declared.Msg.{Msg}
 use Rattle.meaning.specs.Serial.{fold}
 use Rattle.meaning.specs.State.{empty}

@@ -1,0 +1,11 @@
+//! The hands of a machine, each of them empty, with a job or with what came of it.
+
+use parcel::{Done, Job};
+
+/// What a hand has.
+#[derive(Drop)]
+pub enum Holding {
+    Empty,
+    Job(Job),
+    Result(Done),
+}
