@@ -8,9 +8,9 @@ use Rattle.checkpoint.specs.declared.fault.OpenFault.TheVariants.{TooShort, BadV
 use Rattle.checkpoint.specs.Header.{header_of}
 use Rattle.checkpoint.specs.Recovery.{holds}
 use Rattle.checkpoint.specs.Refusals.{HasNoGeometry, IsUnformatted, refused}
-use Rattle.message.specs.declared.Reply.{Reply}
-use Rattle.message.specs.declared.Reply.TheVariants.{Summary}
-use Rattle.message.specs.declared.Msg.TheVariants.{Summary as AskSummary}
+use Rattle.messages.specs.declared.Reply.{Reply}
+use Rattle.messages.specs.declared.Reply.TheVariants.{Summary}
+use Rattle.messages.specs.declared.Msg.TheVariants.{Summary as AskSummary}
 use Rattle.message.specs.Records.{data_of, message_in_fields, kind_numbered}
 use Rattle.oplog.specs.Layout.{layout_of, device_size, image_size}
 use Rattle.meaning.specs.Serial.{reply_to}

@@ -11,10 +11,10 @@ use Rattle.checkpoint.specs.Loading.{IsFaultOfBytes, fault_of_log, record_fault}
 use Rattle.checkpoint.specs.Recovery.{apply, apply_said, is_record_there}
 use Rattle.checkpoint.specs.Refusals.{fault_if}
 use Rattle.disk.specs.Device.{AreBytes}
-use Rattle.message.specs.declared.Msg.{Msg}
-use Rattle.message.specs.declared.Reply.{Reply}
-use Rattle.message.specs.declared.Reply.TheVariants.{Done}
-use Rattle.message.specs.Messages.{IsMessage, is_in_range, kind}
+use Rattle.messages.specs.declared.Msg.{Msg}
+use Rattle.messages.specs.declared.Reply.{Reply}
+use Rattle.messages.specs.declared.Reply.TheVariants.{Done}
+use Rattle.messages.specs.Messages.{IsMessage, is_in_range, kind}
 use Rattle.message.specs.Records.{message_in_fields, record_of}
 use Rattle.message.proofs.RecordLemmas.{record_says}
 use Rattle.oplog.specs.declared.fault.LogFault.{LogFault}

@@ -15,7 +15,7 @@ use Rattle.checkpoint.specs.Refusals.{IsDevice, IsRefused, fault_if, fault_or_la
 use Rattle.checkpoint.specs.Shown.{IsLoaded, IsShown, ShowsLoaded}
 use Rattle.checkpoint.proofs.Replays.{fault_from}
 use Rattle.image.specs.Image.{has_head, read, version_in}
-use Rattle.message.specs.declared.Msg.TheVariants.{Summary}
+use Rattle.messages.specs.declared.Msg.TheVariants.{Summary}
 use Rattle.oplog.specs.Front.{chain, front}
 use Rattle.oplog.specs.Layout.{Layout, layout_of, device_size, header, image, other, part_bytes}
 use Rattle.oplog.specs.Stands.{in_force, is_laid_out, named_area, run}

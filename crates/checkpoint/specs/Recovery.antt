@@ -4,8 +4,8 @@ use Rattle.std.specs.Str.{bytes_eq}
 use Rattle.affinity.specs.declared.geometry.Geometry.{Geometry}
 use Rattle.checkpoint.specs.Header.{is_header}
 use Rattle.image.specs.Image.{read}
-use Rattle.message.specs.declared.Msg.{Msg}
-use Rattle.message.specs.Messages.{is_in_range}
+use Rattle.messages.specs.declared.Msg.{Msg}
+use Rattle.messages.specs.Messages.{is_in_range}
 use Rattle.message.specs.Records.{message_in_fields, record_of}
 use Rattle.oplog.specs.Layout.{layout_of}
 use Rattle.oplog.specs.Stands.{Meaning, stands}

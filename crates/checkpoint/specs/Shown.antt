@@ -6,7 +6,7 @@ use Rattle.checkpoint.specs.Header.{HasHeader}
 use Rattle.checkpoint.specs.Recovery.{holds}
 use Rattle.checkpoint.specs.Refusals.{refused}
 use Rattle.image.specs.Image.{version_in}
-use Rattle.message.specs.declared.Msg.TheVariants.{Summary}
+use Rattle.messages.specs.declared.Msg.TheVariants.{Summary}
 use Rattle.oplog.specs.Layout.{layout_of, image, part_bytes}
 use Rattle.oplog.specs.Stands.{in_force, named_area}
 use Rattle.parcel.specs.Tree.{state_in}

@@ -13,7 +13,7 @@ ghost use Rattle.parcel.specs.Tree.{IsWholeTree, state_in};
 use crate::OpenFault;
 use crate::stepping::step;
 use disk::Disk;
-use message::Reply;
+use messages::Reply;
 use oplog::Halves;
 use parcel::Tree;
 

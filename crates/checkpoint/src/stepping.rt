@@ -1,11 +1,12 @@
 //! Runs one message on a whole tree.
 ghost use Rattle.std.specs.Prelude.{◌≡◌, true};
-ghost use Rattle.message.specs.Messages.{is_in_range};
+ghost use Rattle.messages.specs.Messages.{is_in_range};
 ghost use Rattle.parcel.specs.Tree.{IsWholeTree, state_in};
 ghost use Rattle.meaning.specs.Serial.{next_state, reply_to};
 
 use affinity::place_of;
-use message::{Msg, Reply, know_message};
+use message::know_message;
+use messages::{Msg, Reply};
 use parcel::{Job, Tree, run};
 
 /// Runs a message that is in range on the whole tree, and gives its reply: the serial step of the tree's state. Nothing of

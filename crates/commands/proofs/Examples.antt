@@ -3,7 +3,7 @@ use Rattle.std.proofs.Common.{◌≡◌, ◌++◌, [], ◌∷◌, codes, refl}
 use Rattle.std.specs.Fmt.{digits}
 use Rattle.affinity.specs.Geometry.{small}
 use Rattle.checkpoint.specs.declared.inspecting.Shown.{Shown}
-use Rattle.message.specs.declared.Reply.TheVariants.{Summary}
+use Rattle.messages.specs.declared.Reply.TheVariants.{Summary}
 use Rattle.oplog.specs.Layout.{image_size}
 use Rattle.commands.specs.Lines.{formatted_line, shown_lines}
 

@@ -11,7 +11,7 @@ use Rattle.journal.specs.Opening.{OpeningLeaves}
 use Rattle.legal_runs.specs.Laws.{IsIdle}
 use Rattle.runs.specs.Stages.{Stage}
 use Rattle.meaning.specs.Serial.{fold}
-use Rattle.message.specs.declared.Msg.{Msg}
+use Rattle.messages.specs.declared.Msg.{Msg}
 use Rattle.scheduler.specs.Kept.{IsJustOpened, CoreView, StandsNow, world_of}
 use Rattle.serving.specs.Ends.{HasRunLines, settled_in}
 use Rattle.serving.specs.Serve.{HasEmptyLog, ServesSo}

@@ -17,7 +17,7 @@ use Rattle.legal_runs.specs.Lives.{Ran}
 use Rattle.runs.specs.Lives.{IsRunLife}
 use Rattle.runs.specs.Machine.{MachineView, machine_of}
 use Rattle.runs.specs.Stages.{Stage, device_after, events_of}
-use Rattle.message.specs.Lines.{lines}
+use Rattle.messages.specs.Lines.{lines}
 use Rattle.oplog.specs.Layout.{layout_of}
 use Rattle.oplog.specs.Stands.{in_force, named_area}
 use Rattle.meaning.specs.Output.{IsBeginning, WritesOutput}

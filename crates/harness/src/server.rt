@@ -9,7 +9,7 @@ use affinity::{Geometry, changing, place_of};
 use checkpoint::{OpenFault, device_len, format, step};
 use disk::{Disk, MemDisk};
 use journal::{Journal, open};
-use message::{Msg, Reply};
+use messages::{Msg, Reply};
 use parcel::Tree;
 use std::alloc::{AllocError, Global};
 

@@ -1,11 +1,11 @@
 -- Worked examples of the definitions, on a small server: one volume of two files of four blocks, in two stripes that hold two blocks each.
 use Rattle.std.proofs.Common.{◌≡◌, ℕ, ◌+◌, List, [], ◌∷◌, ◌++◌, length, take, drop, replicate, Bool, true, false, Option, Some, None, refl}
 use Rattle.affinity.specs.Geometry.{small, standard}
-use Rattle.message.specs.declared.Block.{Block}
-use Rattle.message.specs.declared.Msg.{Msg}
-use Rattle.message.specs.declared.Msg.TheVariants.{MakeVol, DropVol, Create, Delete, Seal, Unseal, Write, Punch, Read, List as ListFiles, Usage as AskUsage, Summary as AskSummary, SetLabel, Label as AskLabel}
-use Rattle.message.specs.declared.Reply.TheVariants.{Summary}
-use Rattle.message.specs.declared.Reply.{Reply}
+use Rattle.messages.specs.declared.Block.{Block}
+use Rattle.messages.specs.declared.Msg.{Msg}
+use Rattle.messages.specs.declared.Msg.TheVariants.{MakeVol, DropVol, Create, Delete, Seal, Unseal, Write, Punch, Read, List as ListFiles, Usage as AskUsage, Summary as AskSummary, SetLabel, Label as AskLabel}
+use Rattle.messages.specs.declared.Reply.TheVariants.{Summary}
+use Rattle.messages.specs.declared.Reply.{Reply}
 use Rattle.meaning.specs.Serial.{fold, reply_to}
 use Rattle.meaning.specs.State.{State, empty}
 use Rattle.image.specs.Pieces.{piece_of}

@@ -6,7 +6,7 @@ use Rattle.std.proofs.lemmas.Bool.{cases_lt, cases_eq, eq-eqb, ne_eqb}
 use Rattle.std.proofs.lemmas.Nat.{mod-pow-add}
 use Rattle.std.proofs.lemmas.Nat.Bits.{bit_at_above, bit_at-lt}
 use Rattle.std.proofs.Math.Nat.{pow-succ', mod-eq_of_lt}
-use Rattle.message.specs.Replies.{has_file}
+use Rattle.messages.specs.Replies.{has_file}
 use Rattle.meaning.specs.State.{sum_below}
 
 pub sum_bits : (n m : ℕ) → sum_below n (λ f. if has_file m f then 2 ^ f else 0) ≡ m % 2 ^ n

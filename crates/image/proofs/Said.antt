@@ -9,9 +9,9 @@ use Rattle.affinity.specs.Geometry.{group}
 use Rattle.affinity.specs.declared.geometry.Geometry.{Geometry}
 use Rattle.affinity.proofs.Placed.{group_below}
 use Rattle.byteorder.specs.Endian.{little_bytes, little_number}
-use Rattle.message.specs.Messages.{IsBlock, AreSizedBytes}
-use Rattle.message.specs.Replies.{has_file}
-use Rattle.message.specs.declared.Block.{Block}
+use Rattle.messages.specs.Messages.{IsBlock, AreSizedBytes}
+use Rattle.messages.specs.Replies.{has_file}
+use Rattle.messages.specs.declared.Block.{Block}
 use Rattle.meaning.specs.Serial.{file_bits, no_label}
 use Rattle.meaning.specs.State.{State, VolumeKey, FileKey, BlockKey, IsState, group_count}
 use Rattle.stripe.specs.Entries.{entry_bytes, entries_in}

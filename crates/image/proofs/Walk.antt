@@ -8,8 +8,8 @@ use Rattle.std.proofs.lemmas.Slice.Eq.{bytes_eq-Decides}
 use Rattle.affinity.specs.Geometry.{group}
 use Rattle.affinity.specs.declared.geometry.Geometry.{Geometry}
 use Rattle.affinity.proofs.Placed.{group_below}
-use Rattle.message.specs.Messages.{AreSizedBytes}
-use Rattle.message.specs.declared.Block.{Block}
+use Rattle.messages.specs.Messages.{AreSizedBytes}
+use Rattle.messages.specs.declared.Block.{Block}
 use Rattle.meaning.specs.State.{State, VolumeKey, IsState, sum_below}
 use Rattle.image.specs.Pieces.{pieces_of_volume, piece_count, piece_at, piece_size, piece_of, aggregate_of, volume_of, part_of, volume_piece_number, has_volume, is_made_in, is_sealed_in, has_file_in, label_in, block_in, bytes_at, said_by}
 use Rattle.image.specs.Image.{image_head, image_of, read, is_image, is_version, has_head, version_in, piece_in, said_state, said_before, is_good, AreGood}

@@ -3,7 +3,7 @@ ghost use Rattle.std.specs.Prelude.{◌≡◌};
 ghost use Rattle.image.specs.Touched.{may_change, may_change_part};
 
 use affinity::{Geometry, group_of};
-use message::Msg;
+use messages::Msg;
 
 /// Whether a message may change piece `n` of an image: some of its volume's pieces, and none where it only asks.
 /// All other pieces stay as they are, whatever the reply to it is (`laws::an_untouched_piece_stays`).

@@ -22,8 +22,8 @@ use Rattle.journal.specs.Stretches.{AgreeUnmarked, image_in, stretch_of}
 use Rattle.journal.proofs.Cutting.{named_below}
 use Rattle.journal.proofs.Forced.{forced_more, used_most}
 use Rattle.journal.proofs.Standing.{holds_by, holds_now}
-use Rattle.message.specs.declared.Msg.{Msg}
-use Rattle.message.specs.Messages.{is_in_range}
+use Rattle.messages.specs.declared.Msg.{Msg}
+use Rattle.messages.specs.Messages.{is_in_range}
 use Rattle.message.specs.Records.{message_in_fields, record_of}
 use Rattle.message.proofs.RecordLemmas.{record_says}
 use Rattle.oplog.specs.Calls.{Grows, HasAdded}

@@ -4,8 +4,8 @@ use Rattle.affinity.specs.declared.geometry.Geometry.{Geometry}
 use Rattle.checkpoint.specs.Recovery.{holds}
 use Rattle.disk.specs.Device.{Medium, Leaves}
 use Rattle.journal.specs.Marks.{Marks}
-use Rattle.message.specs.declared.Msg.{Msg}
-use Rattle.message.specs.Messages.{IsMessage}
+use Rattle.messages.specs.declared.Msg.{Msg}
+use Rattle.messages.specs.Messages.{IsMessage}
 use Rattle.oplog.specs.Layout.{layout_of}
 use Rattle.oplog.specs.Logged.{IsLogged}
 use Rattle.oplog.specs.Stands.{in_force, named_area}

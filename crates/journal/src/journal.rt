@@ -22,7 +22,7 @@ use crate::marks::{clear_marks, count_marked, exchange_marks, first_marked, mark
 use crate::steps::{cut_on, flip_on, point_on};
 use crate::stretches::write_stretch;
 use disk::Disk;
-use message::Msg;
+use messages::Msg;
 use oplog::{Halves, LogFault};
 use parcel::Tree;
 use std::marker::Model;

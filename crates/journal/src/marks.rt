@@ -7,7 +7,7 @@ ghost use Rattle.meaning.specs.Serial.{key};
 
 use affinity::Geometry;
 use image::touched;
-use message::Msg;
+use messages::Msg;
 use std::mem;
 
 /// How many are marked.

@@ -6,7 +6,7 @@ use Rattle.std.proofs.lemmas.Bool.{and_parts, not-true}
 use Rattle.std.proofs.lemmas.List.{length-append, length-map, take-append-drop}
 use Rattle.affinity.specs.declared.geometry.Geometry.{Geometry}
 use Rattle.affinity.proofs.Paths.{unrelated_turned}
-use Rattle.message.specs.Messages.{place}
+use Rattle.messages.specs.Messages.{place}
 use Rattle.meaning.specs.Serial.{reply_to}
 use Rattle.legal_runs.specs.World.{Entry, Replied, World, entry, entries, held, are_related_entries}
 use Rattle.legal_runs.specs.Eligible.{is_clear, has_room, is_eligible, next_eligible}

@@ -6,8 +6,8 @@ use Rattle.std.specs.List.{AllByRecursion}
 use Rattle.std.proofs.lemmas.List.{take-append-drop}
 use Rattle.affinity.specs.declared.geometry.Geometry.{Geometry}
 use Rattle.affinity.specs.Path.{are_related}
-use Rattle.message.specs.declared.Msg.{Msg}
-use Rattle.message.specs.Messages.{place, is_in_range}
+use Rattle.messages.specs.declared.Msg.{Msg}
+use Rattle.messages.specs.Messages.{place, is_in_range}
 use Rattle.meaning.specs.Serial.{fold, is_loggable, next_state}
 use Rattle.meaning.specs.Order.{messages}
 use Rattle.meaning.specs.Shares.{AgreeOn}

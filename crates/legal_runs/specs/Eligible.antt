@@ -3,8 +3,8 @@ use Rattle.std.specs.Prelude.{ℕ, ◌+◌, Bool, not, ◌&&◌, ◌||◌, nat_l
 use Rattle.std.specs.List.{list_any}
 use Rattle.affinity.specs.declared.geometry.Geometry.{Geometry}
 use Rattle.affinity.specs.Kind.{is_changing}
-use Rattle.message.specs.declared.Msg.{Msg}
-use Rattle.message.specs.Messages.{kind}
+use Rattle.messages.specs.declared.Msg.{Msg}
+use Rattle.messages.specs.Messages.{kind}
 use Rattle.legal_runs.specs.World.{Entry, World, held, are_related_entries}
 
 -- Its place is related to that of no held message, and of no waiting one with a smaller ticket.

@@ -2,8 +2,8 @@
 use Rattle.std.specs.Prelude.{◌≡◌, ℕ, zero, suc, ◌+◌, ◌-◌, ◌^◌, ◌≤◌, Bool, true, false, not, ◌&&◌, ◌==◌, nat_lt, nat_le, List, [], ◌∷◌, ◌++◌, map, filter, length, take, drop, if◌then◌else◌, Option, Some, None, is_some, is_none, position, slice_get, set, MatchBool}
 use Rattle.std.specs.List.{list_any}
 use Rattle.affinity.specs.declared.geometry.Geometry.{Geometry}
-use Rattle.message.specs.declared.Msg.{Msg}
-use Rattle.message.specs.Messages.{is_in_range}
+use Rattle.messages.specs.declared.Msg.{Msg}
+use Rattle.messages.specs.Messages.{is_in_range}
 use Rattle.image.specs.Pieces.{piece_count}
 use Rattle.meaning.specs.Serial.{reply_to, fold, is_loggable}
 use Rattle.legal_runs.specs.declared.outcomes.Step.{Step}

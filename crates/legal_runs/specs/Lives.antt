@@ -1,7 +1,7 @@
 -- Lives: a server is opened, it runs, and a crash ends it. Then it is opened again.
 use Rattle.std.specs.Prelude.{◌≡◌, ℕ, ◌≤◌, List, [], ◌∷◌, ◌++◌, length, take}
 use Rattle.affinity.specs.declared.geometry.Geometry.{Geometry}
-use Rattle.message.specs.declared.Msg.{Msg}
+use Rattle.messages.specs.declared.Msg.{Msg}
 use Rattle.meaning.specs.State.{State, empty}
 use Rattle.meaning.specs.Serial.{fold}
 use Rattle.legal_runs.specs.Events.{Hands, Event}

@@ -5,9 +5,9 @@ ghost use Rattle.std.specs.Prelude.{◌≡◌, ◌+◌, ◌++◌, ◌≤◌, ℕ
 ghost use Rattle.std.specs.List.{AllByRecursion, Contains};
 ghost use Rattle.affinity.specs.declared.geometry.Geometry.{Geometry};
 ghost use Rattle.affinity.specs.Path.{are_related};
-ghost use Rattle.message.specs.declared.Msg.{Msg};
-ghost use Rattle.message.specs.declared.Reply.{Reply};
-ghost use Rattle.message.specs.Messages.{place};
+ghost use Rattle.messages.specs.declared.Msg.{Msg};
+ghost use Rattle.messages.specs.declared.Reply.{Reply};
+ghost use Rattle.messages.specs.Messages.{place};
 ghost use Rattle.meaning.specs.State.{State, empty};
 ghost use Rattle.meaning.specs.Serial.{fold};
 ghost use Rattle.meaning.specs.Order.{by_ticket, messages, told};

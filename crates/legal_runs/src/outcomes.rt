@@ -1,6 +1,6 @@
 //! The steps of a machine, what comes of each, and why one is refused.
 
-use message::{Msg, Reply};
+use messages::{Msg, Reply};
 
 /// What a machine is to do. Hands are named by their number, from 0 on.
 #[derive(Clone, Copy, Debug, PartialEq, Eq)]

@@ -1,6 +1,6 @@
 -- A row whose lines with tickets lie beside the kinds of all: its lines, as it grows, shrinks and is answered.
 use Rattle.std.proofs.Common.{◌≡◌, ℕ, ◌+◌, ◌<◌, ◌≤◌, suc, List, [], ◌∷◌, ◌++◌, length, map, refl, ap, sym, ◌∙◌, append-nil, arith}
-use Rattle.message.specs.declared.Reply.{Reply}
+use Rattle.messages.specs.declared.Reply.{Reply}
 use Rattle.line_row.specs.Rows.{Answered, Line, NoMessage, OutOfRange, Unanswered, answer_one, AreFrom, IsOf, Ticketed, LineKind, Outside, RowView, Stray, ticketed_among, lines_of, with_tickets}
 
 -- ---- how many lines there are

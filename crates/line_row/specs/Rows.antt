@@ -1,10 +1,10 @@
 -- What is known of each line that was read and not said yet; the row of them, how it is kept, and what is said of it.
 use Rattle.std.specs.Prelude.{◌≡◌, ℕ, ◌+◌, ◌==◌, Bool, true, false, List, [], ◌∷◌, if◌then◌else◌, map}
 use Rattle.std.specs.List.{AllByRecursion}
-use Rattle.message.specs.Replies.{reply_line, no_message}
-use Rattle.message.specs.declared.Reply.{Reply}
-use Rattle.message.specs.declared.Reply.TheVariants.{Refused}
-use Rattle.message.specs.declared.Refusal.TheVariants.{Range}
+use Rattle.messages.specs.Replies.{reply_line, no_message}
+use Rattle.messages.specs.declared.Reply.{Reply}
+use Rattle.messages.specs.declared.Reply.TheVariants.{Refused}
+use Rattle.messages.specs.declared.Refusal.TheVariants.{Range}
 pub use Rattle.line_row.specs.declared.row.Line.{Line}
 pub use Rattle.line_row.specs.declared.row.Line.TheVariants.{NoMessage, OutOfRange, Unanswered, Answered}
 pub use Rattle.line_row.specs.declared.row.LineKind.{LineKind}

@@ -5,7 +5,8 @@ ghost use Rattle.std.specs.VecDeque.{deque_len};
 ghost use Rattle.message.specs.Waiting.{FitsReply};
 ghost use Rattle.line_row.specs.Rows.{Line, answer_one, AreFrom, AreConsecutive, AreLeft, IsOf, comes_next, next_text, text, with_tickets};
 
-use message::{Refusal, Reply, ReplyBuffer};
+use message::ReplyBuffer;
+use messages::{Refusal, Reply};
 use std::alloc::{AllocError, Global};
 use std::collections::VecDeque;
 use std::marker::Model;

@@ -9,7 +9,7 @@ ghost use Rattle.scheduler.specs.Kept.{world_of};
 use crate::hands::{first_empty, run_in, take_result};
 use disk::Disk;
 use legal_runs::{Outcome, Step};
-use message::Msg;
+use messages::Msg;
 use runs::Holding;
 use scheduler::{Core, Granted};
 

@@ -1,19 +1,16 @@
 -- What the tests, the effect and the reply of a message are by its kind and its numbers.
-use Rattle.std.proofs.Common.{◌≡◌, ℕ, true, false, Bool, List, [], ◌∷◌, None, Some, refl, ap, sym, ◌∙◌}
+use Rattle.std.proofs.Common.{◌≡◌, ℕ, true, false, Bool, List, [], ◌∷◌, None, Some, refl, ap, ◌∙◌}
 use Rattle.std.specs.Prelude.{not, find, is_some}
 use Rattle.std.specs.List.{AllByRecursion}
 use Rattle.std.proofs.lemmas.Bool.{and_from, or_left, lt-ltb}
 use Rattle.affinity.specs.declared.geometry.Geometry.{Geometry}
-use Rattle.affinity.specs.declared.kinds.Kind.{Kind}
-use Rattle.affinity.specs.declared.kinds.Kind.TheVariants as kinds
-use Rattle.message.specs.declared.Msg.{Msg}
-use Rattle.message.specs.declared.Msg.TheVariants.{MakeVol, DropVol, Create, Delete, Seal, Unseal, Write, Punch, Read, List as ListFiles, Usage, Summary, SetLabel, Label}
-use Rattle.message.specs.declared.Block.{Block}
-use Rattle.message.specs.declared.Refusal.{Refusal}
-use Rattle.message.specs.declared.Refusal.TheVariants.{Range}
-use Rattle.message.specs.declared.Reply.TheVariants.{Block as shows}
-use Rattle.message.specs.Messages.{kind, four_numbers, IsMessage}
-use Rattle.message.specs.Heads.{asking, has_data, IsAsked}
+use Rattle.messages.specs.declared.Msg.{Msg}
+use Rattle.messages.specs.declared.Msg.TheVariants.{MakeVol, DropVol, Create, Delete, Seal, Unseal, Write, Punch, Read, List as ListFiles, Usage, Summary, SetLabel, Label}
+use Rattle.messages.specs.declared.Block.{Block}
+use Rattle.messages.specs.declared.Refusal.{Refusal}
+use Rattle.messages.specs.declared.Refusal.TheVariants.{Range}
+use Rattle.messages.specs.declared.Reply.TheVariants.{Block as shows}
+use Rattle.messages.specs.Messages.{kind, four_numbers}
 use Rattle.meaning.specs.State.{State, IsState}
 use Rattle.meaning.specs.Serial.{tests, passes, refusal, block_reply, outcome, step}
 use Rattle.meaning.specs.ByKind.{tests_by, refusal_by}
@@ -49,29 +46,6 @@ refusal_by_kind g x (Usage a v) = refl
 refusal_by_kind g x Summary = refl
 refusal_by_kind g x (SetLabel a v bytes) = refl
 refusal_by_kind g x (Label a v) = refl
-
--- a message without data has no bytes to be right
-pub asking_is_message : (k : Kind) (ns : List ℕ) → has_data k ≡ false → IsMessage (asking k ns)
-asking_is_message kinds.MakeVol ns h = tt
-asking_is_message kinds.DropVol ns h = tt
-asking_is_message kinds.Create ns h = tt
-asking_is_message kinds.Delete ns h = tt
-asking_is_message kinds.Seal ns h = tt
-asking_is_message kinds.Unseal ns h = tt
-asking_is_message kinds.Write ns h = cc h
-asking_is_message kinds.Punch ns h = tt
-asking_is_message kinds.Read ns h = tt
-asking_is_message kinds.List ns h = tt
-asking_is_message kinds.Usage ns h = tt
-asking_is_message kinds.Summary ns h = tt
-asking_is_message kinds.SetLabel ns h = cc h
-asking_is_message kinds.Label ns h = tt
-
-pub refusal_asked : (g : Geometry) (x : State) (k : Kind) (ns : List ℕ) → IsAsked k ns (Some (asking k ns)) → refusal_by g x k ns ≡ refusal g x (asking k ns)
-refusal_asked g x k ns h =
-    ap (λ j. refusal_by g x j ns) (sym h.kind_is)
-    ∙ ap (λ ms. refusal_by g x (kind (asking k ns)) ms) (sym h.numbers_are)
-    ∙ refusal_by_kind g x (asking k ns)
 
 -- no test fails where all are passed
 none_fails : (p : Refusal → Bool) (ts : List Refusal) → AllByRecursion (λ t. p t ≡ true) ts → find (λ t. not (p t)) ts ≡ None

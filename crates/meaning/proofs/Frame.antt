@@ -7,13 +7,13 @@ use Rattle.affinity.specs.declared.geometry.Geometry.{Geometry}
 use Rattle.affinity.specs.Geometry.{group}
 use Rattle.affinity.specs.Path.{Path, begins, are_related, volume, logical, stripe, label}
 use Rattle.affinity.proofs.Paths.{begins-refl, are_related-refl, beginnings_related, unrelated_below, unrelated_turned}
-use Rattle.message.specs.declared.Msg.{Msg}
-use Rattle.message.specs.declared.Msg.TheVariants.{MakeVol, DropVol, Create, Delete, Seal, Unseal, Write, Punch, Read, List as ListFiles, Usage as AskUsage, Summary as AskSummary, SetLabel, Label as AskLabel}
-use Rattle.message.specs.declared.Refusal.{Refusal}
-use Rattle.message.specs.declared.Refusal.TheVariants.{Volume, Sealed, File, Space}
-use Rattle.message.specs.declared.Reply.{Reply}
-use Rattle.message.specs.declared.Reply.TheVariants.{Files, Usage, Summary, Label}
-use Rattle.message.specs.Messages.{place}
+use Rattle.messages.specs.declared.Msg.{Msg}
+use Rattle.messages.specs.declared.Msg.TheVariants.{MakeVol, DropVol, Create, Delete, Seal, Unseal, Write, Punch, Read, List as ListFiles, Usage as AskUsage, Summary as AskSummary, SetLabel, Label as AskLabel}
+use Rattle.messages.specs.declared.Refusal.{Refusal}
+use Rattle.messages.specs.declared.Refusal.TheVariants.{Volume, Sealed, File, Space}
+use Rattle.messages.specs.declared.Reply.{Reply}
+use Rattle.messages.specs.declared.Reply.TheVariants.{Files, Usage, Summary, Label}
+use Rattle.messages.specs.Messages.{place}
 use Rattle.meaning.specs.State.{State, sum_below, one_if, group_count, over_volumes}
 use Rattle.meaning.specs.Serial.{key, tests, passes, refusal, effect, accepted_reply, outcome, reply_to, next_state, block_reply, no_label}
 use Rattle.meaning.specs.Shares.{AgreeOn}

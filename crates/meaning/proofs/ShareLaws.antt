@@ -4,8 +4,8 @@ use Rattle.std.specs.Prelude.{◌&&◌, ◌||◌, not, if◌then◌else◌, None
 use Rattle.std.proofs.lemmas.Bool.{and_from, or_left, true≢false}
 use Rattle.affinity.specs.declared.geometry.Geometry.{Geometry}
 use Rattle.affinity.specs.Path.{Path, begins, are_related}
-use Rattle.message.specs.declared.Msg.{Msg}
-use Rattle.message.specs.Messages.{place}
+use Rattle.messages.specs.declared.Msg.{Msg}
+use Rattle.messages.specs.Messages.{place}
 use Rattle.meaning.specs.State.{State}
 use Rattle.meaning.specs.Shares.{AgreeOn, part, share, standing, mark_home, file_home, block_home, label_home}
 use Rattle.meaning.specs.Laws.{outside, RunAlike}

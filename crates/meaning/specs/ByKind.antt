@@ -5,10 +5,10 @@ use Rattle.affinity.specs.declared.kinds.Kind.{Kind}
 use Rattle.affinity.specs.declared.kinds.Kind.TheVariants as kinds
 use Rattle.affinity.specs.Geometry.{group}
 use Rattle.affinity.specs.Place.{is_in_range}
-use Rattle.message.specs.declared.Refusal.{Refusal}
-use Rattle.message.specs.declared.Refusal.TheVariants.{Range, Volume, Exists, Sealed, File, Space}
-use Rattle.message.specs.declared.Reply.{Reply}
-use Rattle.message.specs.declared.Reply.TheVariants.{Done, Refused}
+use Rattle.messages.specs.declared.Refusal.{Refusal}
+use Rattle.messages.specs.declared.Refusal.TheVariants.{Range, Volume, Exists, Sealed, File, Space}
+use Rattle.messages.specs.declared.Reply.{Reply}
+use Rattle.messages.specs.declared.Reply.TheVariants.{Done, Refused}
 use Rattle.meaning.specs.State.{State, group_count}
 
 -- the tests of each kind, in order

@@ -3,10 +3,10 @@ use Rattle.std.specs.Prelude.{◌≡◌, ℕ, ◌≤◌, Bool, true, false, not,
 use Rattle.std.specs.List.{AllByRecursion}
 use Rattle.affinity.specs.declared.geometry.Geometry.{Geometry}
 use Rattle.affinity.specs.Path.{Path, begins}
-use Rattle.message.specs.declared.Msg.{Msg}
-use Rattle.message.specs.declared.Reply.{Reply}
-use Rattle.message.specs.declared.Reply.TheVariants.{Refused}
-use Rattle.message.specs.Messages.{place}
+use Rattle.messages.specs.declared.Msg.{Msg}
+use Rattle.messages.specs.declared.Reply.{Reply}
+use Rattle.messages.specs.declared.Reply.TheVariants.{Refused}
+use Rattle.messages.specs.Messages.{place}
 use Rattle.meaning.specs.State.{State}
 use Rattle.meaning.specs.Serial.{reply_to, next_state, fold, is_loggable}
 use Rattle.meaning.specs.Shares.{share as share_at}

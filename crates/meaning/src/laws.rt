@@ -5,10 +5,10 @@ ghost use Rattle.std.specs.Prelude.{◌≡◌, ℕ, true, false, List, Some, IsP
 ghost use Rattle.std.specs.List.{AllByRecursion};
 ghost use Rattle.affinity.specs.declared.geometry.Geometry.{Geometry};
 ghost use Rattle.affinity.specs.Path.{are_related};
-ghost use Rattle.message.specs.declared.Msg.{Msg};
-ghost use Rattle.message.specs.declared.Refusal.{Refusal};
-ghost use Rattle.message.specs.declared.Reply.TheVariants.{Refused};
-ghost use Rattle.message.specs.Messages.{place, IsMessage};
+ghost use Rattle.messages.specs.declared.Msg.{Msg};
+ghost use Rattle.messages.specs.declared.Refusal.{Refusal};
+ghost use Rattle.messages.specs.declared.Reply.TheVariants.{Refused};
+ghost use Rattle.messages.specs.Messages.{place, IsMessage};
 ghost use Rattle.meaning.specs.State.{State, IsState, empty};
 ghost use Rattle.meaning.specs.Serial.{refusal, reply_to, next_state, fold, is_loggable};
 ghost use Rattle.meaning.specs.Shares.{AgreeOn, share, standing};

@@ -5,8 +5,8 @@ ghost use Rattle.meaning.specs.Serial.{tests};
 ghost use Rattle.meaning.specs.ByKind.{tests_by};
 
 use affinity::Kind;
-use message::Refusal::{Exists, File, Range, Sealed, Space, Volume};
-use message::{Msg, Refusal};
+use messages::Refusal::{Exists, File, Range, Sealed, Space, Volume};
+use messages::{Msg, Refusal};
 
 /// The tests of a message, in order. Each is named by the refusal where it fails. The first that
 /// fails gives the reply.

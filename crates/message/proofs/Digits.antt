@@ -1,9 +1,9 @@
 -- The digits of a block or a label, as words and by what they say.
 use Rattle.std.proofs.Common.{◌≡◌, ℕ, List, Some, ap, sym, ◌∙◌, arith}
 use Rattle.hex.proofs.HexLemmas.{decode_of-ok}
-use Rattle.message.specs.declared.Block.{Block}
-use Rattle.message.specs.Lines.{bytes_in_word, block_in_word, label_in_word}
-use Rattle.message.specs.Grammar.{SaysBytes}
+use Rattle.messages.specs.declared.Block.{Block}
+use Rattle.messages.specs.Lines.{bytes_in_word, block_in_word, label_in_word}
+use Rattle.messages.specs.Grammar.{SaysBytes}
 use Rattle.message.proofs.Blocks.{bytes_parts, bytes_from, block_bytes, bytes_block, label_bytes}
 
 bytes_say : (size : ℕ) (digits whole : List ℕ) → bytes_in_word size digits ≡ Some whole → SaysBytes size digits whole

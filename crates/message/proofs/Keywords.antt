@@ -1,18 +1,14 @@
 -- The message of a line by its first word.
-use Rattle.std.proofs.Common.{◌≡◌, ℕ, ◌<◌, ◌≤◌, Bool, true, false, cond, List, [], ◌∷◌, length, Option, Some, None, refl, ap, sym, ◌∙◌, inl, inr, ◌⊎◌}
+use Rattle.std.proofs.Common.{◌≡◌, ℕ, ◌≤◌, Bool, true, false, cond, List, [], ◌∷◌, length, Option, Some, None, refl, ap, sym, ◌∙◌, inl, inr, ◌⊎◌}
 use Rattle.std.specs.Prelude.{◌==◌}
 use Rattle.std.specs.Str.{bytes_eq}
-use Rattle.std.proofs.lemmas.Bool.{both_ways, cond-true, cond-false, eqb-false, false_from_ne_true, lt-ltb, le-ltb}
+use Rattle.std.proofs.lemmas.Bool.{both_ways, cond-false, eqb-false, false_from_ne_true, le-ltb}
 use Rattle.std.proofs.lemmas.Option.{same_Some}
 use Rattle.std.proofs.lemmas.Slice.Eq.{bytes_eq-Decides}
 use Rattle.affinity.specs.declared.kinds.Kind.{Kind}
 use Rattle.affinity.specs.declared.kinds.Kind.TheVariants.{MakeVol, DropVol, Create, Delete, Seal, Unseal, Write, Punch, Read, List as ListFiles, Usage, Summary, SetLabel, Label}
-use Rattle.message.specs.Lines.{words}
-use Rattle.message.specs.Grammar.{message_of, of_words, of_kind, keyword, kind_named, named_among, all_kinds, ◌>>=◌}
-
-pub too_long : (line : List ℕ) → 1100 < length line → None ≡ message_of line
-unfolding message_of
-too_long line h = sym (cond-true _ _ _ (lt-ltb 1100 (length line) h))
+use Rattle.messages.specs.Lines.{words}
+use Rattle.messages.specs.Grammar.{message_of, of_words, of_kind, keyword, kind_named, named_among, all_kinds, ◌>>=◌}
 
 pub by_words : (line : List ℕ) (ws : List (List ℕ)) → length line ≤ 1100 → words line ≡ ws → message_of line ≡ of_words ws
 unfolding message_of

@@ -13,4 +13,3 @@ pub mod Adding
 pub mod Spelling
 pub mod RecordLemmas
 pub mod ReaderLemmas
-mod ReaderExamples

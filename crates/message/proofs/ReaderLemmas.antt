@@ -1,9 +1,9 @@
 -- Laws of the first line of some bytes, and of what is unread.
-use Rattle.std.proofs.Common.{◌≡◌, ◌≢◌, ℕ, zero, suc, min, ◌+◌, ◌-◌, ◌<◌, ◌≤◌, ◌⊎◌, inl, inr, Bool, true, false, eqb, List, [], ◌∷◌, ◌++◌, length, take, drop, get_or, Option, Some, None, IfSome, refl, sym, ap, ◌∙◌, subst, arith, append-nil, append_assoc, drop-drop}
+use Rattle.std.proofs.Common.{◌≡◌, ◌≢◌, ℕ, zero, suc, min, ◌+◌, ◌-◌, ◌<◌, ◌≤◌, ◌⊎◌, inl, inr, Bool, true, false, List, [], ◌∷◌, ◌++◌, length, take, drop, get_or, Option, Some, None, IfSome, refl, sym, ap, ◌∙◌, subst, arith, append-nil, append_assoc, drop-drop}
 use Rattle.std.specs.List.{Contains, slice_range}
 use Rattle.std.specs.Io.KnownBytes.{prepend_known, Keeps, Consumes, IsAtEnd}
 use Rattle.std.proofs.KnownBytes.{prepend_known-nil}
-use Rattle.std.proofs.lemmas.Bool.{false≢true, cond-true, cond-false, eq-eqb, ne_eqb, cases_eq, cases_lt}
+use Rattle.std.proofs.lemmas.Bool.{false≢true, cases_eq, cases_lt}
 use Rattle.std.proofs.lemmas.List.{length-append, get_or_default, get_or-take, get_or_append_left}
 use Rattle.std.proofs.lemmas.List.Edits.{length-between, get_or-between, between_none, between_more}
 use Rattle.std.proofs.lemmas.List.Elements.{All-nil, All-head, All-tail, All-append, All-from_get_or, All-contains, All-from_recursion, recursion_from_All}
@@ -11,43 +11,9 @@ use Rattle.std.proofs.lemmas.Slice.{between_is}
 use Rattle.std.proofs.lemmas.Option.{none-some, same_Some}
 use Rattle.std.specs.Prelude.{◌&&◌}
 use Rattle.std.proofs.Math.Seq.{take-add}
-use Rattle.message.specs.Lines.{lines, in_first}
-use Rattle.message.specs.Reader.{first_line, behind_first_line, IsWithinLine, still_to_come, GivesLine, PassesLine, LosesFront, IsClosed, are_none}
-
--- ---- lines and the first line
-
-first_line-newline : (b : ℕ) (bs : List ℕ) → b ≡ 10 → first_line (b ∷ bs) ≡ []
-first_line-newline b bs is = cond-true (eqb b 10) [] (b ∷ first_line bs) (eq-eqb b 10 is)
-
-first_line-other : (b : ℕ) (bs : List ℕ) → b ≢ 10 → first_line (b ∷ bs) ≡ b ∷ first_line bs
-first_line-other b bs not = cond-false (eqb b 10) [] (b ∷ first_line bs) (ne_eqb b 10 not)
-
-behind_first_line-newline : (b : ℕ) (bs : List ℕ) → b ≡ 10 → behind_first_line (b ∷ bs) ≡ bs
-behind_first_line-newline b bs is = cond-true (eqb b 10) bs (behind_first_line bs) (eq-eqb b 10 is)
-
-behind_first_line-other : (b : ℕ) (bs : List ℕ) → b ≢ 10 → behind_first_line (b ∷ bs) ≡ behind_first_line bs
-behind_first_line-other b bs not = cond-false (eqb b 10) bs (behind_first_line bs) (ne_eqb b 10 not)
-
-lines-newline : (b : ℕ) (bs : List ℕ) → b ≡ 10 → lines (b ∷ bs) ≡ [] ∷ lines bs
-lines-newline b bs is = cond-true (eqb b 10) ([] ∷ lines bs) (in_first b (lines bs)) (eq-eqb b 10 is)
-
-lines-other : (b : ℕ) (bs : List ℕ) → b ≢ 10 → lines (b ∷ bs) ≡ in_first b (lines bs)
-lines-other b bs not = cond-false (eqb b 10) ([] ∷ lines bs) (in_first b (lines bs)) (ne_eqb b 10 not)
-
-lines-of_rest : (b : ℕ) (bs : List ℕ) → in_first b (lines bs) ≡ (b ∷ first_line bs) ∷ lines (behind_first_line bs) → lines (b ∷ bs) ≡ first_line (b ∷ bs) ∷ lines (behind_first_line (b ∷ bs))
-lines-of_rest b bs rest = elim (cases_eq b 10) [
-  | inl is ↦ lines-newline b bs is ∙ ap (λ l. l ∷ lines bs) (sym (first_line-newline b bs is)) ∙ ap (λ l. first_line (b ∷ bs) ∷ lines l) (sym (behind_first_line-newline b bs is))
-  | inr not ↦ lines-other b bs not ∙ rest ∙ ap (λ l. l ∷ lines (behind_first_line bs)) (sym (first_line-other b bs not)) ∙ ap (λ l. first_line (b ∷ bs) ∷ lines l) (sym (behind_first_line-other b bs not))
-]
-
-lines-cons : (b : ℕ) (bs : List ℕ) → lines (b ∷ bs) ≡ first_line (b ∷ bs) ∷ lines (behind_first_line (b ∷ bs))
-lines-cons b [] = lines-of_rest b [] refl
-lines-cons b (c ∷ cs) = lines-of_rest b (c ∷ cs) (ap (in_first b) (lines-cons c cs))
-
--- the lines of some bytes are the first line and the lines of what lies behind it
-pub lines-first : (bs : List ℕ) → bs ≢ [] → lines bs ≡ first_line bs ∷ lines (behind_first_line bs)
-lines-first [] some = absurd (some refl)
-lines-first (b ∷ bs) some = lines-cons b bs
+use Rattle.messages.proofs.FirstLines.{first_line-newline, first_line-other, behind_first_line-newline, behind_first_line-other}
+use Rattle.messages.specs.FirstLine.{first_line, behind_first_line, IsWithinLine, GivesLine, PassesLine, LosesFront, IsClosed}
+use Rattle.message.specs.Reader.{still_to_come, are_none}
 
 -- ---- the first line of bytes that are read in parts
 

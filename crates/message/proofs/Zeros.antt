@@ -2,7 +2,7 @@
 use Rattle.std.proofs.Common.{◌≡◌, ℕ, ◌+◌, ◌-◌, ◌<◌, ◌≤◌, List, [], ◌∷◌, ◌++◌, length, get_or, take, refl, ap, sym, ◌∙◌, arith}
 use Rattle.std.proofs.lemmas.Bool.{ne_eqb, cond-false}
 use Rattle.std.proofs.lemmas.List.{take_more}
-use Rattle.message.specs.Replies.{before, without_zeros, at_least_one}
+use Rattle.messages.specs.Replies.{before, without_zeros, at_least_one}
 
 zero_goes : (xs : List ℕ) → without_zeros (xs ++ 0 ∷ []) ≡ without_zeros xs
 zero_goes [] = refl

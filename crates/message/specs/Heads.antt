@@ -2,13 +2,13 @@
 use Rattle.std.specs.Prelude.{◌≡◌, ℕ, Bool, true, false, List, [], slice_index, Option, Some, None, option_map, IfSome}
 use Rattle.affinity.specs.declared.kinds.Kind.{Kind}
 use Rattle.affinity.specs.declared.kinds.Kind.TheVariants as kinds
-use Rattle.message.specs.declared.Block.{Block}
-use Rattle.message.specs.declared.Msg.{Msg}
-use Rattle.message.specs.declared.Msg.TheVariants.{Write}
-use Rattle.message.specs.Lines.{block_in_word}
+use Rattle.messages.specs.declared.Block.{Block}
+use Rattle.messages.specs.declared.Msg.{Msg}
+use Rattle.messages.specs.declared.Msg.TheVariants.{Write}
+use Rattle.messages.specs.Lines.{block_in_word}
 use Rattle.message.specs.declared.heads.Head.{Head}
 use Rattle.message.specs.declared.heads.Head.TheVariants.{NoMessage, Asks, Writes, SetsLabel}
-use Rattle.message.specs.Messages.{kind, four_numbers}
+use Rattle.messages.specs.Messages.{kind, four_numbers}
 use Rattle.message.specs.Records.{assembled}
 
 -- whether messages of a kind have data: a block or a label

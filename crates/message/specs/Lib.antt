@@ -1,7 +1,3 @@
-pub mod Lines
-pub mod Messages
-pub mod Grammar
-pub mod Replies
 pub mod Records
 pub mod Heads
 pub mod Reader

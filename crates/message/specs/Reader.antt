@@ -1,28 +1,13 @@
 -- What a reader of lines holds, and what it finds in the bytes that are not yet read.
-use Rattle.std.specs.Prelude.{◌≡◌, ◌≢◌, ℕ, ◌<◌, ◌⊎◌, ◌==◌, ◌&&◌, Bool, true, false, List, [], ◌∷◌, ◌++◌, length, slice_range, if◌then◌else◌, Option, Some, Result, Ok, Err, IsTrue, IfSome, All, Contains}
+use Rattle.std.specs.Prelude.{ℕ, ◌<◌, ◌⊎◌, ◌&&◌, Bool, true, false, List, [], ◌∷◌, length, slice_range, Option, Result, Ok, Err, IsTrue, IfSome, Contains}
 use Rattle.std.specs.Option.{option_map}
 use Rattle.std.specs.Io.KnownBytes.{prepend_known, IsAtEnd}
+use Rattle.messages.specs.FirstLine.{first_line, GivesLine, PassesLine, IsAtEndOf, LosesFront, IsClosed}
 use Rattle.message.specs.declared.reading.Found.{Found}
 use Rattle.message.specs.declared.reading.Found.TheVariants.{Line, TooLong, End}
 use Rattle.message.specs.declared.reading.ReadFault.{ReadFault}
 use Rattle.message.specs.declared.reading.Held.{Held}
 use Rattle.message.specs.declared.reading.LineReader.{LineReader}
-
--- ---- the first line of some bytes
-
--- the bytes before the first newline, or all of them
-abbrev pub first_line : List ℕ → List ℕ
-first_line [] = []
-first_line (b ∷ bs) = if b == 10 then [] else b ∷ first_line bs
-
--- the bytes behind the first newline, or none
-abbrev pub behind_first_line : List ℕ → List ℕ
-behind_first_line [] = []
-behind_first_line (b ∷ bs) = if b == 10 then bs else behind_first_line bs
-
--- none of the bytes is a newline
-abbrev pub IsWithinLine : List ℕ → Type 0
-IsWithinLine bs = All (λ b. b ≢ 10) bs
 
 -- ---- what a reader of lines holds
 
@@ -73,30 +58,6 @@ KnowsEnd remaining r = IsTrue (has_ended r) → IsAtEnd (remaining (source r))
 
 -- ---- what is found, where the bytes are known
 
--- The line is the first of the bytes, and those behind it are left.
-pub record GivesLine (line bs : List ℕ) (left : Option (List ℕ)) : Type 0 where
-  pub more : bs ≢ []
-  pub line_is : line ≡ first_line bs
-  pub left_is : left ≡ Some (behind_first_line bs)
-
--- The first line of the bytes has more than 1,100 bytes, and those behind it are left.
-pub record PassesLine (bs : List ℕ) (left : Option (List ℕ)) : Type 0 where
-  pub long : 1100 < length (first_line bs)
-  pub left_is : left ≡ Some (behind_first_line bs)
-
--- There are no bytes, and none are left.
-pub record IsAtEndOf (bs : List ℕ) (left : Option (List ℕ)) : Type 0 where
-  pub none : bs ≡ []
-  pub left_is : left ≡ Some []
-
--- Some of the bytes at the front were lost, none of them a newline, and the others are left.
-pub record LosesFront (bs : List ℕ) (left : Option (List ℕ)) : Type 0 where
-  pub got : List ℕ
-  pub rest : List ℕ
-  pub parts : bs ≡ got ++ rest
-  pub within_line : IsWithinLine got
-  pub left_is : left ≡ Some rest
-
 -- What each answer says of the bytes that were unread before, of the line, and of the bytes that are unread now.
 abbrev pub Finds : Result Found ReadFault → Option (List ℕ) → List ℕ → Option (List ℕ) → Type 0
 Finds (Ok Line) old line new = IfSome old (λ bs. GivesLine line bs new)
@@ -113,10 +74,6 @@ are_none (b ∷ bs) = false
 -- a read has told the end, and nothing is held: nothing is to come
 abbrev pub is_drained : {R : Type 0} → LineReader R → Bool
 is_drained r = r.ended && are_none (held_bytes r.held)
-
--- The bytes have a newline, or the reader is drained now.
-abbrev pub IsClosed : Option (List ℕ) → Bool → Type 0
-IsClosed old drained = IfSome old (λ bs. Contains bs 10 ⊎ (drained ≡ true))
 
 -- A line that was found ends with a newline, or with the input.
 abbrev pub Closes : Result Found ReadFault → Option (List ℕ) → Bool → Type 0

@@ -1,8 +1,8 @@
 //! What a message carries, made known to proofs: its block has 512 bytes, its label 32.
 
-ghost use Rattle.message.specs.Messages.{AreSizedBytes, IsBlock, IsMessage};
+ghost use Rattle.messages.specs.Messages.{AreSizedBytes, IsBlock, IsMessage};
 
-use crate::{Block, Msg};
+use messages::{Block, Msg};
 
 /// Does nothing: it tells a proof that a block has 512 bytes.
 pub fn know_block(content: &Block)

@@ -1,20 +1,21 @@
 //! What a line says of a message, as far as that can be told without its data.
 
 ghost use Rattle.std.specs.Prelude.{◌≡◌, ℕ, [], ◌∷◌, slice_index, option_map, IfSome, MatchOption, Some, None};
-ghost use Rattle.message.specs.declared.Msg.{Msg};
-ghost use Rattle.message.specs.declared.Msg.TheVariants.{Write as write};
-ghost use Rattle.message.specs.Lines.{words, block_in_word, bytes_in_word};
-ghost use Rattle.message.specs.Grammar.{message_of, of_kind, of_volume, of_file, of_block, of_data};
-ghost use Rattle.message.specs.Messages.{filled};
+ghost use Rattle.messages.specs.declared.Msg.{Msg};
+ghost use Rattle.messages.specs.declared.Msg.TheVariants.{Write as write};
+ghost use Rattle.messages.specs.Lines.{words, block_in_word, bytes_in_word};
+ghost use Rattle.messages.specs.Grammar.{message_of, of_kind, of_volume, of_file, of_block, of_data};
+ghost use Rattle.messages.specs.Messages.{filled};
 ghost use Rattle.message.specs.Heads.{IsHead, writing};
 ghost use Rattle.message.specs.declared.heads.Head.TheVariants.{NoMessage, Asks};
 
+use crate::LONGEST_LINE;
 use crate::decoding::decode_to_slice;
 use crate::parsing::{
     block_numbers, file_numbers, kind_named, number_before_space, split_at_space, volume_numbers,
 };
-use crate::{Block, LONGEST_LINE};
 use affinity::Kind;
+use messages::Block;
 
 /// What a line says, its data not looked at. It takes a few bytes, where a message has room for a
 /// block.

@@ -1,10 +1,9 @@
-//! The language of the server: messages as lines come in, replies as lines go out.
+//! Reads and writes the language of the server: messages as lines come in, replies as lines go out, and records.
 #![tactic(auto)]
 
 mod carried;
 mod decoding;
 mod heads;
-mod kinds;
 mod lent_reader;
 mod parsing;
 mod printing;
@@ -15,6 +14,7 @@ mod reply_buffer;
 pub use carried::{know_block, know_message};
 pub use heads::{Head, head_of_line, read_block};
 pub use lent_reader::{LentReader, Loan};
+pub use messages::{Block, Msg, Refusal, Reply};
 pub use parsing::parse_line;
 pub use printing::{no_message_line, write_reply};
 pub use reading::{Found, LineReader, ReadFault};
@@ -27,87 +27,3 @@ pub const LONGEST_LINE: usize = 1100;
 /// How many bytes the longest reply line has, its newline included: `block `, two digits for each
 /// byte of a block, and the newline.
 pub const LONGEST_REPLY: usize = 1031;
-
-/// What a file holds at one of its places.
-#[derive(Clone, Copy, Debug, PartialEq, Eq)]
-pub struct Block(pub [u8; 512]);
-
-/// A message. The numbers are, in this order, an aggregate, a volume of it, a file of that and a
-/// block of that file.
-#[derive(Clone, Copy, Debug, PartialEq, Eq)]
-pub enum Msg {
-    /// Makes a volume, without files and with a label of zeros.
-    MakeVol(u16, u16),
-    /// Removes a volume, with its files, their blocks and its label.
-    DropVol(u16, u16),
-    /// Makes a file, without blocks.
-    Create(u16, u16, u16),
-    /// Removes a file and its blocks.
-    Delete(u16, u16, u16),
-    /// Seals a volume: it can't be changed any more.
-    Seal(u16, u16),
-    /// Unseals a volume.
-    Unseal(u16, u16),
-    /// Puts a block into a file.
-    Write(u16, u16, u16, u16, Block),
-    /// Removes a block from a file.
-    Punch(u16, u16, u16, u16),
-    /// Asks for a block of a file.
-    Read(u16, u16, u16, u16),
-    /// Asks which files a volume has.
-    List(u16, u16),
-    /// Asks how much a volume holds, and whether it is sealed.
-    Usage(u16, u16),
-    /// Asks how much all volumes hold.
-    Summary,
-    /// Sets the label of a volume.
-    SetLabel(u16, u16, [u8; 32]),
-    /// Asks for the label of a volume.
-    Label(u16, u16),
-}
-
-/// Why a message was refused.
-#[derive(Clone, Copy, Debug, PartialEq, Eq)]
-pub enum Refusal {
-    /// A number of it is not below its limit.
-    Range,
-    /// Its volume is not there.
-    Volume,
-    /// What it makes is there already.
-    Exists,
-    /// Its volume is sealed.
-    Sealed,
-    /// Its file is not there.
-    File,
-    /// The stripe of its block is full.
-    Space,
-}
-
-/// What a message is answered.
-#[derive(Clone, Copy, Debug, PartialEq, Eq)]
-pub enum Reply {
-    /// The message was carried out.
-    Done,
-    /// The block is not there.
-    Hole,
-    /// The block.
-    Block(Block),
-    /// The files of the volume: file `f` is bit `f` of the number.
-    Files(u64),
-    /// How much the volume holds, and whether it is sealed.
-    Usage {
-        files: u32,
-        blocks: u32,
-        sealed: bool,
-    },
-    /// How much all volumes hold, and how many they are.
-    Summary {
-        volumes: u32,
-        files: u32,
-        blocks: u32,
-    },
-    /// The message was refused, and changed nothing.
-    Refused(Refusal),
-    /// The label of the volume.
-    Label([u8; 32]),
-}

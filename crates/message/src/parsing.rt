@@ -3,14 +3,15 @@
 ghost use Rattle.std.specs.Prelude.{◌≡◌, ℕ, ◌<◌, ◌∷◌, [], true, ◌↔◌, length, slice_index, IsTrue, MatchOption, option_map};
 ghost use Rattle.std.specs.Str.{all_ascii_digits};
 ghost use Rattle.std.specs.Str.Parse.{digits_value};
-ghost use Rattle.message.specs.declared.Msg.{Msg};
-ghost use Rattle.message.specs.declared.Msg.TheVariants.{Write as write, SetLabel as set_label};
-ghost use Rattle.message.specs.Lines.{words, number_in_word, bytes_in_word};
-ghost use Rattle.message.specs.Grammar.{message_of, Spells, first_number, of_kind, of_volume, of_file, of_block, of_data, of_label, kind_named};
+ghost use Rattle.messages.specs.declared.Msg.{Msg};
+ghost use Rattle.messages.specs.declared.Msg.TheVariants.{Write as write, SetLabel as set_label};
+ghost use Rattle.messages.specs.Lines.{words, number_in_word, bytes_in_word};
+ghost use Rattle.messages.specs.Grammar.{message_of, Spells, first_number, of_kind, of_volume, of_file, of_block, of_data, of_label, kind_named};
 
-use crate::{Block, LONGEST_LINE, Msg};
+use crate::LONGEST_LINE;
 use affinity::Kind;
 use memchr::memchr;
+use messages::{Block, Msg};
 
 /// The message that a line spells, the line given without its newline; `None` where it spells none.
 pub fn parse_line(line: &[u8]) -> Option<Msg>

@@ -1,11 +1,11 @@
 //! What a reply says.
 
 ghost use Rattle.std.specs.Prelude.{◌≡◌, ◌<◌, ◌≤◌, ◌+◌, ◌*◌, length, take, drop};
-ghost use Rattle.message.specs.Replies.{Appends, at_least_one, no_message, reply_line, reply_text, shown, spaced, without_zeros, reason};
-ghost use Rattle.message.specs.declared.Reply.TheVariants.{Block as block_reply, Files as files_reply, Usage as usage_reply, Summary as summary_reply};
+ghost use Rattle.messages.specs.Replies.{Appends, at_least_one, no_message, reply_line, reply_text, shown, spaced, without_zeros, reason};
+ghost use Rattle.messages.specs.declared.Reply.TheVariants.{Block as block_reply, Files as files_reply, Usage as usage_reply, Summary as summary_reply};
 
-use crate::{Block, Refusal, Reply};
 use itoa::Buffer;
+use messages::{Block, Refusal, Reply};
 
 /// Writes the line of a reply, its newline included, into the front of `out`, and gives the
 /// line's length in bytes. What lies after the line stays as it was.

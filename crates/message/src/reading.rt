@@ -82,7 +82,8 @@ fn read_over<R: Read>(reader: &mut R, buffer: &mut Vec<u8>, at: usize) -> Result
 }
 
 impl Held {
-    ghost use Rattle.message.specs.Reader.{first_line, behind_first_line, IsWithinLine, held_bytes, held_line};
+    ghost use Rattle.messages.specs.FirstLine.{first_line, behind_first_line, IsWithinLine};
+    ghost use Rattle.message.specs.Reader.{held_bytes, held_line};
 
     fn new(buffer: Vec<u8>) -> Held
         requires { 1101 ≤ vec_len buffer }
@@ -239,7 +240,8 @@ pub struct LineReader<R> {
 }
 
 impl<R: Read> LineReader<R> {
-    ghost use Rattle.message.specs.Reader.{first_line, behind_first_line, IsWithinLine, held_bytes, HoldsEnough, unread, line_of, HoldsLine, has_ended, has_failed, source, LosesFront, Finds, Closes, IsClosed, is_drained, KnowsEnd};
+    ghost use Rattle.messages.specs.FirstLine.{first_line, behind_first_line, IsWithinLine, LosesFront, IsClosed};
+    ghost use Rattle.message.specs.Reader.{held_bytes, HoldsEnough, unread, line_of, HoldsLine, has_ended, has_failed, source, Finds, Closes, is_drained, KnowsEnd};
 
     /// A reader of lines over a reader, before its first read. The buffer has 1,101 bytes at least.
     /// A read fills it as far as the reader gives, so its length is how much is read at a time.

@@ -4,7 +4,7 @@ use Rattle.std.proofs.lemmas.List.{append-nil, append_assoc, map-append, length-
 use Rattle.disk.specs.Device.{Medium}
 use Rattle.disk.specs.Moments.{LeavesOnly}
 use Rattle.disk.proofs.Moments.{started, weaker, then}
-use Rattle.message.specs.declared.Msg.{Msg}
+use Rattle.messages.specs.declared.Msg.{Msg}
 use Rattle.message.specs.Records.{record_of}
 use Rattle.oplog.specs.Layout.{Layout, half}
 use Rattle.oplog.specs.Front.{front}

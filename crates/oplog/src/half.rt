@@ -13,7 +13,7 @@ use crate::staging::stage;
 use crate::store::store;
 use affinity::Geometry;
 use disk::{Disk, DiskFault};
-use message::Msg;
+use messages::Msg;
 
 const OPEN_GATES: [u8; BATCH] = [1; BATCH];
 

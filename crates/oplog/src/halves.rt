@@ -1,7 +1,7 @@
 //! The two halves of a log as one value.
 ghost use Rattle.std.specs.Prelude.{◌≡◌, ◌+◌, ◌*◌, ◌<◌, ◌≤◌, true, false, length, IfOk, IfSome, IsNone, OnOk};
 ghost use Rattle.disk.specs.Device.{moments};
-ghost use Rattle.message.specs.Messages.{IsMessage};
+ghost use Rattle.messages.specs.Messages.{IsMessage};
 ghost use Rattle.message.specs.Records.{record_of};
 ghost use Rattle.oplog.specs.Logged.{AreLogged, IsLogged, IsNoRecord};
 
@@ -11,7 +11,8 @@ use crate::layout::{BATCH, MOST_RECORDS, RECORD_SIZE, ROOT_ZONE_AT};
 use crate::store::store;
 use affinity::{Geometry, changing};
 use disk::Disk;
-use message::{Msg, decode};
+use message::decode;
+use messages::Msg;
 use std::alloc::{AllocError, Global};
 use std::marker::Model;
 

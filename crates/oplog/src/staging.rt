@@ -5,7 +5,8 @@ ghost use Rattle.message.specs.Records.{record_of, FitsRecord};
 ghost use Rattle.oplog.specs.Logged.{records_of};
 
 use crate::layout::RECORD_SIZE;
-use message::{Msg, encode};
+use message::encode;
+use messages::Msg;
 
 /// Writes the record of a message into a place of 520 bytes.
 fn put_record(m: &Msg, place: &mut [u8])

@@ -7,8 +7,8 @@ use Rattle.affinity.specs.Interval.{IsPath}
 use Rattle.affinity.specs.Path.{Path, begins, are_related}
 use Rattle.affinity.proofs.Paths.{begins-refl, unrelated_below, unrelated_turned}
 use Rattle.affinity.proofs.Placed.{IsPath-place}
-use Rattle.message.specs.declared.Msg.{Msg}
-use Rattle.message.specs.Messages.{place, is_in_range, kind, four_numbers, IsMessage}
+use Rattle.messages.specs.declared.Msg.{Msg}
+use Rattle.messages.specs.Messages.{place, is_in_range, kind, four_numbers, IsMessage}
 use Rattle.meaning.specs.State.{State, IsState}
 use Rattle.meaning.specs.Serial.{reply_to, next_state}
 use Rattle.meaning.specs.Shares.{AgreeOn}

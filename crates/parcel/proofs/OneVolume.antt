@@ -4,14 +4,14 @@ use Rattle.std.specs.Prelude.{◌&&◌, ◌||◌, ◌==◌, not, nat_lt, is_some
 use Rattle.std.proofs.lemmas.Bool.{eq-eqb}
 use Rattle.affinity.specs.declared.geometry.Geometry.{Geometry}
 use Rattle.affinity.specs.Geometry.{group}
-use Rattle.message.specs.declared.Block.{Block}
-use Rattle.message.specs.declared.Msg.{Msg}
-use Rattle.message.specs.declared.Msg.TheVariants.{Create, Delete, Write, Punch, List as ListFiles, Usage as AskUsage}
-use Rattle.message.specs.declared.Refusal.{Refusal}
-use Rattle.message.specs.declared.Refusal.TheVariants.{Range, Volume, Exists, File, Space}
-use Rattle.message.specs.declared.Reply.{Reply}
-use Rattle.message.specs.declared.Reply.TheVariants.{Refused}
-use Rattle.message.specs.Messages.{is_in_range}
+use Rattle.messages.specs.declared.Block.{Block}
+use Rattle.messages.specs.declared.Msg.{Msg}
+use Rattle.messages.specs.declared.Msg.TheVariants.{Create, Delete, Write, Punch, List as ListFiles, Usage as AskUsage}
+use Rattle.messages.specs.declared.Refusal.{Refusal}
+use Rattle.messages.specs.declared.Refusal.TheVariants.{Range, Volume, Exists, File, Space}
+use Rattle.messages.specs.declared.Reply.{Reply}
+use Rattle.messages.specs.declared.Reply.TheVariants.{Refused}
+use Rattle.messages.specs.Messages.{is_in_range}
 use Rattle.meaning.specs.State.{State, group_count}
 use Rattle.meaning.specs.Serial.{refusal, effect, accepted_reply, outcome}
 use Rattle.parcel.specs.Run.{IsSerialStep}

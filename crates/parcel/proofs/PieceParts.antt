@@ -8,9 +8,9 @@ use Rattle.affinity.specs.Interval.{IsPath}
 use Rattle.affinity.specs.Path.{Path}
 use Rattle.affinity.specs.declared.geometry.Geometry.{Geometry}
 use Rattle.byteorder.specs.Endian.{little_number}
-use Rattle.message.specs.Messages.{AreSizedBytes}
-use Rattle.message.specs.Replies.{has_file}
-use Rattle.message.specs.declared.Block.{Block}
+use Rattle.messages.specs.Messages.{AreSizedBytes}
+use Rattle.messages.specs.Replies.{has_file}
+use Rattle.messages.specs.declared.Block.{Block}
 use Rattle.meaning.specs.State.{State, IsState}
 use Rattle.stripe.specs.Entries.{IsStripePiece}
 use Rattle.stripe.specs.Stripe.{StripePart}

@@ -6,9 +6,9 @@ use Rattle.affinity.specs.Geometry.{group}
 use Rattle.affinity.specs.Interval.{IsPath}
 use Rattle.affinity.specs.Path.{Path, begins, volume}
 use Rattle.affinity.specs.declared.geometry.Geometry.{Geometry}
-use Rattle.message.specs.Messages.{AreSizedBytes}
-use Rattle.message.specs.Replies.{has_file}
-use Rattle.message.specs.declared.Block.{Block}
+use Rattle.messages.specs.Messages.{AreSizedBytes}
+use Rattle.messages.specs.Replies.{has_file}
+use Rattle.messages.specs.declared.Block.{Block}
 use Rattle.meaning.specs.Laws.{outside}
 use Rattle.meaning.specs.Shares.{AgreeOn}
 use Rattle.meaning.specs.State.{State, VolumeKey, FileKey, BlockKey, IsState, is_volume, is_block_of}

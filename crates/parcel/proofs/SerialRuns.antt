@@ -5,7 +5,7 @@ use Rattle.std.proofs.lemmas.Bool.{and_parts, cond-false, eqb-true, or_left, or_
 use Rattle.affinity.specs.declared.geometry.Geometry.{Geometry}
 use Rattle.affinity.specs.Interval.{IsPath}
 use Rattle.affinity.specs.Path.{Path, begins, are_related}
-use Rattle.message.specs.Messages.{place, IsMessage}
+use Rattle.messages.specs.Messages.{place, IsMessage}
 use Rattle.meaning.specs.State.{State, IsState}
 use Rattle.meaning.specs.Serial.{next_state}
 use Rattle.meaning.specs.Shares.{AgreeOn, share, standing}

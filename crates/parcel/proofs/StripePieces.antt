@@ -6,9 +6,9 @@ use Rattle.std.proofs.lemmas.Bool.{and_parts, and_from, eqb-true, eq-eqb, lt-ltb
 use Rattle.std.proofs.lemmas.Nat.Bits.{bit_at_above}
 use Rattle.affinity.specs.Geometry.{group}
 use Rattle.affinity.specs.declared.geometry.Geometry.{Geometry}
-use Rattle.message.specs.Messages.{IsBlock, AreSizedBytes}
-use Rattle.message.specs.Replies.{has_file}
-use Rattle.message.specs.declared.Block.{Block}
+use Rattle.messages.specs.Messages.{IsBlock, AreSizedBytes}
+use Rattle.messages.specs.Replies.{has_file}
+use Rattle.messages.specs.declared.Block.{Block}
 use Rattle.meaning.specs.State.{State, BlockKey, IsState, is_block_of, one_if, group_count}
 use Rattle.meaning.proofs.Sums.{sum_same}
 use Rattle.stripe.specs.Entries.{entry_bytes, entries_in, stripe_bytes, can_stand, IsStripePiece}

@@ -8,9 +8,9 @@ use Rattle.std.proofs.lemmas.Nat.Bits.{bit_at_above}
 use Rattle.std.proofs.Math.Nat.{pow-le-pow_right}
 use Rattle.affinity.specs.declared.geometry.Geometry.{Geometry}
 use Rattle.byteorder.specs.Endian.{little_bytes, little_number}
-use Rattle.message.specs.Messages.{AreSizedBytes}
-use Rattle.message.specs.Replies.{has_file}
-use Rattle.message.specs.declared.Block.{Block}
+use Rattle.messages.specs.Messages.{AreSizedBytes}
+use Rattle.messages.specs.Replies.{has_file}
+use Rattle.messages.specs.declared.Block.{Block}
 use Rattle.meaning.specs.Serial.{file_bits, no_label}
 use Rattle.meaning.specs.State.{State, VolumeKey, FileKey, BlockKey, IsState, is_volume, sum_below, one_if}
 use Rattle.image.specs.Pieces.{volume_piece, label_bytes, bytes_at, is_made_in, is_sealed_in, has_file_in, label_in as said_label_in, with_volume_piece}

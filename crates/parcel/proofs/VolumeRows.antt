@@ -4,9 +4,9 @@ use Rattle.std.specs.Prelude.{◌&&◌, ◌||◌, ◌==◌, not, if◌then◌els
 use Rattle.std.proofs.lemmas.Bool.{eq-eqb, ne_eqb, cases_eq}
 use Rattle.std.proofs.lemmas.List.{get_or-set_same, get_or-set_other}
 use Rattle.affinity.specs.declared.geometry.Geometry.{Geometry}
-use Rattle.message.specs.declared.Msg.TheVariants.{MakeVol, DropVol}
-use Rattle.message.specs.declared.Refusal.TheVariants.{Range, Exists}
-use Rattle.message.specs.Messages.{is_in_range}
+use Rattle.messages.specs.declared.Msg.TheVariants.{MakeVol, DropVol}
+use Rattle.messages.specs.declared.Refusal.TheVariants.{Range, Exists}
+use Rattle.messages.specs.Messages.{is_in_range}
 use Rattle.meaning.specs.Serial.{refusal, effect, no_label}
 use Rattle.parcel.specs.Shown.{by_aggregate, by_child, volume_facts}
 use Rattle.parcel.specs.Steps.{unless, unless_closed, at_aggregate}

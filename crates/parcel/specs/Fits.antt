@@ -4,8 +4,8 @@ use Rattle.std.specs.List.{AllByRecursion}
 use Rattle.affinity.specs.declared.geometry.Geometry.{Geometry}
 use Rattle.affinity.specs.Geometry.{group}
 use Rattle.affinity.specs.Path.{Path}
-use Rattle.message.specs.declared.Msg.{Msg}
-use Rattle.message.specs.Messages.{place, is_in_range}
+use Rattle.messages.specs.declared.Msg.{Msg}
+use Rattle.messages.specs.Messages.{place, is_in_range}
 use Rattle.stripe.specs.Stripe.{StripePart, content_at}
 use Rattle.parcel.specs.declared.parts.Logical.{Logical}
 use Rattle.parcel.specs.declared.parts.Vol.{Vol}

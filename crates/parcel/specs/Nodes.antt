@@ -3,7 +3,7 @@ use Rattle.std.specs.Prelude.{◌≡◌, ℕ, zero, suc, Bool, false, ◌==◌, 
 use Rattle.affinity.specs.declared.geometry.Geometry.{Geometry}
 use Rattle.affinity.specs.Geometry.{group}
 use Rattle.affinity.specs.Path.{Path, begins, volume, logical, stripe, label}
-use Rattle.message.specs.declared.Block.{Block}
+use Rattle.messages.specs.declared.Block.{Block}
 use Rattle.meaning.specs.State.{State}
 use Rattle.stripe.specs.Stripe.{StripePart, content_at}
 use Rattle.parcel.specs.Shown.{has_file}

@@ -1,6 +1,6 @@
 -- What a run is to any state of which its job had a part, and to the tree that lent it.
 use Rattle.std.specs.Prelude.{◌≡◌}
-use Rattle.message.specs.Messages.{place}
+use Rattle.messages.specs.Messages.{place}
 use Rattle.meaning.specs.State.{State}
 use Rattle.meaning.specs.Serial.{reply_to, next_state}
 use Rattle.affinity.specs.declared.geometry.Geometry.{Geometry}

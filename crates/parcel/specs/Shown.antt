@@ -3,8 +3,8 @@ use Rattle.std.specs.Prelude.{ℕ, Bool, false, ◌==◌, List, [], ◌∷◌, s
 use Rattle.affinity.specs.declared.geometry.Geometry.{Geometry}
 use Rattle.affinity.specs.Geometry.{group}
 use Rattle.affinity.specs.Path.{Path}
-use Rattle.message.specs.declared.Block.{Block}
-pub use Rattle.message.specs.Replies.{has_file}
+use Rattle.messages.specs.declared.Block.{Block}
+pub use Rattle.messages.specs.Replies.{has_file}
 use Rattle.meaning.specs.State.{State}
 use Rattle.stripe.specs.Stripe.{StripePart, content_at}
 use Rattle.parcel.specs.Volume.{Facts, nothing, facts_if, state_by, only}

@@ -1,11 +1,11 @@
 -- A message that speaks of one volume: its tests, and its step on what the volume has.
 use Rattle.std.specs.Prelude.{◌≡◌, ℕ, Bool, true, not, if◌then◌else◌, ◌==◌, Option, Some}
 use Rattle.affinity.specs.declared.geometry.Geometry.{Geometry}
-use Rattle.message.specs.declared.Msg.{Msg}
-use Rattle.message.specs.declared.Refusal.{Refusal}
-use Rattle.message.specs.declared.Refusal.TheVariants.{Volume, Sealed}
-use Rattle.message.specs.declared.Reply.{Reply}
-use Rattle.message.specs.Messages.{is_in_range}
+use Rattle.messages.specs.declared.Msg.{Msg}
+use Rattle.messages.specs.declared.Refusal.{Refusal}
+use Rattle.messages.specs.declared.Refusal.TheVariants.{Volume, Sealed}
+use Rattle.messages.specs.declared.Reply.{Reply}
+use Rattle.messages.specs.Messages.{is_in_range}
 use Rattle.meaning.specs.State.{State}
 use Rattle.parcel.specs.Run.{IsSerialStep}
 use Rattle.parcel.specs.Shown.{by_aggregate}

@@ -1,7 +1,7 @@
 -- Whether a message whose numbers are in range passes a test, by what it sees of its volume.
 use Rattle.std.specs.Prelude.{Bool, true, not}
-use Rattle.message.specs.declared.Refusal.{Refusal}
-use Rattle.message.specs.declared.Refusal.TheVariants.{Range, Volume, Exists, Sealed, File, Space}
+use Rattle.messages.specs.declared.Refusal.{Refusal}
+use Rattle.messages.specs.declared.Refusal.TheVariants.{Range, Volume, Exists, Sealed, File, Space}
 use Rattle.parcel.specs.declared.running.refusals.Seen.{Seen}
 
 abbrev pub passes : Seen → Refusal → Bool

@@ -1,6 +1,6 @@
 -- One volume by what can be asked of it, and a state as one of these for each volume.
 use Rattle.std.specs.Prelude.{ℕ, Bool, true, false, ◌&&◌, ◌==◌, List, Option, None}
-use Rattle.message.specs.declared.Block.{Block}
+use Rattle.messages.specs.declared.Block.{Block}
 use Rattle.meaning.specs.State.{State}
 
 pub record Facts : Type 0 where

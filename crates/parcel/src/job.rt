@@ -4,7 +4,7 @@ ghost use Rattle.parcel.specs.Fits.{Suits};
 
 use crate::{Parcels, Standing};
 use affinity::Geometry;
-use message::{Msg, Reply};
+use messages::{Msg, Reply};
 use std::marker::Model;
 
 /// A message with what it runs on.

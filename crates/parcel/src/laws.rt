@@ -5,8 +5,8 @@ ghost use Rattle.std.specs.Prelude.{◌≡◌, ◌++◌, [], is_some, Bool, fals
 ghost use Rattle.affinity.specs.Interval.{IsPath};
 ghost use Rattle.affinity.specs.Path.{Path, are_related};
 ghost use Rattle.affinity.specs.declared.geometry.Geometry.{Geometry};
-ghost use Rattle.message.specs.declared.Msg.{Msg};
-ghost use Rattle.message.specs.Messages.{IsMessage, place};
+ghost use Rattle.messages.specs.declared.Msg.{Msg};
+ghost use Rattle.messages.specs.Messages.{IsMessage, place};
 ghost use Rattle.meaning.specs.Laws.{outside};
 ghost use Rattle.meaning.specs.Serial.{next_state, reply_to};
 ghost use Rattle.meaning.specs.Shares.{AgreeOn, share, standing};

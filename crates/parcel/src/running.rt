@@ -1,6 +1,6 @@
 //! Runs a message on its parcels: for each kind a small function at the level where it runs.
 
-ghost use Rattle.message.specs.Messages.{place};
+ghost use Rattle.messages.specs.Messages.{place};
 ghost use Rattle.parcel.specs.Fits.{Suits};
 ghost use Rattle.parcel.specs.Run.{IsJobRun, IsSerialStep};
 ghost use Rattle.parcel.specs.Shown.{shown_state};
@@ -22,7 +22,7 @@ use at_logical::run_at_logical;
 use at_root::run_at_root;
 use at_stripe::run_at_stripe;
 use at_volume::run_at_volume;
-use message::{Msg, Reply};
+use messages::{Msg, Reply};
 
 /// Runs a message on its parcels: the reply is that of the serial server in the state that they and
 /// the standing show, and they show the state after it.

@@ -1,5 +1,7 @@
 -- The steps of a session.
 pub mod SessionSteps
+-- Messages without data.
+pub mod Asked
 -- The maps of a server.
 pub mod ServerCounts
 pub mod Writes

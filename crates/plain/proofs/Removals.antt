@@ -5,7 +5,7 @@ use Rattle.std.specs.BTreeMap.{is_at}
 use Rattle.std.proofs.lemmas.Bool.{true≢false}
 use Rattle.affinity.specs.declared.geometry.Geometry.{Geometry}
 use Rattle.affinity.specs.Geometry.{group}
-use Rattle.message.specs.declared.Msg.TheVariants.{Delete, Punch}
+use Rattle.messages.specs.declared.Msg.TheVariants.{Delete, Punch}
 use Rattle.meaning.specs.State.{State, IsState, Set, Map, VolumeKey, FileKey, BlockKey, dropping, clearing, is_volume, is_file, is_block, is_file_of, is_block_of, is_block_of_file, one_if, group_count}
 use Rattle.meaning.specs.Serial.{effect}
 use Rattle.meaning.specs.KeyOrders.{volume_order, by_file}

@@ -7,9 +7,9 @@ use Rattle.std.proofs.lemmas.List.Elements.{recursion_from_All}
 use Rattle.std.proofs.lemmas.Option.{none-some, same_Some}
 use Rattle.std.proofs.lemmas.Bool.{true≢false}
 use Rattle.affinity.specs.declared.geometry.Geometry.{Geometry}
-use Rattle.message.specs.Lines.{lines}
-use Rattle.message.specs.Grammar.{message_of}
-use Rattle.message.specs.Reader.{GivesLine, PassesLine, IsClosed, LosesFront}
+use Rattle.messages.specs.Lines.{lines}
+use Rattle.messages.specs.Grammar.{message_of}
+use Rattle.messages.specs.FirstLine.{GivesLine, PassesLine, IsClosed, LosesFront}
 use Rattle.meaning.specs.State.{State}
 use Rattle.meaning.specs.Output.{answer_line, state_after_line, state_after_lines, output_lines, joined, serial_out, with_newlines, AnswersWholeLines, IsBeginning, WritesOutput}
 use Rattle.meaning.specs.Progress.{HasAnswered}

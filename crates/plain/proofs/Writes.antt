@@ -3,8 +3,8 @@ use Rattle.std.proofs.Common.{◌≡◌, ℕ, ◌+◌, ◌<◌, true, false, Som
 use Rattle.std.specs.Prelude.{None, is_some, if◌then◌else◌}
 use Rattle.affinity.specs.declared.geometry.Geometry.{Geometry}
 use Rattle.affinity.specs.Geometry.{group}
-use Rattle.message.specs.declared.Block.{Block}
-use Rattle.message.specs.declared.Msg.TheVariants.{Write, Punch}
+use Rattle.messages.specs.declared.Block.{Block}
+use Rattle.messages.specs.declared.Msg.TheVariants.{Write, Punch}
 use Rattle.meaning.specs.State.{State, BlockKey, one_if, group_count, is_block}
 use Rattle.meaning.specs.Serial.{effect}
 use Rattle.plain.specs.Server.{StripeKey, is_stripe}

@@ -2,16 +2,16 @@
 
 ghost use Rattle.std.specs.Prelude.{◌≡◌, ◌≤◌, ◌++◌, ℕ, List, [], Option, Some, true, false, option_map, IfOk, OnOk, OnErr, IsErrOf, IsFalse, MatchBool, vec_len};
 ghost use Rattle.std.specs.Io.KnownBytes.{Appends, IsAtEnd};
-ghost use Rattle.message.specs.Grammar.{message_of};
+ghost use Rattle.messages.specs.Grammar.{message_of};
 ghost use Rattle.message.specs.Reader.{unread, is_drained, source, KnowsEnd};
 ghost use Rattle.message.specs.Waiting.{FitsReply, so_far};
-ghost use Rattle.message.specs.Lines.{block_in_word};
+ghost use Rattle.messages.specs.Lines.{block_in_word};
 ghost use Rattle.message.specs.Heads.{IsAsked, asking, writing};
 ghost use Rattle.affinity.specs.Kind.{is_changing};
 ghost use Rattle.meaning.specs.ByKind.{reply_when};
 ghost use Rattle.meaning.specs.State.{State, empty};
 ghost use Rattle.plain.specs.Server.{server_state, IsConsistent};
-ghost use Rattle.message.specs.Replies.{reply_line};
+ghost use Rattle.messages.specs.Replies.{reply_line};
 ghost use Rattle.meaning.specs.Serial.{accepted_reply, reply_to, next_state};
 ghost use Rattle.meaning.specs.Progress.{HasAnswered};
 ghost use Rattle.meaning.specs.Output.{serial_out, answer_line, state_after_line, AnswersWholeLines, IsBeginning, WritesOutput};
@@ -20,9 +20,10 @@ use crate::PlainFault;
 use crate::server::Server;
 use affinity::{Geometry, Kind, changing};
 use message::{
-    Block, Found, Head, LentReader, LineReader, Loan, Msg, Refusal, Reply, ReplyBuffer, WriteFault,
-    head_of_line, parse_line, read_block,
+    Found, Head, LentReader, LineReader, Loan, ReplyBuffer, WriteFault, head_of_line, parse_line,
+    read_block,
 };
+use messages::{Block, Msg, Refusal, Reply};
 use std::alloc::{AllocError, Global};
 use std::io::{Read, Write};
 use std::marker::PhantomData;

@@ -10,7 +10,8 @@ ghost use Rattle.meaning.specs.Serial.{reply_to, next_state};
 ghost use Rattle.plain.specs.Server.{server_state, IsConsistent};
 
 use affinity::{Geometry, Kind};
-use message::{Block, Msg, Refusal, Reply, know_block, know_message};
+use message::{know_block, know_message};
+use messages::{Block, Msg, Refusal, Reply};
 use std::alloc::{AllocError, Global};
 use std::collections::{BTreeMap, BTreeSet};
 

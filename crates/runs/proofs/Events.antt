@@ -32,8 +32,8 @@ use Rattle.runs.specs.Machine.{HoldsJobs, IsHandOf, hand_at, hand_of, machine_of
 use Rattle.runs.specs.Steps.{IsCoreStep, IsMachineStep}
 use Rattle.runs.specs.declared.hands.Holding.{Holding}
 use Rattle.runs.specs.declared.hands.Holding.TheVariants as has
-use Rattle.message.specs.declared.Msg.{Msg}
-use Rattle.message.specs.declared.Reply.{Reply}
+use Rattle.messages.specs.declared.Msg.{Msg}
+use Rattle.messages.specs.declared.Reply.{Reply}
 use Rattle.parcel.specs.Run.{JobView, IsJobRun}
 use Rattle.parcel.specs.declared.job.Done.{Done}
 use Rattle.meaning.specs.Serial.{fold}

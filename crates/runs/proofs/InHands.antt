@@ -18,7 +18,7 @@ use Rattle.runs.proofs.Jobs.{SeesSame, job_stays, result_stays}
 use Rattle.runs.specs.Machine.{HoldsJobs, IsHandOf, hand_at, ticket_in}
 use Rattle.runs.specs.declared.hands.Holding.{Holding}
 use Rattle.runs.specs.declared.hands.Holding.TheVariants as has
-use Rattle.message.specs.declared.Msg.{Msg}
+use Rattle.messages.specs.declared.Msg.{Msg}
 
 -- two numbers are one, or not
 pub one_or_other : (i k : ℕ) → (i ≡ k) ⊎ (i ≢ k)

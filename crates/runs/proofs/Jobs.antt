@@ -4,8 +4,8 @@ use Rattle.std.specs.List.{Contains}
 use Rattle.affinity.specs.Path.{are_related}
 use Rattle.affinity.specs.declared.geometry.Geometry.{Geometry}
 use Rattle.legal_runs.specs.World.{Entry, World}
-use Rattle.message.specs.Messages.{place}
-use Rattle.message.specs.declared.Msg.{Msg}
+use Rattle.messages.specs.Messages.{place}
+use Rattle.messages.specs.declared.Msg.{Msg}
 use Rattle.parcel.proofs.SerialRuns.{serial_run}
 use Rattle.parcel.specs.Fits.{Suits}
 use Rattle.parcel.specs.Run.{JobView, IsJobRun, Shows}

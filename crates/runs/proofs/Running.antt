@@ -25,7 +25,7 @@ use Rattle.runs.proofs.Events.{some_of}
 use Rattle.runs.specs.Machine.{MachineView, HasRun, HasStages, machine_of}
 use Rattle.runs.specs.Stages.{AreSafe, Stage, StandsForRun, TouchAsTold, device_after, events_of}
 use Rattle.runs.specs.Steps.{IsMachineStep}
-use Rattle.message.specs.declared.Msg.{Msg}
+use Rattle.messages.specs.declared.Msg.{Msg}
 use Rattle.meaning.specs.Serial.{fold}
 use Rattle.scheduler.specs.Calls.{CountsFailure}
 use Rattle.runs.specs.declared.hands.Holding.{Holding}

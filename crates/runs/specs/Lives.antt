@@ -12,7 +12,7 @@ use Rattle.legal_runs.specs.Laws.{IsIdle}
 use Rattle.legal_runs.specs.Lives.{AreLogsOf, HoldAnswered, Life, Ran, Unopened, in_order}
 use Rattle.legal_runs.specs.Runs.{IsLegal}
 use Rattle.runs.specs.Stages.{StandsForRun}
-use Rattle.message.specs.declared.Msg.{Msg}
+use Rattle.messages.specs.declared.Msg.{Msg}
 use Rattle.meaning.specs.Serial.{fold}
 use Rattle.meaning.specs.State.{empty}
 

@@ -12,7 +12,7 @@ use Rattle.legal_runs.specs.declared.outcomes.Step.{Step}
 use Rattle.runs.specs.Stages.{Stage, AreSafe, StandsForRun, TouchAsTold, device_after, events_of}
 use Rattle.runs.specs.declared.hands.Holding.{Holding}
 use Rattle.runs.specs.declared.hands.Holding.TheVariants as has
-use Rattle.message.specs.declared.Reply.{Reply}
+use Rattle.messages.specs.declared.Reply.{Reply}
 use Rattle.meaning.specs.Order.{by_ticket, told}
 use Rattle.scheduler.specs.Jobs.{IsJobOf, IsResultOf}
 use Rattle.scheduler.specs.Kept.{CoreView, StandsNow, world_of}

@@ -9,9 +9,9 @@ use Rattle.arena.specs.Row.{IsParted, Row, after_take, capacity_of, chain_at, fr
 use Rattle.journal.specs.Journal.{JournalView}
 use Rattle.legal_runs.specs.Events.{answer}
 use Rattle.legal_runs.specs.declared.outcomes.Outcome.TheVariants as outcomes
-use Rattle.message.specs.declared.Msg.{Msg}
-use Rattle.message.specs.declared.Reply.{Reply}
-use Rattle.message.specs.declared.Reply.TheVariants.{Done}
+use Rattle.messages.specs.declared.Msg.{Msg}
+use Rattle.messages.specs.declared.Reply.{Reply}
+use Rattle.messages.specs.declared.Reply.TheVariants.{Done}
 use Rattle.parcel.specs.Tree.{TreeView}
 use Rattle.scheduler.proofs.Answering.{answer_core, answer_front, with_answer}
 use Rattle.scheduler.proofs.Lines.{TakenLines, line_taken}

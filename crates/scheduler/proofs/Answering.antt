@@ -13,7 +13,7 @@ use Rattle.legal_runs.proofs.Moves.{Answers}
 use Rattle.legal_runs.proofs.Sound.{move_sound}
 use Rattle.legal_runs.specs.Laws.{AreApart}
 use Rattle.legal_runs.specs.World.{Entry, entries, are_related_entries}
-use Rattle.message.specs.Messages.{place}
+use Rattle.messages.specs.Messages.{place}
 use Rattle.scheduler.proofs.Tests.{any_answered, any_filter}
 use Rattle.scheduler.specs.Parts.{IsCore, IsPlaced, Parts, entry_of, replied_of, turn_of, world_in}
 use Rattle.scheduler.specs.Slots.{SlotView}

@@ -13,10 +13,10 @@ use Rattle.legal_runs.specs.Events.{arrive}
 use Rattle.legal_runs.specs.World.{Entry, held}
 use Rattle.legal_runs.specs.declared.outcomes.ArriveRefusal.TheVariants as arrivals
 use Rattle.legal_runs.specs.declared.outcomes.Outcome.TheVariants as outcomes
-use Rattle.message.specs.Messages.{is_in_range}
-use Rattle.message.specs.declared.Msg.{Msg}
-use Rattle.message.specs.declared.Reply.{Reply}
-use Rattle.message.specs.declared.Reply.TheVariants.{Done}
+use Rattle.messages.specs.Messages.{is_in_range}
+use Rattle.messages.specs.declared.Msg.{Msg}
+use Rattle.messages.specs.declared.Reply.{Reply}
+use Rattle.messages.specs.declared.Reply.TheVariants.{Done}
 use Rattle.parcel.specs.Tree.{TreeView}
 use Rattle.scheduler.proofs.Arriving.{arrival_core, arrival_world, has_slot, with_arrival}
 use Rattle.scheduler.proofs.Choosing.{any_map}

@@ -14,8 +14,8 @@ use Rattle.legal_runs.specs.declared.outcomes.Outcome.TheVariants as outcomes
 use Rattle.legal_runs.specs.declared.outcomes.PointRefusal.{PointRefusal}
 use Rattle.legal_runs.specs.declared.outcomes.PointRefusal.TheVariants as points
 use Rattle.legal_runs.specs.declared.outcomes.Step.TheVariants as steps
-use Rattle.message.specs.declared.Msg.{Msg}
-use Rattle.message.specs.declared.Reply.{Reply}
+use Rattle.messages.specs.declared.Msg.{Msg}
+use Rattle.messages.specs.declared.Reply.{Reply}
 use Rattle.scheduler.specs.Calls.{IsCalled, IsLogStep, IsPieceStep, IsPointStep, answer_outcome, arrive_outcome, log_rose, log_outcome, point_rose, step_outcome}
 
 abbrev In : World → List Hand → Hands

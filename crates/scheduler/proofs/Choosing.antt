@@ -13,7 +13,7 @@ use Rattle.legal_runs.specs.Events.{no_grant}
 use Rattle.legal_runs.specs.Laws.{AreAscending}
 use Rattle.legal_runs.specs.World.{Entry, World, entries, entry, are_related_entries}
 use Rattle.legal_runs.specs.declared.outcomes.Outcome.TheVariants as outcomes
-use Rattle.message.specs.Messages.{place}
+use Rattle.messages.specs.Messages.{place}
 use Rattle.scheduler.specs.Calls.{IsGranted}
 use Rattle.scheduler.specs.Parts.{ArePlaced, IsCore, IsPlaced, Parts, entry_of, held_any, replied_of, turn_of, world_in}
 use Rattle.scheduler.specs.Slots.{Lines, SlotView}

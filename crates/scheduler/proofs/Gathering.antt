@@ -15,9 +15,9 @@ use Rattle.arena.proofs.Times.{times-append, times-at, times-cons_is, times-cons
 use Rattle.legal_runs.specs.Eligible.{changes}
 use Rattle.legal_runs.specs.Events.{loggable}
 use Rattle.legal_runs.specs.World.{Replied}
-use Rattle.message.specs.declared.Msg.{Msg}
-use Rattle.message.specs.declared.Reply.{Reply}
-use Rattle.message.specs.declared.Reply.TheVariants.{Done}
+use Rattle.messages.specs.declared.Msg.{Msg}
+use Rattle.messages.specs.declared.Reply.{Reply}
+use Rattle.messages.specs.declared.Reply.TheVariants.{Done}
 use Rattle.meaning.specs.Serial.{is_loggable}
 use Rattle.scheduler.proofs.GrantCall.{some_value}
 use Rattle.scheduler.proofs.Shifting.{left_over, some_first}

@@ -17,10 +17,10 @@ use Rattle.legal_runs.proofs.Lists.{all_back, all_join}
 use Rattle.legal_runs.specs.Eligible.{is_eligible}
 use Rattle.legal_runs.specs.Events.{grant}
 use Rattle.legal_runs.specs.World.{Entry, World}
-use Rattle.message.specs.Messages.{place}
-use Rattle.message.specs.declared.Msg.{Msg}
-use Rattle.message.specs.declared.Reply.{Reply}
-use Rattle.message.specs.declared.Reply.TheVariants.{Done}
+use Rattle.messages.specs.Messages.{place}
+use Rattle.messages.specs.declared.Msg.{Msg}
+use Rattle.messages.specs.declared.Reply.{Reply}
+use Rattle.messages.specs.declared.Reply.TheVariants.{Done}
 use Rattle.parcel.specs.Fits.{Suits}
 use Rattle.parcel.specs.Run.{JobView, Shows}
 use Rattle.parcel.specs.Tree.{HasGap, LendsAt, TreeView, in_tree}

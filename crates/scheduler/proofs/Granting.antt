@@ -12,7 +12,7 @@ use Rattle.legal_runs.specs.Eligible.{next_eligible}
 use Rattle.legal_runs.specs.Events.{grant}
 use Rattle.legal_runs.specs.Laws.{IsSoundWorld}
 use Rattle.legal_runs.specs.World.{Entry, held}
-use Rattle.message.specs.Messages.{place}
+use Rattle.messages.specs.Messages.{place}
 use Rattle.parcel.specs.Holding.{TreeHolds}
 use Rattle.parcel.specs.Tree.{LendsAt, TreeView, in_tree}
 use Rattle.parcel.specs.declared.parts.Parcels.{Parcels}

@@ -14,7 +14,7 @@ use Rattle.legal_runs.specs.Laws.{IsSoundWorld}
 use Rattle.legal_runs.specs.World.{World}
 use Rattle.legal_runs.specs.declared.outcomes.Outcome.{Outcome}
 use Rattle.legal_runs.specs.declared.outcomes.Step.{Step}
-use Rattle.message.specs.declared.Msg.{Msg}
+use Rattle.messages.specs.declared.Msg.{Msg}
 use Rattle.meaning.specs.Serial.{fold}
 use Rattle.meaning.specs.State.{State}
 use Rattle.scheduler.specs.Calls.{IsCalled}

@@ -8,8 +8,8 @@ use Rattle.arena.specs.Lists.{times, without}
 use Rattle.arena.specs.Row.{Row, IsParted, after_move, after_put, after_take, can_move, capacity_of, chain_at, holds_value, moved, put_into, value_at}
 use Rattle.arena.proofs.RowLemmas.{chain-moved_other, chain-moved_same, chain-without, chained-apart, chained-holds, chained-once, length-moved}
 use Rattle.arena.proofs.Times.{times-append, times-at, times-cons_same, without-absent}
-use Rattle.message.specs.declared.Reply.{Reply}
-use Rattle.message.specs.declared.Reply.TheVariants.{Done}
+use Rattle.messages.specs.declared.Reply.{Reply}
+use Rattle.messages.specs.declared.Reply.TheVariants.{Done}
 use Rattle.scheduler.specs.Slots.{HasChains, SlotView, line, no_slot, place_at}
 use Rattle.scheduler.specs.declared.slot.Slot.{Slot}
 use Rattle.scheduler.proofs.Splits.{MapSplit, map_same, map_split, times-split, without-split}

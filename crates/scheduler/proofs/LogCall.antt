@@ -16,9 +16,9 @@ use Rattle.legal_runs.specs.Eligible.{changes}
 use Rattle.legal_runs.specs.Events.{batch as batch_of, log, loggable, touches_device}
 use Rattle.legal_runs.specs.Laws.{IsSoundWorld}
 use Rattle.legal_runs.specs.declared.outcomes.Step.TheVariants as steps
-use Rattle.message.specs.declared.Msg.{Msg}
-use Rattle.message.specs.declared.Reply.{Reply}
-use Rattle.message.specs.declared.Reply.TheVariants.{Done}
+use Rattle.messages.specs.declared.Msg.{Msg}
+use Rattle.messages.specs.declared.Reply.{Reply}
+use Rattle.messages.specs.declared.Reply.TheVariants.{Done}
 use Rattle.oplog.specs.Costs.{Takes}
 use Rattle.oplog.specs.Logged.{AreLogged}
 use Rattle.oplog.specs.declared.fault.LogFault.{LogFault}

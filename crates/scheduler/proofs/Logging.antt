@@ -21,8 +21,8 @@ use Rattle.legal_runs.proofs.Told.{fold-joined, still_replied}
 use Rattle.legal_runs.specs.Events.{batch, log, loggable}
 use Rattle.legal_runs.specs.Laws.{AreApart, AreReplied, IsSoundWorld}
 use Rattle.legal_runs.specs.World.{Replied, World, entries}
-use Rattle.message.specs.Messages.{IsMessage, is_in_range, kind}
-use Rattle.message.specs.declared.Msg.{Msg}
+use Rattle.messages.specs.Messages.{IsMessage, is_in_range, kind}
+use Rattle.messages.specs.declared.Msg.{Msg}
 use Rattle.oplog.specs.Logged.{AreLogged, IsLogged}
 use Rattle.parcel.specs.Holding.{TreeHolds}
 use Rattle.parcel.specs.Tree.{in_tree}

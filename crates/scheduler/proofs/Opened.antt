@@ -6,8 +6,8 @@ use Rattle.arena.proofs.Times.{length-numbers}
 use Rattle.arena.specs.Row.{IsParted, Row, capacity_of, empty_row}
 use Rattle.journal.specs.Journal.{JournalView, IsSettled, settled}
 use Rattle.legal_runs.proofs.Idle.{idle_sound}
-use Rattle.message.specs.declared.Msg.{Msg}
-use Rattle.message.specs.declared.Reply.{Reply}
+use Rattle.messages.specs.declared.Msg.{Msg}
+use Rattle.messages.specs.declared.Reply.{Reply}
 use Rattle.parcel.proofs.Holding.{holds_alike, holds_whole}
 use Rattle.parcel.specs.Holding.{TreeHolds, nowhere}
 use Rattle.parcel.specs.Nodes.{tree_state}

@@ -19,10 +19,10 @@ use Rattle.legal_runs.proofs.Lists.{all_back, all_front, before_first}
 use Rattle.legal_runs.specs.Events.{give_back, out_with}
 use Rattle.legal_runs.specs.Laws.{AreApart}
 use Rattle.legal_runs.specs.World.{Entry, World, held, are_related_entries}
-use Rattle.message.specs.Messages.{place}
-use Rattle.message.specs.declared.Msg.{Msg}
-use Rattle.message.specs.declared.Reply.{Reply}
-use Rattle.message.specs.declared.Reply.TheVariants.{Done}
+use Rattle.messages.specs.Messages.{place}
+use Rattle.messages.specs.declared.Msg.{Msg}
+use Rattle.messages.specs.declared.Reply.{Reply}
+use Rattle.messages.specs.declared.Reply.TheVariants.{Done}
 use Rattle.parcel.proofs.Lending.{kind_of}
 use Rattle.parcel.proofs.Serving.{fits_where_lent}
 use Rattle.parcel.specs.Fits.{Fits, IsKindOf}

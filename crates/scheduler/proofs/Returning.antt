@@ -12,8 +12,8 @@ use Rattle.legal_runs.specs.Eligible.{pick}
 use Rattle.legal_runs.specs.Events.{give_back, out_with}
 use Rattle.legal_runs.specs.Laws.{AreOnce, IsSoundWorld}
 use Rattle.legal_runs.specs.World.{Entry}
-use Rattle.message.specs.Messages.{place}
-use Rattle.message.specs.declared.Reply.{Reply}
+use Rattle.messages.specs.Messages.{place}
+use Rattle.messages.specs.declared.Reply.{Reply}
 use Rattle.parcel.specs.Fits.{Fits}
 use Rattle.parcel.specs.Holding.{TreeHolds}
 use Rattle.parcel.specs.Run.{Shows}

@@ -8,7 +8,7 @@ use Rattle.legal_runs.proofs.Outs.{event_sees}
 use Rattle.legal_runs.specs.Events.{Event, Hands, IsAllowed}
 use Rattle.legal_runs.specs.Laws.{IsSoundWorld}
 use Rattle.legal_runs.specs.World.{Entry, World}
-use Rattle.message.specs.Messages.{place}
+use Rattle.messages.specs.Messages.{place}
 use Rattle.parcel.proofs.SerialRuns.{serial_run}
 use Rattle.parcel.specs.Fits.{Suits}
 use Rattle.parcel.specs.Run.{JobView, IsJobRun, Shows}

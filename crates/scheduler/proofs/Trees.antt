@@ -18,7 +18,7 @@ use Rattle.legal_runs.proofs.Lists.{all_back, all_front, all_weaker, before_back
 use Rattle.legal_runs.proofs.Outs.{entries_leave}
 use Rattle.legal_runs.proofs.Sound.{row_of}
 use Rattle.legal_runs.proofs.Told.{fold-append}
-use Rattle.message.specs.Messages.{IsMessage, place}
+use Rattle.messages.specs.Messages.{IsMessage, place}
 use Rattle.parcel.proofs.Holding.{can_be_lent, holds_alike, lent_holds, lent_shows, place_is_out, restored_holds}
 use Rattle.parcel.specs.Fits.{Fits}
 use Rattle.parcel.specs.Holding.{IsApart, TreeHolds, with_place}

@@ -12,8 +12,8 @@ use Rattle.legal_runs.specs.declared.outcomes.Outcome.TheVariants as outcomes
 use Rattle.legal_runs.specs.declared.outcomes.PointRefusal.{PointRefusal}
 use Rattle.legal_runs.specs.declared.outcomes.PointRefusal.TheVariants as points
 use Rattle.legal_runs.specs.declared.outcomes.Step.{Step}
-use Rattle.message.specs.declared.Msg.{Msg}
-use Rattle.message.specs.declared.Reply.{Reply}
+use Rattle.messages.specs.declared.Msg.{Msg}
+use Rattle.messages.specs.declared.Reply.{Reply}
 use Rattle.scheduler.specs.Jobs.{IsJobOf}
 use Rattle.scheduler.specs.Kept.{CoreView, world_of}
 use Rattle.scheduler.specs.declared.granted.Granted.{Granted}

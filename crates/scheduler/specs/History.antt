@@ -1,6 +1,6 @@
 -- What contracts know of a core's past. No clause of a public function cites this module.
 use Rattle.std.specs.Prelude.{List, [], ◌++◌}
-use Rattle.message.specs.declared.Msg.{Msg}
+use Rattle.messages.specs.declared.Msg.{Msg}
 use Rattle.parcel.specs.Tree.{TreeView}
 use Rattle.scheduler.specs.declared.history.Appended.{Appended, Nothing, After'}
 

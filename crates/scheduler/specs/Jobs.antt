@@ -3,7 +3,7 @@ use Rattle.std.specs.Prelude.{◌≡◌}
 use Rattle.std.specs.List.{Contains}
 use Rattle.affinity.specs.declared.geometry.Geometry.{Geometry}
 use Rattle.legal_runs.specs.World.{World}
-use Rattle.message.specs.Messages.{place}
+use Rattle.messages.specs.Messages.{place}
 use Rattle.parcel.specs.Fits.{Suits}
 use Rattle.parcel.specs.Run.{JobView, Shows}
 use Rattle.parcel.specs.RunLaws.{IsLentOf}

@@ -5,7 +5,7 @@ use Rattle.disk.specs.Device.{Medium, Leaves}
 use Rattle.disk.specs.Moments.{LeavesOnly}
 use Rattle.journal.specs.Journal.{HoldsSome}
 use Rattle.legal_runs.specs.World.{Entry, Replied, World}
-use Rattle.message.specs.declared.Msg.{Msg}
+use Rattle.messages.specs.declared.Msg.{Msg}
 use Rattle.parcel.specs.Tree.{TreeView, state_in}
 use Rattle.meaning.specs.Serial.{fold}
 

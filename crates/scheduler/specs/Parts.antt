@@ -9,9 +9,9 @@ use Rattle.journal.specs.Journal.{JournalView, settled}
 use Rattle.legal_runs.specs.Eligible.{changes, in_flight}
 use Rattle.legal_runs.specs.Laws.{IsSoundWorld}
 use Rattle.legal_runs.specs.World.{Entry, Replied, World, entries}
-use Rattle.message.specs.Messages.{IsMessage, is_in_range, place}
-use Rattle.message.specs.declared.Msg.{Msg}
-use Rattle.message.specs.declared.Reply.{Reply}
+use Rattle.messages.specs.Messages.{IsMessage, is_in_range, place}
+use Rattle.messages.specs.declared.Msg.{Msg}
+use Rattle.messages.specs.declared.Reply.{Reply}
 use Rattle.parcel.specs.Holding.{TreeHolds}
 use Rattle.parcel.specs.Tree.{TreeView, in_tree}
 use Rattle.meaning.specs.Order.{messages}

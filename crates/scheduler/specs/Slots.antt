@@ -1,9 +1,9 @@
 -- The messages of a core in its slots, by how far each has come. No clause of a public function cites this module.
 use Rattle.std.specs.Prelude.{◌≡◌, ℕ, List, map, get_or, unwrap_or}
 use Rattle.arena.specs.Row.{IsParted, Row, chain_at, value_at}
-use Rattle.message.specs.declared.Msg.TheVariants.{Summary}
-use Rattle.message.specs.declared.Reply.{Reply}
-use Rattle.message.specs.declared.Reply.TheVariants.{Done}
+use Rattle.messages.specs.declared.Msg.TheVariants.{Summary}
+use Rattle.messages.specs.declared.Reply.{Reply}
+use Rattle.messages.specs.declared.Reply.TheVariants.{Done}
 use Rattle.scheduler.specs.declared.slot.Slot.{Slot}
 use Rattle.std.specs.Prelude.{length}
 

@@ -1,7 +1,7 @@
 //! Messages that arrive by the lines that spell them.
 
 ghost use Rattle.std.specs.Prelude.{◌≡◌, Some, false};
-ghost use Rattle.message.specs.Grammar.{message_of};
+ghost use Rattle.messages.specs.Grammar.{message_of};
 ghost use Rattle.message.specs.Heads.{asking, has_data};
 ghost use Rattle.scheduler.specs.Calls.{ArrivesByLine};
 
@@ -9,7 +9,8 @@ use crate::Core;
 use affinity::Kind;
 use disk::Disk;
 use legal_runs::ArriveRefusal;
-use message::{Block, Head, Msg, head_of_line, parse_line, read_block};
+use message::{Head, head_of_line, parse_line, read_block};
+use messages::{Block, Msg};
 
 /// The message of a kind without data and its numbers. It is made where it lies: no room for a block is moved.
 fn asked(kind: Kind, numbers: [u16; 4]) -> Msg

@@ -1,7 +1,7 @@
 //! What contracts know of a core and no memory holds: the tree when it was opened, and what was appended to its log since.
 ghost use Rattle.std.specs.Prelude.{◌≡◌, ◌++◌, []};
 
-use message::Msg;
+use messages::Msg;
 use parcel::Tree;
 use std::marker::Model;
 use std::mem;

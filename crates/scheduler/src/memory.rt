@@ -7,7 +7,7 @@ ghost use Rattle.turns.specs.Turns.{turns_at_start};
 use crate::slot::{CHAINS, Slot};
 use affinity::Geometry;
 use arena::Arena;
-use message::{Msg, Reply};
+use messages::{Msg, Reply};
 use std::alloc::{AllocError, Global};
 use turns::Turns;
 

@@ -10,7 +10,7 @@ use crate::kernel::one_if;
 use crate::slot::{LOGGED, RAN, Slot};
 use affinity::changing;
 use arena::Arena;
-use message::{Msg, Reply};
+use messages::{Msg, Reply};
 
 // Whether the log keeps a message with this reply: a change that was carried out.
 fn is_loggable(message: &Msg, reply: &Reply) -> bool

@@ -1,7 +1,7 @@
 //! What a core keeps of a message, and how far it has come.
 
 use affinity::Affinity;
-use message::Msg;
+use messages::Msg;
 
 /// How many chains there are.
 pub(crate) const CHAINS: usize = 4;

@@ -15,9 +15,9 @@ use Rattle.runs.proofs.Events.{core_holds, core_step}
 use Rattle.runs.specs.Machine.{MachineView}
 use Rattle.runs.specs.Steps.{IsCoreStep}
 use Rattle.runs.specs.declared.hands.Holding.{Holding}
-use Rattle.message.specs.Grammar.{message_of}
-use Rattle.message.specs.declared.Msg.{Msg}
-use Rattle.message.specs.declared.Reply.{Reply}
+use Rattle.messages.specs.Grammar.{message_of}
+use Rattle.messages.specs.declared.Msg.{Msg}
+use Rattle.messages.specs.declared.Reply.{Reply}
 use Rattle.scheduler.specs.Calls.{answer_outcome}
 use Rattle.scheduler.specs.Kept.{CoreView}
 use Rattle.serving.specs.Lines.{Answered, AreKnown, IsKnown, Line, NoMessage, NoneIsTo, OutOfRange, Unanswered, answer_one, asked, asked_in, is_answered, next_ticket, ticketed}

@@ -15,13 +15,13 @@ use Rattle.runs.proofs.Events.{core_holds, core_step}
 use Rattle.runs.specs.Stages.{events_of}
 use Rattle.runs.specs.Steps.{IsCoreStep}
 use Rattle.runs.specs.declared.hands.Holding.{Holding}
-use Rattle.message.specs.Messages.{is_in_range}
+use Rattle.messages.specs.Messages.{is_in_range}
 use Rattle.scheduler.specs.Calls.{arrive_outcome as arrived_so}
 use Rattle.scheduler.specs.Kept.{CoreView, world_of}
 use Rattle.runs.specs.Machine.{MachineView}
-use Rattle.message.specs.Grammar.{message_of}
-use Rattle.message.specs.declared.Msg.{Msg}
-use Rattle.message.specs.declared.Reply.{Reply}
+use Rattle.messages.specs.Grammar.{message_of}
+use Rattle.messages.specs.declared.Msg.{Msg}
+use Rattle.messages.specs.declared.Reply.{Reply}
 use Rattle.meaning.specs.Order.{messages}
 use Rattle.serving.specs.Going.{IsServing}
 use Rattle.serving.specs.Lines.{AreKnown, IsKnown, Line, NoneIsTo, OutOfRange, Unanswered, asked, asked_in, next_ticket, ticketed, Answered, NoMessage}

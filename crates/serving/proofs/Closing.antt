@@ -10,10 +10,10 @@ use Rattle.legal_runs.specs.Events.{Hands}
 use Rattle.legal_runs.specs.Laws.{IsIdle, full}
 use Rattle.runs.specs.Machine.{MachineView, hand_of as hand_in, machine_of}
 use Rattle.runs.specs.Stages.{events_of}
-use Rattle.message.specs.Grammar.{message_of}
-use Rattle.message.specs.Messages.{is_in_range}
-use Rattle.message.specs.Reader.{GivesLine}
-use Rattle.message.specs.declared.Msg.{Msg}
+use Rattle.messages.specs.Grammar.{message_of}
+use Rattle.messages.specs.Messages.{is_in_range}
+use Rattle.messages.specs.FirstLine.{GivesLine}
+use Rattle.messages.specs.declared.Msg.{Msg}
 use Rattle.parcel.specs.Run.{JobView}
 use Rattle.scheduler.specs.Kept.{CoreView, StandsNow, world_of}
 use Rattle.serving.specs.Ends.{EndsSo, IsWoundUp}

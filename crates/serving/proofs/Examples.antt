@@ -3,11 +3,11 @@ use Rattle.std.proofs.Common.{◌≡◌, ℕ, List, [], ◌∷◌, map, refl, li
 use Rattle.std.specs.Prelude.{codes}
 use Rattle.affinity.specs.Geometry.{small}
 use Rattle.legal_runs.proofs.Elements.{in_contained}
-use Rattle.message.specs.Grammar.{kind_named, message_of}
-use Rattle.message.specs.Lines.{number_in_word}
-use Rattle.message.specs.declared.Msg.TheVariants.{MakeVol, Create, Summary as AskSummary}
-use Rattle.message.specs.declared.Reply.{Reply}
-use Rattle.message.specs.declared.Reply.TheVariants.{Done, Summary}
+use Rattle.messages.specs.Grammar.{kind_named, message_of}
+use Rattle.messages.specs.Lines.{number_in_word}
+use Rattle.messages.specs.declared.Msg.TheVariants.{MakeVol, Create, Summary as AskSummary}
+use Rattle.messages.specs.declared.Reply.{Reply}
+use Rattle.messages.specs.declared.Reply.TheVariants.{Done, Summary}
 use Rattle.meaning.specs.Output.{joined, output_lines}
 use Rattle.meaning.specs.State.{empty}
 use Rattle.serving.specs.Lines.{Answered, AreKnown, NoMessage, NoneIsTo, OutOfRange, Unanswered, asked, next_ticket, text, ticketed}

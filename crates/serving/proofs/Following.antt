@@ -3,9 +3,9 @@ use Rattle.std.proofs.Common.{◌≡◌, ℕ, Bool, List, [], ◌∷◌, ◌++�
 use Rattle.std.specs.Prelude.{if◌then◌else◌}
 use Rattle.affinity.specs.declared.geometry.Geometry.{Geometry}
 use Rattle.runs.specs.Machine.{MachineView}
-use Rattle.message.specs.Grammar.{message_of}
-use Rattle.message.specs.declared.Msg.{Msg}
-use Rattle.message.specs.declared.Reply.{Reply}
+use Rattle.messages.specs.Grammar.{message_of}
+use Rattle.messages.specs.declared.Msg.{Msg}
+use Rattle.messages.specs.declared.Reply.{Reply}
 use Rattle.serving.specs.Going.{IsServing}
 use Rattle.serving.specs.Lines.{Answered, AreKnown, IsKnown, Line, NoMessage, OutOfRange, Unanswered, asked, asked_in, next_ticket}
 use Rattle.line_row.specs.Rows.{AreFrom, AreConsecutive, with_tickets}

@@ -13,10 +13,10 @@ use Rattle.legal_runs.specs.Runs.{answered, arrived, last}
 use Rattle.legal_runs.specs.World.{World, held}
 use Rattle.runs.specs.Machine.{MachineView, machine_of}
 use Rattle.runs.specs.Stages.{events_of}
-use Rattle.message.specs.Grammar.{message_of}
-use Rattle.message.specs.Messages.{is_in_range}
-use Rattle.message.specs.declared.Msg.{Msg}
-use Rattle.message.specs.declared.Reply.{Reply}
+use Rattle.messages.specs.Grammar.{message_of}
+use Rattle.messages.specs.Messages.{is_in_range}
+use Rattle.messages.specs.declared.Msg.{Msg}
+use Rattle.messages.specs.declared.Reply.{Reply}
 use Rattle.scheduler.specs.Kept.{world_of}
 use Rattle.serving.specs.Going.{Goes, IsServing}
 use Rattle.serving.specs.Lines.{Answered, AreKnown, IsKnown, Line, NoMessage, OutOfRange, Unanswered, asked, asked_in, is_answered, next_ticket, ticketed}

@@ -5,7 +5,7 @@ use Rattle.std.specs.Io.KnownBytes.{IsAtEnd}
 use Rattle.std.proofs.lemmas.Option.{none-some, same_Some}
 use Rattle.legal_runs.specs.Laws.{IsIdle}
 use Rattle.runs.specs.Machine.{MachineView}
-use Rattle.message.specs.Lines.{lines}
+use Rattle.messages.specs.Lines.{lines}
 use Rattle.meaning.specs.Progress.{TakesLines}
 use Rattle.scheduler.specs.Kept.{CoreView, StandsNow, world_of}
 use Rattle.serving.specs.Ends.{HasServed}

@@ -6,14 +6,14 @@ use Rattle.std.specs.List.{AllByRecursion, Contains}
 use Rattle.std.proofs.lemmas.Bool.{true≢false}
 use Rattle.affinity.specs.declared.geometry.Geometry.{Geometry}
 use Rattle.affinity.specs.Path.{are_related}
-use Rattle.message.specs.Grammar.{message_of}
-use Rattle.message.specs.Lines.{lines}
-use Rattle.message.specs.Messages.{is_in_range, place}
-use Rattle.message.specs.Replies.{reply_line}
-use Rattle.message.specs.declared.Msg.{Msg}
-use Rattle.message.specs.declared.Refusal.TheVariants.{Range}
-use Rattle.message.specs.declared.Reply.{Reply}
-use Rattle.message.specs.declared.Reply.TheVariants.{Refused}
+use Rattle.messages.specs.Grammar.{message_of}
+use Rattle.messages.specs.Lines.{lines}
+use Rattle.messages.specs.Messages.{is_in_range, place}
+use Rattle.messages.specs.Replies.{reply_line}
+use Rattle.messages.specs.declared.Msg.{Msg}
+use Rattle.messages.specs.declared.Refusal.TheVariants.{Range}
+use Rattle.messages.specs.declared.Reply.{Reply}
+use Rattle.messages.specs.declared.Reply.TheVariants.{Refused}
 use Rattle.meaning.specs.Order.{by_ticket, messages, told}
 use Rattle.meaning.specs.Output.{WritesOutput, answer_line, joined, output_lines, state_after_line, state_after_lines}
 use Rattle.meaning.specs.Serial.{fold, next_state, reply_to}

@@ -17,7 +17,7 @@ use Rattle.runs.specs.Machine.{MachineView, hand_of as to_hand}
 use Rattle.runs.specs.Steps.{IsMachineStep}
 use Rattle.runs.specs.declared.hands.Holding.{Holding}
 use Rattle.runs.specs.declared.hands.Holding.TheVariants as has
-use Rattle.message.specs.declared.Reply.{Reply}
+use Rattle.messages.specs.declared.Reply.{Reply}
 use Rattle.parcel.specs.Run.{JobView}
 use Rattle.scheduler.specs.Calls.{IsGrantOf, IsGranted, IsNoGrant}
 use Rattle.scheduler.specs.Kept.{CoreView, StandsNow, world_of}

@@ -14,13 +14,13 @@ use Rattle.legal_runs.specs.Events.{Hands}
 use Rattle.legal_runs.specs.Laws.{IsIdle, IsSoundWorld}
 use Rattle.legal_runs.specs.World.{Entry}
 use Rattle.legal_runs.specs.Runs.{arrived}
-use Rattle.message.proofs.ReaderLemmas.{lines-first}
-use Rattle.message.specs.Grammar.{message_of}
-use Rattle.message.specs.Lines.{lines}
-use Rattle.message.specs.Messages.{is_in_range}
-use Rattle.message.specs.Reader.{GivesLine, LosesFront, behind_first_line}
-use Rattle.message.specs.declared.Msg.{Msg}
-use Rattle.message.specs.declared.Reply.{Reply}
+use Rattle.messages.proofs.FirstLines.{lines-first}
+use Rattle.messages.specs.Grammar.{message_of}
+use Rattle.messages.specs.Lines.{lines}
+use Rattle.messages.specs.Messages.{is_in_range}
+use Rattle.messages.specs.FirstLine.{GivesLine, LosesFront, behind_first_line}
+use Rattle.messages.specs.declared.Msg.{Msg}
+use Rattle.messages.specs.declared.Reply.{Reply}
 use Rattle.meaning.specs.Order.{by_ticket, messages, told}
 use Rattle.meaning.specs.Output.{AnswersWholeLines, joined, output_lines, state_after_lines, with_newlines}
 use Rattle.meaning.specs.Progress.{AreTaken, TakesLines}

@@ -11,12 +11,12 @@ use Rattle.legal_runs.specs.Runs.{answered, arrived}
 use Rattle.legal_runs.specs.World.{Entry}
 use Rattle.runs.specs.Machine.{machine_of}
 use Rattle.runs.specs.Stages.{events_of}
-use Rattle.message.specs.Grammar.{message_of}
-use Rattle.message.specs.Replies.{no_message, reply_line}
-use Rattle.message.specs.declared.Msg.{Msg}
-use Rattle.message.specs.declared.Reply.{Reply}
-use Rattle.message.specs.declared.Refusal.TheVariants.{Range}
-use Rattle.message.specs.declared.Reply.TheVariants.{Done, Refused}
+use Rattle.messages.specs.Grammar.{message_of}
+use Rattle.messages.specs.Replies.{no_message, reply_line}
+use Rattle.messages.specs.declared.Msg.{Msg}
+use Rattle.messages.specs.declared.Reply.{Reply}
+use Rattle.messages.specs.declared.Refusal.TheVariants.{Range}
+use Rattle.messages.specs.declared.Reply.TheVariants.{Done, Refused}
 use Rattle.meaning.specs.Order.{messages}
 use Rattle.meaning.specs.Output.{joined}
 use Rattle.scheduler.specs.Kept.{CoreView, world_of}

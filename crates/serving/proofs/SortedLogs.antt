@@ -8,7 +8,7 @@ use Rattle.std.proofs.lemmas.List.Elements.{All-contains_itself, recursion_from_
 use Rattle.std.proofs.lemmas.List.Sorted.{IsPermutation-sym, IsPermutation-trans}
 use Rattle.std.proofs.lemmas.Map.Keys.{IsDistinct-IsPermutation}
 use Rattle.affinity.specs.declared.geometry.Geometry.{Geometry}
-use Rattle.message.specs.declared.Reply.{Reply}
+use Rattle.messages.specs.declared.Reply.{Reply}
 use Rattle.meaning.specs.Laws.{AreInOrder}
 use Rattle.meaning.specs.Order.{by_ticket, messages, put, told, IsBefore, KeepsOrder}
 use Rattle.meaning.specs.Serial.{fold, is_loggable, next_state, reply_to}

@@ -10,10 +10,10 @@ use Rattle.legal_runs.specs.declared.outcomes.ArriveRefusal.TheVariants as arriv
 use Rattle.legal_runs.specs.declared.outcomes.Outcome.{Outcome}
 use Rattle.legal_runs.specs.declared.outcomes.Outcome.TheVariants as outcomes
 use Rattle.runs.specs.Machine.{MachineView}
-use Rattle.message.specs.Grammar.{message_of}
-use Rattle.message.specs.Messages.{is_in_range}
-use Rattle.message.specs.Reader.{GivesLine}
-use Rattle.message.specs.declared.Msg.{Msg}
+use Rattle.messages.specs.Grammar.{message_of}
+use Rattle.messages.specs.Messages.{is_in_range}
+use Rattle.messages.specs.FirstLine.{GivesLine}
+use Rattle.messages.specs.declared.Msg.{Msg}
 use Rattle.scheduler.specs.Kept.{world_of}
 use Rattle.serving.specs.Reads.{IsRefusedLine, stop_of}
 use Rattle.serving.specs.Session.{IsStop}

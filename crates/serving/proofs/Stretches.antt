@@ -18,7 +18,7 @@ use Rattle.runs.proofs.Events.{core_holds, core_step}
 use Rattle.runs.specs.Machine.{MachineView, machine_of}
 use Rattle.runs.specs.Steps.{IsCoreStep, IsMachineStep}
 use Rattle.runs.specs.declared.hands.Holding.{Holding}
-use Rattle.message.specs.declared.Reply.{Reply}
+use Rattle.messages.specs.declared.Reply.{Reply}
 use Rattle.scheduler.specs.Calls.{CountsFailure, IsCalled, IsLogStep, log_rose, log_outcome, point_rose, step_outcome}
 use Rattle.scheduler.specs.Kept.{CoreView, StandsThroughout, world_of}
 use Rattle.serving.specs.Lines.{Line, asked, ticketed}

@@ -9,9 +9,9 @@ use Rattle.legal_runs.specs.declared.outcomes.ArriveRefusal.TheVariants as arriv
 use Rattle.runs.proofs.Events.{arrive_step}
 use Rattle.runs.specs.Machine.{MachineView}
 use Rattle.runs.specs.declared.hands.Holding.{Holding}
-use Rattle.message.specs.Grammar.{message_of}
-use Rattle.message.specs.Reader.{GivesLine, IsAtEndOf, IsClosed, PassesLine}
-use Rattle.message.specs.declared.Msg.{Msg}
+use Rattle.messages.specs.Grammar.{message_of}
+use Rattle.messages.specs.FirstLine.{GivesLine, IsAtEndOf, IsClosed, PassesLine}
+use Rattle.messages.specs.declared.Msg.{Msg}
 use Rattle.meaning.proofs.Taking.{takes_line, takes_long_line}
 use Rattle.scheduler.specs.Calls.{ArrivesByLine, arrive_outcome}
 use Rattle.scheduler.specs.Kept.{CoreView, StandsNow, world_of}

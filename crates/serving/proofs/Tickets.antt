@@ -7,8 +7,8 @@ use Rattle.legal_runs.specs.Runs.{IsLegal, arrived, arrives, last}
 use Rattle.legal_runs.specs.World.{Entry, World}
 use Rattle.runs.specs.Machine.{MachineView, machine_of}
 use Rattle.runs.specs.Stages.{events_of}
-use Rattle.message.specs.declared.Msg.{Msg}
-use Rattle.message.specs.declared.Reply.{Reply}
+use Rattle.messages.specs.declared.Msg.{Msg}
+use Rattle.messages.specs.declared.Reply.{Reply}
 use Rattle.meaning.specs.Order.{messages}
 use Rattle.serving.specs.Lines.{next_ticket, ticketed}
 use Rattle.serving.specs.Runs.{Passes}

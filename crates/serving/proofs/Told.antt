@@ -21,9 +21,9 @@ use Rattle.legal_runs.specs.Runs.{answered, answered_messages, arrived, arrives,
 use Rattle.legal_runs.specs.World.{Entry, Replied, entry}
 use Rattle.runs.specs.Machine.{MachineView, machine_of}
 use Rattle.runs.specs.Stages.{Stage, StandsForRun, device_after, events_of}
-use Rattle.message.specs.Grammar.{message_of}
-use Rattle.message.specs.declared.Msg.{Msg}
-use Rattle.message.specs.declared.Reply.{Reply}
+use Rattle.messages.specs.Grammar.{message_of}
+use Rattle.messages.specs.declared.Msg.{Msg}
+use Rattle.messages.specs.declared.Reply.{Reply}
 use Rattle.meaning.specs.Serial.{fold}
 use Rattle.meaning.specs.State.{State}
 use Rattle.scheduler.specs.Kept.{CoreView, world_of}

@@ -10,11 +10,11 @@ use Rattle.legal_runs.specs.Events.{arrive}
 use Rattle.legal_runs.specs.Laws.{IsIdle}
 use Rattle.legal_runs.specs.declared.outcomes.ArriveRefusal.TheVariants as arrivals
 use Rattle.legal_runs.specs.declared.outcomes.Outcome.TheVariants.{ArriveRefused}
-use Rattle.message.specs.Grammar.{message_of}
-use Rattle.message.specs.Reader.{GivesLine, IsClosed, PassesLine}
+use Rattle.messages.specs.Grammar.{message_of}
+use Rattle.messages.specs.FirstLine.{GivesLine, IsClosed, PassesLine}
 use Rattle.message.specs.Waiting.{so_far}
-use Rattle.message.specs.declared.Msg.{Msg}
-use Rattle.message.specs.declared.Reply.{Reply}
+use Rattle.messages.specs.declared.Msg.{Msg}
+use Rattle.messages.specs.declared.Reply.{Reply}
 use Rattle.scheduler.specs.Kept.{CoreView, StandsNow, world_of}
 use Rattle.serving.specs.Going.{Goes}
 use Rattle.meaning.specs.Output.{joined}

@@ -9,10 +9,10 @@ use Rattle.legal_runs.specs.Runs.{IsLegal, answered, arrived, last}
 use Rattle.runs.specs.Machine.{MachineView, machine_of}
 use Rattle.runs.specs.Stages.{AreSafe, Stage, StandsForRun, device_after, events_of}
 use Rattle.runs.specs.declared.hands.Holding.{Holding}
-use Rattle.message.specs.Grammar.{message_of}
-use Rattle.message.specs.Lines.{lines}
-use Rattle.message.specs.Messages.{is_in_range}
-use Rattle.message.specs.declared.Msg.{Msg}
+use Rattle.messages.specs.Grammar.{message_of}
+use Rattle.messages.specs.Lines.{lines}
+use Rattle.messages.specs.Messages.{is_in_range}
+use Rattle.messages.specs.declared.Msg.{Msg}
 use Rattle.meaning.specs.Output.{AnswersWholeLines, IsBeginning, WritesOutput, joined, output_lines, state_after_lines}
 use Rattle.meaning.specs.State.{State}
 use Rattle.scheduler.specs.Kept.{CoreView, world_of}

@@ -3,7 +3,7 @@ use Rattle.std.specs.Prelude.{◌≡◌, ℕ, Bool, true, List, ◌++◌, map, O
 use Rattle.std.specs.Io.KnownBytes.{Appends}
 use Rattle.std.specs.List.{AllByRecursion}
 use Rattle.runs.specs.Machine.{MachineView}
-use Rattle.message.specs.declared.Reply.{Reply}
+use Rattle.messages.specs.declared.Reply.{Reply}
 use Rattle.meaning.specs.Output.{joined}
 use Rattle.meaning.specs.Progress.{TakesLines}
 use Rattle.serving.specs.Lines.{AreKnown, Line, asked, is_answered, text, ticketed}

@@ -3,10 +3,10 @@ use Rattle.std.specs.Prelude.{◌≡◌, ℕ, ◌+◌, true, false, List, [], �
 use Rattle.std.specs.List.{Contains}
 use Rattle.affinity.specs.declared.geometry.Geometry.{Geometry}
 use Rattle.legal_runs.specs.World.{Entry}
-use Rattle.message.specs.declared.Msg.{Msg}
-use Rattle.message.specs.declared.Reply.{Reply}
-use Rattle.message.specs.Grammar.{message_of}
-use Rattle.message.specs.Messages.{is_in_range}
+use Rattle.messages.specs.declared.Msg.{Msg}
+use Rattle.messages.specs.declared.Reply.{Reply}
+use Rattle.messages.specs.Grammar.{message_of}
+use Rattle.messages.specs.Messages.{is_in_range}
 pub use Rattle.line_row.specs.Rows.{AreAnswered, answer_one, is_answered, text}
 pub use Rattle.line_row.specs.declared.row.Line.{Line}
 pub use Rattle.line_row.specs.declared.row.Line.TheVariants.{NoMessage, OutOfRange, Unanswered, Answered}

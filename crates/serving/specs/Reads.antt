@@ -5,7 +5,7 @@ use Rattle.legal_runs.specs.declared.outcomes.ArriveRefusal.{ArriveRefusal}
 use Rattle.legal_runs.specs.declared.outcomes.ArriveRefusal.TheVariants as arrivals
 use Rattle.legal_runs.specs.declared.outcomes.Outcome.TheVariants.{ArriveRefused}
 use Rattle.runs.specs.Machine.{MachineView}
-use Rattle.message.specs.declared.Msg.{Msg}
+use Rattle.messages.specs.declared.Msg.{Msg}
 use Rattle.scheduler.specs.Kept.{world_of}
 use Rattle.serving.specs.Lines.{IsKnown, Line, asked_in, ticketed}
 use Rattle.serving.specs.Runs.{Holds, IsQuiet, Passes}

@@ -4,10 +4,10 @@ use Rattle.std.specs.List.{AllByRecursion}
 use Rattle.affinity.specs.Path.{are_related}
 use Rattle.affinity.specs.declared.geometry.Geometry.{Geometry}
 use Rattle.checkpoint.specs.Recovery.{holds}
-use Rattle.message.specs.Grammar.{message_of}
-use Rattle.message.specs.Lines.{lines}
-use Rattle.message.specs.Messages.{is_in_range, place}
-use Rattle.message.specs.declared.Msg.{Msg}
+use Rattle.messages.specs.Grammar.{message_of}
+use Rattle.messages.specs.Lines.{lines}
+use Rattle.messages.specs.Messages.{is_in_range, place}
+use Rattle.messages.specs.declared.Msg.{Msg}
 use Rattle.meaning.specs.Output.{WritesOutput, joined, output_lines, state_after_lines}
 use Rattle.meaning.specs.State.{State}
 

@@ -6,7 +6,7 @@ use Rattle.runs.specs.Machine.{MachineView, HoldsJobs, machine_of}
 use Rattle.runs.specs.Stages.{AreSafe, Stage, device_after, events_of}
 use Rattle.runs.specs.declared.hands.Holding.{Holding}
 use Rattle.runs.specs.declared.hands.Holding.TheVariants as has
-use Rattle.message.specs.declared.Reply.{Reply}
+use Rattle.messages.specs.declared.Reply.{Reply}
 use Rattle.parcel.specs.Run.{JobView}
 use Rattle.scheduler.specs.Kept.{CoreView, world_of}
 

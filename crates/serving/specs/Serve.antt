@@ -2,7 +2,7 @@
 use Rattle.std.specs.Prelude.{◌≡◌, ◌≢◌, ℕ, false, List, [], Option, Some, None, Result, Ok, Err, OnOk, replicate}
 use Rattle.runs.specs.Machine.{MachineView}
 use Rattle.runs.specs.Stages.{Stage}
-use Rattle.message.specs.Lines.{lines}
+use Rattle.messages.specs.Lines.{lines}
 use Rattle.oplog.specs.Layout.{layout_of}
 use Rattle.oplog.specs.Stands.{in_force, named_area}
 use Rattle.scheduler.specs.Kept.{CoreView}

@@ -6,10 +6,10 @@ use Rattle.legal_runs.specs.Laws.{IsIdle}
 use Rattle.legal_runs.specs.declared.outcomes.PointRefusal.{PointRefusal}
 use Rattle.legal_runs.specs.declared.outcomes.PointRefusal.TheVariants as refusals
 use Rattle.runs.specs.Machine.{MachineView}
-use Rattle.message.specs.Grammar.{message_of}
-use Rattle.message.specs.Messages.{is_in_range}
-use Rattle.message.specs.Reader.{GivesLine, LosesFront}
-use Rattle.message.specs.declared.Msg.{Msg}
+use Rattle.messages.specs.Grammar.{message_of}
+use Rattle.messages.specs.Messages.{is_in_range}
+use Rattle.messages.specs.FirstLine.{GivesLine, LosesFront}
+use Rattle.messages.specs.declared.Msg.{Msg}
 use Rattle.meaning.specs.Output.{joined}
 use Rattle.scheduler.specs.Kept.{CoreView, world_of}
 use Rattle.serving.specs.Going.{Goes}

@@ -7,9 +7,9 @@ use Rattle.checkpoint.specs.Refusals.{refused}
 use Rattle.legal_runs.specs.Laws.{IsIdle}
 use Rattle.legal_runs.specs.World.{Replied}
 use Rattle.runs.specs.Machine.{MachineView}
-use Rattle.message.specs.Replies.{no_message, reply_line}
-use Rattle.message.specs.declared.Refusal.TheVariants.{Range}
-use Rattle.message.specs.declared.Reply.TheVariants.{Refused}
+use Rattle.messages.specs.Replies.{no_message, reply_line}
+use Rattle.messages.specs.declared.Refusal.TheVariants.{Range}
+use Rattle.messages.specs.declared.Reply.TheVariants.{Refused}
 use Rattle.meaning.specs.Output.{joined}
 use Rattle.scheduler.specs.Kept.{CoreView, world_of}
 use Rattle.serving.specs.Ends.{AreFirst, HasServed, settled_in}

@@ -6,13 +6,13 @@ use Rattle.checkpoint.specs.Recovery.{holds}
 use Rattle.legal_runs.specs.Events.{loggable}
 use Rattle.legal_runs.specs.Laws.{IsSerialLog}
 use Rattle.legal_runs.specs.World.{Entry, Replied}
-use Rattle.message.specs.Grammar.{message_of}
-use Rattle.message.specs.Messages.{is_in_range}
-use Rattle.message.specs.Replies.{reply_line, no_message}
-use Rattle.message.specs.declared.Msg.{Msg}
-use Rattle.message.specs.declared.Reply.{Reply}
-use Rattle.message.specs.declared.Reply.TheVariants.{Refused}
-use Rattle.message.specs.declared.Refusal.TheVariants.{Range}
+use Rattle.messages.specs.Grammar.{message_of}
+use Rattle.messages.specs.Messages.{is_in_range}
+use Rattle.messages.specs.Replies.{reply_line, no_message}
+use Rattle.messages.specs.declared.Msg.{Msg}
+use Rattle.messages.specs.declared.Reply.{Reply}
+use Rattle.messages.specs.declared.Reply.TheVariants.{Refused}
+use Rattle.messages.specs.declared.Refusal.TheVariants.{Range}
 use Rattle.meaning.specs.Serial.{fold}
 use Rattle.meaning.specs.State.{State}
 use Rattle.serving.specs.Lines.{asked_in, next_ticket}

@@ -9,7 +9,7 @@ use crate::session::{Halted, Session};
 use crate::telling::Teller;
 use disk::Disk;
 use legal_runs::PointRefusal;
-use message::Reply;
+use messages::Reply;
 use std::io::Read;
 
 /// When consistency points are due. A wrong count makes them at other times, which no contract forbids.

@@ -1,7 +1,7 @@
 //! Lines that are read: each is in the row then, and its message in the core.
 
 ghost use Rattle.std.specs.Prelude.{◌≡◌, ◌<◌, ◌↔◌, ◌+◌, ◌++◌, List, [], ◌∷◌, IsTrue, None, OnErr, is_none, length};
-ghost use Rattle.message.specs.Grammar.{message_of};
+ghost use Rattle.messages.specs.Grammar.{message_of};
 ghost use Rattle.runs.specs.declared.hands.Holding.{Holding};
 ghost use Rattle.serving.specs.Lines.{Unanswered};
 ghost use Rattle.serving.specs.Reads.{TakesLine};

@@ -10,7 +10,7 @@ use crate::gated::Gated;
 use crate::session::{Halted, Session, or_halt};
 use crate::telling::Teller;
 use disk::Disk;
-use message::Reply;
+use messages::Reply;
 use scheduler::Granted;
 use std::hint::spin_loop;
 use std::io::Read;

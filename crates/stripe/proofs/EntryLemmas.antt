@@ -3,7 +3,7 @@ use Rattle.std.proofs.Common.{◌≡◌, ◌≢◌, ℕ, zero, suc, ◌+◌, ◌
 use Rattle.std.proofs.lemmas.Bool.Decides.{eqb_tells, leb_tells}
 use Rattle.std.proofs.lemmas.List.{length-set}
 use Rattle.std.specs.List.{AllByRecursion}
-use Rattle.message.specs.declared.Block.{Block}
+use Rattle.messages.specs.declared.Block.{Block}
 use Rattle.stripe.specs.Stripe.{BlockEntry, content_at, ComesBefore, IsAscending}
 use Rattle.stripe.specs.Index.{no_entry, PrecedesEntry, IsSplit, IsAt, IsGap, rewritten}
 

@@ -4,7 +4,7 @@ use Rattle.std.specs.List.{flat_map, AllByRecursion}
 use Rattle.affinity.specs.Geometry.{group}
 use Rattle.affinity.specs.declared.geometry.Geometry.{Geometry}
 use Rattle.byteorder.specs.Endian.{little_bytes, little_number}
-use Rattle.message.specs.Replies.{has_file}
+use Rattle.messages.specs.Replies.{has_file}
 use Rattle.stripe.specs.Stripe.{BlockEntry, IsAscending}
 
 -- an entry: 1, the file, the block with the lower byte first, four zeros, the content

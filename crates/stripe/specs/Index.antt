@@ -1,7 +1,7 @@
 -- How a `StripeParcel` keeps its blocks. No public clause cites this module.
 use Rattle.std.specs.Prelude.{◌≡◌, true, ◌⊎◌, ℕ, ◌+◌, ◌<◌, ◌≤◌, List, [], length, map, take, drop, slice_index_or, slice_set, unwrap_or, Option, None, IsTrue}
 use Rattle.std.specs.List.{AllByRecursion}
-use Rattle.message.specs.declared.Block.{Block}
+use Rattle.messages.specs.declared.Block.{Block}
 use Rattle.arena.specs.Lists.{times}
 use Rattle.arena.specs.Row.{Row, capacity_of, holds_value, IsParted}
 use Rattle.stripe.specs.declared.blocks.IndexEntry.{IndexEntry}

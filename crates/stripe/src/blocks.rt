@@ -5,7 +5,7 @@ ghost use Rattle.stripe.specs.Stripe.{StripePart, StripeRule, NowHolds, content_
 ghost use Rattle.stripe.specs.Index.{entries_of, IsStored, IsSplit, IsAt, IsGap, rewritten};
 
 use arena::Arena;
-use message::Block;
+use messages::Block;
 use std::alloc::{AllocError, Global};
 use std::marker::Model;
 

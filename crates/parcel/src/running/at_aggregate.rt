@@ -2,8 +2,8 @@
 
 ghost use Rattle.std.specs.Prelude.{◌≡◌, ℕ, ◌<◌, true, false, slice_index_or, Some, None, IfSome, vec_len};
 ghost use Rattle.affinity.specs.declared.geometry.Geometry.{Geometry};
-ghost use Rattle.message.specs.declared.Msg.{Msg};
-ghost use Rattle.message.specs.Messages.{is_in_range, place};
+ghost use Rattle.messages.specs.declared.Msg.{Msg};
+ghost use Rattle.messages.specs.Messages.{is_in_range, place};
 ghost use Rattle.parcel.specs.Dropping.{Empties};
 ghost use Rattle.meaning.specs.Serial.{tests};
 ghost use Rattle.parcel.specs.Fits.{FitsAggregate, FitsLogical, FitsVolume, IsWholeAggregate, IsWholeChild, IsWholeLogical, IsWholeVolume, Suits};
@@ -18,7 +18,7 @@ ghost use Rattle.parcel.specs.declared.parts.Standing.{Standing};
 use super::refusals::{change_refusal, make_refusal};
 use crate::{Aggr, Label, Logical, StripeParcel, Vol};
 use affinity::Geometry;
-use message::{Msg, Reply};
+use messages::{Msg, Reply};
 
 // Whether the volume at one place is made, and whether it is sealed.
 fn marks(place: &Option<Vol>) -> (bool, bool)

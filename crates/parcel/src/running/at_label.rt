@@ -1,8 +1,8 @@
 //! Messages at the label of a volume.
 
 ghost use Rattle.std.specs.Prelude.{◌≡◌};
-ghost use Rattle.message.specs.declared.Msg.{Msg};
-ghost use Rattle.message.specs.Messages.{place};
+ghost use Rattle.messages.specs.declared.Msg.{Msg};
+ghost use Rattle.messages.specs.Messages.{place};
 ghost use Rattle.meaning.specs.Serial.{tests};
 ghost use Rattle.parcel.specs.Fits.{Suits};
 ghost use Rattle.parcel.specs.Run.{IsSerialStep};
@@ -13,7 +13,7 @@ ghost use Rattle.parcel.specs.declared.parts.Parcels.{Parcels};
 use super::refusals::{change_refusal, volume_refusal};
 use crate::{Label, Standing};
 use affinity::Geometry;
-use message::{Msg, Reply};
+use messages::{Msg, Reply};
 
 // Sets the label.
 fn set_label(

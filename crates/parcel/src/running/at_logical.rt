@@ -1,8 +1,8 @@
 //! Messages at the files of a volume and its stripes: they make, remove and list files.
 
 ghost use Rattle.std.specs.Prelude.{◌≡◌, ℕ, ◌<◌, slice_index_or, None, vec_len};
-ghost use Rattle.message.specs.declared.Msg.{Msg};
-ghost use Rattle.message.specs.Messages.{place};
+ghost use Rattle.messages.specs.declared.Msg.{Msg};
+ghost use Rattle.messages.specs.Messages.{place};
 ghost use Rattle.parcel.specs.Dropping.{DropsFile};
 ghost use Rattle.meaning.specs.Serial.{tests};
 ghost use Rattle.parcel.specs.Fits.{FitsLogical, IsWholeLogical, Suits};
@@ -14,7 +14,7 @@ ghost use Rattle.parcel.specs.declared.parts.Parcels.{Parcels};
 use super::refusals::{create_refusal, file_change_refusal, volume_refusal};
 use crate::{Logical, Standing, StripeParcel};
 use affinity::Geometry;
-use message::{Msg, Reply};
+use messages::{Msg, Reply};
 
 // Makes a file, without blocks.
 fn create(logical: &mut Logical, g: &Geometry, standing: Standing, message: &Msg, f: u16) -> Reply

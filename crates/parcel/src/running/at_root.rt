@@ -1,7 +1,7 @@
 //! Messages at the whole server: they ask how much all volumes hold.
 
-ghost use Rattle.message.specs.declared.Msg.{Msg};
-ghost use Rattle.message.specs.Messages.{place};
+ghost use Rattle.messages.specs.declared.Msg.{Msg};
+ghost use Rattle.messages.specs.Messages.{place};
 ghost use Rattle.parcel.specs.Fits.{FitsRoot, Suits};
 ghost use Rattle.parcel.specs.Run.{IsSerialStep};
 ghost use Rattle.parcel.specs.Shown.{by_root, shown_state};
@@ -12,7 +12,7 @@ ghost use Rattle.parcel.specs.declared.parts.Standing.{Standing};
 use super::totals::root_totals;
 use crate::Root;
 use affinity::Geometry;
-use message::{Msg, Reply};
+use messages::{Msg, Reply};
 
 // How much all volumes hold, and how many they are.
 fn summary(root: &Root, g: &Geometry) -> Reply

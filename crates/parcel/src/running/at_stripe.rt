@@ -3,8 +3,8 @@
 ghost use Rattle.std.specs.Prelude.{◌≡◌, ◌<◌, ◌||◌, is_some, length, nat_lt};
 ghost use Rattle.affinity.specs.declared.geometry.Geometry.{Geometry};
 ghost use Rattle.affinity.specs.Geometry.{group};
-ghost use Rattle.message.specs.declared.Msg.{Msg};
-ghost use Rattle.message.specs.Messages.{place};
+ghost use Rattle.messages.specs.declared.Msg.{Msg};
+ghost use Rattle.messages.specs.Messages.{place};
 ghost use Rattle.meaning.specs.Serial.{tests};
 ghost use Rattle.parcel.specs.Fits.{FitsStripe, Suits};
 ghost use Rattle.parcel.specs.Run.{IsSerialStep};
@@ -16,7 +16,7 @@ ghost use Rattle.parcel.specs.declared.parts.Parcels.{Parcels};
 use super::refusals::{file_change_refusal, read_refusal, write_refusal};
 use crate::{Standing, StripeParcel};
 use affinity::Geometry;
-use message::{Block, Msg, Reply};
+use messages::{Block, Msg, Reply};
 
 // Whether a block is there already, or there is room for one more.
 fn has_room(stripe: &StripeParcel, g: &Geometry, f: u16, b: u16) -> bool

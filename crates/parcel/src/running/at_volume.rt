@@ -2,8 +2,8 @@
 
 ghost use Rattle.std.specs.Prelude.{◌≡◌};
 ghost use Rattle.affinity.specs.declared.geometry.Geometry.{Geometry};
-ghost use Rattle.message.specs.declared.Msg.{Msg};
-ghost use Rattle.message.specs.Messages.{place};
+ghost use Rattle.messages.specs.declared.Msg.{Msg};
+ghost use Rattle.messages.specs.Messages.{place};
 ghost use Rattle.meaning.specs.Serial.{tests};
 ghost use Rattle.parcel.specs.Fits.{FitsVolume, Suits};
 ghost use Rattle.parcel.specs.Run.{IsSerialStep};
@@ -16,7 +16,7 @@ use super::refusals::volume_refusal;
 use super::totals::volume_totals;
 use crate::Vol;
 use affinity::Geometry;
-use message::{Msg, Reply};
+use messages::{Msg, Reply};
 
 // Seals the volume, whether it was sealed or not.
 fn seal(volume: &mut Vol, message: &Msg) -> Reply

@@ -1,13 +1,13 @@
 //! Why messages are refused, by what they see of their volume.
 
 ghost use Rattle.std.specs.Prelude.{◌≡◌, ◌<◌, ◌∷◌, [], not, find, None};
-ghost use Rattle.message.specs.declared.Refusal.TheVariants.{Range, Volume, Exists, Sealed, File, Space};
+ghost use Rattle.messages.specs.declared.Refusal.TheVariants.{Range, Volume, Exists, Sealed, File, Space};
 ghost use Rattle.meaning.specs.Serial.{tests};
 ghost use Rattle.parcel.specs.Shown.{has_file};
 ghost use Rattle.parcel.specs.Steps.{unless, unless_closed};
 
 use meaning::tests_of;
-use message::{Msg, Refusal};
+use messages::{Msg, Refusal};
 
 /// What the tests of a message look at, where its numbers are in range.
 #[derive(Clone, Copy)]

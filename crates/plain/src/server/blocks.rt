@@ -1,15 +1,15 @@
 //! A block is put into a file, and its stripe has one more.
 
 ghost use Rattle.std.specs.Prelude.{◌≡◌, ◌+◌, ◌<◌, IfOk, OnOk, OnErr, is_some, true, not, IsTrue, IsFalse};
-ghost use Rattle.message.specs.declared.Msg.{Msg};
-ghost use Rattle.message.specs.declared.Refusal.{Refusal};
+ghost use Rattle.messages.specs.declared.Msg.{Msg};
+ghost use Rattle.messages.specs.declared.Refusal.{Refusal};
 ghost use Rattle.meaning.specs.State.{one_if};
 ghost use Rattle.meaning.specs.Serial.{passes, effect};
 ghost use Rattle.plain.specs.Server.{StripeKey, is_stripe, server_state, noted, IsCounted};
 
 use super::Server;
 use affinity::{Geometry, group_of};
-use message::{Block, Msg, Refusal};
+use messages::{Block, Msg, Refusal};
 use std::alloc::AllocError;
 
 impl Server {

@@ -2,14 +2,14 @@
 
 ghost use Rattle.std.specs.Prelude.{◌≡◌, OnOk, OnErr, None, false};
 ghost use Rattle.affinity.specs.declared.geometry.Geometry.{Geometry};
-ghost use Rattle.message.specs.declared.Msg.{Msg};
+ghost use Rattle.messages.specs.declared.Msg.{Msg};
 ghost use Rattle.message.specs.Heads.{asking, has_data};
 ghost use Rattle.meaning.specs.Serial.{refusal, effect};
 ghost use Rattle.plain.specs.Server.{server_state, IsCounted, IsConsistent};
 
 use super::Server;
 use affinity::{Geometry, Kind};
-use message::Msg;
+use messages::Msg;
 use std::alloc::AllocError;
 
 impl Server {

@@ -2,7 +2,7 @@
 
 ghost use Rattle.std.specs.Prelude.{◌≡◌, ◌||◌, if◌then◌else◌, None, Some, is_some, nat_lt};
 ghost use Rattle.affinity.specs.Geometry.{group};
-ghost use Rattle.message.specs.declared.Refusal.TheVariants.{File, Sealed, Volume};
+ghost use Rattle.messages.specs.declared.Refusal.TheVariants.{File, Sealed, Volume};
 ghost use Rattle.meaning.specs.State.{group_count};
 ghost use Rattle.meaning.specs.Serial.{refusal};
 ghost use Rattle.meaning.specs.ByKind.{refusal_by};
@@ -10,7 +10,7 @@ ghost use Rattle.plain.specs.Server.{server_state, IsCounted};
 
 use super::Server;
 use affinity::{Geometry, Kind, group_of, place_of};
-use message::{Msg, Refusal};
+use messages::{Msg, Refusal};
 
 /// A refusal where a test fails.
 fn refused_if(fails: bool, why: Refusal) -> Option<Refusal>

@@ -4,7 +4,7 @@ ghost use Rattle.std.specs.Prelude.{◌≡◌, ◌+◌, ◌<◌, true, false, is
 ghost use Rattle.std.specs.BTreeMap.{btree_map_len};
 ghost use Rattle.std.specs.BTreeSet.{btree_set_len};
 ghost use Rattle.affinity.specs.declared.geometry.Geometry.{Geometry};
-ghost use Rattle.message.specs.declared.Msg.{Msg};
+ghost use Rattle.messages.specs.declared.Msg.{Msg};
 ghost use Rattle.meaning.specs.State.{FileKey, BlockKey, one_if, is_block_of_file, is_file_of};
 ghost use Rattle.meaning.specs.Serial.{effect};
 ghost use Rattle.plain.specs.Server.{StripeKey, is_stripe, server_state, noted, IsCounted, IsConsistent};

@@ -2,8 +2,8 @@
 
 ghost use Rattle.std.specs.Prelude.{◌≡◌, None, false, IfNone, IfSome};
 ghost use Rattle.affinity.specs.declared.geometry.Geometry.{Geometry};
-ghost use Rattle.message.specs.declared.Msg.{Msg};
-ghost use Rattle.message.specs.declared.Reply.TheVariants.{Block as shows, Hole};
+ghost use Rattle.messages.specs.declared.Msg.{Msg};
+ghost use Rattle.messages.specs.declared.Reply.TheVariants.{Block as shows, Hole};
 ghost use Rattle.affinity.specs.Kind.{is_changing};
 ghost use Rattle.affinity.specs.declared.kinds.Kind.TheVariants as kinds;
 ghost use Rattle.message.specs.Heads.{asking};
@@ -12,7 +12,7 @@ ghost use Rattle.plain.specs.Server.{server_state, IsConsistent};
 
 use super::Server;
 use affinity::{Geometry, Kind};
-use message::{Block, Msg, Reply};
+use messages::{Block, Msg, Reply};
 
 impl Server {
     /// What a read of a block gives.

@@ -2,13 +2,13 @@
 //! after them.
 ghost use Rattle.std.specs.Prelude.{◌≡◌, ◌↔◌, ◌*◌, ◌<◌, ◌==◌, ◌++◌, ◌∷◌, [], IsTrue, IsFalse, get_or, length, take, drop, replicate, slice_index_or};
 ghost use Rattle.std.specs.List.{list_all, AllByRecursion};
-ghost use Rattle.message.specs.Replies.{has_file};
+ghost use Rattle.messages.specs.Replies.{has_file};
 ghost use Rattle.stripe.specs.Entries.{entry_bytes, entry_in, entries_in, stripe_bytes, can_stand, IsStripePiece};
 ghost use Rattle.stripe.specs.Index.{no_entry, PrecedesEntry, IsNextEntry};
 
 use super::StripeParcel;
 use affinity::{Geometry, group_of};
-use message::Block;
+use messages::Block;
 
 /// How many bytes an entry has.
 const ENTRY_SIZE: usize = 520;

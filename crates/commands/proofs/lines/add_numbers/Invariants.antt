@@ -1,6 +1,6 @@
 use Rattle.std.proofs.Common.{◌≡◌, ◌++◌, take}
 use Rattle.std.specs.List.{flat_map}
-use Rattle.message.specs.Replies.{spaced}
+use Rattle.messages.specs.Replies.{spaced}
 use Rattle.commands.proofs.lines.add_numbers.Given as goal
 
 -- the numbers so far are there

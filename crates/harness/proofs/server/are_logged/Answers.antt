@@ -1,7 +1,7 @@
 use Rattle.std.proofs.Common.{ℕ, get_or, subst}
 use Rattle.std.proofs.lemmas.List.{get_or_default}
 use borrow.Author.Count.{below_more}
-use Rattle.message.specs.declared.Msg.{Msg}
+use Rattle.messages.specs.declared.Msg.{Msg}
 use Rattle.oplog.specs.Logged.{IsLogged}
 use Rattle.harness.proofs.server.are_logged.Goals as goal
 

@@ -1,5 +1,5 @@
 use Rattle.std.proofs.Common.{ℕ, ◌<◌, get_or}
-use Rattle.message.specs.declared.Msg.{Msg}
+use Rattle.messages.specs.declared.Msg.{Msg}
 use Rattle.oplog.specs.Logged.{IsLogged}
 use Rattle.harness.proofs.server.are_logged.Given as goal
 

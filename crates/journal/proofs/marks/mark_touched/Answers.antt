@@ -2,7 +2,7 @@ use Rattle.std.proofs.Common.{◌∙◌, List, refl, subst, arith}
 use Rattle.std.proofs.lemmas.List.{take_all}
 use Rattle.journal.specs.Marks.{MarksTouched}
 use Rattle.journal.proofs.Rows.{message_more, no_message}
-use Rattle.message.specs.declared.Msg.{Msg}
+use Rattle.messages.specs.declared.Msg.{Msg}
 use Rattle.journal.proofs.marks.mark_touched.Goals as goal
 
 pub loop-m-init : goal.loop-m-init

@@ -1,5 +1,5 @@
-use Rattle.message.specs.declared.Msg.TheVariants.{Summary}
-use Rattle.message.specs.Lines.{words}
+use Rattle.messages.specs.declared.Msg.TheVariants.{Summary}
+use Rattle.messages.specs.Lines.{words}
 use Rattle.message.proofs.Forms.{nothing_behind, label_sets}
 use Rattle.message.proofs.heads.head_of_kind.Goals as goal
 

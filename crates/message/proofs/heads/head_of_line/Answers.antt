@@ -1,7 +1,8 @@
 use Rattle.std.proofs.Common.{[], sym, subst}
-use Rattle.message.specs.Lines.{words}
+use Rattle.messages.specs.Lines.{words}
 use Rattle.message.specs.Heads.{IsHead}
-use Rattle.message.proofs.Keywords.{too_long, with_kind, without_kind}
+use Rattle.messages.proofs.FirstLines.{too_long}
+use Rattle.message.proofs.Keywords.{with_kind, without_kind}
 use Rattle.message.proofs.heads.head_of_line.Goals as goal
 
 pub returns-then-line-gt-LONGEST_LINE : goal.returns-then-line-gt-LONGEST_LINE

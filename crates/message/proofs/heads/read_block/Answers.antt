@@ -1,6 +1,6 @@
 use Rattle.std.proofs.Common.{◌≡◌, ℕ, List, Option, Some, None}
 use Rattle.std.specs.Prelude.{MatchOption}
-use Rattle.message.specs.Lines.{block_in_word, bytes_in_word}
+use Rattle.messages.specs.Lines.{block_in_word, bytes_in_word}
 use Rattle.message.proofs.Blocks.{bytes_block, no_block}
 use Rattle.message.proofs.heads.read_block.Goals as goal
 

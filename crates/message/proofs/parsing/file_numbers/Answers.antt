@@ -1,7 +1,7 @@
 use Rattle.std.proofs.Common.{ap, sym, ◌∙◌}
 use Rattle.std.specs.Prelude.{option_map}
-use Rattle.message.specs.Lines.{words}
-use Rattle.message.specs.Grammar.{of_volume}
+use Rattle.messages.specs.Lines.{words}
+use Rattle.messages.specs.Grammar.{of_volume}
 use Rattle.message.proofs.Forms.{onward_some, of_file-onward}
 use Rattle.message.proofs.parsing.file_numbers.Goals as goal
 

@@ -1,6 +1,6 @@
 use Rattle.std.proofs.Common.{sym, ◌∙◌}
-use Rattle.message.specs.declared.Msg.TheVariants.{SetLabel as set_label}
-use Rattle.message.specs.Lines.{words}
+use Rattle.messages.specs.declared.Msg.TheVariants.{SetLabel as set_label}
+use Rattle.messages.specs.Lines.{words}
 use Rattle.message.proofs.Forms.{onward_some, of_label_digits, of_label_digits-read, of_label_digits-none, label_from_volume, label_from_volume-onward, of_label-onward}
 use Rattle.message.proofs.parsing.label_message.Goals as goal
 

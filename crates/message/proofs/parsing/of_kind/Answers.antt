@@ -1,5 +1,5 @@
 use Rattle.std.proofs.Common.{sym}
-use Rattle.message.specs.declared.Msg.TheVariants.{Summary}
+use Rattle.messages.specs.declared.Msg.TheVariants.{Summary}
 use Rattle.message.proofs.Forms.{nothing_behind}
 use Rattle.message.proofs.parsing.of_kind.Goals as goal
 

@@ -1,10 +1,11 @@
 use Rattle.std.proofs.Common.{◌≡◌, ℕ, List, [], Option, Some, ap, sym, ◌∙◌}
 use Rattle.std.specs.Prelude.{◌↔◌}
 use Rattle.affinity.specs.declared.kinds.Kind.{Kind}
-use Rattle.message.specs.declared.Msg.{Msg}
-use Rattle.message.specs.Lines.{words}
-use Rattle.message.specs.Grammar.{message_of, Spells, of_kind}
-use Rattle.message.proofs.Keywords.{too_long, with_kind, without_kind, needs_words}
+use Rattle.messages.specs.declared.Msg.{Msg}
+use Rattle.messages.specs.Lines.{words}
+use Rattle.messages.specs.Grammar.{message_of, Spells, of_kind}
+use Rattle.messages.proofs.FirstLines.{too_long}
+use Rattle.message.proofs.Keywords.{with_kind, without_kind, needs_words}
 use Rattle.message.proofs.Spelling.{read_iff_spelled}
 use Rattle.message.proofs.parsing.parse_line.Goals as goal
 

@@ -1,6 +1,6 @@
 use Rattle.std.proofs.Common.{ap, sym, ◌∙◌}
 use Rattle.std.specs.Prelude.{option_map}
-use Rattle.message.specs.Lines.{words}
+use Rattle.messages.specs.Lines.{words}
 use Rattle.message.proofs.Forms.{onward_some, of_number, of_number-read, of_number-none, of_volume-onward}
 use Rattle.message.proofs.parsing.volume_numbers.Goals as goal
 

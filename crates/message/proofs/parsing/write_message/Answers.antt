@@ -1,6 +1,6 @@
 use Rattle.std.proofs.Common.{sym, ◌∙◌}
-use Rattle.message.specs.declared.Msg.TheVariants.{Write as write}
-use Rattle.message.specs.Lines.{words}
+use Rattle.messages.specs.declared.Msg.TheVariants.{Write as write}
+use Rattle.messages.specs.Lines.{words}
 use Rattle.message.proofs.Forms.{onward_some, onward_none, of_digits, of_digits-read, of_digits-none, from_block, from_file, from_volume, from_block-onward, from_file-onward, from_volume-onward, of_data-onward}
 use Rattle.message.proofs.parsing.write_message.Goals as goal
 

@@ -1,6 +1,6 @@
 use Rattle.std.proofs.Common.{List, ℕ, ◌∷◌, sym, ap, subst}
 use Rattle.std.proofs.lemmas.Fmt.{decimal_digit}
-use Rattle.message.specs.Replies.{Appends}
+use Rattle.messages.specs.Replies.{Appends}
 use Rattle.message.proofs.printing.append_digit.Goals as goal
 
 pub returns-clause-text : goal.returns-clause-text

@@ -1,6 +1,6 @@
 use Rattle.std.proofs.Common.{length, ap, sym, ◌∙◌, arith}
 use Rattle.std.proofs.lemmas.List.{take_all}
-use Rattle.message.specs.Replies.{without_zeros, at_least_one}
+use Rattle.messages.specs.Replies.{without_zeros, at_least_one}
 use Rattle.message.proofs.Zeros.{one_fewer, last_stays}
 use Rattle.message.proofs.printing.shown_size.Goals as goal
 

@@ -1,5 +1,5 @@
 use Rattle.std.proofs.Common.{◌≡◌, ◌≤◌, take, length}
-use Rattle.message.specs.Replies.{without_zeros}
+use Rattle.messages.specs.Replies.{without_zeros}
 use Rattle.message.proofs.printing.shown_size.Given as goal
 
 abbrev pub invariant-loop-size : goal.invariant-loop-size

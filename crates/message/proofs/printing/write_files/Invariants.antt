@@ -1,5 +1,5 @@
 use Rattle.std.proofs.Common.{◌≤◌, ◌+◌, ◌-◌, ◌*◌, codes, ◌++◌}
-use Rattle.message.specs.Replies.{Appends, files_below}
+use Rattle.messages.specs.Replies.{Appends, files_below}
 use Rattle.message.proofs.printing.write_files.Given as goal
 
 abbrev pub invariant-loop-from : goal.invariant-loop-from

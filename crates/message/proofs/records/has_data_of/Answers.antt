@@ -3,7 +3,7 @@ use Rattle.std.specs.Prelude.{◌↔◌, IsTrue}
 use Rattle.std.specs.Str.{bytes_eq}
 use Rattle.std.proofs.lemmas.List.{take_all}
 use Rattle.std.proofs.lemmas.Slice.Eq.{bytes_eq-Decides}
-use Rattle.message.specs.Messages.{kind}
+use Rattle.messages.specs.Messages.{kind}
 use Rattle.message.proofs.RecordLemmas.{said_label, said_write, zeros_else}
 use Rattle.message.proofs.records.has_data_of.Goals as goal
 

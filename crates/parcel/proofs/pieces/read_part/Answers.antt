@@ -1,6 +1,6 @@
 -- The part is the volume itself or one of its stripes.
 use Rattle.std.proofs.Common.{◌≡◌, ℕ, suc, ◌-◌, ◌*◌, sym, ap, subst, arith, ◌∙◌, length, Some}
-use Rattle.message.specs.Messages.{AreSizedBytes}
+use Rattle.messages.specs.Messages.{AreSizedBytes}
 use Rattle.image.specs.Pieces.{piece_part_size}
 use Rattle.parcel.specs.Pieces.{IsPartRead}
 use Rattle.parcel.proofs.PieceParts.{all_bytes, stripe_is_read, volume_is_read}

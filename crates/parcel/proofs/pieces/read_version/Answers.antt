@@ -1,6 +1,6 @@
 -- What was read at the place of the piece.
 use Rattle.std.proofs.Common.{◌≡◌, ℕ, ◌<◌, List, ◌∷◌, length, Bool, true, false, true≢false, None, refl, sym, ◌∙◌, ap, subst}
-use Rattle.message.specs.Messages.{AreSizedBytes}
+use Rattle.messages.specs.Messages.{AreSizedBytes}
 use Rattle.affinity.specs.Path.{Path}
 use Rattle.meaning.specs.State.{State, IsState}
 use Rattle.image.specs.Pieces.{aggregate_of, volume_of, part_of, piece_count, piece_of, piece_size, part_piece, piece_part_size, with_part, with_piece}

@@ -4,7 +4,7 @@ use Rattle.affinity.specs.declared.geometry.Geometry.{Geometry}
 use Rattle.affinity.specs.Interval.{IsAffinityOf}
 use Rattle.affinity.specs.Path.{Path}
 use Rattle.affinity.specs.Place.{place as place_of}
-use Rattle.message.specs.Messages.{kind, place}
+use Rattle.messages.specs.Messages.{kind, place}
 use Rattle.parcel.specs.Fits.{Fits, IsKindOf, Suits}
 use Rattle.parcel.specs.Run.{JobView}
 use Rattle.parcel.proofs.Serving.{fits_where_lent}

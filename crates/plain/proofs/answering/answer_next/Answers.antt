@@ -1,8 +1,9 @@
 use Rattle.std.proofs.Common.{refl, sym, ap, ◌∙◌, subst, ℕ, List, Option}
 use Rattle.std.specs.Prelude.{IfSome}
-use Rattle.message.specs.Reader.{unread, line_of, is_drained, source, LosesFront}
-use Rattle.message.specs.Grammar.{message_of}
-use Rattle.message.specs.Replies.{no_message}
+use Rattle.messages.specs.FirstLine.{LosesFront}
+use Rattle.message.specs.Reader.{unread, line_of, is_drained, source}
+use Rattle.messages.specs.Grammar.{message_of}
+use Rattle.messages.specs.Replies.{no_message}
 use Rattle.message.specs.Waiting.{so_far}
 use Rattle.message.proofs.Adding.{adds_so_far}
 use Rattle.plain.specs.Server.{server_state}

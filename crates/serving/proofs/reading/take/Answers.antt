@@ -2,7 +2,7 @@
 use Rattle.std.proofs.Common.{◌∙◌, ◌++◌, ◌∷◌, [], ℕ, Err, Ok, ap, refl, subst, sym}
 use Rattle.legal_runs.specs.declared.outcomes.ArriveRefusal.TheVariants as arrivals
 use Rattle.line_row.specs.Rows.{AreConsecutive, with_tickets}
-use Rattle.message.specs.Grammar.{message_of}
+use Rattle.messages.specs.Grammar.{message_of}
 use Rattle.scheduler.specs.Calls.{ArrivesByLine}
 use Rattle.serving.specs.Lines.{NoMessage, OutOfRange, Unanswered}
 use Rattle.serving.proofs.Taken.{comes_as, next_of_line}

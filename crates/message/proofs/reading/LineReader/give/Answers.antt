@@ -1,7 +1,8 @@
 use Rattle.std.proofs.Common.{◌≡◌, ◌⊎◌, ◌<◌, inl, inr, true, length, arith}
 use Rattle.std.specs.List.{Contains}
 use Rattle.std.proofs.lemmas.Bool.{iff_false}
-use Rattle.message.specs.Reader.{held_bytes, still_to_come, unread, first_line, held_line}
+use Rattle.messages.specs.FirstLine.{first_line}
+use Rattle.message.specs.Reader.{held_bytes, still_to_come, unread, held_line}
 use Rattle.message.proofs.ReaderLemmas.{IsWhole-told, PassesLine-held, GivesLine-held, IsClosed-held}
 use Rattle.message.proofs.reading.LineReader.give.Goals as goal
 

@@ -1,5 +1,6 @@
 use Rattle.std.proofs.Common.{◌≡◌, [], false, IfSome}
-use Rattle.message.specs.Reader.{held_bytes, IsWithinLine, unread, line_of, has_failed, LosesFront}
+use Rattle.messages.specs.FirstLine.{IsWithinLine, LosesFront}
+use Rattle.message.specs.Reader.{held_bytes, unread, line_of, has_failed}
 use Rattle.message.proofs.reading.LineReader.skip.Given as goal
 
 abbrev pub invariant-loop : goal.invariant-loop

@@ -2,7 +2,8 @@ use Rattle.std.proofs.Common.{◌≡◌, ◌⊎◌, inl, inr, true, IfSome}
 use Rattle.std.specs.List.{Contains}
 use Rattle.std.specs.Prelude.{◌&&◌}
 use Rattle.std.proofs.KnownBytes.{Keeps-refl}
-use Rattle.message.specs.Reader.{held_bytes, still_to_come, unread, LosesFront, behind_first_line, are_none}
+use Rattle.messages.specs.FirstLine.{LosesFront, behind_first_line}
+use Rattle.message.specs.Reader.{held_bytes, still_to_come, unread, are_none}
 use Rattle.message.proofs.ReaderLemmas.{IsWhole-told, passed, LosesFront-kept, IsClosed-held, IsClosed-behind}
 use Rattle.message.proofs.reading.LineReader.skip_line.Goals as goal
 use Rattle.message.proofs.reading.LineReader.skip_line.Goals.{then-not-self+then-not-has_newline+in_ok-skip, else-not-self, else-not-self-via-then-not-self+else-not-has_newline, else-not-self-via-else-not-self}

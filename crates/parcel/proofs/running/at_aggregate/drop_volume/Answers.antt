@@ -1,7 +1,7 @@
 use Rattle.std.proofs.Common.{◌≡◌, ◌<◌, refl, ap, sym, ◌∙◌, length, slice_index_or, slice_set, arith}
 use Rattle.std.specs.Prelude.{◌==◌, None}
 use Rattle.std.proofs.lemmas.List.{get_or_read, length-set}
-use Rattle.message.specs.declared.Msg.TheVariants.{DropVol}
+use Rattle.messages.specs.declared.Msg.TheVariants.{DropVol}
 use Rattle.parcel.specs.Fits.{FitsVolume}
 use Rattle.parcel.specs.Shown.{by_aggregate, by_child, volume_facts}
 use Rattle.parcel.specs.Steps.{unless_closed, at_aggregate}

@@ -1,8 +1,8 @@
 use Rattle.std.proofs.Common.{◌≡◌, ◌<◌, refl, ap, sym, ◌∙◌, length, slice_index_or, slice_set, arith}
 use Rattle.std.specs.Prelude.{◌==◌, None, not}
 use Rattle.std.proofs.lemmas.List.{get_or_read, length-set}
-use Rattle.message.specs.declared.Msg.TheVariants.{MakeVol}
-use Rattle.message.specs.declared.Refusal.TheVariants.{Exists}
+use Rattle.messages.specs.declared.Msg.TheVariants.{MakeVol}
+use Rattle.messages.specs.declared.Refusal.TheVariants.{Exists}
 use Rattle.parcel.specs.Fits.{FitsVolume}
 use Rattle.parcel.specs.Shown.{by_aggregate, by_child, volume_facts}
 use Rattle.parcel.specs.Steps.{unless, at_aggregate}

@@ -1,5 +1,5 @@
 use Rattle.std.proofs.Common.{◌<◌, refl, sym, ◌∙◌, arith}
-use Rattle.message.specs.declared.Msg.TheVariants.{Create}
+use Rattle.messages.specs.declared.Msg.TheVariants.{Create}
 use Rattle.parcel.specs.Shown.{by_logical, has_file}
 use Rattle.parcel.specs.Volume.{only}
 use Rattle.parcel.proofs.FileBits.{with_bit, with_bit_has, with_bit_below}

@@ -1,7 +1,7 @@
 use Rattle.std.proofs.Common.{◌≡◌, ◌<◌, refl, sym, ◌∙◌, length, arith}
 use Rattle.affinity.specs.Geometry.{group}
 use Rattle.affinity.proofs.Placed.{group_below}
-use Rattle.message.specs.declared.Msg.TheVariants.{Delete}
+use Rattle.messages.specs.declared.Msg.TheVariants.{Delete}
 use Rattle.parcel.specs.Dropping.{DropsFile}
 use Rattle.parcel.specs.Fits.{FitsStripe}
 use Rattle.parcel.specs.Shown.{by_logical, blocks_of, has_file}

@@ -1,7 +1,7 @@
 use Rattle.std.proofs.Common.{◌^◌, refl, ap, sym, ◌∙◌}
 use Rattle.std.specs.Prelude.{if◌then◌else◌}
-use Rattle.message.specs.declared.Msg.TheVariants.{List as ListFiles}
-use Rattle.message.specs.declared.Reply.TheVariants.{Files}
+use Rattle.messages.specs.declared.Msg.TheVariants.{List as ListFiles}
+use Rattle.messages.specs.declared.Reply.TheVariants.{Files}
 use Rattle.meaning.specs.State.{sum_below}
 use Rattle.parcel.specs.Shown.{by_logical}
 use Rattle.parcel.specs.Volume.{only}

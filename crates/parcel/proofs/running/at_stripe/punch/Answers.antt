@@ -1,5 +1,5 @@
 use Rattle.std.proofs.Common.{refl, sym, ◌∙◌}
-use Rattle.message.specs.declared.Msg.TheVariants.{Punch}
+use Rattle.messages.specs.declared.Msg.TheVariants.{Punch}
 use Rattle.parcel.specs.Shown.{by_stripe}
 use Rattle.stripe.specs.Stripe.{content_at}
 use Rattle.parcel.specs.Volume.{only}

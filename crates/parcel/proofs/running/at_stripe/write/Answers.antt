@@ -1,9 +1,9 @@
 use Rattle.std.proofs.Common.{◌≡◌, refl, ap, sym, ◌∙◌, length}
 use Rattle.affinity.specs.Geometry.{group}
-use Rattle.message.specs.declared.Msg.TheVariants.{Write}
+use Rattle.messages.specs.declared.Msg.TheVariants.{Write}
 use Rattle.meaning.specs.State.{group_count}
 use Rattle.std.specs.Prelude.{None}
-use Rattle.message.specs.declared.Refusal.TheVariants.{File, Space}
+use Rattle.messages.specs.declared.Refusal.TheVariants.{File, Space}
 use Rattle.parcel.specs.Shown.{by_stripe, has_file}
 use Rattle.parcel.specs.Steps.{unless, unless_closed}
 use Rattle.stripe.specs.Stripe.{content_at}

@@ -1,6 +1,6 @@
 use Rattle.std.proofs.Common.{refl, sym, ◌∙◌}
-use Rattle.message.specs.declared.Msg.TheVariants.{Usage as AskUsage}
-use Rattle.message.specs.declared.Reply.TheVariants.{Usage}
+use Rattle.messages.specs.declared.Msg.TheVariants.{Usage as AskUsage}
+use Rattle.messages.specs.declared.Reply.TheVariants.{Usage}
 use Rattle.parcel.specs.Shown.{volume_facts}
 use Rattle.parcel.specs.Totals.{file_total, block_total}
 use Rattle.parcel.specs.Volume.{only}

@@ -1,6 +1,6 @@
 use Rattle.std.proofs.Common.{ap, ◌∙◌}
 use Rattle.std.specs.Prelude.{None, not}
-use Rattle.message.specs.declared.Refusal.TheVariants.{Exists}
+use Rattle.messages.specs.declared.Refusal.TheVariants.{Exists}
 use Rattle.parcel.specs.Steps.{unless, unless_closed}
 use Rattle.parcel.proofs.running.refusals.create_refusal.Goals as goal
 

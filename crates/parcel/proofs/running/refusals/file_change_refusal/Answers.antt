@@ -1,6 +1,6 @@
 use Rattle.std.proofs.Common.{ap, ◌∙◌}
 use Rattle.std.specs.Prelude.{None}
-use Rattle.message.specs.declared.Refusal.TheVariants.{File}
+use Rattle.messages.specs.declared.Refusal.TheVariants.{File}
 use Rattle.parcel.specs.Steps.{unless, unless_closed}
 use Rattle.parcel.proofs.running.refusals.file_change_refusal.Goals as goal
 

@@ -1,6 +1,6 @@
 use Rattle.std.proofs.Common.{ap, ◌∙◌}
 use Rattle.std.specs.Prelude.{None}
-use Rattle.message.specs.declared.Refusal.TheVariants.{Volume, File}
+use Rattle.messages.specs.declared.Refusal.TheVariants.{Volume, File}
 use Rattle.parcel.specs.Steps.{unless}
 use Rattle.parcel.proofs.running.refusals.read_refusal.Goals as goal
 

@@ -1,9 +1,9 @@
 use Rattle.std.proofs.Common.{◌≡◌, None, Some, Option, Bor, ap, sym, ◌∙◌}
 use Rattle.std.specs.Prelude.{IfSome}
 use Rattle.std.specs.Option.{option_copied}
-use Rattle.message.specs.declared.Block.{Block}
-use Rattle.message.specs.declared.Reply.{Reply}
-use Rattle.message.specs.declared.Reply.TheVariants.{Block as shows}
+use Rattle.messages.specs.declared.Block.{Block}
+use Rattle.messages.specs.declared.Reply.{Reply}
+use Rattle.messages.specs.declared.Reply.TheVariants.{Block as shows}
 use Rattle.meaning.specs.State.{State}
 use Rattle.meaning.specs.Serial.{accepted_reply, block_reply, effect, outcome}
 use Rattle.plain.specs.Server.{server_state}

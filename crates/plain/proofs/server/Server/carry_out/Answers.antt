@@ -3,7 +3,7 @@ use Rattle.message.specs.Heads.{asking}
 use Rattle.meaning.specs.State.{IsState}
 use Rattle.meaning.specs.Serial.{refusal, accepted_reply, effect, outcome}
 use Rattle.plain.specs.Server.{server_state}
-use Rattle.meaning.proofs.ByKind.{refusal_asked, asking_is_message}
+use Rattle.plain.proofs.Asked.{refusal_asked, asking_is_message}
 use Rattle.meaning.proofs.Kept.{step_kept}
 use Rattle.plain.proofs.server.Server.carry_out.Goals as goal
 

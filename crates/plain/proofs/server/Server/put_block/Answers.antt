@@ -2,7 +2,7 @@ use Rattle.std.proofs.Common.{◌≡◌, ◌+◌, Bool, true, false, ap, sym, �
 use Rattle.std.specs.Prelude.{not, is_some, unwrap_or}
 use Rattle.std.specs.BTreeMap as map
 use Rattle.meaning.specs.State.{one_if}
-use Rattle.message.specs.declared.Msg.TheVariants.{Punch}
+use Rattle.messages.specs.declared.Msg.TheVariants.{Punch}
 use Rattle.meaning.specs.Serial.{effect}
 use Rattle.meaning.specs.KeyOrders.{by_file}
 use Rattle.plain.specs.Server.{is_stripe, server_state, noted}

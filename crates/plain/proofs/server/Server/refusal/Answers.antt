@@ -1,5 +1,5 @@
 use Rattle.std.proofs.Common.{ap, ◌∙◌}
-use Rattle.message.specs.Messages.{kind}
+use Rattle.messages.specs.Messages.{kind}
 use Rattle.plain.specs.Server.{server_state}
 use Rattle.meaning.specs.ByKind.{refusal_by}
 use Rattle.meaning.proofs.ByKind.{refusal_by_kind}

@@ -1,5 +1,5 @@
 use Rattle.std.proofs.Common.{◌∙◌, arith}
-use Rattle.message.specs.declared.Reply.TheVariants.{Summary}
+use Rattle.messages.specs.declared.Reply.TheVariants.{Summary}
 use Rattle.plain.specs.Server.{server_state}
 use Rattle.plain.proofs.Totals.{volumes_total, files_total, blocks_total, volumes-few, files-few, blocks-few}
 use Rattle.plain.proofs.server.Server.summary_of.Goals as goal

@@ -3,7 +3,7 @@ use Rattle.std.specs.Prelude.{vec_capacity}
 use Rattle.arena.specs.Row.{Row, IsParted, after_take, capacity_of}
 use Rattle.legal_runs.specs.Events.{answer}
 use Rattle.legal_runs.specs.declared.outcomes.Outcome.TheVariants as outcomes
-use Rattle.message.specs.declared.Reply.TheVariants.{Done}
+use Rattle.messages.specs.declared.Reply.TheVariants.{Done}
 use Rattle.scheduler.proofs.AnswerCall.{answer_call_chains, answer_call_core, answer_call_ran, answer_call_size, answer_call_world, front_low, get_or_any}
 use Rattle.scheduler.specs.Kept.{CoreView, world_of}
 use Rattle.scheduler.specs.Parts.{IsCore, parts, world_in}

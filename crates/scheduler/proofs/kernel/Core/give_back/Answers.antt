@@ -6,7 +6,7 @@ use Rattle.affinity.specs.Path.{Path}
 use Rattle.arena.specs.Row.{IsParted, Row, capacity_of}
 use Rattle.legal_runs.specs.Events.{give_back, out_with}
 use Rattle.legal_runs.specs.World.{Entry}
-use Rattle.message.specs.Messages.{four_numbers, kind}
+use Rattle.messages.specs.Messages.{four_numbers, kind}
 use Rattle.parcel.specs.Fits.{Fits, IsKindOf}
 use Rattle.parcel.specs.Tree.{IsOut, RestoresAt, in_tree}
 use Rattle.parcel.specs.declared.parts.Parcels.{Parcels}

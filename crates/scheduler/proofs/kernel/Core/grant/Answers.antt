@@ -3,7 +3,7 @@ use Rattle.std.specs.Prelude.{nat_lt, option_copied, vec_capacity}
 use Rattle.affinity.specs.Interval.{IsAffinityOf}
 use Rattle.affinity.specs.declared.geometry.Geometry.{Geometry}
 use Rattle.arena.specs.Row.{IsParted, Row, after_move, capacity_of}
-use Rattle.message.specs.Messages.{place}
+use Rattle.messages.specs.Messages.{place}
 use Rattle.parcel.specs.Fits.{Suits}
 use Rattle.parcel.specs.Run.{JobView}
 use Rattle.parcel.specs.Tree.{HasGap, in_tree}

@@ -2,7 +2,7 @@
 use Rattle.std.proofs.Common.{◌≡◌, ◌+◌, ℕ, Option, ap, length, refl, subst}
 use Rattle.legal_runs.specs.Events.{answer}
 use Rattle.runs.proofs.Events.{answer_step}
-use Rattle.message.specs.declared.Reply.{Reply}
+use Rattle.messages.specs.declared.Reply.{Reply}
 use Rattle.scheduler.specs.Calls.{answer_outcome}
 use Rattle.scheduler.specs.Kept.{world_of}
 use Rattle.serving.specs.Runs.{with_lent}

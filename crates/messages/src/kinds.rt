@@ -1,7 +1,7 @@
 //! What kind of message a message is, and its numbers.
 
 ghost use Rattle.std.specs.Prelude.{◌≡◌};
-ghost use Rattle.message.specs.Messages.{kind, four_numbers};
+ghost use Rattle.messages.specs.Messages.{kind, four_numbers};
 
 use crate::Msg;
 use affinity::Kind;

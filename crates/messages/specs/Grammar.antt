@@ -6,11 +6,11 @@ use Rattle.std.specs.Fmt.{decimal}
 use Rattle.hex.specs.Hex.{decode_of}
 use Rattle.affinity.specs.declared.kinds.Kind.{Kind}
 use Rattle.affinity.specs.declared.kinds.Kind.TheVariants as kinds
-use Rattle.message.specs.declared.Block.{Block}
-use Rattle.message.specs.declared.Msg.{Msg}
-use Rattle.message.specs.declared.Msg.TheVariants.{MakeVol, DropVol, Create, Delete, Seal, Unseal, Write, Punch, Read, List as ListFiles, Usage, Summary, SetLabel, Label}
-use Rattle.message.specs.Lines.{words, number_in_word, block_in_word, label_in_word, padded}
-use Rattle.message.specs.Messages.{kind, numbers}
+use Rattle.messages.specs.declared.Block.{Block}
+use Rattle.messages.specs.declared.Msg.{Msg}
+use Rattle.messages.specs.declared.Msg.TheVariants.{MakeVol, DropVol, Create, Delete, Seal, Unseal, Write, Punch, Read, List as ListFiles, Usage, Summary, SetLabel, Label}
+use Rattle.messages.specs.Lines.{words, number_in_word, block_in_word, label_in_word, padded}
+use Rattle.messages.specs.Messages.{kind, numbers}
 
 -- ---- by the words of a line: which message they make, if any
 

@@ -6,9 +6,9 @@ use Rattle.affinity.specs.declared.kinds.Kind.TheVariants as kinds
 use Rattle.affinity.specs.declared.geometry.Geometry.{Geometry}
 use Rattle.affinity.specs.Place.{is_in_range as numbers_are_in_range, place as place_of}
 use Rattle.affinity.specs.Path.{Path}
-use Rattle.message.specs.declared.Block.{Block}
-use Rattle.message.specs.declared.Msg.{Msg}
-use Rattle.message.specs.declared.Msg.TheVariants.{MakeVol, DropVol, Create, Delete, Seal, Unseal, Write, Punch, Read, List as ListFiles, Usage, Summary, SetLabel, Label}
+use Rattle.messages.specs.declared.Block.{Block}
+use Rattle.messages.specs.declared.Msg.{Msg}
+use Rattle.messages.specs.declared.Msg.TheVariants.{MakeVol, DropVol, Create, Delete, Seal, Unseal, Write, Punch, Read, List as ListFiles, Usage, Summary, SetLabel, Label}
 
 abbrev pub kind : Msg → Kind
 kind (MakeVol a v) = kinds.MakeVol

@@ -4,7 +4,7 @@ use Rattle.std.specs.Str.{all_ascii_digits}
 use Rattle.std.specs.Str.Parse.{digits_value}
 use Rattle.hex.specs.Hex.{decode_of}
 use Rattle.hex.specs.declared.error.FromHexError.{FromHexError}
-use Rattle.message.specs.declared.Block.{Block}
+use Rattle.messages.specs.declared.Block.{Block}
 
 -- the pieces, with this byte in front of the first of them
 abbrev pub in_first : ℕ → List (List ℕ) → List (List ℕ)

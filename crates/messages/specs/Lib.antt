@@ -1,0 +1,5 @@
+pub mod Messages
+pub mod Lines
+pub mod Grammar
+pub mod Replies
+pub mod FirstLine
