@@ -13,7 +13,7 @@ use Rattle.disk.specs.Device.{AreBytes}
 use Rattle.image.specs.Image.{read}
 use Rattle.image.proofs.Walk.{read_is_good}
 use Rattle.oplog.specs.Front.{chain, front}
-use Rattle.oplog.specs.Layout.{device_size, image, layout_of, other, part_bytes}
+use Rattle.device_map.specs.Layout.{device_size, image, layout_of, other, part_bytes}
 use Rattle.oplog.specs.Stands.{named_area, run}
 use Rattle.meaning.specs.State.{State}
 

@@ -6,7 +6,7 @@ use Rattle.affinity.specs.declared.geometry.Geometry.{Geometry}
 use Rattle.image.specs.Image.{image_of}
 use Rattle.image.specs.Pieces.{joined_below, part_of, part_piece, piece_part_size, piece_count, piece_of, piece_size, aggregate_of, volume_of, stripe_entries}
 use Rattle.image.proofs.Joining.{length-pieces}
-use Rattle.oplog.specs.Layout.{image_size}
+use Rattle.device_map.specs.Layout.{image_size}
 use Rattle.meaning.specs.State.{empty, sum_below}
 use Rattle.stripe.specs.Entries.{entry_bytes}
 use Rattle.stripe.specs.Stripe.{BlockEntry}

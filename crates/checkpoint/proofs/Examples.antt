@@ -12,7 +12,7 @@ use Rattle.messages.specs.declared.Reply.{Reply}
 use Rattle.messages.specs.declared.Reply.TheVariants.{Summary}
 use Rattle.messages.specs.declared.Msg.TheVariants.{Summary as AskSummary}
 use Rattle.message.specs.Records.{data_of, message_in_fields, kind_numbered}
-use Rattle.oplog.specs.Layout.{layout_of, device_size, image_size}
+use Rattle.device_map.specs.Layout.{layout_of, device_size, image_size}
 use Rattle.meaning.specs.Serial.{reply_to}
 use Rattle.meaning.specs.State.{State}
 

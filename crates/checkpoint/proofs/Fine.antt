@@ -14,7 +14,7 @@ use Rattle.checkpoint.proofs.Refusing.{alone_sound, both_sound, not_refused}
 use Rattle.disk.specs.Device.{AreBytes}
 use Rattle.image.specs.Image.{read}
 use Rattle.oplog.specs.Front.{chain, front}
-use Rattle.oplog.specs.Layout.{Layout, layout_of, device_size, header, image, other, part_bytes}
+use Rattle.device_map.specs.Layout.{Layout, layout_of, device_size, header, image, other, part_bytes}
 use Rattle.oplog.specs.Stands.{in_force, is_laid_out, named_area, run}
 use Rattle.oplog.proofs.Kept.{named_area-below, run-append}
 use Rattle.meaning.specs.State.{State}

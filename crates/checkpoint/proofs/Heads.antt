@@ -11,7 +11,7 @@ use Rattle.byteorder.specs.Endian.{IsRead, little_bytes, little_number}
 use Rattle.checkpoint.specs.Header.{header_of, marks_of_format}
 use Rattle.image.specs.Image.{has_head, image_head, is_version, version_in}
 use Rattle.checkpoint.proofs.Laid.{image_some}
-use Rattle.oplog.specs.Layout.{image, layout_of, part_bytes, part_at, part_size, slice}
+use Rattle.device_map.specs.Layout.{image, layout_of, part_bytes, part_at, part_size, slice}
 use Rattle.oplog.proofs.Slices.{image_sized}
 
 -- ---- a header

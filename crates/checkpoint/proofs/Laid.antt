@@ -16,7 +16,7 @@ use Rattle.disk.proofs.Overlays.{overlaid_outside, length-overlaid, range-overla
 use Rattle.image.specs.Image.{image_of, read, version_in}
 use Rattle.image.proofs.Reading.{read_again}
 use Rattle.oplog.specs.Front.{chain, front, gates, open_gates, rows}
-use Rattle.oplog.specs.Layout.{Layout, slice, layout_of, part_bytes, part_at, device_size, half, half_size, header, image, image_size}
+use Rattle.device_map.specs.Layout.{Layout, slice, layout_of, part_bytes, part_at, device_size, half, half_size, header, image, image_size}
 use Rattle.oplog.specs.Stands.{named_area, in_force, is_laid_out, run, stands_as}
 use Rattle.oplog.proofs.Slices.{slice_slice}
 use Rattle.meaning.specs.State.{State, empty}

@@ -8,7 +8,7 @@ use Rattle.byteorder.specs.Endian.{IsRead, little_number}
 use Rattle.checkpoint.specs.Header.{HasHeader, header_of, is_header}
 use Rattle.checkpoint.specs.Recovery.{holds, means}
 use Rattle.checkpoint.proofs.Heads.{numbers_there, two_bytes}
-use Rattle.oplog.specs.Layout.{device_size, header, layout_of, part_bytes}
+use Rattle.device_map.specs.Layout.{device_size, header, layout_of, part_bytes}
 use Rattle.oplog.specs.Stands.{is_laid_out}
 use Rattle.meaning.specs.State.{State}
 

@@ -13,7 +13,7 @@ use Rattle.disk.proofs.Leaves.{calm_left}
 use Rattle.disk.proofs.Moments.{then, weaker}
 use Rattle.disk.proofs.Overlays.{item-overlaid, length-overlaid, overlaid_outside}
 use Rattle.oplog.specs.Changes.{ChangesOnly}
-use Rattle.oplog.specs.Layout.{device_size, layout_of}
+use Rattle.device_map.specs.Layout.{device_size, layout_of}
 use Rattle.oplog.specs.Store.{Stored}
 use Rattle.meaning.specs.State.{empty}
 

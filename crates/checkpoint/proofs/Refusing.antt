@@ -17,7 +17,7 @@ use Rattle.checkpoint.proofs.Replays.{fault_from}
 use Rattle.image.specs.Image.{has_head, read, version_in}
 use Rattle.messages.specs.declared.Msg.TheVariants.{Summary}
 use Rattle.oplog.specs.Front.{chain, front}
-use Rattle.oplog.specs.Layout.{Layout, layout_of, device_size, header, image, other, part_bytes}
+use Rattle.device_map.specs.Layout.{Layout, layout_of, device_size, header, image, other, part_bytes}
 use Rattle.oplog.specs.Stands.{in_force, is_laid_out, named_area, run}
 use Rattle.oplog.proofs.Kept.{run-append}
 use Rattle.parcel.specs.Tree.{state_in}

@@ -10,7 +10,7 @@ use Rattle.checkpoint.specs.Recovery.{apply, means}
 use Rattle.checkpoint.specs.Refusals.{fault_if, fault_or_later, first_bad_record}
 use Rattle.disk.specs.Device.{Medium, Moment, moments}
 use Rattle.oplog.specs.Front.{front, record_at}
-use Rattle.oplog.specs.Layout.{Layout}
+use Rattle.device_map.specs.Layout.{Layout}
 use Rattle.oplog.specs.Log.{Log, layout}
 use Rattle.oplog.specs.Stands.{run}
 use Rattle.oplog.proofs.Reading.{front_record}

@@ -5,7 +5,7 @@ use Rattle.checkpoint.specs.Header.{header_of}
 use Rattle.checkpoint.specs.Recovery.{holds}
 use Rattle.checkpoint.specs.Refusals.{IsUnformatted}
 use Rattle.disk.specs.Device.{Medium, Leaves}
-use Rattle.oplog.specs.Layout.{slice, layout_of, part_at, half, image, image_size}
+use Rattle.device_map.specs.Layout.{slice, layout_of, part_at, half, image, image_size}
 use Rattle.meaning.specs.State.{empty}
 
 -- What a crash before might have left, what isn't formatted, or a sound device that stands for the empty state.

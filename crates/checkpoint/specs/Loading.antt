@@ -11,7 +11,7 @@ use Rattle.image.specs.Image.{has_head, read}
 use Rattle.oplog.specs.declared.fault.LogFault.{LogFault}
 use Rattle.oplog.specs.declared.fault.LogFault.TheVariants as log
 use Rattle.oplog.specs.Front.{chain, front}
-use Rattle.oplog.specs.Layout.{Layout, device_size, image, layout_of, other, part_bytes}
+use Rattle.device_map.specs.Layout.{Layout, device_size, image, layout_of, other, part_bytes}
 use Rattle.oplog.specs.Stands.{named_area, run}
 use Rattle.meaning.specs.State.{State}
 

@@ -7,7 +7,7 @@ use Rattle.image.specs.Image.{read}
 use Rattle.messages.specs.declared.Msg.{Msg}
 use Rattle.messages.specs.Messages.{is_in_range}
 use Rattle.message.specs.Records.{message_in_fields, record_of}
-use Rattle.oplog.specs.Layout.{layout_of}
+use Rattle.device_map.specs.Layout.{layout_of}
 use Rattle.oplog.specs.Stands.{Meaning, stands}
 use Rattle.meaning.specs.Serial.{is_loggable, next_state, reply_to}
 use Rattle.meaning.specs.State.{State}

@@ -7,7 +7,7 @@ use Rattle.checkpoint.specs.Recovery.{holds}
 use Rattle.checkpoint.specs.Refusals.{refused}
 use Rattle.image.specs.Image.{version_in}
 use Rattle.messages.specs.declared.Msg.TheVariants.{Summary}
-use Rattle.oplog.specs.Layout.{layout_of, image, part_bytes}
+use Rattle.device_map.specs.Layout.{layout_of, image, part_bytes}
 use Rattle.oplog.specs.Stands.{in_force, named_area}
 use Rattle.parcel.specs.Tree.{state_in}
 use Rattle.meaning.specs.Serial.{reply_to}

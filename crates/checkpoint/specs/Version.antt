@@ -2,7 +2,7 @@
 use Rattle.std.specs.Prelude.{ℕ, List}
 use Rattle.affinity.specs.declared.geometry.Geometry.{Geometry}
 use Rattle.image.specs.Image.{version_in}
-use Rattle.oplog.specs.Layout.{image, layout_of, part_bytes}
+use Rattle.device_map.specs.Layout.{image, layout_of, part_bytes}
 use Rattle.oplog.specs.Stands.{named_area}
 
 abbrev pub named_version : Geometry → List ℕ → ℕ

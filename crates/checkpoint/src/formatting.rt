@@ -11,17 +11,17 @@ ghost use Rattle.disk.specs.Device.{IsDeviceCall, IsSynced, Leaves, SameOutside,
 ghost use Rattle.disk.specs.Moments.{LeavesOnly};
 ghost use Rattle.oplog.specs.Beyond.{KeepsBeyond};
 ghost use Rattle.oplog.specs.Changes.{ChangesOnly};
-ghost use Rattle.oplog.specs.Layout.{Layout, device_size, layout_of};
+ghost use Rattle.device_map.specs.Layout.{Layout, device_size, layout_of};
 ghost use Rattle.meaning.specs.State.{empty};
 
 use crate::header::{OPEN, header_of};
 use crate::{FormatError, FormatFault};
 use affinity::Geometry;
-use disk::{Disk, DiskFault};
-use image::layout::VERSION;
-use oplog::layout::{
+use device_map::{
     CHAIN_AREA, ROOT_ZONE_AT, ROOT_ZONE_SIZE, device_len, half_at, image_at, image_size,
 };
+use disk::{Disk, DiskFault};
+use image::layout::VERSION;
 use oplog::store::{store, write};
 use std::alloc::{AllocError, Global};
 

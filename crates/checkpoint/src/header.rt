@@ -5,7 +5,7 @@ ghost use Rattle.checkpoint.specs.Header.{header_of};
 
 use affinity::Geometry;
 use byteorder::{ByteOrder, LittleEndian};
-use oplog::layout::HEADER_SIZE;
+use device_map::HEADER_SIZE;
 
 /// The gate byte of a formatted device.
 pub(crate) const OPEN: u8 = 1;

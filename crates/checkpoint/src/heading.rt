@@ -5,15 +5,15 @@ ghost use Rattle.checkpoint.specs.Header.{HasHeader};
 ghost use Rattle.checkpoint.specs.Loading.{IsOpeningCall, IsOfHeader};
 ghost use Rattle.checkpoint.specs.Refusals.{IsRefused};
 ghost use Rattle.disk.specs.Device.{moments};
-ghost use Rattle.oplog.specs.Layout.{device_size, layout_of};
+ghost use Rattle.device_map.specs.Layout.{device_size, layout_of};
 ghost use Rattle.oplog.specs.Stands.{named_area};
 
 use crate::OpenFault;
 use crate::header::{MARKS_OF_FORMAT, geometry_in};
 use crate::reading::read;
 use affinity::Geometry;
+use device_map::{HEADER_SIZE, ROOT_ZONE_AT, ROOT_ZONE_SIZE, device_len};
 use disk::Disk;
-use oplog::layout::{HEADER_SIZE, ROOT_ZONE_AT, ROOT_ZONE_SIZE, device_len};
 
 /// The size of header and root zone.
 const HEADING_SIZE: usize = HEADER_SIZE + ROOT_ZONE_SIZE;

@@ -6,15 +6,15 @@ ghost use Rattle.checkpoint.specs.Refusals.{fault_or_later, first_bad_piece};
 ghost use Rattle.disk.specs.Device.{moments};
 ghost use Rattle.image.specs.Image.{has_head, is_version, read, version_in};
 ghost use Rattle.image.specs.Pieces.{aggregate_of, part_of, piece_count, piece_of, piece_size, volume_of, with_piece};
-ghost use Rattle.oplog.specs.Layout.{device_size, image, layout_of, part_bytes};
+ghost use Rattle.device_map.specs.Layout.{device_size, image, layout_of, part_bytes};
 ghost use Rattle.parcel.specs.Tree.{IsWholeTree, state_in};
 ghost use Rattle.meaning.specs.State.{empty};
 
 use crate::OpenFault;
 use crate::reading::read;
+use device_map::{IMAGE_HEAD_SIZE, image_at};
 use disk::Disk;
 use image::layout::{piece_count, piece_size};
-use oplog::layout::{IMAGE_HEAD_SIZE, image_at};
 use parcel::{Tree, read_piece, read_piece_1};
 
 /// Takes in bytes as piece `n` of an image of this version. `BadPiece` exactly where they are none of a state that has

@@ -19,8 +19,8 @@ mod reading;
 mod replaying;
 mod stepping;
 
+pub use device_map::device_len;
 pub use fault::{FormatError, FormatFault, OpenError, OpenFault};
 pub use formatting::format;
 pub use inspecting::{Shown, inspect};
-pub use oplog::layout::device_len;
 pub use stepping::step;

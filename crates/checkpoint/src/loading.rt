@@ -10,7 +10,7 @@ ghost use Rattle.disk.specs.Device.{moments};
 ghost use Rattle.image.specs.Image.{read, version_in};
 ghost use Rattle.oplog.specs.Calls.{HasParts};
 ghost use Rattle.oplog.specs.Front.{chain, front};
-ghost use Rattle.oplog.specs.Layout.{device_size, image, layout_of, part_bytes};
+ghost use Rattle.device_map.specs.Layout.{device_size, image, layout_of, part_bytes};
 ghost use Rattle.oplog.specs.Log.{layout, new_log, renamed};
 ghost use Rattle.oplog.specs.Stands.{in_force, named_area, run};
 ghost use Rattle.parcel.specs.Tree.{IsWholeTree, state_in};

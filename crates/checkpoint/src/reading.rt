@@ -6,13 +6,13 @@ ghost use Rattle.checkpoint.specs.Refusals.{fault_if};
 ghost use Rattle.disk.specs.Device.{moments};
 ghost use Rattle.image.specs.Image.{has_head, is_version, version_in};
 ghost use Rattle.oplog.specs.Front.{chain};
-ghost use Rattle.oplog.specs.Layout.{device_size, image, layout_of, part_bytes, slice};
+ghost use Rattle.device_map.specs.Layout.{device_size, image, layout_of, part_bytes, slice};
 
 use crate::OpenFault;
 use affinity::Geometry;
+use device_map::{IMAGE_HEAD_SIZE, half_at, image_at};
 use disk::Disk;
 use image::layout::{FIRST_VERSION, VERSION, head_of};
-use oplog::layout::{IMAGE_HEAD_SIZE, half_at, image_at};
 
 /// Fills `out` with bytes of the device, from `at` on.
 pub(crate) fn read<D: Disk>(disk: &mut D, at: u64, out: &mut [u8]) -> Result<(), OpenFault>

@@ -4,7 +4,7 @@ use Rattle.std.specs.Fmt.{digits}
 use Rattle.affinity.specs.Geometry.{small}
 use Rattle.checkpoint.specs.declared.inspecting.Shown.{Shown}
 use Rattle.messages.specs.declared.Reply.TheVariants.{Summary}
-use Rattle.oplog.specs.Layout.{image_size}
+use Rattle.device_map.specs.Layout.{image_size}
 use Rattle.commands.specs.Lines.{formatted_line, shown_lines}
 
 small_is_formatted : formatted_line small ≡ codes "formatted 8840" ++ 10 ∷ []

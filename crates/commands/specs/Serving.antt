@@ -18,7 +18,7 @@ use Rattle.runs.specs.Lives.{IsRunLife}
 use Rattle.runs.specs.Machine.{MachineView, machine_of}
 use Rattle.runs.specs.Stages.{Stage, device_after, events_of}
 use Rattle.messages.specs.Lines.{lines}
-use Rattle.oplog.specs.Layout.{layout_of}
+use Rattle.device_map.specs.Layout.{layout_of}
 use Rattle.oplog.specs.Stands.{in_force, named_area}
 use Rattle.meaning.specs.Output.{IsBeginning, WritesOutput}
 use Rattle.meaning.specs.State.{State}

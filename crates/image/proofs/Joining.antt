@@ -5,7 +5,7 @@ use Rattle.std.proofs.lemmas.List.{take_all}
 use Rattle.std.proofs.Math.Seq.{take-add}
 use Rattle.std.proofs.lemmas.Nat.{mod-mul-add}
 use Rattle.affinity.specs.declared.geometry.Geometry.{Geometry}
-use Rattle.oplog.specs.Layout.{image_size}
+use Rattle.device_map.specs.Layout.{image_size}
 use Rattle.meaning.specs.State.{State, sum_below}
 use Rattle.image.specs.Pieces.{pieces_of_volume, piece_count, piece_part_size, piece_size, piece_at, piece_of, joined_below}
 use Rattle.image.specs.Image.{image_head, image_of, piece_in}

@@ -5,7 +5,7 @@ use Rattle.affinity.specs.declared.geometry.Geometry.{Geometry}
 use Rattle.byteorder.specs.Endian.{little_bytes, little_number}
 use Rattle.messages.specs.Replies.{has_file}
 use Rattle.messages.specs.declared.Block.{Block}
-use Rattle.oplog.specs.Layout.{entry_size, image_head_size, volume_piece_size}
+use Rattle.device_map.specs.Layout.{entry_size, image_head_size, volume_piece_size}
 use Rattle.stripe.specs.Stripe.{BlockEntry, content_at}
 use Rattle.meaning.specs.Serial.{file_bits, no_label}
 use Rattle.meaning.specs.State.{State, VolumeKey, is_volume, is_file_of, is_block_of, sum_below, one_if}

@@ -9,7 +9,7 @@ ghost use Rattle.image.specs.Pieces.{aggregate_of, part_of, piece_at, piece_coun
 ghost use Rattle.image.specs.Touched.{may_change};
 ghost use Rattle.messages.specs.Messages.{AreSizedBytes};
 ghost use Rattle.messages.specs.declared.Msg.{Msg};
-ghost use Rattle.oplog.specs.Layout.{image_size};
+ghost use Rattle.device_map.specs.Layout.{image_size};
 ghost use Rattle.meaning.specs.Serial.{next_state};
 ghost use Rattle.meaning.specs.State.{State, IsState};
 ghost use Rattle.stripe.specs.Stripe.{BlockEntry, IsAscending, content_at};

@@ -4,10 +4,10 @@
 ghost use Rattle.std.specs.Prelude.{◌≡◌, ◌*◌, ◌<◌, ◌≤◌};
 ghost use Rattle.image.specs.Image.{image_head};
 ghost use Rattle.image.specs.Pieces.{piece_count, piece_size};
-ghost use Rattle.oplog.specs.Layout.{entry_size};
+ghost use Rattle.device_map.specs.Layout.{entry_size};
 
 use affinity::Geometry;
-use oplog::layout::{ENTRY_SIZE, IMAGE_HEAD_SIZE, VOLUME_PIECE_SIZE};
+use device_map::{ENTRY_SIZE, IMAGE_HEAD_SIZE, VOLUME_PIECE_SIZE};
 
 /// The version of an image that is written, with which it begins.
 pub const VERSION: u8 = 2;

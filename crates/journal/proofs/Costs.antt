@@ -16,7 +16,7 @@ use Rattle.journal.specs.Stretches.{AreAllMarked}
 use Rattle.journal.proofs.Places.{some_piece}
 use Rattle.oplog.specs.Costs.{Takes}
 use Rattle.oplog.specs.Front.{chain}
-use Rattle.oplog.specs.Layout.{layout_of}
+use Rattle.device_map.specs.Layout.{layout_of}
 use Rattle.oplog.specs.Stands.{named_area}
 use Rattle.meaning.specs.State.{State}
 

@@ -19,7 +19,7 @@ use Rattle.journal.proofs.Standing.{as_other, both_of, chain_other, half_same, h
 use Rattle.oplog.specs.Changes.{ChangesOnly, Chained, Cleared, Flipped, IsReady, IsSameButChain, IsSameButGates, IsSameButRoot}
 use Rattle.oplog.specs.Crash.{StandsBy, StandsEitherWay}
 use Rattle.oplog.specs.Front.{chain, front}
-use Rattle.oplog.specs.Layout.{layout_of, device_size, part_bytes, half, image, root, other}
+use Rattle.device_map.specs.Layout.{layout_of, device_size, part_bytes, half, image, root, other}
 use Rattle.oplog.specs.Stands.{in_force, stands_as}
 use Rattle.oplog.proofs.AfterCrash.{chain_by_area, chained_by_area, flip_by_area, torn_root_stands}
 use Rattle.oplog.proofs.Kept.{front_beside, named_area-below}

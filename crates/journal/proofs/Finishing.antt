@@ -13,7 +13,7 @@ use Rattle.journal.proofs.Standing.{as_other, both_of, chain_other, half_same, h
 use Rattle.oplog.specs.Changes.{ChangesOnly, Flipped, IsSameBut, IsSameButRoot}
 use Rattle.oplog.specs.Crash.{StandsBy, StandsEitherWay}
 use Rattle.oplog.specs.Front.{chain, front}
-use Rattle.oplog.specs.Layout.{layout_of, device_size, half, header, image, other}
+use Rattle.device_map.specs.Layout.{layout_of, device_size, half, header, image, other}
 use Rattle.oplog.specs.Log.{Log}
 use Rattle.oplog.specs.Stands.{is_laid_out, named_area, stands_as}
 use Rattle.oplog.proofs.AfterCrash.{flip_by_area, image_by_area, torn_root_stands}

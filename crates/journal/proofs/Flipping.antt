@@ -16,7 +16,7 @@ use Rattle.journal.proofs.Rows.{all_agree, none_marked}
 use Rattle.journal.proofs.Standing.{holds_now}
 use Rattle.oplog.specs.Calls.{HasParts}
 use Rattle.oplog.specs.Changes.{IsReady}
-use Rattle.oplog.specs.Layout.{layout_of, image_size, other}
+use Rattle.device_map.specs.Layout.{layout_of, image_size, other}
 use Rattle.oplog.specs.Log.{Log}
 use Rattle.meaning.specs.State.{State}
 

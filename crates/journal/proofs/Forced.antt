@@ -10,7 +10,7 @@ use Rattle.journal.proofs.Standing.{open_by, shut_by, shut_force}
 use Rattle.oplog.specs.Changes.{HasMore, IsReady, IsSameBut}
 use Rattle.oplog.specs.Crash.{StandsBy}
 use Rattle.oplog.specs.Front.{chain, front, gates, open_gates}
-use Rattle.oplog.specs.Layout.{Layout, half, layout_of, other, part_bytes, root}
+use Rattle.device_map.specs.Layout.{Layout, half, layout_of, other, part_bytes, root}
 use Rattle.oplog.specs.Stands.{in_force, named_area}
 use Rattle.oplog.proofs.AfterCrash.{named_kept}
 use Rattle.oplog.proofs.Kept.{grown_force, named_area-below, same_forced, same_named}

@@ -7,7 +7,7 @@ use Rattle.image.specs.Image.{image_head, image_of}
 use Rattle.image.specs.Pieces.{joined_below, piece_at, piece_count, piece_of, piece_size}
 use Rattle.image.proofs.Joining.{piece_inside, whole_image}
 use Rattle.journal.specs.Stretches.{AreSpelled, stretch_in, stretch_of}
-use Rattle.oplog.specs.Layout.{image_size, slice}
+use Rattle.device_map.specs.Layout.{image_size, slice}
 use Rattle.meaning.specs.State.{State, sum_below}
 
 -- where the next piece begins

@@ -29,7 +29,7 @@ use Rattle.journal.proofs.Logging.{settled_of}
 use Rattle.journal.proofs.Saving.{opened_sound, pointed_version}
 use Rattle.journal.proofs.Standing.{holds_now, shut_current}
 use Rattle.oplog.specs.Front.{chain, front}
-use Rattle.oplog.specs.Layout.{layout_of, device_size, header, image_size, other, part_bytes}
+use Rattle.device_map.specs.Layout.{layout_of, device_size, header, image_size, other, part_bytes}
 use Rattle.oplog.specs.Log.{Log, new_log, renamed}
 use Rattle.oplog.specs.Stands.{in_force, is_laid_out, named_area, run, stands_as}
 use Rattle.parcel.specs.Tree.{IsWholeTree, state_in}

@@ -29,7 +29,7 @@ use Rattle.message.proofs.RecordLemmas.{record_says}
 use Rattle.oplog.specs.Calls.{Grows, HasAdded}
 use Rattle.oplog.specs.Changes.{IsReady}
 use Rattle.oplog.specs.Front.{chain, front}
-use Rattle.oplog.specs.Layout.{layout_of, image, other}
+use Rattle.device_map.specs.Layout.{layout_of, image, other}
 use Rattle.oplog.specs.Log.{Log}
 use Rattle.oplog.specs.Logged.{records_of}
 use Rattle.oplog.specs.Stands.{run}

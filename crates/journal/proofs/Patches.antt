@@ -12,7 +12,7 @@ use Rattle.journal.specs.Stretches.{AgreeUnmarked, Imaged, IsPatchedAt, image_in
 use Rattle.journal.proofs.Places.{stretch_inside, stretch_next, stretch_rises}
 use Rattle.journal.proofs.Runs.{part_begun, part_then}
 use Rattle.oplog.specs.Changes.{ChangesOnly, IsSameBut}
-use Rattle.oplog.specs.Layout.{slice, layout_of, image, image_size, part_at, part_size, device_size}
+use Rattle.device_map.specs.Layout.{slice, layout_of, image, image_size, part_at, part_size, device_size}
 use Rattle.oplog.proofs.Slices.{same_but_both, same_but_none, image_sized, part_inside}
 
 -- ---- rows of bytes

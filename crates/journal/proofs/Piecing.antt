@@ -23,7 +23,7 @@ use Rattle.journal.proofs.Standing.{half_same, holds_moments, holds_now}
 use Rattle.oplog.specs.Changes.{ChangesOnly, IsReady, IsSameBut}
 use Rattle.oplog.specs.Crash.{StandsBy}
 use Rattle.oplog.specs.Stands.{named_area}
-use Rattle.oplog.specs.Layout.{layout_of, half, image, other}
+use Rattle.device_map.specs.Layout.{layout_of, half, image, other}
 use Rattle.oplog.specs.Log.{Log}
 use Rattle.oplog.proofs.AfterCrash.{image_by_area}
 use Rattle.meaning.specs.State.{State}

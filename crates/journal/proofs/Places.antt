@@ -5,7 +5,7 @@ use Rattle.affinity.specs.declared.geometry.Geometry.{Geometry}
 use Rattle.image.specs.Pieces.{part_of, pieces_of_volume, piece_at, piece_count, piece_part_size}
 use Rattle.image.proofs.Joining.{whole_image}
 use Rattle.journal.specs.Stretches.{stretch_at, stretch_size}
-use Rattle.oplog.specs.Layout.{image_size}
+use Rattle.device_map.specs.Layout.{image_size}
 
 -- a stretch ends where the next one begins
 pub stretch_next : (g : Geometry) (n : ℕ) → stretch_at g (suc n) ≡ stretch_at g n + stretch_size g n

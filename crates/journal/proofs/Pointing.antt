@@ -13,7 +13,7 @@ use Rattle.journal.proofs.Standing.{as_other, both_of, half_same, holds_by, hold
 use Rattle.oplog.specs.Changes.{ChangesOnly, Cleared, Flipped, IsReady, IsSameBut, IsSameButGates, IsSameButRoot}
 use Rattle.oplog.specs.Crash.{StandsBy, StandsEitherWay}
 use Rattle.oplog.specs.Front.{chain, front}
-use Rattle.oplog.specs.Layout.{layout_of, device_size, part_bytes, half, image, root, other}
+use Rattle.device_map.specs.Layout.{layout_of, device_size, part_bytes, half, image, root, other}
 use Rattle.oplog.specs.Stands.{in_force, named_area, stands_as}
 use Rattle.oplog.proofs.AfterCrash.{clear_by_area, flip_by_area, image_by_area, torn_root_stands}
 use Rattle.oplog.proofs.Ready.{ready_kept}

@@ -17,7 +17,7 @@ use Rattle.journal.specs.Keeping.{AreClearBefore}
 use Rattle.journal.specs.Marks.{MarksTouched, count_marked}
 use Rattle.journal.specs.Stretches.{stretch_at, stretch_in, stretch_size}
 use Rattle.journal.proofs.Places.{stretch_end, stretch_next}
-use Rattle.oplog.specs.Layout.{image_size}
+use Rattle.device_map.specs.Layout.{image_size}
 
 pub count_next : (t : Bool) (xs : List Bool) (i : ℕ) → i < length xs → get_or xs i false ≡ t → count_marked (take (suc i) xs) ≡ one_if t + count_marked (take i xs)
 count_next t [] i few is = absurd (omega (arith, few))

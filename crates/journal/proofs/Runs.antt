@@ -6,7 +6,7 @@ use Rattle.disk.specs.Device.{Medium, SameOutside, overlaid}
 use Rattle.disk.proofs.Moments.{leaves_now, started, then, weaker}
 use Rattle.journal.specs.Stretches.{image_in}
 use Rattle.oplog.specs.Changes.{ChangesOnly, IsReady, IsSameBut}
-use Rattle.oplog.specs.Layout.{Layout, slice, layout_of, part_bytes, part_at, image, device_size, image_size}
+use Rattle.device_map.specs.Layout.{Layout, slice, layout_of, part_bytes, part_at, image, device_size, image_size}
 use Rattle.oplog.specs.Store.{Touched}
 use Rattle.oplog.proofs.Ready.{ready_beside}
 use Rattle.oplog.proofs.Slices.{same_but, same_but_both, same_but_none, image_sized, part_overlaid}

@@ -18,7 +18,7 @@ use Rattle.journal.specs.Stretches.{AgreeUnmarked, AreAllMarked, AreSpelled, ima
 use Rattle.journal.proofs.Cutting.{named_below}
 use Rattle.journal.proofs.Forced.{forced_calm}
 use Rattle.journal.proofs.Standing.{holds_now, run_none}
-use Rattle.oplog.specs.Layout.{other}
+use Rattle.device_map.specs.Layout.{other}
 use Rattle.oplog.specs.Log.{Log}
 use Rattle.meaning.specs.State.{State, IsState}
 

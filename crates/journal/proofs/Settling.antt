@@ -19,7 +19,7 @@ use Rattle.journal.specs.Opening.{area_state, IsRefusedBehind, IsRefusedUnwritte
 use Rattle.journal.specs.Parts.{IsBad, IsRefusedAlike}
 use Rattle.journal.specs.Steps.{IsAlone, IsFinished, IsStanding, StandsStill, finished_now}
 use Rattle.journal.specs.Stretches.{image_in}
-use Rattle.oplog.specs.Layout.{device_size, layout_of, other}
+use Rattle.device_map.specs.Layout.{device_size, layout_of, other}
 use Rattle.oplog.specs.Log.{Log}
 use Rattle.oplog.specs.Stands.{named_area}
 use Rattle.meaning.specs.State.{State}

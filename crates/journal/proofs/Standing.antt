@@ -12,7 +12,7 @@ use Rattle.journal.specs.Steps.{IsStanding, run_on}
 use Rattle.oplog.specs.Changes.{IsReady}
 use Rattle.oplog.specs.Crash.{StandsBy}
 use Rattle.oplog.specs.Front.{chain, front, front_in, rows}
-use Rattle.oplog.specs.Layout.{Layout, layout_of, part_bytes, device_size, header, half, image, other}
+use Rattle.device_map.specs.Layout.{Layout, layout_of, part_bytes, device_size, header, half, image, other}
 use Rattle.oplog.specs.Stands.{current_of, in_force, is_laid_out, run, stands_as}
 use Rattle.meaning.specs.State.{State}
 

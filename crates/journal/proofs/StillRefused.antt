@@ -15,7 +15,7 @@ use Rattle.journal.specs.Parts.{IsRefusedAlike}
 use Rattle.journal.specs.Stretches.{Imaged}
 use Rattle.oplog.specs.Changes.{ChangesOnly, IsSameBut, IsSameButRoot}
 use Rattle.oplog.specs.Front.{chain, chain_in, front, front_in}
-use Rattle.oplog.specs.Layout.{device_size, half, header, image, layout_of, other, part_bytes, root}
+use Rattle.device_map.specs.Layout.{device_size, half, header, image, layout_of, other, part_bytes, root}
 use Rattle.oplog.specs.Stands.{named_area, run}
 use Rattle.oplog.proofs.Kept.{named_area-below}
 use Rattle.meaning.specs.State.{State}

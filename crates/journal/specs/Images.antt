@@ -4,7 +4,7 @@ use Rattle.affinity.specs.declared.geometry.Geometry.{Geometry}
 use Rattle.image.specs.Pieces.{piece_count}
 use Rattle.journal.specs.Stretches.{stretch_in}
 use Rattle.oplog.specs.Changes.{IsSameBut}
-use Rattle.oplog.specs.Layout.{image, layout_of, other, part_bytes}
+use Rattle.device_map.specs.Layout.{image, layout_of, other, part_bytes}
 use Rattle.oplog.specs.Stands.{named_area}
 
 -- Both images are as they were.

@@ -6,7 +6,7 @@ use Rattle.disk.specs.Device.{Medium, Leaves}
 use Rattle.journal.specs.Marks.{Marks}
 use Rattle.messages.specs.declared.Msg.{Msg}
 use Rattle.messages.specs.Messages.{IsMessage}
-use Rattle.oplog.specs.Layout.{layout_of}
+use Rattle.device_map.specs.Layout.{layout_of}
 use Rattle.oplog.specs.Logged.{IsLogged}
 use Rattle.oplog.specs.Stands.{in_force, named_area}
 use Rattle.meaning.specs.Serial.{fold, is_loggable, next_state, reply_to}

@@ -10,7 +10,7 @@ use Rattle.journal.specs.Steps.{IsStanding, run_on}
 use Rattle.journal.specs.Stretches.{AgreeUnmarked, AreSpelled, image_in}
 use Rattle.oplog.specs.Calls.{IsReadyFor}
 use Rattle.oplog.specs.Front.{front}
-use Rattle.oplog.specs.Layout.{layout_of, other}
+use Rattle.device_map.specs.Layout.{layout_of, other}
 use Rattle.oplog.specs.Log.{Log}
 use Rattle.meaning.specs.State.{State, IsState}
 

@@ -13,7 +13,7 @@ use Rattle.journal.specs.Journal.{JournalView, IsSettled, records, settled}
 use Rattle.journal.specs.Marks.{opened_marks}
 use Rattle.image.specs.Image.{read}
 use Rattle.oplog.specs.Front.{front}
-use Rattle.oplog.specs.Layout.{image, layout_of, part_bytes}
+use Rattle.device_map.specs.Layout.{image, layout_of, part_bytes}
 use Rattle.oplog.specs.Stands.{named_area, run}
 use Rattle.meaning.specs.State.{State, IsState}
 

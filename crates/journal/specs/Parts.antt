@@ -15,7 +15,7 @@ use Rattle.journal.specs.Marks.{Marks, opened_marks}
 use Rattle.journal.specs.Opening.{IsRefusedBehind}
 use Rattle.journal.specs.Stretches.{AreAllMarked}
 use Rattle.oplog.specs.Calls.{HasParts}
-use Rattle.oplog.specs.Layout.{image_size, layout_of}
+use Rattle.device_map.specs.Layout.{image_size, layout_of}
 use Rattle.oplog.specs.Log.{new_log}
 use Rattle.oplog.specs.Stands.{in_force, named_area}
 use Rattle.parcel.specs.Tree.{IsWholeTree, state_in}

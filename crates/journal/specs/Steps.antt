@@ -11,7 +11,7 @@ use Rattle.journal.specs.Stretches.{image_in}
 use Rattle.oplog.specs.Changes.{IsReady}
 use Rattle.oplog.specs.Crash.{StandsByNow}
 use Rattle.oplog.specs.Front.{chain, front}
-use Rattle.oplog.specs.Layout.{layout_of, other}
+use Rattle.device_map.specs.Layout.{layout_of, other}
 use Rattle.oplog.specs.Log.{Log}
 use Rattle.oplog.specs.Stands.{is_laid_out, named_area, run}
 use Rattle.meaning.specs.State.{State}

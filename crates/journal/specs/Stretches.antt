@@ -5,7 +5,7 @@ use Rattle.disk.specs.Device.{Medium, IsSynced}
 use Rattle.image.specs.Image.{image_head}
 use Rattle.image.specs.Pieces.{piece_at, piece_count, piece_of, piece_size}
 use Rattle.oplog.specs.Changes.{IsSameBut}
-use Rattle.oplog.specs.Layout.{slice, layout_of, part_bytes, image}
+use Rattle.device_map.specs.Layout.{slice, layout_of, part_bytes, image}
 use Rattle.meaning.specs.State.{State}
 
 -- where a stretch begins in its image, and how many bytes it has

@@ -3,11 +3,11 @@ ghost use Rattle.std.specs.Prelude.{◌≡◌, ◌≤◌, drop, length, take};
 ghost use Rattle.image.specs.Image.{image_head, image_of};
 ghost use Rattle.image.specs.Pieces.{piece_count};
 ghost use Rattle.journal.specs.Stretches.{AreSpelled};
-ghost use Rattle.oplog.specs.Layout.{image_size};
+ghost use Rattle.device_map.specs.Layout.{image_size};
 ghost use Rattle.parcel.specs.Tree.{IsWholeTree, state_in};
 
+use device_map::IMAGE_HEAD_SIZE;
 use image::layout::{VERSION, head_of, piece_size};
-use oplog::layout::IMAGE_HEAD_SIZE;
 use parcel::{Tree, write_piece};
 
 /// Writes the head of an image.

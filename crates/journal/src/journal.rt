@@ -10,7 +10,7 @@ ghost use Rattle.journal.specs.Journal.{JournalView, AreCarriedOut, HoldsSome, I
 ghost use Rattle.journal.specs.Marks.{AreBothTouched, count_marked, cut_marks, flipped_marks, pointed_marks};
 ghost use Rattle.oplog.specs.Beyond.{KeepsBeyond};
 ghost use Rattle.oplog.specs.Costs.{Takes, batches};
-ghost use Rattle.oplog.specs.Layout.{layout_of};
+ghost use Rattle.device_map.specs.Layout.{layout_of};
 ghost use Rattle.oplog.specs.Log.{CountsLogFault, IsNotBad};
 ghost use Rattle.oplog.specs.Logged.{AreLogged, records_of};
 ghost use Rattle.parcel.specs.Tree.{IsWholeTree, state_in};
@@ -64,7 +64,7 @@ impl<D: Disk> Model for Journal<D> {
     ghost use Rattle.journal.specs.Journal.{JournalView};
     ghost use Rattle.journal.specs.Keeping.{AreClearBefore, IsCutState, IsSoundJournal, held_of};
     ghost use Rattle.oplog.specs.Calls.{HasParts};
-    ghost use Rattle.oplog.specs.Layout.{image_size};
+    ghost use Rattle.device_map.specs.Layout.{image_size};
 
     ghost Value = { JournalView };
 
@@ -85,7 +85,7 @@ impl<D: Disk> Model for Journal<D> {
 impl<D: Disk> Journal<D> {
     ghost use Rattle.journal.specs.Keeping.{IsSoundJournal, held_of};
     ghost use Rattle.oplog.specs.Calls.{HasParts};
-    ghost use Rattle.oplog.specs.Layout.{image_size};
+    ghost use Rattle.device_map.specs.Layout.{image_size};
 
     /// A journal with no cut in progress. `frozen` has an image's size, and each row of marks one mark a piece.
     pub(crate) fn new(

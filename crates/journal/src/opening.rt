@@ -15,7 +15,7 @@ ghost use Rattle.journal.specs.Parts.{AreLoaded, AreUnloaded, IsBad, IsMade, IsM
 ghost use Rattle.journal.specs.Steps.{IsAlone, IsFinished, IsPointed, StandsStill, finished_now, pointed};
 ghost use Rattle.oplog.specs.Beyond.{KeepsBeyond};
 ghost use Rattle.oplog.specs.Costs.{Takes};
-ghost use Rattle.oplog.specs.Layout.{Layout, device_size, layout_of, other};
+ghost use Rattle.device_map.specs.Layout.{Layout, device_size, layout_of, other};
 ghost use Rattle.oplog.specs.Log.{IsLogCall, IsNotBad};
 ghost use Rattle.parcel.specs.Tree.{IsWholeTree, state_in};
 
@@ -25,9 +25,9 @@ use crate::steps::{finish_on, point_on};
 use affinity::Geometry;
 use checkpoint::loading::{load_named, read_header, replay, take_room};
 use checkpoint::{OpenError, OpenFault};
+use device_map::image_size;
 use disk::Disk;
 use image::layout::piece_count;
-use oplog::layout::image_size;
 use oplog::{Halves, LogFault};
 use parcel::Tree;
 use std::alloc::Global;

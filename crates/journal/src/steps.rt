@@ -12,7 +12,7 @@ ghost use Rattle.journal.specs.Stretches.{AgreeUnmarked, AreAllMarked, image_in}
 ghost use Rattle.oplog.specs.Beyond.{KeepsBeyond};
 ghost use Rattle.oplog.specs.Calls.{HasParts};
 ghost use Rattle.oplog.specs.Costs.{Takes};
-ghost use Rattle.oplog.specs.Layout.{image_size, layout_of, other};
+ghost use Rattle.device_map.specs.Layout.{image_size, layout_of, other};
 ghost use Rattle.oplog.specs.Log.{IsLogCall, IsNotBad};
 ghost use Rattle.meaning.specs.State.{State};
 

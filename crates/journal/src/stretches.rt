@@ -6,12 +6,12 @@ ghost use Rattle.journal.specs.Costs.{count_runs};
 ghost use Rattle.journal.specs.Stretches.{AgreeUnmarked, Imaged, IsPatchedAt, image_in, stretch_size};
 ghost use Rattle.oplog.specs.Changes.{ChangesOnly, IsReady, IsSameBut};
 ghost use Rattle.oplog.specs.Costs.{Takes};
-ghost use Rattle.oplog.specs.Layout.{slice, layout_of, device_size, image, image_size};
+ghost use Rattle.device_map.specs.Layout.{slice, layout_of, device_size, image, image_size};
 
 use affinity::Geometry;
+use device_map::{IMAGE_HEAD_SIZE, image_at};
 use disk::{Disk, DiskFault};
 use image::layout::piece_size;
-use oplog::layout::{IMAGE_HEAD_SIZE, image_at};
 use oplog::store::write;
 
 /// How many bytes stretch `n` of an image has.

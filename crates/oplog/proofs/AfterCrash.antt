@@ -4,7 +4,7 @@ use Rattle.std.proofs.lemmas.Bool.{ne_eqb}
 use Rattle.disk.specs.Device.{Medium, IsSynced}
 use Rattle.disk.proofs.Leaves.{calm_left}
 use Rattle.disk.proofs.Moments.{weaker}
-use Rattle.oplog.specs.Layout.{Layout, part_bytes, root, half, image, other}
+use Rattle.device_map.specs.Layout.{Layout, part_bytes, root, half, image, other}
 use Rattle.oplog.specs.Front.{chain, front}
 use Rattle.oplog.specs.Stands.{Meaning, named_area, current_of, run, stands_as}
 use Rattle.oplog.specs.Changes.{IsSameBut, IsSameButChain, HasMore}

@@ -5,7 +5,7 @@ use Rattle.std.specs.List.{concat}
 use Rattle.disk.specs.Device.{AreBytes, Medium, SameOutside, overlaid}
 use Rattle.disk.proofs.Leaves.{itself, calm_left, calm_range, range_kept}
 use Rattle.disk.proofs.Overlays.{overlaid_outside, range-overlaid, length-overlaid}
-use Rattle.oplog.specs.Layout.{Layout, slice, part_bytes, part_at, part_size, half, half_size, device_size}
+use Rattle.device_map.specs.Layout.{Layout, slice, part_bytes, part_at, part_size, half, half_size, device_size}
 use Rattle.oplog.specs.Front.{gates_in, open_gates}
 use Rattle.oplog.specs.Changes.{IsSameBut, HasMore, After, Grew, IsReady, HasAll}
 use Rattle.oplog.specs.Store.{Stored}

@@ -4,7 +4,7 @@ use Rattle.std.specs.List.{concat}
 use Rattle.disk.specs.Device.{AreBytes, Medium, SameOutside}
 use Rattle.disk.specs.Moments.{LeavesOnly}
 use Rattle.disk.proofs.Moments.{weaker, then}
-use Rattle.oplog.specs.Layout.{Layout, part_at, half, device_size}
+use Rattle.device_map.specs.Layout.{Layout, part_at, half, device_size}
 use Rattle.oplog.specs.Changes.{After, Grew, IsReady, HasAll}
 use Rattle.oplog.specs.Store.{Stored}
 use Rattle.oplog.proofs.RecordRows.{AreRows}

@@ -6,7 +6,7 @@ use Rattle.disk.specs.Moments.{LeavesOnly}
 use Rattle.disk.proofs.Moments.{started, weaker, then}
 use Rattle.messages.specs.declared.Msg.{Msg}
 use Rattle.message.specs.Records.{record_of}
-use Rattle.oplog.specs.Layout.{Layout, half}
+use Rattle.device_map.specs.Layout.{Layout, half}
 use Rattle.oplog.specs.Front.{front}
 use Rattle.oplog.specs.Changes.{HasMore, Grew, IsReady, HasAll}
 use Rattle.oplog.specs.Logged.{records_of}

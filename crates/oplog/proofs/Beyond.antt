@@ -7,7 +7,7 @@ use Rattle.disk.proofs.Calls.{after_sync}
 use Rattle.disk.proofs.Moments.{leaves_now, same, started, then, weaker}
 use Rattle.oplog.specs.Beyond.{IsSameBeyond, KeepsBeyond}
 use Rattle.oplog.specs.Changes.{ChangesOnly}
-use Rattle.oplog.specs.Layout.{Layout, device_size}
+use Rattle.device_map.specs.Layout.{Layout, device_size}
 
 module _ (g : Layout) where
   pub beyond : (w0 w1 : Medium) (Change : List ℕ → List ℕ → Type 0) → ((o c : List ℕ) → Change o c → IsSameBeyond g o c) → ChangesOnly w0 w1 Change

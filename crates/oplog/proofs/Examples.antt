@@ -3,27 +3,10 @@
 use Rattle.std.proofs.Common.{◌≡◌, ℕ, zero, suc, ◌+◌, true, List, [], ◌∷◌, ◌++◌, length, take, get_or, replicate, Option, Some, None, refl, ap, subst, arith, length-append}
 use Rattle.disk.specs.Device.{Medium, begun}
 use Rattle.disk.proofs.Leaves.{calm_left}
-use Rattle.affinity.specs.Geometry.{small}
-use Rattle.oplog.specs.Layout.{Layout, image_size, layout_of, part_at, device_size, half, image}
+use Rattle.device_map.specs.Layout.{Layout}
 use Rattle.oplog.specs.Front.{open_gates, front}
 use Rattle.oplog.specs.Changes.{Grew}
 use Rattle.oplog.specs.Stands.{Meaning, named_area, in_force, current, stands}
-
--- ---- the layout
-image_of_small : image_size small ≡ 2208
-unfolding image_size
-image_of_small = refl
-
-size_of_small : device_size (layout_of small) ≡ 8840
-unfolding image_size
-size_of_small = refl
-
-halves_of_small : (part_at (layout_of small) (half 0) ≡ 128) × (part_at (layout_of small) (half 1) ≡ 2276)
-halves_of_small = (refl, refl)
-
-images_of_small : (part_at (layout_of small) (image 0) ≡ 4424) × (part_at (layout_of small) (image 1) ≡ 6632)
-unfolding image_size
-images_of_small = (refl, refl)
 
 -- ---- the front ends at the first gate that isn't 1
 second_is_not_open : open_gates (1 ∷ 77 ∷ 1 ∷ 0 ∷ []) ≡ 1

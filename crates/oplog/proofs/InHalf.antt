@@ -4,7 +4,7 @@ use Rattle.std.specs.List.{concat}
 use Rattle.std.proofs.lemmas.List.{append-nil, drop-drop, take-append-drop, take_all}
 use Rattle.disk.specs.Device.{SameOutside}
 use Rattle.disk.proofs.Outside.{same_take, same_drop, same_before}
-use Rattle.oplog.specs.Layout.{slice}
+use Rattle.device_map.specs.Layout.{slice}
 use Rattle.oplog.specs.Front.{open_gates, rows, gates_in, front_in}
 use Rattle.oplog.proofs.Slices.{within, slice_slice}
 use Rattle.oplog.proofs.Gates.{torn_gates, full_gates, still_shut}

@@ -2,7 +2,7 @@
 use Rattle.std.proofs.Common.{◌≡◌, ◌≢◌, ◌<◌, ℕ, zero, suc, Bool, true, false, not, ◌&&◌, cond, eqb, nat_le, ◌+◌, List, [], ◌∷◌, ◌++◌, length, take, drop, get_or, Option, Some, None, ⊎_elim, refl, sym, ◌∙◌, ap, subst, arith}
 use Rattle.std.proofs.lemmas.Bool.{cases_eq}
 use Rattle.std.proofs.lemmas.List.{append_assoc, append-nil, drop-drop, get_or-take}
-use Rattle.oplog.specs.Layout.{Layout, part_bytes, device_size, header, root, half, image, other}
+use Rattle.device_map.specs.Layout.{Layout, part_bytes, device_size, header, root, half, image, other}
 use Rattle.oplog.specs.Front.{chain, front, front_in, open_gates, rows}
 use Rattle.oplog.specs.Stands.{Meaning, named_area, current_of, in_force, run, is_laid_out, stands_as}
 use Rattle.oplog.specs.Changes.{IsSameBut, IsSameButChain, HasMore}

@@ -7,7 +7,7 @@ use Rattle.disk.proofs.Leaves.{calm_range}
 use Rattle.disk.proofs.Moments.{weaker}
 use Rattle.disk.proofs.Outside.{same_drop}
 use Rattle.disk.proofs.Overlays.{overlaid_outside, range-overlaid, length-overlaid, item-overlaid}
-use Rattle.oplog.specs.Layout.{Layout, slice, part_bytes, part_at, part_size, half, root, device_size}
+use Rattle.device_map.specs.Layout.{Layout, slice, part_bytes, part_at, part_size, half, root, device_size}
 use Rattle.oplog.specs.Front.{open_gates, gates}
 use Rattle.oplog.specs.Changes.{IsSameButGates, IsSameButChain, IsSameButRoot, After, Cleared, Chained, Flipped}
 use Rattle.oplog.specs.Store.{Stored}

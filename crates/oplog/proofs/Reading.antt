@@ -1,6 +1,6 @@
 -- What a read of a part, of gates or of a record gives.
 use Rattle.std.proofs.Common.{◌≡◌, ℕ, ◌+◌, ◌-◌, ◌*◌, ◌<◌, ◌≤◌, List, [], length, take, drop, get_or, slice_range, sym, ◌∙◌, ap, arith}
-use Rattle.oplog.specs.Layout.{Layout, slice, part_bytes, part_at, part_size, half, half_size}
+use Rattle.device_map.specs.Layout.{Layout, slice, part_bytes, part_at, part_size, half, half_size}
 use Rattle.oplog.specs.Front.{gates, front, open_gates, record_at}
 use Rattle.oplog.proofs.Slices.{slice_slice, half_sized}
 use Rattle.std.proofs.lemmas.List.{drop-drop}

@@ -3,7 +3,7 @@ use Rattle.std.proofs.Common.{◌≡◌, ◌≢◌, ◌<◌, ◌≤◌, ◌+◌,
 use Rattle.std.proofs.lemmas.Bool.{eq-eqb}
 use Rattle.disk.specs.Device.{Medium, IsSynced}
 use Rattle.disk.proofs.Leaves.{calm_range}
-use Rattle.oplog.specs.Layout.{Layout, layout_of, part_at, part_size, half, root, other, device_size}
+use Rattle.device_map.specs.Layout.{Layout, layout_of, part_at, part_size, half, root, other, device_size}
 use Rattle.oplog.specs.Front.{open_gates, gates_in}
 use Rattle.oplog.specs.Changes.{IsSameBut, IsReady, Cleared, Chained, Flipped}
 use Rattle.oplog.specs.Log.{Log, chained, flipped}

@@ -5,7 +5,7 @@ use Rattle.std.proofs.lemmas.List.{take-take, take-append-drop, drop-drop, drop-
 use Rattle.disk.specs.Device.{SameOutside, overlaid}
 use Rattle.disk.proofs.Outside.{same_before, same_behind, same_drop}
 use Rattle.disk.proofs.Overlays.{overlaid_outside, overlaid_parts, range-overlaid}
-use Rattle.oplog.specs.Layout.{Layout, slice, sizes, half_size, offset, part_bytes, part_at, part_size, device_size, half, image}
+use Rattle.device_map.specs.Layout.{Layout, slice, sizes, half_size, offset, part_bytes, part_at, part_size, device_size, half, image}
 use Rattle.oplog.specs.Changes.{IsSameBut}
 
 -- ---- a part of a part

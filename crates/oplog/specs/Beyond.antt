@@ -2,7 +2,7 @@
 use Rattle.std.specs.Prelude.{◌≡◌, List, ℕ, drop}
 use Rattle.disk.specs.Device.{Medium}
 use Rattle.oplog.specs.Changes.{ChangesOnly}
-use Rattle.oplog.specs.Layout.{Layout, device_size}
+use Rattle.device_map.specs.Layout.{Layout, device_size}
 
 abbrev pub IsSameBeyond : Layout → List ℕ → List ℕ → Type 0
 IsSameBeyond g old c = drop (device_size g) c ≡ drop (device_size g) old

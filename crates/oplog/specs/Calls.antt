@@ -5,7 +5,7 @@ use Rattle.disk.specs.Moments.{LeavesOnly}
 use Rattle.messages.specs.declared.Msg.{Msg}
 use Rattle.oplog.specs.declared.fault.LogFault.{LogFault}
 use Rattle.oplog.specs.declared.half.Half.{Half}
-use Rattle.oplog.specs.Layout.{layout_of, device_size, other}
+use Rattle.device_map.specs.Layout.{layout_of, device_size, other}
 use Rattle.oplog.specs.Front.{front, record_at}
 use Rattle.oplog.specs.Changes.{ChangesOnly, Grew, HasAll, IsReady, IsSameButGates, IsSameButChain, IsSameButRoot, Cleared, Chained, Flipped}
 use Rattle.oplog.specs.Logged.{records_of}

@@ -2,7 +2,7 @@
 use Rattle.std.specs.Prelude.{◌≡◌, ◌≢◌, ◌≤◌, ℕ, ◌+◌, false, List, ◌++◌, length, take, drop, replicate}
 use Rattle.disk.specs.Device.{Medium, Leaves, IsSynced}
 use Rattle.disk.specs.Moments.{LeavesOnly}
-use Rattle.oplog.specs.Layout.{Layout, slice, root, half, part_bytes, part_at, part_size, device_size, chain_area}
+use Rattle.device_map.specs.Layout.{Layout, slice, root, half, part_bytes, part_at, part_size, device_size, chain_area}
 use Rattle.oplog.specs.Stands.{named_area}
 use Rattle.oplog.specs.Front.{chain, gates, front, open_gates, IsShutBehind}
 

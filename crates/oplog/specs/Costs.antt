@@ -2,7 +2,7 @@
 use Rattle.std.specs.Prelude.{◌≡◌, ◌≤◌, ℕ, ◌+◌, ◌-◌, ◌/◌, Result, Ok, Err}
 use Rattle.disk.specs.Device.{Medium}
 use Rattle.disk.specs.Moments.{moment}
-use Rattle.oplog.specs.Layout.{largest_batch}
+use Rattle.device_map.specs.Layout.{largest_batch}
 
 -- into how many batches so many records go
 abbrev pub batches : ℕ → ℕ

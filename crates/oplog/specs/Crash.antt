@@ -4,7 +4,7 @@
 use Rattle.std.specs.Prelude.{◌≡◌, ◌≢◌, ◌<◌, ◌≤◌, ℕ, List, [], length, take, Option}
 use Rattle.disk.specs.Device.{Medium, Leaves}
 use Rattle.disk.specs.Moments.{LeavesOnly}
-use Rattle.oplog.specs.Layout.{Layout, image, other}
+use Rattle.device_map.specs.Layout.{Layout, image, other}
 use Rattle.oplog.specs.Front.{chain, front}
 use Rattle.oplog.specs.Stands.{Meaning, named_area, current_of, stands_as, run}
 use Rattle.oplog.specs.Changes.{After, Grew, HasAll, IsSameBut, IsSameButGates, IsSameButChain, IsSameButRoot, Chained, Flipped}

@@ -1,4 +1,3 @@
-pub mod Layout
 pub mod Front
 pub mod Stands
 pub mod Changes

@@ -6,7 +6,7 @@ use Rattle.messages.specs.declared.Msg.{Msg}
 use Rattle.message.specs.Records.{record_of}
 use Rattle.oplog.specs.declared.fault.LogFault.{LogFault}
 use Rattle.oplog.specs.declared.fault.LogFault.TheVariants.{Device, BadRecord}
-use Rattle.oplog.specs.Layout.{Layout, layout_of, other}
+use Rattle.device_map.specs.Layout.{Layout, layout_of, other}
 use Rattle.oplog.specs.Logged.{IsNoRecord}
 
 pub record Log : Type 0 where

@@ -7,7 +7,7 @@ use Rattle.disk.specs.Device.{AreBytes}
 use Rattle.messages.specs.declared.Msg.{Msg}
 use Rattle.messages.specs.Messages.{IsMessage, kind, is_in_range}
 use Rattle.message.specs.Records.{message_in_fields, record_of}
-use Rattle.oplog.specs.Layout.{Layout, device_size, record_size}
+use Rattle.device_map.specs.Layout.{Layout, device_size, record_size}
 use Rattle.oplog.specs.Front.{record_at}
 
 -- Its kind is changing, and its numbers are in range.

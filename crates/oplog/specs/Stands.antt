@@ -1,6 +1,6 @@
 -- What a device stands for: the state of an image with the records in force run on it.
 use Rattle.std.specs.Prelude.{ℕ, Bool, not, ◌&&◌, ◌==◌, nat_le, if◌then◌else◌, List, [], ◌∷◌, ◌++◌, length, get_or, Option, Some, None}
-use Rattle.oplog.specs.Layout.{Layout, part_bytes, device_size, header, root, image, other}
+use Rattle.device_map.specs.Layout.{Layout, part_bytes, device_size, header, root, image, other}
 use Rattle.oplog.specs.Front.{chain, front}
 
 -- the area that the root zone names: image and half of that number

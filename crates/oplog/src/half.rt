@@ -4,7 +4,7 @@ ghost use Rattle.disk.specs.Device.{IsDeviceCall, SameOutside, moments};
 ghost use Rattle.oplog.specs.Changes.{ChangesOnly};
 ghost use Rattle.oplog.specs.Costs.{Takes, batches};
 ghost use Rattle.oplog.specs.Front.{front, open_gates};
-ghost use Rattle.oplog.specs.Layout.{layout_of, part_at, half};
+ghost use Rattle.device_map.specs.Layout.{layout_of, part_at, half};
 ghost use Rattle.oplog.specs.Logged.{AreLogged};
 ghost use Rattle.oplog.specs.Store.{Stored};
 

@@ -34,7 +34,7 @@ pub struct Halves {
 
 impl Model for Halves {
     ghost use Rattle.std.specs.Prelude.{◌≡◌, ◌*◌, ◌<◌, ◌≤◌, min, vec_len};
-    ghost use Rattle.oplog.specs.Layout.{largest_batch, record_size};
+    ghost use Rattle.device_map.specs.Layout.{largest_batch, record_size};
     ghost use Rattle.oplog.specs.Log.{Log};
 
     ghost Value = { Log };

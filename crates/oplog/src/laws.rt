@@ -9,7 +9,7 @@
 ghost use Rattle.std.specs.Prelude.{◌≡◌, ◌<◌, ℕ, [], List, get_or, length};
 ghost use Rattle.oplog.specs.Crash.{AllByArea, AppendStands, ChainByArea, ChainedByArea, ClearByArea, FlipByArea, ImageByArea, TornRootStands};
 ghost use Rattle.oplog.specs.Front.{front, record_at};
-ghost use Rattle.oplog.specs.Layout.{Layout};
+ghost use Rattle.device_map.specs.Layout.{Layout};
 ghost use Rattle.oplog.specs.Logged.{NoRecordSaysNone, RecordsAreBytes};
 ghost use Rattle.oplog.specs.Stands.{Meaning};
 

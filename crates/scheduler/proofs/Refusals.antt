@@ -12,7 +12,7 @@ use Rattle.checkpoint.specs.Refusals.{HasNoGeometry, IsRefused, IsRefusedWith, I
 use Rattle.checkpoint.specs.declared.fault.OpenFault.{OpenFault}
 use Rattle.checkpoint.specs.declared.fault.OpenFault.TheVariants.{Device, TooShort, NotFormatted, BadGeometry, OutOfMemory, BadVersion, BadPiece, BadChain, BadRecord}
 use Rattle.disk.specs.Device.{AreBytes}
-use Rattle.oplog.specs.Layout.{device_size, layout_of}
+use Rattle.device_map.specs.Layout.{device_size, layout_of}
 use Rattle.meaning.specs.State.{State}
 use Rattle.scheduler.specs.Opening.{IsOfBytes}
 

@@ -16,7 +16,7 @@ ghost use Rattle.legal_runs.specs.World.{Entry};
 ghost use Rattle.legal_runs.specs.declared.outcomes.Step.TheVariants as steps;
 ghost use Rattle.oplog.specs.Beyond.{KeepsBeyond};
 ghost use Rattle.oplog.specs.Costs.{Takes, batches};
-ghost use Rattle.oplog.specs.Layout.{layout_of};
+ghost use Rattle.device_map.specs.Layout.{layout_of};
 ghost use Rattle.oplog.specs.Stands.{in_force, named_area};
 ghost use Rattle.meaning.specs.State.{State};
 ghost use Rattle.scheduler.specs.Calls.{CountsFailure, IsGranted, IsLogStep, IsPieceStep, IsPointStep, answer_outcome, arrive_outcome, log_rose, point_rose};

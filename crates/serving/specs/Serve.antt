@@ -3,7 +3,7 @@ use Rattle.std.specs.Prelude.{◌≡◌, ◌≢◌, ℕ, false, List, [], Option
 use Rattle.runs.specs.Machine.{MachineView}
 use Rattle.runs.specs.Stages.{Stage}
 use Rattle.messages.specs.Lines.{lines}
-use Rattle.oplog.specs.Layout.{layout_of}
+use Rattle.device_map.specs.Layout.{layout_of}
 use Rattle.oplog.specs.Stands.{in_force, named_area}
 use Rattle.scheduler.specs.Kept.{CoreView}
 use Rattle.serving.specs.Ends.{EndsSo, HasRunLines, HasServed}

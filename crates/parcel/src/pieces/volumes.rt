@@ -8,8 +8,8 @@ use crate::parts::files_of;
 use crate::{Label, Vol};
 use affinity::Geometry;
 use byteorder::{ByteOrder, LittleEndian};
+use device_map::VOLUME_PIECE_SIZE;
 use image::layout::VERSION;
-use oplog::layout::VOLUME_PIECE_SIZE;
 
 /// Where the files and the label stand in a volume's piece, and the zeros after them.
 const FILES_AT: usize = 8;

@@ -1,6 +1,6 @@
 use Rattle.std.proofs.Common.{inl}
 use Rattle.disk.proofs.Moments.{started}
-use Rattle.oplog.specs.Layout.{layout_of}
+use Rattle.device_map.specs.Layout.{layout_of}
 use Rattle.oplog.proofs.Beyond.{beyond_none}
 use Rattle.checkpoint.proofs.formatting.format.Goals as goal
 

@@ -4,7 +4,7 @@ use Rattle.checkpoint.specs.Recovery.{holds}
 use Rattle.disk.specs.Moments.{LeavesOnly}
 use Rattle.meaning.specs.State.{empty}
 use Rattle.checkpoint.proofs.Opened.{shut_moments, laid_moments, opened_moments}
-use Rattle.oplog.specs.Layout.{layout_of}
+use Rattle.device_map.specs.Layout.{layout_of}
 use Rattle.oplog.proofs.Beyond.{beyond_then, beyond_write}
 use Rattle.checkpoint.proofs.formatting.format_on.Goals as goal
 

@@ -1,6 +1,6 @@
 use Rattle.std.proofs.Common.{length, take, drop, ap, arith, List, ℕ}
 use Rattle.checkpoint.proofs.Opened.{numbers_moments, gate_moments, stands, version}
-use Rattle.oplog.specs.Layout.{layout_of}
+use Rattle.device_map.specs.Layout.{layout_of}
 use Rattle.oplog.proofs.Beyond.{beyond_then, beyond_write}
 use Rattle.checkpoint.proofs.formatting.open_gate.Goals as goal
 

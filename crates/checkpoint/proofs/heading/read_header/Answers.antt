@@ -5,7 +5,7 @@ use Rattle.std.proofs.lemmas.Slice.Eq.{bytes_eq-Decides}
 use Rattle.std.specs.Prelude.{nat_lt}
 use Rattle.checkpoint.specs.Header.{marks_of_format}
 use Rattle.checkpoint.specs.declared.fault.OpenFault.TheVariants.{TooShort}
-use Rattle.oplog.specs.Layout.{device_size, layout_of}
+use Rattle.device_map.specs.Layout.{device_size, layout_of}
 use Rattle.checkpoint.proofs.heading.read_header.Goals as goal
 
 pub returns-then-ne-clause-refused : goal.returns-then-ne-clause-refused

@@ -2,7 +2,7 @@ use Rattle.std.proofs.Common.{◌≡◌, ℕ, ◌+◌, ◌<◌, ◌≤◌, lengt
 use Rattle.std.proofs.lemmas.Result.{err_from_is_err_and}
 use Rattle.affinity.specs.declared.geometry.Geometry.{Geometry}
 use Rattle.image.specs.Pieces.{piece_count}
-use Rattle.oplog.specs.Layout.{image, layout_of, part_bytes, part_at}
+use Rattle.device_map.specs.Layout.{image, layout_of, part_bytes, part_at}
 use Rattle.parcel.specs.Tree.{state_in}
 use Rattle.checkpoint.proofs.Replays.{same_bytes}
 use Rattle.checkpoint.proofs.Walked.{all_read, bad_turn, free_at_first, free_turn, good_turn, next_place, no_bad_piece, read_there, room_left, said_turn}

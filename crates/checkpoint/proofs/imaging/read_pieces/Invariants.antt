@@ -3,7 +3,7 @@ use Rattle.checkpoint.proofs.Walked.{AreFree}
 use Rattle.disk.specs.Device.{moments}
 use Rattle.image.specs.Image.{AreGood, said_before, version_in}
 use Rattle.image.specs.Pieces.{piece_at}
-use Rattle.oplog.specs.Layout.{image, layout_of, part_bytes, part_at}
+use Rattle.device_map.specs.Layout.{image, layout_of, part_bytes, part_at}
 use Rattle.parcel.specs.Tree.{IsWholeTree, state_in}
 use Rattle.checkpoint.proofs.imaging.read_pieces.Given as goal
 

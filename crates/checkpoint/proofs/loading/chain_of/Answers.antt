@@ -2,7 +2,7 @@ use Rattle.std.proofs.Common.{ℕ, ◌==◌, Bool, List, None, sym, ◌∙◌, a
 use Rattle.checkpoint.specs.declared.fault.OpenFault.TheVariants.{BadChain}
 use Rattle.checkpoint.specs.Refusals.{fault_if}
 use Rattle.oplog.specs.Front.{chain}
-use Rattle.oplog.specs.Layout.{layout_of, other}
+use Rattle.device_map.specs.Layout.{layout_of, other}
 use Rattle.checkpoint.proofs.Refusing.{both_are, one_not}
 use Rattle.checkpoint.proofs.Replays.{same_bytes}
 use Rattle.checkpoint.proofs.loading.chain_of.Goals as goal

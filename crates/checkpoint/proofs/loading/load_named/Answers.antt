@@ -8,7 +8,7 @@ use Rattle.checkpoint.specs.Recovery.{means}
 use Rattle.checkpoint.specs.Refusals.{fault_if}
 use Rattle.image.specs.Image.{read}
 use Rattle.oplog.specs.Front.{chain, front}
-use Rattle.oplog.specs.Layout.{image, layout_of, part_bytes}
+use Rattle.device_map.specs.Layout.{image, layout_of, part_bytes}
 use Rattle.oplog.specs.Log.{Log}
 use Rattle.oplog.specs.Stands.{named_area, run}
 use Rattle.parcel.specs.Tree.{state_in}

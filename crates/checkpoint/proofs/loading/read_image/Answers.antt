@@ -5,7 +5,7 @@ use Rattle.checkpoint.specs.declared.fault.OpenFault.TheVariants.{BadPiece, BadV
 use Rattle.checkpoint.specs.Loading.{IsFaultOfBytes}
 use Rattle.checkpoint.specs.Refusals.{fault_if, fault_or_later, first_bad_piece}
 use Rattle.image.specs.Image.{has_head}
-use Rattle.oplog.specs.Layout.{image, layout_of, part_bytes}
+use Rattle.device_map.specs.Layout.{image, layout_of, part_bytes}
 use Rattle.checkpoint.proofs.Refusing.{head_refused, pieces_refused}
 use Rattle.checkpoint.proofs.Replays.{same_bytes}
 use Rattle.checkpoint.proofs.loading.read_image.Goals as goal

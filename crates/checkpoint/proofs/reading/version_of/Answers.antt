@@ -1,6 +1,6 @@
 use Rattle.std.proofs.Common.{Bool, not, None, sym, ◌∙◌, ap, arith}
 use Rattle.image.specs.Image.{has_head, version_in}
-use Rattle.oplog.specs.Layout.{image, layout_of, part_bytes}
+use Rattle.device_map.specs.Layout.{image, layout_of, part_bytes}
 use Rattle.oplog.proofs.Slices.{image_sized, part_inside}
 use Rattle.checkpoint.specs.declared.fault.OpenFault.TheVariants.{BadVersion}
 use Rattle.checkpoint.specs.Refusals.{fault_if}

@@ -8,7 +8,7 @@ use Rattle.journal.specs.Stretches.{AreSpelled}
 use Rattle.image.proofs.Joining.{piece_inside, whole_image}
 use Rattle.journal.proofs.FrozenBytes.{IsFrozenTo, all_put, headed, none_behind, pass_one, put_one}
 use Rattle.affinity.specs.declared.geometry.Geometry.{Geometry}
-use Rattle.oplog.specs.Layout.{image_size}
+use Rattle.device_map.specs.Layout.{image_size}
 use Rattle.parcel.specs.Tree.{state_in}
 use Rattle.journal.proofs.freezing.freeze.Goals as goal
 use Rattle.journal.proofs.freezing.freeze.Goals.{then-is_marked, else-is_marked}

@@ -5,7 +5,7 @@ use Rattle.checkpoint.specs.Refusals.{IsDevice}
 use Rattle.journal.specs.Parts.{IsMadeOf}
 use Rattle.journal.proofs.Costs.{opening_after}
 use Rattle.journal.proofs.Settling.{if_err, if_ok, never_synced, synced_then, unwritten_from, unwritten_then}
-use Rattle.oplog.specs.Layout.{layout_of}
+use Rattle.device_map.specs.Layout.{layout_of}
 use Rattle.oplog.proofs.Beyond.{beyond_then}
 use Rattle.journal.proofs.opening.open_on.Goals as goal
 

@@ -14,7 +14,7 @@ use Rattle.journal.proofs.Costs.{no_call}
 use Rattle.journal.proofs.Loaded.{are_loaded, behind_fine, behind_holds, behind_refused}
 use Rattle.journal.proofs.Settling.{alone_finished, bad_half, still_synced}
 use Rattle.oplog.specs.Front.{front}
-use Rattle.oplog.specs.Layout.{image, layout_of, other, part_bytes}
+use Rattle.device_map.specs.Layout.{image, layout_of, other, part_bytes}
 use Rattle.oplog.specs.Log.{Log}
 use Rattle.oplog.proofs.Beyond.{beyond_read, beyond_then}
 use Rattle.oplog.specs.Stands.{named_area, run}

@@ -5,7 +5,7 @@ use Rattle.journal.proofs.Pointing.{clear_moments}
 use Rattle.oplog.proofs.Beyond.{beyond, beyond_then}
 use Rattle.oplog.specs.Calls.{Chains, HasChained}
 use Rattle.oplog.specs.Changes.{IsSameButChain, IsSameButGates}
-use Rattle.oplog.specs.Layout.{layout_of, other}
+use Rattle.device_map.specs.Layout.{layout_of, other}
 use Rattle.oplog.specs.Log.{Log}
 use Rattle.journal.proofs.steps.cut_on.Goals as goal
 

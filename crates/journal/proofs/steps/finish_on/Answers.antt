@@ -9,7 +9,7 @@ use Rattle.journal.proofs.StillRefused.{finish_alike, image_alike}
 use Rattle.oplog.proofs.Answered.{on_ok}
 use Rattle.oplog.proofs.Beyond.{beyond, beyond_then}
 use Rattle.oplog.specs.Changes.{ChangesOnly, IsSameBut, IsSameButRoot}
-use Rattle.oplog.specs.Layout.{layout_of, image, other}
+use Rattle.device_map.specs.Layout.{layout_of, image, other}
 use Rattle.journal.proofs.steps.finish_on.Goals as goal
 
 along : {A B : Type 0} (P : A → B → Type 0) {a a' : A} {b b' : B} → a ≡ a' → b ≡ b' → P a b → P a' b'

@@ -7,7 +7,7 @@ use Rattle.oplog.proofs.Answered.{on_ok}
 use Rattle.oplog.proofs.Beyond.{beyond, beyond_sync, beyond_then}
 use Rattle.oplog.specs.Calls.{Flips, HasFlipped}
 use Rattle.oplog.specs.Changes.{IsSameButRoot}
-use Rattle.oplog.specs.Layout.{layout_of}
+use Rattle.device_map.specs.Layout.{layout_of}
 use Rattle.journal.proofs.steps.flip_on.Goals as goal
 
 pub returns-then-is_err-clause-any_moment : goal.returns-then-is_err-clause-any_moment

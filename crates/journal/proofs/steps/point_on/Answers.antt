@@ -8,7 +8,7 @@ use Rattle.oplog.proofs.Answered.{on_ok}
 use Rattle.oplog.proofs.Beyond.{beyond, beyond_then}
 use Rattle.oplog.specs.Calls.{Flips, HasFlipped}
 use Rattle.oplog.specs.Changes.{ChangesOnly, IsSameBut, IsSameButGates, IsSameButRoot}
-use Rattle.oplog.specs.Layout.{layout_of, image, other}
+use Rattle.device_map.specs.Layout.{layout_of, image, other}
 use Rattle.oplog.specs.Log.{Log}
 use Rattle.journal.proofs.steps.point_on.Goals as goal
 

@@ -8,7 +8,7 @@ use Rattle.journal.specs.Stretches.{stretch_at}
 use Rattle.journal.proofs.Costs.{run_closed, run_ended, run_failed, run_goes_on, runs_begun}
 use Rattle.journal.proofs.Patches.{along_patch, patch_begun, patch_moments, patch_passed, patch_synced, patched}
 use Rattle.journal.proofs.Places.{stretch_end, stretch_after, stretch_inside, stretch_some}
-use Rattle.oplog.specs.Layout.{image_size}
+use Rattle.device_map.specs.Layout.{image_size}
 use Rattle.journal.proofs.stretches.write_image.Goals as goal
 use Rattle.journal.proofs.stretches.write_image.Goals.{then-not-is_marked+in_ok-write_run, else-not-is_marked}
 

@@ -1,6 +1,6 @@
 use Rattle.std.proofs.Common.{arith}
 use Rattle.journal.proofs.Runs.{nothing_written, part_begun, run_inside, run_moments, run_ready, run_same, run_written}
-use Rattle.oplog.specs.Layout.{layout_of, image}
+use Rattle.device_map.specs.Layout.{layout_of, image}
 use Rattle.oplog.proofs.Slices.{same_but_none}
 use Rattle.journal.proofs.stretches.write_run.Goals as goal
 

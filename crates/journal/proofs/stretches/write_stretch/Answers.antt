@@ -4,7 +4,7 @@ use Rattle.disk.specs.Device.{overlaid}
 use Rattle.journal.specs.Stretches.{image_in, stretch_at, stretch_size}
 use Rattle.journal.proofs.Patches.{image_long, one_patched}
 use Rattle.journal.proofs.Places.{stretch_after, stretch_inside, stretch_rises, stretch_some}
-use Rattle.oplog.specs.Layout.{slice}
+use Rattle.device_map.specs.Layout.{slice}
 use Rattle.journal.proofs.stretches.write_stretch.Goals as goal
 
 pub loop-i-preserved : goal.loop-i-preserved

@@ -14,7 +14,7 @@ use Rattle.journal.proofs.Logging.{settled_of}
 use Rattle.journal.proofs.Rows.{count_most, whole_items, whole_put}
 use Rattle.journal.proofs.Saving.{frozen_right, cut_settled, cut_sound}
 use Rattle.oplog.specs.Beyond.{KeepsBeyond}
-use Rattle.oplog.specs.Layout.{device_size, image_size, other, layout_of}
+use Rattle.device_map.specs.Layout.{device_size, image_size, other, layout_of}
 use Rattle.oplog.specs.Log.{Log, layout}
 use Rattle.parcel.specs.Tree.{state_in}
 use Rattle.meaning.specs.State.{IsState}

@@ -13,7 +13,7 @@ use Rattle.journal.proofs.Standing.{holds_now}
 use Rattle.image.specs.Pieces.{piece_count}
 use Rattle.oplog.specs.Front.{front}
 use Rattle.oplog.specs.Beyond.{KeepsBeyond}
-use Rattle.oplog.specs.Layout.{device_size, image_size, layout_of}
+use Rattle.device_map.specs.Layout.{device_size, image_size, layout_of}
 use Rattle.oplog.specs.Log.{Log, layout}
 use Rattle.journal.proofs.journal.Journal.flip.Goals as goal
 

@@ -10,7 +10,7 @@ use Rattle.journal.proofs.Logging.{log_kept, log_moments, log_records, log_told,
 use Rattle.journal.proofs.Rows.{same_marks, whole_items, whole_put}
 use Rattle.disk.proofs.Moments.{weaker}
 use Rattle.oplog.specs.Beyond.{KeepsBeyond}
-use Rattle.oplog.specs.Layout.{device_size, image_size, layout_of}
+use Rattle.device_map.specs.Layout.{device_size, image_size, layout_of}
 use Rattle.oplog.specs.Log.{Log, layout}
 use Rattle.oplog.specs.Logged.{records_of}
 use Rattle.meaning.specs.Serial.{fold}

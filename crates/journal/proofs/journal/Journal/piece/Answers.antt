@@ -15,7 +15,7 @@ use Rattle.journal.proofs.Piecing.{piece_counted, piece_left, piece_moments, pie
 use Rattle.oplog.specs.Beyond.{KeepsBeyond}
 use Rattle.oplog.specs.Changes.{ChangesOnly, IsSameBut}
 use Rattle.oplog.proofs.Beyond.{beyond, beyond_none}
-use Rattle.oplog.specs.Layout.{layout_of, image, other}
+use Rattle.device_map.specs.Layout.{layout_of, image, other}
 use Rattle.oplog.proofs.Answered.{on_ok}
 use Rattle.journal.proofs.journal.Journal.piece.Goals as goal
 

@@ -16,7 +16,7 @@ use Rattle.journal.proofs.Rows.{whole_items, whole_put}
 use Rattle.checkpoint.specs.Version.{named_version}
 use Rattle.journal.proofs.Saving.{frozen_right, agrees, is_alone, point_settled, point_sound, pointed_version, reads}
 use Rattle.oplog.specs.Beyond.{KeepsBeyond}
-use Rattle.oplog.specs.Layout.{layout_of, device_size, image_size, other}
+use Rattle.device_map.specs.Layout.{layout_of, device_size, image_size, other}
 use Rattle.oplog.specs.Log.{Log, layout}
 use Rattle.oplog.specs.Stands.{in_force, named_area}
 use Rattle.parcel.specs.Tree.{state_in}

@@ -3,7 +3,7 @@ use Rattle.std.proofs.lemmas.List.{length-replicate}
 use Rattle.disk.specs.Device.{SameOutside}
 use Rattle.oplog.specs.Calls.{HasParts, Clears, HasCleared}
 use Rattle.oplog.specs.Changes.{ChangesOnly}
-use Rattle.oplog.specs.Layout.{layout_of, half, other, part_at}
+use Rattle.device_map.specs.Layout.{layout_of, half, other, part_at}
 use Rattle.oplog.specs.Log.{Log}
 use Rattle.oplog.proofs.Answered.{on_ok}
 use Rattle.oplog.proofs.OneStore.{clear_moments, cleared}

@@ -1,6 +1,6 @@
 use Rattle.std.proofs.Common.{sym, ◌∙◌, subst, arith}
 use Rattle.oplog.specs.Calls.{HasParts, Flips, HasFlipped}
-use Rattle.oplog.specs.Layout.{layout_of, other}
+use Rattle.device_map.specs.Layout.{layout_of, other}
 use Rattle.oplog.specs.Log.{Log}
 use Rattle.oplog.proofs.Answered.{on_ok}
 use Rattle.oplog.proofs.OneStore.{root_moments, named}

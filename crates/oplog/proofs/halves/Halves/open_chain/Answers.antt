@@ -1,6 +1,6 @@
 use Rattle.std.proofs.Common.{◌≡◌, ℕ, ap, arith, sym, ◌∙◌, subst}
 use Rattle.oplog.specs.Calls.{HasParts, Chains, HasChained}
-use Rattle.oplog.specs.Layout.{Layout, layout_of, part_at, half}
+use Rattle.device_map.specs.Layout.{Layout, layout_of, part_at, half}
 use Rattle.oplog.specs.Log.{Log}
 use Rattle.oplog.proofs.Answered.{on_ok}
 use Rattle.oplog.proofs.OneStore.{chain_moments, chained}

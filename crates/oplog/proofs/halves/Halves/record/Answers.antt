@@ -1,7 +1,7 @@
 use Rattle.std.proofs.Common.{◌≡◌, ◌<◌, refl, sym, ◌∙◌, subst, arith}
 use Rattle.oplog.specs.Calls.{IsOfRecordAt}
 use Rattle.oplog.specs.Front.{record_at}
-use Rattle.oplog.specs.Layout.{layout_of}
+use Rattle.device_map.specs.Layout.{layout_of}
 use Rattle.oplog.specs.Log.{Log, IsOfRecord}
 use Rattle.oplog.proofs.Answered.{on_ok}
 use Rattle.oplog.proofs.Reading.{record_read}

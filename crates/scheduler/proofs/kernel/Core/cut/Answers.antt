@@ -9,7 +9,7 @@ use Rattle.oplog.proofs.Answered.{on_ok}
 use Rattle.legal_runs.specs.Events.{point_refusal}
 use Rattle.oplog.proofs.Beyond.{beyond_none}
 use Rattle.oplog.specs.Beyond.{KeepsBeyond}
-use Rattle.oplog.specs.Layout.{layout_of}
+use Rattle.device_map.specs.Layout.{layout_of}
 use Rattle.scheduler.proofs.Journaling.{still_standing}
 use Rattle.scheduler.proofs.LogCall.{broken_takes, made_takes, none_taken}
 use Rattle.scheduler.proofs.Pointing.{cut_core, point_state, point_whole, point_works, step_moment}

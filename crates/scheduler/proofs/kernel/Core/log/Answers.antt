@@ -10,7 +10,7 @@ use Rattle.oplog.proofs.Answered.{on_ok}
 use Rattle.oplog.proofs.Beyond.{beyond_none}
 use Rattle.oplog.specs.Beyond.{KeepsBeyond}
 use Rattle.oplog.specs.Costs.{batches}
-use Rattle.oplog.specs.Layout.{layout_of}
+use Rattle.device_map.specs.Layout.{layout_of}
 use Rattle.scheduler.proofs.Journaling.{still_standing}
 use Rattle.scheduler.proofs.LogCall.{broken_from, broken_takes, doubt_call_core, doubt_call_world, log_call_core, log_call_throughout, log_call_world, log_carried, log_count, log_fits, log_flight, log_length, log_logged, log_low, log_ran, log_size, log_untouched, made_from, made_takes, none_taken, some_were_passed}
 use Rattle.scheduler.specs.Kept.{CoreView, StandsThroughout, world_of}

@@ -7,7 +7,7 @@ use Rattle.disk.proofs.Moments.{started}
 use Rattle.disk.specs.Device.{Leaves}
 use Rattle.journal.specs.Journal.{IsSettled, settled}
 use Rattle.oplog.proofs.Beyond.{beyond_none}
-use Rattle.oplog.specs.Layout.{layout_of}
+use Rattle.device_map.specs.Layout.{layout_of}
 use Rattle.parcel.specs.Tree.{state_in}
 use Rattle.scheduler.proofs.Opened.{opened_chains, opened_parts, opened_ran, opened_size}
 use Rattle.scheduler.proofs.Refusals.{one_fault, opened_or_refused, stands_or_refused}

@@ -4,7 +4,7 @@ use Rattle.disk.specs.Moments.{LeavesOnly}
 use Rattle.journal.specs.Journal.{HoldsSome}
 use Rattle.oplog.proofs.Beyond.{beyond_none}
 use Rattle.oplog.specs.Beyond.{KeepsBeyond}
-use Rattle.oplog.specs.Layout.{layout_of}
+use Rattle.device_map.specs.Layout.{layout_of}
 use Rattle.scheduler.proofs.Journaling.{still_standing}
 use Rattle.scheduler.proofs.Pointing.{piece_core, step_moment}
 use Rattle.scheduler.specs.Kept.{CoreView, StandsThroughout, world_of}

@@ -1,7 +1,7 @@
 use Rattle.std.proofs.Common.{ℕ, ◌+◌, ◌*◌, ◌≤◌, arith}
 use Rattle.std.proofs.lemmas.Nat.{mul-le}
-use Rattle.oplog.specs.Layout.{image_size}
-use Rattle.oplog.proofs.layout.image_size.Goals as goal
+use Rattle.device_map.specs.Layout.{image_size}
+use Rattle.device_map.proofs.layout.image_size.Goals as goal
 
 pub returns-clause-size : goal.returns-clause-size
 unfolding image_size

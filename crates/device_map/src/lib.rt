@@ -1,0 +1,9 @@
+//! The map of a device: where each of its parts begins and how long it is. No crate above writes an offset of them.
+#![tactic(auto)]
+
+mod layout;
+
+pub use layout::{
+    CHAIN_AREA, ENTRY_SIZE, HEADER_SIZE, IMAGE_HEAD_SIZE, RECORD_SIZE, ROOT_ZONE_AT,
+    ROOT_ZONE_SIZE, VOLUME_PIECE_SIZE, device_len, half_at, half_size, image_at, image_size,
+};
