@@ -1,7 +1,7 @@
 //! The words that the program is called with, and what they ask for.
-ghost use Rattle.std.specs.Prelude.{◌≡◌, IfOk, IfErr, false, map, string_bytes};
+ghost use Rattle.std.specs.Prelude.{◌≡◌, IfOk, IfErr, false, fold, map, string_bytes};
 ghost use Rattle.clap.specs.Words.{app_of, found_of, new_app, rows_of, rule_of, subcommand_rows_of, with_rule};
-ghost use Rattle.words.specs.Words.{Asks, GivesGeometry, IsReason, IsRequested, answer_of, device_in, device_rule, number_in, number_rule, numbers_in, rule_within, service_in, service_numbers, waffd, with_numbers, with_service};
+ghost use Rattle.words.specs.Words.{Asks, GivesGeometry, IsReason, IsRequested, answer_of, device_in, device_rule, number_in, number_rule, numbers_in, rule_within, service_in, service_numbers, waffd, bare, plain, format, serve, with_numbers, with_service};
 ghost use Rattle.words.specs.declared.words.WordRefusal.TheVariants.{OutOfMemory};
 
 use affinity::{BadGeometry, Geometry};
@@ -26,22 +26,26 @@ const SHOW: &str = "Tells what the device in a file holds, and leaves it as it i
 /// What help says of the file of a device.
 const DEVICE: &str = "The file of the device";
 
-// What help says of the options of a geometry.
-const AGGREGATES: &str = "Aggregates, 1 to 4 [default: 1]";
-
-const VOLUMES: &str = "Volumes of each aggregate, 1 to 8 [default: 4]";
-
-const STRIPES: &str = "Stripes of each volume, 1 to 8 [default: 4]";
-
-const WIDTH: &str = "Blocks in a row in one stripe, 1 to 64 [default: 4]";
-
-const FILES: &str = "Files of each volume, 1 to 64 [default: 16]";
-
-const BLOCKS: &str = "Blocks of each file, 1 to 256 [default: 64]";
-
-const QUOTA: &str = "Blocks that a stripe can hold, 1 to 64 [default: 64]";
-
-const HALF: &str = "Records in each half of the log, 4 to 1024 [default: 256]";
+/// The options of a geometry, in the order of its numbers: the name of each, and what help says of it.
+const NUMBERS: [(&str, &str); 8] = [
+    ("aggregates", "Aggregates, 1 to 4 [default: 1]"),
+    ("volumes", "Volumes of each aggregate, 1 to 8 [default: 4]"),
+    ("stripes", "Stripes of each volume, 1 to 8 [default: 4]"),
+    (
+        "width",
+        "Blocks in a row in one stripe, 1 to 64 [default: 4]",
+    ),
+    ("files", "Files of each volume, 1 to 64 [default: 16]"),
+    ("blocks", "Blocks of each file, 1 to 256 [default: 64]"),
+    (
+        "quota",
+        "Blocks that a stripe can hold, 1 to 64 [default: 64]",
+    ),
+    (
+        "half",
+        "Records in each half of the log, 4 to 1024 [default: 256]",
+    ),
+];
 
 // What help says of the options of a service.
 const WORKERS: &str = "Threads that run messages, 0 to 64 [default: 2]";
@@ -144,19 +148,27 @@ fn device<'a>(alloc: Global) -> Arg<'a>
         .help(DEVICE)
 }
 
+/// The command with an option added for each name with its help. They take numbers from 0 to 65535.
+fn with_each<'a>(
+    alloc: Global,
+    command: Command<'a>,
+    options: &[(&'a str, &'a str)],
+) -> Result<Command<'a>, AllocError>
+    ensures { IfOk result (λ c. app_of c
+        ≡ fold (λ b option. with_rule b (number_rule option.0.now)) (app_of command.entry) options.now) }
+{
+    let mut command = command;
+    'options: for &(name, help) in options {
+        command = command.arg(number(alloc, name, help))?;
+    }
+    Ok(command)
+}
+
 /// The command with the options of a geometry added.
 fn with_geometry<'a>(alloc: Global, command: Command<'a>) -> Result<Command<'a>, AllocError>
     ensures { IfOk result (λ c. app_of c ≡ with_numbers (app_of command.entry)) }
 {
-    command
-        .arg(number(alloc, "aggregates", AGGREGATES))?
-        .arg(number(alloc, "volumes", VOLUMES))?
-        .arg(number(alloc, "stripes", STRIPES))?
-        .arg(number(alloc, "width", WIDTH))?
-        .arg(number(alloc, "files", FILES))?
-        .arg(number(alloc, "blocks", BLOCKS))?
-        .arg(number(alloc, "quota", QUOTA))?
-        .arg(number(alloc, "half", HALF))
+    with_each(alloc, command, &NUMBERS)
 }
 
 /// The command with the options of a service added.
@@ -176,23 +188,49 @@ fn of_device<'a>(alloc: Global, name: &'a str, about: &'a str) -> Result<Command
     Command::new(alloc, name).about(about).arg(device(alloc))
 }
 
-/// The commands of the program, each with its options.
-fn commands<'a>(alloc: Global) -> Result<Command<'a>, AllocError>
-    ensures { IfOk result (λ command. app_of command ≡ waffd) }
+/// The command `plain`.
+fn plain_command<'a>(alloc: Global) -> Result<Command<'a>, AllocError>
+    ensures { IfOk result (λ command. app_of command ≡ plain) }
 {
-    let plain = with_geometry(alloc, Command::new(alloc, "plain").about(PLAIN))?;
-    let format = with_geometry(alloc, of_device(alloc, "format", FORMAT)?)?;
-    let show = of_device(alloc, "show", SHOW)?;
-    let serve = with_service(alloc, of_device(alloc, "serve", SERVE)?)?;
+    with_geometry(alloc, Command::new(alloc, "plain").about(PLAIN))
+}
+
+/// The command `format`.
+fn format_command<'a>(alloc: Global) -> Result<Command<'a>, AllocError>
+    ensures { IfOk result (λ command. app_of command ≡ format) }
+{
+    let on_device = of_device(alloc, "format", FORMAT)?;
+    with_geometry(alloc, on_device)
+}
+
+/// The command `serve`.
+fn serve_command<'a>(alloc: Global) -> Result<Command<'a>, AllocError>
+    ensures { IfOk result (λ command. app_of command ≡ serve) }
+{
+    let on_device = of_device(alloc, "serve", SERVE)?;
+    with_service(alloc, on_device)
+}
+
+/// The program without its commands.
+fn bare<'a>(alloc: Global) -> Command<'a>
+    ensures { app_of result ≡ bare }
+{
     Command::new(alloc, "waffd")
         .about("A server for messages about files of 512-byte blocks")
         .version(VERSION)
         .subcommand_required(true)
         .arg_required_else_help(true)
-        .subcommand(plain)?
-        .subcommand(format)?
-        .subcommand(show)?
-        .subcommand(serve)
+}
+
+/// The commands of the program, each with its options.
+fn commands<'a>(alloc: Global) -> Result<Command<'a>, AllocError>
+    ensures { IfOk result (λ command. app_of command ≡ waffd) }
+{
+    bare(alloc)
+        .subcommand(plain_command(alloc)?)?
+        .subcommand(format_command(alloc)?)?
+        .subcommand(of_device(alloc, "show", SHOW)?)?
+        .subcommand(serve_command(alloc)?)
 }
 
 /// The number that was given to an option, or the program's own.
