@@ -1,6 +1,5 @@
 //! Calls of the program over memory: which words it takes, what it prints of them, and where.
-use command_line::{command, report_unread_words};
-use commands::{Fault, report};
+use commands::{Fault, command, report, report_unread_words};
 use std::alloc::{AllocError, Global};
 use std::fs::File;
 use std::io;

@@ -4,3 +4,5 @@ pub mod Ends
 pub mod Serving
 pub mod Kept
 pub mod Promise
+pub mod Services
+pub mod Calls

@@ -1,6 +1,7 @@
-//! What each command does: it serves, makes a device or shows one; and what is printed of a fault, with its exit status.
+//! What the words of a call ask for is done: the program serves, makes a device or shows one; and what is printed of a fault, with its exit
+//! status.
 //!
-//! Nothing here knows the words of a call: a command takes what it works on as values.
+//! Only `program` knows the words of a call: a command takes what it works on as values.
 #![tactic(auto)]
 
 mod again;
@@ -9,6 +10,7 @@ mod faults;
 mod formatting;
 mod lines;
 mod on_device;
+mod program;
 mod reports;
 mod service;
 mod showing;
@@ -19,6 +21,7 @@ pub use answering::answer_input;
 pub use faults::Fault;
 pub use formatting::format_device;
 pub use on_device::{serve_device, serve_on};
+pub use program::command;
 pub use reports::{WRONG_WORDS, report, report_unread_words};
 pub use service::Service;
 pub use showing::show_device;

@@ -3,7 +3,7 @@
 
 mod streams;
 
-use command_line::{command, report_unread_words};
+use commands::{command, report_unread_words};
 use std::process::ExitCode;
 use std::{env, io};
 use streams::take_stream_numbers;

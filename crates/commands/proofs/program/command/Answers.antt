@@ -1,9 +1,9 @@
 use Rattle.std.proofs.Common.{map, string_bytes, inr, inl, refl, Ok, Err}
-use Rattle.command_line.proofs.Ending.{formatted, formatted_nothing, helped, is_refused, is_told, refused_by, served, served_nothing, served_on, served_on_nothing, shown, shown_nothing}
+use Rattle.commands.proofs.Ending.{formatted, formatted_nothing, helped, is_refused, is_told, refused_by, served, served_nothing, served_on, served_on_nothing, shown, shown_nothing}
 use Rattle.words.proofs.Asking.{ask_for_nothing}
 use Rattle.words.proofs.Examples.{asks_alone}
 use Rattle.affinity.specs.Geometry.{standard}
-use Rattle.command_line.proofs.program.command.Goals as goal
+use Rattle.commands.proofs.program.command.Goals as goal
 
 pub returns-in-Err-clause-served : goal.returns-in-Err-clause-served
 returns-in-Err-clause-served g c = λ geometry asks.

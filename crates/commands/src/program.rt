@@ -1,16 +1,20 @@
 //! The program over a reader and two writers.
 ghost use Rattle.std.specs.Prelude.{◌≡◌, ◌⊎◌, ℕ, List, [], ◌∷◌, codes, map, string_bytes};
 ghost use Rattle.affinity.specs.Geometry.{standard};
-ghost use Rattle.command_line.specs.Ends.{Ends, EndsFormat, EndsHelp, EndsPlain, EndsRefused, EndsServe, EndsShow, status_of_refusal};
-ghost use Rattle.command_line.specs.Services.{AsksServe, with_few_workers};
+ghost use Rattle.commands.specs.Calls.{Ends, EndsFormat, EndsHelp, EndsPlain, EndsRefused, EndsServe, EndsShow, status_of_refusal};
+ghost use Rattle.commands.specs.Services.{AsksServe, with_few_workers};
 ghost use Rattle.words.specs.Words.{AsksFormat, AsksHelp, AsksNoService, AsksPlain, AsksShow, AsksVersion, AreRefused, service_numbers};
 ghost use Rattle.affinity.specs.declared.geometry.Geometry.{Geometry};
 ghost use Rattle.commands.specs.Serving.{numbers_of_service};
 ghost use Rattle.commands.specs.declared.service.Service.{Service};
 
-use commands::{
-    Fault, Service, WRONG_WORDS, answer_input, format_device, report, serve_device, show_device,
-};
+use crate::answering::answer_input;
+use crate::faults::Fault;
+use crate::formatting::format_device;
+use crate::on_device::serve_device;
+use crate::reports::{WRONG_WORDS, report};
+use crate::service::Service;
+use crate::showing::show_device;
 use std::alloc::Global;
 use std::fs::File;
 use std::io::{Read, Write};

@@ -7,7 +7,7 @@ use Rattle.commands.specs.Serving.{EndsInFile, numbers_of_service}
 use Rattle.commands.specs.declared.faults.Fault.{Fault}
 use Rattle.commands.specs.declared.faults.Fault.TheVariants.{Write, GeometryOutOfRange, OutOfMemory}
 use Rattle.commands.specs.declared.service.Service.{Service}
-use Rattle.command_line.specs.Services.{with_few_workers}
+use Rattle.commands.specs.Services.{with_few_workers}
 use Rattle.words.specs.Words.{service_numbers}
 use Rattle.words.specs.declared.words.Request.{Request}
 use Rattle.words.specs.declared.words.Request.TheVariants.{Help, Plain, Format, Show, Serve}

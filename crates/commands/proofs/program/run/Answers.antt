@@ -1,4 +1,4 @@
-use Rattle.command_line.proofs.program.run.Goals as goal
+use Rattle.commands.proofs.program.run.Goals as goal
 
 -- the service is that of the numbers that were given
 pub returns-in-Serve : goal.returns-in-Serve

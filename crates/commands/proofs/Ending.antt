@@ -13,10 +13,10 @@ use Rattle.meaning.specs.State.{empty}
 use Rattle.commands.specs.Ends.{EndsMaking, EndsServing}
 use Rattle.commands.specs.Serving.{EndsInFile}
 use Rattle.commands.specs.declared.service.Service.{Service}
-use Rattle.command_line.proofs.Services.{service_same}
+use Rattle.commands.proofs.Services.{service_same}
 use Rattle.disk.specs.declared.fault.FileFault.TheVariants as file
-use Rattle.command_line.specs.Ends.{Ends, EndsFormat, EndsHelp, EndsPlain, EndsRefused, EndsServe, EndsShow, status_at, status_of_refusal}
-use Rattle.command_line.specs.Services.{AsksServe, with_few_workers}
+use Rattle.commands.specs.Calls.{Ends, EndsFormat, EndsHelp, EndsPlain, EndsRefused, EndsServe, EndsShow, status_at, status_of_refusal}
+use Rattle.commands.specs.Services.{AsksServe, with_few_workers}
 use Rattle.commands.specs.Faults.{status_of}
 use Rattle.words.proofs.Asking.{no_mistake, two_names}
 use Rattle.words.proofs.Options.{in_range}
