@@ -1,1 +1,2 @@
+-- The words of the map of a device.
 pub mod Layout

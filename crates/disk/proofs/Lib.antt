@@ -1,3 +1,4 @@
+-- The lemmas of this crate: bytes of a device, and what writes, syncs and crashes leave of them, call by call.
 pub mod Bytes
 pub mod Calls
 mod Crashes

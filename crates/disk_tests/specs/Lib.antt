@@ -1,1 +1,2 @@
+-- The words of the example of a client of a device.
 pub mod Sealing

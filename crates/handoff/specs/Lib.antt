@@ -1,1 +1,2 @@
+-- The words of what a dispatcher has lent.
 pub mod Lent

@@ -1,3 +1,4 @@
+-- The words of a journal: its calls, marks, images and costs, and what it keeps, from its opening on.
 pub mod Marks
 pub mod Journal
 pub mod Stretches

@@ -1,3 +1,4 @@
+-- The words of legal runs: worlds, events, what may come when, and lives that end with a crash.
 pub mod World
 pub mod Eligible
 pub mod Events

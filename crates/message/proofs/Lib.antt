@@ -1,3 +1,4 @@
+-- The lemmas of this crate: words and numbers of a line, digits, records, and the lines of bytes that are read.
 mod Examples
 pub mod Words
 pub mod Numbers

@@ -1,3 +1,4 @@
+-- The words of records, heads of messages, and readers and writers of lines.
 pub mod Records
 pub mod Heads
 pub mod Reader

@@ -1,3 +1,4 @@
+-- The words of a log: its front, its calls and their costs, and what a device recovers to after a crash.
 pub mod Front
 pub mod Stands
 pub mod Changes

@@ -1,3 +1,4 @@
+-- The words of runs on a device: machines, their steps and hands, stages, and lives.
 pub mod Stages
 pub mod Hands
 pub mod Machine

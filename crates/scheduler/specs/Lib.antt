@@ -1,3 +1,4 @@
+-- The words of a core: its calls, its world and its jobs, and what a crash leaves of its device.
 pub mod Kept
 pub mod Jobs
 pub mod Calls

@@ -1,3 +1,4 @@
+-- The words of a server: its lines, its session, when a reply may go out, how it ends, and a restart.
 pub mod Lines
 pub mod Told
 pub use Rattle.line_row.specs.Rows

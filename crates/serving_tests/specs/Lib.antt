@@ -1,1 +1,2 @@
+-- The words of a client that crashes the device each time it is sent lines.
 pub mod Sights

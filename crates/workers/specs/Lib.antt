@@ -1,3 +1,4 @@
+-- The words of a bench: its one rule, the steps that keep it, and the seats that clauses see.
 pub mod Tray
 pub mod Rule
 pub mod Steps

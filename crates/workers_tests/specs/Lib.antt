@@ -1,0 +1,1 @@
+-- The tests of the bench need no words of their own.

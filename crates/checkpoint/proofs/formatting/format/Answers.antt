@@ -1,3 +1,4 @@
+-- A refusal before the first call of the device leaves what a crash could leave before.
 use Rattle.std.proofs.Common.{inl}
 use Rattle.disk.proofs.Moments.{started}
 use Rattle.device_map.specs.Layout.{layout_of}

@@ -1,3 +1,4 @@
+-- Shut the gate, lay out the rest, open the gate: a crash leaves the old device, a shut one, or the new one.
 use Rattle.std.proofs.Common.{◌≡◌, ◌⊎◌, Some, ◌∙◌, subst, arith, ℕ}
 use Rattle.checkpoint.specs.Formatting.{IsShut}
 use Rattle.checkpoint.specs.Recovery.{holds}

@@ -1,3 +1,4 @@
+-- All four writes lie between the header and the end of the parts; together they lay out the empty state.
 use Rattle.std.proofs.Common.{◌+◌, ℕ, List, [], ◌∷◌, replicate, sym, ◌∙◌, ap, subst, arith}
 use Rattle.checkpoint.specs.Formatting.{IsLaid}
 use Rattle.checkpoint.proofs.Changed.{changed_then, changed_within}

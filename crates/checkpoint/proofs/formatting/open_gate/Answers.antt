@@ -1,3 +1,4 @@
+-- While the header is written its gate is shut; once that is open, the device recovers to the empty state.
 use Rattle.std.proofs.Common.{length, take, drop, ap, arith, List, ℕ}
 use Rattle.checkpoint.proofs.Opened.{numbers_moments, gate_moments, stands, version}
 use Rattle.device_map.specs.Layout.{layout_of}

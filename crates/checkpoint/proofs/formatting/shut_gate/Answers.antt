@@ -1,3 +1,4 @@
+-- Once synced, a crash leaves the gate as it is; a 0 over an open one leaves the old bytes or a shut gate.
 use Rattle.std.proofs.Common.{sym, ◌∙◌, arith}
 use Rattle.checkpoint.proofs.Shut.{begun, calm_shut, now_calm, now_kept, now_read, shutting, stored_shut}
 use Rattle.disk.proofs.Calls.{after_read, after_sync}

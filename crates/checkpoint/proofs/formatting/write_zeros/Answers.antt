@@ -1,3 +1,4 @@
+-- Each write stays within the range, and begins where the zeros before it end.
 use Rattle.std.proofs.Common.{◌+◌, refl, sym, ◌∙◌, arith}
 use Rattle.std.proofs.lemmas.List.{length-take}
 use Rattle.std.proofs.lemmas.Grind.{common_steps}

@@ -1,3 +1,4 @@
+-- A geometry's header has its eight numbers, so bytes that aren't the header of theirs are that of none.
 use Rattle.std.proofs.Common.{ℕ, List, sym, ◌∙◌, subst}
 use Rattle.affinity.specs.Limits.{AreInRange}
 use Rattle.std.proofs.lemmas.Bool.{false≢true}

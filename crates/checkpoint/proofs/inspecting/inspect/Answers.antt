@@ -1,3 +1,4 @@
+-- What is shown of a device is what was loaded of it.
 use Rattle.checkpoint.proofs.Refusing.{shown}
 use Rattle.checkpoint.proofs.inspecting.inspect.Goals as goal
 

@@ -1,3 +1,4 @@
+-- The chain is sound where one of the two chain bytes isn't 1, and is refused where both are.
 use Rattle.std.proofs.Common.{ℕ, ◌==◌, Bool, List, None, sym, ◌∙◌, ap, arith}
 use Rattle.checkpoint.specs.declared.fault.OpenFault.TheVariants.{BadChain}
 use Rattle.checkpoint.specs.Refusals.{fault_if}

@@ -1,3 +1,4 @@
+-- Each test is made where those before it passed, so a fault is the first; at the end the tree has the recovered state.
 use Rattle.std.proofs.Common.{◌≡◌, ℕ, ◌==◌, List, length, None, Option, Some, sym, ◌∙◌, ap, subst}
 use Rattle.std.proofs.lemmas.Result.{err_from_is_err_and}
 use Rattle.checkpoint.specs.declared.fault.OpenFault.{OpenFault}

@@ -1,3 +1,4 @@
+-- The image is read and the records of its half are run; a fault is the first in the order of the tests.
 use Rattle.std.proofs.Common.{◌≡◌, ℕ, ◌==◌, List, length, None, Option, Some, sym, ◌∙◌, ap, subst}
 use Rattle.std.proofs.lemmas.Result.{err_from_is_err_and}
 use Rattle.affinity.specs.declared.geometry.Geometry.{Geometry}

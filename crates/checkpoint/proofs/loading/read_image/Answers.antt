@@ -1,3 +1,4 @@
+-- A bad head is refused before the first bad piece, which is refused where the head is good.
 use Rattle.std.proofs.Common.{List, ℕ, None, sym, ◌∙◌, ap, subst, not}
 use Rattle.std.proofs.lemmas.Result.{err_from_is_err_and}
 use Rattle.affinity.specs.declared.geometry.Geometry.{Geometry}

@@ -1,3 +1,4 @@
+-- In force are the records of the named half, and where it is chained those of the other half behind them.
 use Rattle.std.proofs.Common.{◌≡◌, ◌==◌, length, Some, sym, ◌∙◌, ap, subst, arith}
 use Rattle.std.proofs.lemmas.Result.{err_from_is_err_and}
 use Rattle.affinity.specs.declared.geometry.Geometry.{Geometry}

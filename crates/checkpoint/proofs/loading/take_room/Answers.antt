@@ -1,3 +1,4 @@
+-- A new tree is whole: nothing of it is out, and the empty state is a state of its geometry.
 use Rattle.std.proofs.Common.{[], sym, subst}
 use Rattle.affinity.specs.declared.geometry.Geometry.{Geometry}
 use Rattle.parcel.specs.Tree.{IsIn, in_tree}

@@ -1,3 +1,4 @@
+-- A head is a known version and the zeros that follow it, compared as a whole.
 use Rattle.std.proofs.Common.{ℕ, Bool, ◌&&◌, List, get_or, sym, ◌∙◌, ap}
 use Rattle.std.specs.Str.{bytes_eq}
 use Rattle.image.specs.Image.{image_head}

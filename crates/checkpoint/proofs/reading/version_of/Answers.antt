@@ -1,3 +1,4 @@
+-- The head is the first 64 bytes of the image, so the version and the refusal are the image's.
 use Rattle.std.proofs.Common.{Bool, not, None, sym, ◌∙◌, ap, arith}
 use Rattle.image.specs.Image.{has_head, version_in}
 use Rattle.device_map.specs.Layout.{image, layout_of, part_bytes}

@@ -1,3 +1,4 @@
+-- All records before this one were run, so one that can't be is the first bad one; else the run goes on.
 use Rattle.std.proofs.Common.{sym, ◌∙◌, arith}
 use Rattle.std.proofs.lemmas.Result.{err_from_is_err_and}
 use Rattle.oplog.specs.Log.{layout}

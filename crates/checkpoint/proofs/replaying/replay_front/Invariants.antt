@@ -1,3 +1,4 @@
+-- The tree holds the state after the records so far, all of which could be run; the device was only read.
 use Rattle.std.proofs.Common.{◌≡◌, length}
 use Rattle.checkpoint.proofs.Replays.{IsAt}
 use Rattle.disk.specs.Device.{moments}

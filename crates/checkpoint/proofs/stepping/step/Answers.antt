@@ -1,3 +1,4 @@
+-- Nothing of the tree is out, so the place is lent; what was run fits there, and makes the serial step.
 use Rattle.std.proofs.Common.{◌≡◌, [], sym, ◌∙◌, subst}
 use Rattle.affinity.specs.declared.geometry.Geometry.{Geometry}
 use Rattle.parcel.specs.Nodes.{tree_state}

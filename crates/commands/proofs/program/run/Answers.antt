@@ -1,3 +1,4 @@
+-- The service on the device is that of the numbers that were given.
 use Rattle.commands.proofs.program.run.Goals as goal
 
 -- the service is that of the numbers that were given

@@ -1,3 +1,4 @@
+-- The lines that are written are those of the device as it was inspected.
 use Rattle.std.proofs.Common.{◌∙◌}
 use Rattle.commands.proofs.Telling.{shows, tells_of}
 use Rattle.commands.proofs.showing.show.Goals as goal

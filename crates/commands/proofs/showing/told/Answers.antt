@@ -1,3 +1,4 @@
+-- The five lines are added one behind the other.
 use Rattle.std.proofs.Common.{refl}
 use Rattle.commands.proofs.showing.told.Goals as goal
 

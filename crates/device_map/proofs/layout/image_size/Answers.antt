@@ -1,3 +1,4 @@
+-- Head, pieces of volumes and pieces of stripes make up the size, which the ranges of a geometry bound.
 use Rattle.std.proofs.Common.{ℕ, ◌+◌, ◌*◌, ◌≤◌, arith}
 use Rattle.std.proofs.lemmas.Nat.{mul-le}
 use Rattle.device_map.specs.Layout.{image_size}

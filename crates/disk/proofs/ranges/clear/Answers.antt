@@ -1,3 +1,4 @@
+-- No mark lies outside the range and all inside it go, so that none is left.
 use Rattle.std.proofs.Common.{◌≡◌, ◌-◌, length, take, drop, false, replicate, sym, ◌∙◌, ap, arith, length-drop, length-take}
 use Rattle.std.proofs.lemmas.List.{drop-replicate, take-replicate}
 use Rattle.disk.proofs.Outside.{refreshed}

@@ -1,3 +1,4 @@
+-- All of the range is marked, and the marks before and behind it stay.
 use Rattle.std.proofs.Common.{◌≡◌, ◌+◌, ◌-◌, length, take, drop, true, replicate, ◌∙◌, ap, arith, length-drop, length-take}
 use Rattle.std.proofs.lemmas.List.{length-replicate}
 use Rattle.disk.proofs.Overlays.{overlaid_part}

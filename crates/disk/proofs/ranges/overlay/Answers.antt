@@ -1,3 +1,4 @@
+-- The range has the new bytes, and what is before and behind it stays.
 use Rattle.std.proofs.Common.{arith}
 use Rattle.disk.proofs.Overlays.{overlaid_part}
 use Rattle.disk.proofs.ranges.overlay.Goals as goal

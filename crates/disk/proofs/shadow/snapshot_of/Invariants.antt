@@ -1,3 +1,4 @@
+-- The list has the bytes so far.
 use Rattle.std.proofs.Common.{◌≡◌}
 use Rattle.disk.specs.Shadow.{bytes_of}
 use Rattle.disk.proofs.shadow.snapshot_of.Given as goal

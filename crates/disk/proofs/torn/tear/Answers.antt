@@ -1,3 +1,4 @@
+-- An unsynced byte becomes what this kind of crash leaves there, and a synced one stays.
 use Rattle.std.proofs.Common.{arith}
 use Rattle.disk.specs.Torn.{torn_byte}
 use Rattle.disk.proofs.Crashes.{torn_more, kept_more}

@@ -1,3 +1,4 @@
+-- Tearing the rest of the bytes as they are now gives what tearing all of them gives.
 use Rattle.std.proofs.Common.{◌≡◌, ◌≤◌}
 use Rattle.disk.specs.Torn.{torn_byte, torn_from}
 use Rattle.disk.proofs.Crashes.{torn_so_far}

@@ -1,3 +1,4 @@
+-- From round to round the seat stays at its bench, and each job that is lent has the geometry.
 use Rattle.std.proofs.Common.{◌≡◌}
 use Rattle.handoff.specs.Lent.{AreOfGeometry}
 use Rattle.handoff.proofs.trips.go_round.Given as goal

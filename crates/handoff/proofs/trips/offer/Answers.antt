@@ -1,3 +1,4 @@
+-- Whether the place takes the job or not, each job that is lent has the geometry.
 use Rattle.std.proofs.Common.{◌≡◌}
 use Rattle.workers.specs.Rule.{lent_at}
 use Rattle.handoff.proofs.Rows.{offered}

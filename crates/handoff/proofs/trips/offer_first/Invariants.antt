@@ -1,3 +1,4 @@
+-- The seat stays at its bench, the tree keeps its geometry, and each job offered so far has it.
 use Rattle.std.proofs.Common.{◌≡◌}
 use Rattle.handoff.specs.Lent.{AreOfGeometry}
 use Rattle.handoff.proofs.trips.offer_first.Given as goal

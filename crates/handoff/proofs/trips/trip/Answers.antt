@@ -1,3 +1,4 @@
+-- A place whose result was collected lends nothing, and the jobs at all others have the geometry still.
 use Rattle.std.proofs.Common.{◌≡◌, ℕ, List, Option, None, IfSome, sym, subst}
 use Rattle.parcel.specs.Run.{JobView}
 use Rattle.workers.specs.Rule.{lent_at}

@@ -1,3 +1,4 @@
+-- The log keeps this message too, so it keeps all up to this one.
 use Rattle.std.proofs.Common.{ℕ, get_or, subst}
 use Rattle.std.proofs.lemmas.List.{get_or_default}
 use borrow.Author.Count.{below_more}

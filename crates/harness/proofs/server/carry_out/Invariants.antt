@@ -1,3 +1,4 @@
+-- From message to message the tree stays whole, and keeps its geometry.
 use Rattle.std.proofs.Common.{◌≡◌}
 use Rattle.parcel.specs.Tree.{IsWholeTree}
 use Rattle.harness.proofs.server.carry_out.Given as goal

@@ -1,3 +1,4 @@
+-- From question to question the tree stays whole, and keeps its geometry.
 use Rattle.std.proofs.Common.{◌≡◌}
 use Rattle.parcel.specs.Tree.{IsWholeTree}
 use Rattle.harness.proofs.telling.told.Given as goal

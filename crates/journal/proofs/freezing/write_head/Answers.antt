@@ -1,3 +1,4 @@
+-- The head of an image has 64 bytes, as many as the part that it is copied into.
 use Rattle.std.proofs.Common.{length, sym, ◌∙◌, ap, length-take-le}
 use Rattle.journal.proofs.freezing.write_head.Goals as goal
 

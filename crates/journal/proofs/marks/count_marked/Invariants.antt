@@ -1,3 +1,4 @@
+-- The count so far is that of the marks so far, and no greater than their number.
 use Rattle.std.proofs.Common.{◌≡◌, ◌≤◌, take}
 use Rattle.journal.specs.Marks.{count_marked}
 use Rattle.journal.proofs.marks.count_marked.Given as goal

@@ -1,3 +1,4 @@
+-- No piece before this one is marked.
 use Rattle.journal.specs.Keeping.{AreClearBefore}
 use Rattle.journal.proofs.marks.first_marked.Given as goal
 

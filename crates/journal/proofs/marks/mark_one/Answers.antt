@@ -1,3 +1,4 @@
+-- All pieces of the message's volume are looked at, and it changes none of another volume.
 use Rattle.std.proofs.Common.{◌≡◌, ◌+◌, ◌<◌, Bool, false, List, length, sym, ◌∙◌, subst, arith}
 use Rattle.image.specs.Touched.{may_change}
 use Rattle.journal.proofs.Rows.{AreMarked, all_looked, none_looked, one_passed, one_touched}

@@ -1,3 +1,4 @@
+-- Of the pieces so far those are marked that the message may change, and all others are as they were.
 use Rattle.journal.proofs.Rows.{AreMarked}
 use Rattle.journal.proofs.marks.mark_one.Given as goal
 

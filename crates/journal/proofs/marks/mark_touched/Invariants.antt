@@ -1,3 +1,4 @@
+-- What the messages so far touch is marked, and no more.
 use Rattle.std.proofs.Common.{◌≡◌, length, take}
 use Rattle.journal.specs.Marks.{MarksTouched}
 use Rattle.journal.proofs.marks.mark_touched.Given as goal

@@ -1,3 +1,4 @@
+-- The parts that were opened make a sound journal, of the state to which the device recovers.
 use Rattle.std.proofs.Common.{◌+◌, sym, ◌∙◌, ap}
 use Rattle.disk.specs.Moments.{moment}
 use Rattle.journal.specs.Costs.{opening_takes}

@@ -1,3 +1,4 @@
+-- Up to the end of the first sync a crash leaves what one before could, and then what opening synced bytes leaves.
 use Rattle.std.proofs.Common.{ℕ, List, sym, subst, arith}
 use Rattle.std.proofs.lemmas.Result.{err_from_is_err_and}
 use Rattle.checkpoint.specs.Header.{HasHeader}

@@ -1,3 +1,4 @@
+-- Header, memory, load and last checkpoint, in turn: a refusal is that of the bytes, a crash recovers to the same.
 use Rattle.std.proofs.Common.{◌≡◌, ◌≤◌, Bool, List, ℕ, length, refl, sym, ◌∙◌, ap, subst, arith}
 use Rattle.std.proofs.lemmas.Result.{err_from_is_err_and}
 use Rattle.affinity.specs.declared.geometry.Geometry.{Geometry}

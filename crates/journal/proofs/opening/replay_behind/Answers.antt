@@ -1,3 +1,4 @@
+-- The cut is finished, and then the records behind it are run; a bad one refuses the device as it did before.
 use Rattle.std.proofs.Common.{◌≡◌, ℕ, List, Option, Some, refl, sym, ◌∙◌, ap, subst, arith}
 use Rattle.std.proofs.lemmas.Result.{err_from_is_err_and}
 use Rattle.checkpoint.specs.declared.fault.OpenFault.{OpenFault}

@@ -1,3 +1,4 @@
+-- A sync changes no byte, so until it is over a crash leaves what one before it could.
 use Rattle.disk.specs.Device.{Leaves}
 use Rattle.disk.proofs.Calls.{after_sync}
 use Rattle.disk.proofs.Moments.{started}

@@ -1,3 +1,4 @@
+-- The synced image and the records behind it recover to the same as the named area, so a torn root byte does no harm.
 use Rattle.std.proofs.Common.{◌≡◌, sym, ◌∙◌, subst}
 use Rattle.checkpoint.specs.Recovery.{holds}
 use Rattle.disk.specs.Device.{Medium}

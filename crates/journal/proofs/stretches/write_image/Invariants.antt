@@ -1,3 +1,4 @@
+-- The image is patched up to the run in progress, with one write for each run of dirty stretches before it.
 use Rattle.std.proofs.Common.{◌≡◌, ◌≤◌, length}
 use Rattle.disk.specs.Moments.{moment}
 use Rattle.journal.specs.Stretches.{stretch_at}

@@ -1,3 +1,4 @@
+-- A write within an image changes, at each moment, that image alone; an empty run writes nothing.
 use Rattle.std.proofs.Common.{arith}
 use Rattle.journal.proofs.Runs.{nothing_written, part_begun, run_inside, run_moments, run_ready, run_same, run_written}
 use Rattle.device_map.specs.Layout.{layout_of, image}

@@ -1,3 +1,4 @@
+-- The sizes of the stretches before it sum up to its place, and there one write patches the image.
 use Rattle.std.proofs.Common.{◌≡◌, ◌+◌, ◌-◌, ℕ, List, sym, ◌∙◌, ap, arith}
 use Rattle.std.proofs.lemmas.Result.{err_from_is_err_and}
 use Rattle.disk.specs.Device.{overlaid}

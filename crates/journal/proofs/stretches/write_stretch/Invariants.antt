@@ -1,3 +1,4 @@
+-- The place is that at which the next stretch begins.
 use Rattle.std.proofs.Common.{◌≡◌}
 use Rattle.journal.specs.Stretches.{stretch_at}
 use Rattle.journal.proofs.stretches.write_stretch.Given as goal

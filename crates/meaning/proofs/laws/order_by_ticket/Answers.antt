@@ -1,3 +1,4 @@
+-- Sorting by ticket moves a message past unrelated ones alone, with which its step commutes.
 use Rattle.meaning.proofs.ByTicket.{in_order-by_ticket, permutation-by_ticket, same_by_ticket}
 use Rattle.meaning.proofs.laws.order_by_ticket.Goals as goal
 

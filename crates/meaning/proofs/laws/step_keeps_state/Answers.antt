@@ -1,3 +1,4 @@
+-- Each effect keeps numbers in range, lengths and quotas, and so do steps, one after the other.
 use Rattle.meaning.proofs.Kept.{empty_is_state, step_kept, fold_kept}
 use Rattle.meaning.proofs.laws.step_keeps_state.Goals as goal
 

@@ -1,3 +1,4 @@
+-- The tests of a message are those of its kind.
 use Rattle.std.proofs.Common.{ap, ◌∙◌}
 use Rattle.meaning.specs.ByKind.{tests_by}
 use Rattle.meaning.proofs.ByKind.{tests_by_kind}

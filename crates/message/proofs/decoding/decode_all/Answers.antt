@@ -1,3 +1,4 @@
+-- Each pair adds one byte, and the greatest value of all is at least 16 exactly where one character is no digit.
 use Rattle.std.proofs.Common.{◌≡◌, ◌+◌, ◌*◌, ◌%◌, Ok, arith, ap, sym, ◌∙◌, inl, inr, get_or}
 use Rattle.message.proofs.DigitLoop.{value_of, greatest_small, greatest_other, pair_read, other_refused}
 use Rattle.hex.proofs.Pairs.{decode_step, decode_done}

@@ -1,3 +1,4 @@
+-- While the greatest value is a digit's, the pairs so far are decoded; once it is not, the digits are refused.
 use Rattle.std.proofs.Common.{◌≡◌, ◌*◌, ◌<◌, ◌≤◌, take, drop}
 use Rattle.std.specs.Prelude.{IsErr}
 use Rattle.hex.specs.Hex.{decode_pairs}

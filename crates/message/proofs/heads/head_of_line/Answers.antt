@@ -1,3 +1,4 @@
+-- A line that is too long, or whose first word is no keyword, has no message; else its kind gives the head.
 use Rattle.std.proofs.Common.{[], sym, subst}
 use Rattle.messages.specs.Lines.{words}
 use Rattle.message.specs.Heads.{IsHead}

@@ -1,3 +1,4 @@
+-- Each kind but summary has numbers behind its keyword.
 use Rattle.message.proofs.Keywords.{needs_words}
 use Rattle.message.proofs.heads.head_of_word.Goals as goal
 

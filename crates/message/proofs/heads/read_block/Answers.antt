@@ -1,3 +1,4 @@
+-- The digits spell a block exactly where they spell its 512 bytes.
 use Rattle.std.proofs.Common.{◌≡◌, ℕ, List, Option, Some, None}
 use Rattle.std.specs.Prelude.{MatchOption}
 use Rattle.messages.specs.Lines.{block_in_word, bytes_in_word}

@@ -1,3 +1,4 @@
+-- Pairs of digits, one to 512 of them, are decoded to the front of the zeros; all else spells no bytes.
 use Rattle.std.proofs.Common.{◌/◌, length, sym, refl, arith, inl, inr}
 use Rattle.message.proofs.Blocks.{no_bytes, bytes_decoded, bytes_not_decoded}
 use Rattle.message.proofs.heads.read_bytes.Goals as goal

@@ -1,3 +1,4 @@
+-- The four numbers are read one behind the other; where one is missing, the line spells no write.
 use Rattle.std.proofs.Common.{◌∙◌}
 use Rattle.messages.specs.declared.Msg.TheVariants.{Write as write}
 use Rattle.messages.specs.Lines.{words}

@@ -1,3 +1,4 @@
+-- Pairs of digits, one to N of them, are decoded to the front of the zeros; all else spells no bytes.
 use Rattle.std.proofs.Common.{◌/◌, length, sym, ◌∙◌, refl, arith, inl, inr}
 use Rattle.message.proofs.Blocks.{no_bytes, bytes_decoded, bytes_not_decoded, decoded_by_crate}
 use Rattle.message.proofs.parsing.bytes_in_word.Goals as goal

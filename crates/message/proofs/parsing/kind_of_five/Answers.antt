@@ -1,3 +1,4 @@
+-- A word of five bytes is write, punch, usage or label, or no keyword: all other keywords have another length.
 use Rattle.std.proofs.Common.{sym, ◌∙◌}
 use Rattle.affinity.specs.declared.kinds.Kind.TheVariants.{Write, Punch, Usage, Label}
 use Rattle.message.proofs.Keywords.{fails_all, passes}

@@ -1,3 +1,4 @@
+-- A word of four bytes is seal, read or list, or no keyword: all other keywords have another length.
 use Rattle.std.proofs.Common.{sym, ◌∙◌}
 use Rattle.affinity.specs.declared.kinds.Kind.TheVariants.{Seal, Read, List as ListFiles}
 use Rattle.message.proofs.Keywords.{fails_all, passes}

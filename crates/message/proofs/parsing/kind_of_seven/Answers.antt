@@ -1,3 +1,4 @@
+-- A word of seven bytes is makevol, dropvol or summary, or no keyword: all other keywords have another length.
 use Rattle.std.proofs.Common.{sym, ◌∙◌}
 use Rattle.affinity.specs.declared.kinds.Kind.TheVariants.{MakeVol, DropVol, Summary}
 use Rattle.message.proofs.Keywords.{fails_all, passes}

@@ -1,3 +1,4 @@
+-- A word of six bytes is create, delete or unseal, or no keyword: all other keywords have another length.
 use Rattle.std.proofs.Common.{sym, ◌∙◌}
 use Rattle.affinity.specs.declared.kinds.Kind.TheVariants.{Create, Delete, Unseal}
 use Rattle.message.proofs.Keywords.{fails_all, passes}

@@ -1,3 +1,4 @@
+-- Two numbers and the digits of a label, read one behind the other; where one is missing there is no message.
 use Rattle.std.proofs.Common.{sym, ◌∙◌}
 use Rattle.messages.specs.declared.Msg.TheVariants.{SetLabel as set_label}
 use Rattle.messages.specs.Lines.{words}

@@ -1,3 +1,4 @@
+-- All characters so far are digits, and their decimal value, below 65536, is the value so far.
 use Rattle.std.proofs.Common.{◌≡◌, ◌<◌, true, take}
 use Rattle.std.specs.Str.{all_ascii_digits}
 use Rattle.std.specs.Str.Parse.{digits_value}

@@ -1,3 +1,4 @@
+-- Digits have no space among them, so the first space ends the first word, whose value was summed on the way.
 use Rattle.std.proofs.Common.{◌≡◌, ◌+◌, ◌*◌, ◌-◌, get_or, length, take, drop, true, add-one, arith, refl, ap, sym, ◌∙◌}
 use Rattle.std.specs.Char.{is_ascii_digit}
 use Rattle.std.specs.Str.Parse.{digits_value}

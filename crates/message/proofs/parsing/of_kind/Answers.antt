@@ -1,3 +1,4 @@
+-- A word behind the keyword of a summary spells no message.
 use Rattle.std.proofs.Common.{sym}
 use Rattle.messages.specs.declared.Msg.TheVariants.{Summary}
 use Rattle.message.proofs.Forms.{nothing_behind}

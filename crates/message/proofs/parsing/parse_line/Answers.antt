@@ -1,3 +1,4 @@
+-- The line is split into words, the first names the kind and the rest its numbers; by one equation for both clauses.
 use Rattle.std.proofs.Common.{◌≡◌, ℕ, List, [], Option, Some, ap, sym, ◌∙◌}
 use Rattle.std.specs.Prelude.{◌↔◌}
 use Rattle.affinity.specs.declared.kinds.Kind.{Kind}

@@ -1,3 +1,4 @@
+-- Digits whose value is below 65536 are a number, unless there are none or the first of several is a zero.
 use Rattle.std.proofs.Common.{◌≡◌, ◌<◌, get_or, length, Some, arith, ap, sym, ◌∙◌, inl, inr}
 use Rattle.std.proofs.lemmas.Bool.{true≢false, eqb-true, eqb-false, cases_lt}
 use Rattle.message.proofs.Numbers.{no_number, number_from}

@@ -1,3 +1,4 @@
+-- The first word ends at the first space; without a space the whole line is one word.
 use Rattle.std.proofs.Common.{length, arith}
 use Rattle.std.proofs.lemmas.Bool.{eqb-true}
 use Rattle.message.proofs.Words.{none_before, words_split, words_whole}

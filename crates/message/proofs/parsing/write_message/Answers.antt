@@ -1,3 +1,4 @@
+-- Four numbers and the digits of a block, read one behind the other; where one is missing there is no message.
 use Rattle.std.proofs.Common.{sym, ◌∙◌}
 use Rattle.messages.specs.declared.Msg.TheVariants.{Write as write}
 use Rattle.messages.specs.Lines.{words}

@@ -1,3 +1,4 @@
+-- The decimal text of a number below 10 is one digit.
 use Rattle.std.proofs.Common.{List, ℕ, ◌∷◌, sym, ap, subst}
 use Rattle.std.proofs.lemmas.Fmt.{decimal_digit}
 use Rattle.messages.specs.Replies.{Appends}

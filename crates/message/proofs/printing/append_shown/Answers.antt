@@ -1,3 +1,4 @@
+-- The bytes up to the last that isn't 0 are written as two digits each.
 use Rattle.std.proofs.Common.{◌≡◌, ℕ, ◌+◌, ◌*◌, ◌-◌, List, length, take, arith, length-take-le}
 use Rattle.hex.specs.Hex.{encode_lower}
 use Rattle.message.proofs.Assembly.{appends_part, appends_same, length-lower, shown_by}

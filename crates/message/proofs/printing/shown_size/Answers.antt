@@ -1,3 +1,4 @@
+-- A zero at the end is left out until there is none, or one byte is left.
 use Rattle.std.proofs.Common.{length, ap, sym, ◌∙◌, arith}
 use Rattle.std.proofs.lemmas.List.{take_all}
 use Rattle.messages.specs.Replies.{without_zeros, at_least_one}

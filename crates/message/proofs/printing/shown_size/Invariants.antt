@@ -1,3 +1,4 @@
+-- Behind the bytes that are left there are zeros alone, so the bytes without their last zeros are as at first.
 use Rattle.std.proofs.Common.{◌≡◌, ◌≤◌, take, length}
 use Rattle.messages.specs.Replies.{without_zeros}
 use Rattle.message.proofs.printing.shown_size.Given as goal

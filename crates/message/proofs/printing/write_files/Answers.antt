@@ -1,3 +1,4 @@
+-- The lowest bit of those that are left is the next file; where none is left, all files are listed.
 use Rattle.std.proofs.Common.{◌≡◌, ◌/◌, ◌^◌, ◌<◌, arith}
 use Rattle.message.proofs.Assembly.{appends_more, appends_same, all_files, files_end, next_file}
 use Rattle.message.proofs.printing.write_files.Goals as goal

@@ -1,3 +1,4 @@
+-- The files below the place are listed, in at most 11 bytes each.
 use Rattle.std.proofs.Common.{◌≤◌, ◌+◌, ◌-◌, ◌*◌, codes, ◌++◌}
 use Rattle.messages.specs.Replies.{Appends, files_below}
 use Rattle.message.proofs.printing.write_files.Given as goal

@@ -1,3 +1,4 @@
+-- The newline behind the text of a reply ends its line; what lies behind stays.
 use Rattle.std.proofs.Common.{zero-add, ◌∙◌}
 use Rattle.message.proofs.Assembly.{appends_more, line_bound}
 use Rattle.message.proofs.printing.write_reply.Goals as goal

@@ -1,3 +1,4 @@
+-- The keyword and three numbers are appended one behind the other.
 use Rattle.message.proofs.Assembly.{appends_more}
 use Rattle.message.proofs.printing.write_summary.Goals as goal
 

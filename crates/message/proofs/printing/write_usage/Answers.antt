@@ -1,3 +1,4 @@
+-- The keyword, two numbers and whether the volume is sealed are appended one behind the other.
 use Rattle.std.proofs.Common.{sym, ap, codes}
 use Rattle.std.specs.Prelude.{if◌then◌else◌}
 use Rattle.message.proofs.Assembly.{appends_more, appends_same}

@@ -1,3 +1,4 @@
+-- A block takes all 512 bytes behind the head.
 use Rattle.std.proofs.Common.{◌≡◌, List, ℕ, drop, take, ap, length-drop, ◌∙◌, arith}
 use Rattle.std.specs.Prelude.{slice_index}
 use Rattle.std.proofs.lemmas.List.{take_all}

@@ -1,3 +1,4 @@
+-- Head and data are written one behind the other: a block, a label with zeros, or zeros alone.
 use Rattle.std.proofs.Common.{◌≡◌, length, ◌++◌, refl, ap, sym, ◌∙◌}
 use Rattle.message.specs.Records.{record_head, data_of}
 use Rattle.message.proofs.RecordLemmas.{put_together, length_head, length_behind, data_of_write, data_of_setlabel, zeros_else}

@@ -1,3 +1,4 @@
+-- A block's data is any 512 bytes; behind a label, and for all other kinds, the bytes have to be zeros.
 use Rattle.std.proofs.Common.{◌≡◌, ℕ, ◌+◌, Bool, List, length, length-drop, take, drop, replicate, refl, ap, sym, ◌∙◌, arith}
 use Rattle.std.specs.Prelude.{◌↔◌, IsTrue}
 use Rattle.std.specs.Str.{bytes_eq}

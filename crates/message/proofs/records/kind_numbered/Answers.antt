@@ -1,3 +1,4 @@
+-- Each kind has its number, and a number that is none of the fourteen is no kind's.
 use Rattle.std.proofs.Common.{◌≡◌, sym, arith}
 use Rattle.affinity.specs.declared.kinds.Kind.TheVariants as kinds
 use Rattle.message.specs.Records.{kind_number}

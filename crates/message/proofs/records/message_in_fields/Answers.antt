@@ -1,3 +1,4 @@
+-- The number of a kind that does not exist gives no message; else the fields are the message's kind and numbers.
 use Rattle.std.proofs.Common.{drop, ◌∙◌}
 use Rattle.message.specs.Records.{assembled}
 use Rattle.message.proofs.RecordLemmas.{no_fields, some_fields}

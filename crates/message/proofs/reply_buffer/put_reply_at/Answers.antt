@@ -1,3 +1,4 @@
+-- A reply that is written into the part from `at` on follows what was there before `at`.
 use Rattle.std.proofs.Common.{◌++◌, take, ap, ◌∙◌, arith}
 use Rattle.message.proofs.WrittenParts.{take-put_mid}
 use Rattle.message.proofs.reply_buffer.put_reply_at.Goals as goal

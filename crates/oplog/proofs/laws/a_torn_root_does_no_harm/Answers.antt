@@ -1,3 +1,4 @@
+-- Whatever is left of the root byte names one of the two areas, and both recover to the same.
 use Rattle.oplog.proofs.AfterCrash.{torn_root_stands, flip_by_area}
 use Rattle.oplog.proofs.laws.a_torn_root_does_no_harm.Goals as goal
 

@@ -1,3 +1,4 @@
+-- The first m new records follow those in force, so that recovery runs them on what it came to before.
 use Rattle.oplog.proofs.AfterCrash.{append_stands, all_by_area}
 use Rattle.oplog.proofs.laws.appended_records_stand.Goals as goal
 

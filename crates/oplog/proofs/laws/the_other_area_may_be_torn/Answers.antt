@@ -1,3 +1,4 @@
+-- Recovery reads neither the image that isn't named nor a half that isn't in force.
 use Rattle.oplog.proofs.AfterCrash.{clear_by_area, image_by_area}
 use Rattle.oplog.proofs.laws.the_other_area_may_be_torn.Goals as goal
 

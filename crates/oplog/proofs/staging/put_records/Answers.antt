@@ -1,3 +1,4 @@
+-- The next record is put behind those before it, and is as long as they are.
 use Rattle.std.proofs.Common.{arith}
 use Rattle.std.proofs.lemmas.Grind.{common_steps}
 use Rattle.oplog.proofs.Staged.{staged_more, sized_more}

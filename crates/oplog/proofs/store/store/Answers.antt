@@ -1,3 +1,4 @@
+-- The sync after the write leaves nothing to a crash that the write did not.
 use Rattle.disk.proofs.Calls.{after_sync}
 use Rattle.oplog.proofs.store.store.Goals as goal
 

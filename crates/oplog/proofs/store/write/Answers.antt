@@ -1,3 +1,4 @@
+-- Outside its range a write changes no byte, at any moment, and leaves none unsynced that wasn't before.
 use Rattle.oplog.proofs.OneWrite.{written, touched}
 use Rattle.oplog.proofs.store.write.Goals as goal
 

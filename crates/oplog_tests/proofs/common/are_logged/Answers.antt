@@ -1,3 +1,4 @@
+-- This message is one that the log keeps, as are all before it.
 use Rattle.std.proofs.Common.{ℕ, get_or, subst}
 use Rattle.std.proofs.lemmas.List.{get_or_default}
 use borrow.Author.Count.{below_more}

@@ -1,3 +1,4 @@
+-- Each of the messages so far is one that the log keeps.
 use Rattle.std.proofs.Common.{ℕ, ◌<◌, get_or}
 use Rattle.messages.specs.declared.Msg.{Msg}
 use Rattle.oplog.specs.Logged.{IsLogged}

@@ -1,3 +1,4 @@
+-- The other half was cleared, so it is ready for records once it is chained and current.
 use Rattle.std.proofs.Common.{arith}
 use Rattle.oplog.proofs.Ready.{ready_chained}
 use Rattle.oplog_tests.proofs.common.chain_halves.Goals as goal

@@ -1,3 +1,4 @@
+-- The other half was cleared, so it is ready for records once it is named and current.
 use Rattle.std.proofs.Common.{arith}
 use Rattle.oplog.proofs.Ready.{ready_named}
 use Rattle.oplog_tests.proofs.common.change_halves.Goals as goal

@@ -1,3 +1,4 @@
+-- At the place the tree has what the run left, elsewhere what it had, and the message changes nothing there.
 use Rattle.parcel.proofs.SerialRuns.{served_step, served_is_in, served_state}
 use Rattle.parcel.proofs.laws.lent_run_and_restored_is_a_step.Goals as goal
 

@@ -1,3 +1,4 @@
+-- Agreement at and below a path is that of the shares, and above it that of the standings.
 use Rattle.meaning.proofs.ShareLaws.{agree_from_share}
 use Rattle.parcel.specs.Shown.{shown_state}
 use Rattle.parcel.proofs.SerialRuns.{shown_share, shown_standing}

@@ -1,3 +1,4 @@
+-- Outside the path each node stays the same, and a state at a path is read off the nodes there.
 use Rattle.parcel.proofs.Leaving.{taken_leaves, put_leaves}
 use Rattle.parcel.proofs.laws.tree_agrees_elsewhere.Goals as goal
 

@@ -1,3 +1,4 @@
+-- The ticket and the message are handed on, and the reply and the parcels are those of the run.
 use Rattle.std.proofs.Common.{refl}
 use Rattle.parcel.proofs.running.run.Goals as goal
 

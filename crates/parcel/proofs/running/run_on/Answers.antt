@@ -1,3 +1,4 @@
+-- The six kinds of places, each by the contract of what runs there.
 use Rattle.parcel.proofs.running.run_on.Goals as goal
 
 pub returns-in-Root-clause-step : goal.returns-in-Root-clause-step

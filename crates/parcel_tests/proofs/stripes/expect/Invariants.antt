@@ -1,3 +1,4 @@
+-- The stripe keeps its quota from step to step.
 use Rattle.std.proofs.Common.{◌≡◌}
 use Rattle.parcel_tests.proofs.stripes.expect.Given as goal
 

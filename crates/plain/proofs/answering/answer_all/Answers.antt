@@ -1,3 +1,4 @@
+-- At the end of the input all lines are answered; too many to count leave a beginning of the serial output.
 use Rattle.message.specs.Reader.{unread}
 use Rattle.message.specs.Waiting.{so_far}
 use Rattle.plain.specs.Server.{server_state}

@@ -1,3 +1,4 @@
+-- The answers so far are the serial server's, and so is the state after them, with its counts right.
 use Rattle.message.specs.Reader.{unread, is_drained, KnowsEnd}
 use Rattle.message.specs.Waiting.{so_far}
 use Rattle.plain.specs.Server.{server_state, IsConsistent}

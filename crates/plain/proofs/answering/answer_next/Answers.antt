@@ -1,3 +1,4 @@
+-- Whatever comes next, a line, one too long, the end or a fault, each whole line before it has its answer.
 use Rattle.std.proofs.Common.{refl, sym, ap, ◌∙◌, subst, ℕ, List, Option}
 use Rattle.std.specs.Prelude.{IfSome}
 use Rattle.messages.specs.FirstLine.{LosesFront}

@@ -1,3 +1,4 @@
+-- Where memory ran out, what was answered is sent before the end, so the output is a beginning of the serial one.
 use Rattle.meaning.specs.State.{empty}
 use Rattle.meaning.specs.Output.{IsBeginning}
 use Rattle.plain.proofs.SessionSteps.{writes_sent}

@@ -1,3 +1,4 @@
+-- The name by which the reader is lent.
 use Rattle.plain.proofs.serving.serve_from.Given as goal
 
 -- the loan of the reader

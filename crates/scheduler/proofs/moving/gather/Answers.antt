@@ -1,3 +1,4 @@
+-- The chain of those that ran is walked slot by slot: each is there, and the log keeps it if it changed the state.
 use Rattle.std.proofs.Common.{sym, ap, ◌∙◌, refl, length, arith}
 use Rattle.std.specs.Prelude.{cond, option_copied}
 use Rattle.affinity.specs.Kind.{is_changing}

@@ -1,3 +1,4 @@
+-- Of those that ran there is a first, and it becomes the last of the logged ones.
 use Rattle.std.proofs.Common.{sym, subst, ◌∙◌}
 use Rattle.arena.specs.Row.{IsParted, Row}
 use Rattle.scheduler.proofs.Shifting.{first_is_there, first_logged}

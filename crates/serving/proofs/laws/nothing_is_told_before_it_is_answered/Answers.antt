@@ -1,3 +1,4 @@
+-- While all messages are inside none was answered, so no line that may go out is a message's reply.
 use Rattle.serving.proofs.Silence.{no_reply, nothing_done}
 use Rattle.serving.proofs.laws.nothing_is_told_before_it_is_answered.Goals as goal
 

@@ -1,3 +1,4 @@
+-- A crash image that holds what went out recovers to a state with those lines and a closed part of the rest.
 use Rattle.serving.specs.Ends.{settled_in}
 use Rattle.serving.proofs.Holding.{holds_told}
 use Rattle.serving.proofs.Recovering.{stands_recovered}

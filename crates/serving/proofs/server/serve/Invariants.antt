@@ -1,3 +1,4 @@
+-- Where the call begins, and the name by which the writer is lent.
 use Rattle.std.proofs.Common.{Some}
 use Rattle.serving.proofs.server.serve.Given as goal
 

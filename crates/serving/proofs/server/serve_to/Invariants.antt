@@ -1,3 +1,4 @@
+-- The name by which the reader is lent to the session.
 use Rattle.serving.proofs.server.serve_to.Given as goal
 
 -- the loan of the reader

@@ -1,3 +1,4 @@
+-- Where the call begins: the core, the workers, the input, and an output that is empty.
 use Rattle.std.proofs.Common.{[], Some}
 use Rattle.serving_tests.proofs.watching.serve_watched.Given as goal
 

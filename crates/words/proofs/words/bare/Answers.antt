@@ -1,3 +1,4 @@
+-- The program without its commands: it has a version, and asks for a subcommand.
 use Rattle.std.proofs.Common.{ap, true}
 use Rattle.clap.specs.Simple.{on_top}
 use Rattle.clap.specs.Words.{App}

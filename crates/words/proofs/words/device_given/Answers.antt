@@ -1,3 +1,4 @@
+-- The file is the first value given to its option, and the empty text where there is none.
 use Rattle.std.proofs.Common.{◌∙◌, ap, Bor, List, [], ℕ, refl}
 use Rattle.std.specs.Prelude.{unwrap_or}
 use Rattle.clap.specs.Words.{found_of}

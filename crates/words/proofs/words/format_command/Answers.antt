@@ -1,3 +1,4 @@
+-- The command of a device gets the options of a geometry.
 use Rattle.std.proofs.Common.{◌∙◌, ap}
 use Rattle.std.proofs.lemmas.Result.{IfOk-weaker}
 use Rattle.words.specs.Words.{with_numbers}

@@ -1,3 +1,4 @@
+-- A new command gets the options of a geometry.
 use Rattle.std.proofs.Common.{◌≡◌, ◌∙◌, ap, codes}
 use Rattle.std.proofs.lemmas.Result.{IfOk-weaker}
 use Rattle.clap.specs.Words.{app_of, new_app}

@@ -1,3 +1,4 @@
+-- If clap takes the words, their options give the request; else its error has the kind of a finding in them.
 use Rattle.std.proofs.Common.{◌≡◌, map, string_bytes, subst, true, refl, []}
 use Rattle.clap.specs.Words.{App, HasKind, fault_of, is_simple, is_simple_and_free, subcommand_of, subcommand_rows_of}
 use Rattle.words.specs.Words.{IsRequested, findings, waffd}

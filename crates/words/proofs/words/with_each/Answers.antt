@@ -1,3 +1,4 @@
+-- One more option adds its rule behind those before it.
 use Rattle.std.proofs.Common.{◌∙◌, ap₂, sym}
 use Rattle.std.proofs.lemmas.List.Sums.{fold_more}
 use Rattle.clap.specs.Words.{with_rule}

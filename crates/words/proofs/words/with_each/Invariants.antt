@@ -1,3 +1,4 @@
+-- The rules of the options so far are added, in order.
 use Rattle.std.proofs.Common.{◌≡◌, take}
 use Rattle.std.specs.Prelude.{fold}
 use Rattle.clap.specs.Words.{app_of, with_rule}

@@ -1,3 +1,4 @@
+-- Each of the eight options adds its rule behind those before it.
 use Rattle.words.proofs.words.with_geometry.Goals as goal
 
 pub returns : goal.returns

@@ -1,3 +1,4 @@
+-- So many empty trays so far.
 use Rattle.std.proofs.Common.{◌≡◌, replicate, None}
 use Rattle.workers.proofs.bench.empty_trays.Given as goal
 

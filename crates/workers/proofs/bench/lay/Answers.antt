@@ -1,3 +1,4 @@
+-- Words of zeros and empty slots keep the rule of the bench while no place is ready.
 use Rattle.std.proofs.Common.{sym, subst, replicate, None}
 use Rattle.atomic_table.specs.Table.{opening}
 use Rattle.workers.specs.Rule.{BenchRule}

@@ -1,3 +1,4 @@
+-- The slot of the last place that isn't ready comes before the others, so that they end up in order.
 use Rattle.std.proofs.Common.{◌≡◌, ◌+◌, ◌-◌, ◌∷◌, ap, ◌∙◌, replicate, None, arith}
 use Rattle.std.proofs.lemmas.List.{get_or-replicate}
 use Rattle.workers.specs.Steps.{Sat}

@@ -1,3 +1,4 @@
+-- The places from this one on are ready, and the seat has their slots in order.
 use Rattle.std.proofs.Common.{◌≡◌, ◌≤◌, ◌-◌, replicate, None}
 use Rattle.workers.specs.Desk.{spare}
 use Rattle.workers.specs.declared.seats.View.TheVariants.{Dispatcher}

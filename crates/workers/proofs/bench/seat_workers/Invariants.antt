@@ -1,3 +1,4 @@
+-- So many seats of this bench so far, and the dispatcher's is as it was.
 use Rattle.std.proofs.Common.{◌≡◌, All, vec_len}
 use Rattle.workers.proofs.bench.seat_workers.Given as goal
 

@@ -1,3 +1,4 @@
+-- One exchange of offered for claimed: it wins the slot with the job, or else changes nothing.
 use Rattle.std.proofs.Common.{rules, arith, refl, ap, ◌∙◌, eqb-true, ◌∷◌, Some}
 use Rattle.std.proofs.lemmas.Bool.{eqb-false}
 use Rattle.workers.specs.Steps.{Sat}

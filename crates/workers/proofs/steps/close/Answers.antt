@@ -1,3 +1,4 @@
+-- The stop word belongs to no place, so a store into it keeps the rule of the bench.
 use Rattle.std.proofs.Common.{rules, arith}
 use Rattle.workers.proofs.Keeps.{rings}
 use Rattle.workers.proofs.steps.close.Goals as goal

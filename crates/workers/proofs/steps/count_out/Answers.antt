@@ -1,3 +1,4 @@
+-- A counter belongs to no place, so taking one from it keeps the rule of the bench.
 use Rattle.std.proofs.Common.{rules, arith, ◌+◌, ◌-◌, ◌%◌, ◌^◌}
 use Rattle.workers.proofs.Keeps.{rings}
 use Rattle.workers.proofs.steps.count_out.Goals as goal

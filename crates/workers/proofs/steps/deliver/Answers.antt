@@ -1,3 +1,4 @@
+-- The store keeps the rule, since the slot has the result of the claimed job; it goes home, and the seat is idle.
 use Rattle.std.proofs.Common.{rules, arith, refl, ap, ◌∙◌}
 use Rattle.atomic_table.specs.Table.{rest}
 use Rattle.workers.specs.Steps.{Sat}

@@ -1,3 +1,4 @@
+-- The store keeps the rule of the bench: nothing is lent at the place, and the slot that was taken last has the job.
 use Rattle.std.proofs.Common.{rules, arith}
 use Rattle.workers.proofs.Keeps.{offers}
 use Rattle.workers.proofs.steps.offer.Goals as goal

@@ -1,3 +1,4 @@
+-- The store keeps the rule of the bench: nothing is lent at the last place that isn't ready yet.
 use Rattle.std.proofs.Common.{rules, arith}
 use Rattle.workers.proofs.Keeps.{readies}
 use Rattle.workers.proofs.steps.ready.Goals as goal

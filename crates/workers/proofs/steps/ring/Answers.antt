@@ -1,3 +1,4 @@
+-- A bell belongs to no place, so one more on it keeps the rule of the bench.
 use Rattle.std.proofs.Common.{rules, arith, ◌+◌, ◌%◌, ◌^◌}
 use Rattle.workers.proofs.Keeps.{rings}
 use Rattle.workers.proofs.steps.ring.Goals as goal

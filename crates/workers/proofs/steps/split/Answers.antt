@@ -1,3 +1,4 @@
+-- A seat that is split off is idle and has no slot, which keeps the rule of the bench.
 use Rattle.std.proofs.Common.{rules, arith}
 use Rattle.workers.proofs.Keeps.{splits}
 use Rattle.workers.proofs.steps.split.Goals as goal

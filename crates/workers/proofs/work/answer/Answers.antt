@@ -1,3 +1,4 @@
+-- The slot that was claimed has the job; its result is laid into that slot, and is what the job's run gives.
 use Rattle.std.proofs.Common.{◌∙◌, ap, subst, [], Some}
 use Rattle.parcel.specs.Run.{IsJobRun}
 use Rattle.workers.specs.Steps.{Sat}

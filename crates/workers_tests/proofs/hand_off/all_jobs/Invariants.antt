@@ -1,3 +1,4 @@
+-- The dispatcher's seat stays at its bench from one round to the next.
 use Rattle.std.proofs.Common.{◌≡◌}
 use Rattle.workers_tests.proofs.hand_off.all_jobs.Given as goal
 

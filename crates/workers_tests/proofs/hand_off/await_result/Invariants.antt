@@ -1,3 +1,4 @@
+-- The dispatcher's seat stays at its bench from one wait to the next.
 use Rattle.std.proofs.Common.{◌≡◌}
 use Rattle.workers_tests.proofs.hand_off.await_result.Given as goal
 

@@ -1,3 +1,4 @@
+-- The dispatcher's seat stays at its bench from one place to the next, as results are collected.
 use Rattle.std.proofs.Common.{◌≡◌}
 use Rattle.workers_tests.proofs.hand_off.collect_round.Given as goal
 

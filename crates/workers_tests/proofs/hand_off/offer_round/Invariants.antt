@@ -1,3 +1,4 @@
+-- The dispatcher's seat stays at its bench from one place to the next, as jobs are offered.
 use Rattle.std.proofs.Common.{◌≡◌}
 use Rattle.workers_tests.proofs.hand_off.offer_round.Given as goal
 

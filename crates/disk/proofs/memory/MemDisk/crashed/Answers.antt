@@ -1,3 +1,4 @@
+-- The copy is torn in its unsynced bytes alone, so it is a crash image of the device.
 use Rattle.std.proofs.Common.{rules, ◌≡◌, List, length, ℕ, ap, sym, subst, ◌∙◌, arith}
 use Rattle.std.proofs.lemmas.Grind.{common_steps}
 use Rattle.disk.specs.Device.{SameButLoose}

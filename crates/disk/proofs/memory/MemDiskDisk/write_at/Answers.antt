@@ -1,3 +1,4 @@
+-- What is unsynced lies in the span that the next sync looks at, whether the write succeeds or fails.
 use Rattle.std.proofs.Common.{refl, sym, subst, arith}
 use Rattle.std.proofs.lemmas.Grind.{common_steps}
 use Rattle.disk.specs.Device.{AreBytes, Medium}

@@ -1,3 +1,4 @@
+-- Up to the root byte a crash reads the old area and then the new one, and both recover to the committed state.
 use Rattle.std.proofs.Common.{◌≡◌, false, Option, Some, None, ℕ, List, ◌++◌, length, sym, ◌∙◌, ap, subst, arith}
 use Rattle.affinity.specs.declared.geometry.Geometry.{Geometry}
 use Rattle.checkpoint.specs.Recovery.{holds}

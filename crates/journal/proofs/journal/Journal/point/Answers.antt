@@ -1,3 +1,4 @@
+-- The frozen image is that of the committed state, and the clean pieces are on the device: a crash recovers to it.
 use Rattle.std.proofs.Common.{◌≡◌, false, Option, Some, None, ℕ, Bool, List, length, sym, ◌∙◌, ap, subst, arith}
 use Rattle.std.proofs.lemmas.List.{length-replicate}
 use Rattle.affinity.specs.declared.geometry.Geometry.{Geometry}

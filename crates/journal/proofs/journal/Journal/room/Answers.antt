@@ -1,3 +1,4 @@
+-- The invariant of a journal that hasn't failed: whatever a crash leaves now recovers to the committed state.
 use Rattle.std.proofs.Common.{◌∙◌, ap, subst}
 use Rattle.journal.specs.Journal.{JournalView, IsSettled}
 use Rattle.journal.proofs.Logging.{settled_of}

@@ -1,3 +1,4 @@
+-- Empty hands hold no job, so with a sound world they keep what a machine keeps.
 use Rattle.std.proofs.Common.{List, map, ap, sym, subst, ◌∙◌}
 use Rattle.machine.proofs.Starting.{all_empty, empty_hold}
 use Rattle.runs.specs.Machine.{HoldsJobs, hand_of}

@@ -1,3 +1,4 @@
+-- No newline is held, so the place of the newline is the end, and moving to the front keeps it so.
 use Rattle.std.proofs.Common.{◌≤◌, arith, ⊎_elim}
 use Rattle.std.proofs.lemmas.Bool.{cases_lt}
 use Rattle.message.proofs.ReaderLemmas.{Contains-slice, Contains-not_within}

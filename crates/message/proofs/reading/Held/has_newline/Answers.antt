@@ -1,3 +1,4 @@
+-- A newline is held exactly where its place lies before the end of what is held.
 use Rattle.std.proofs.Common.{arith}
 use Rattle.std.proofs.lemmas.Bool.{ltb-true, ltb-false, true_from_ne_false}
 use Rattle.message.proofs.ReaderLemmas.{Contains-slice, Contains-not_within, IsWithinLine-whole_slice}

@@ -1,3 +1,4 @@
+-- The line that was given is empty, and a move of the bytes leaves it empty.
 use Rattle.std.proofs.Common.{arith}
 use Rattle.message.proofs.ReaderLemmas.{slice-still_none}
 use Rattle.message.proofs.reading.Held.move_to_front.Goals as goal

@@ -1,3 +1,4 @@
+-- Behind the first newline, or at the end, begins what is held now; its first newline is found by a search from there.
 use Rattle.std.proofs.Common.{◌≡◌, ◌+◌, ◌<◌, ℕ, List, get_or, sym, subst, arith}
 use Rattle.std.proofs.lemmas.List.Edits.{length-between}
 use Rattle.message.proofs.ReaderLemmas.{NoneFrom, NoneFrom-slice, newline-slice, behind_first_line-slice}

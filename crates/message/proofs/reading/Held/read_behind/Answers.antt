@@ -1,3 +1,4 @@
+-- What is read goes behind what was held, and its first newline is the first held; a failed read keeps all.
 use Rattle.std.proofs.Common.{◌≡◌, ◌+◌, ◌<◌, ◌≤◌, ℕ, List, length, take, drop, get_or, subst, arith}
 use Rattle.std.specs.List.{slice_range}
 use Rattle.std.proofs.lemmas.Result.{err_from_is_err_and}

@@ -1,3 +1,4 @@
+-- The line that is shown is the first of the bytes that were held, up to the newline.
 use Rattle.std.proofs.Common.{sym, ◌∙◌, arith}
 use Rattle.message.proofs.ReaderLemmas.{first_line-slice}
 use Rattle.message.proofs.reading.Held.take_line.Goals as goal

@@ -1,3 +1,4 @@
+-- The unread bytes stay the same, nothing is read where a line was held; and how many reads may still be needed.
 use Rattle.std.proofs.Common.{◌≡◌, ◌-◌, [], false, true, cond, length}
 use Rattle.std.specs.Io.KnownBytes.{Keeps}
 use Rattle.message.specs.Reader.{held_bytes, unread, line_of, HoldsLine, KnowsEnd, has_ended, has_failed}

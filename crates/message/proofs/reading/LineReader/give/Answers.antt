@@ -1,3 +1,4 @@
+-- A whole line is held, or the last one, or one that is too long: the first line of what is held is that of the input.
 use Rattle.std.proofs.Common.{◌≡◌, ◌⊎◌, ◌<◌, inl, inr, true, length, arith}
 use Rattle.std.specs.List.{Contains}
 use Rattle.std.proofs.lemmas.Bool.{iff_false}

@@ -1,3 +1,4 @@
+-- Reading on keeps the known bytes as they were, so what is found is the line that they begin with.
 use Rattle.std.proofs.Common.{ℕ, List, Option, Some, None, Result, Ok, Err, subst}
 use Rattle.std.specs.Io.KnownBytes.{Keeps}
 use Rattle.message.specs.declared.reading.Found.{Found}

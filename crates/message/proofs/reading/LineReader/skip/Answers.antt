@@ -1,3 +1,4 @@
+-- Bytes that are dropped lie before the first newline, since none was held: so only the front of one line is lost.
 use Rattle.std.specs.Io.KnownBytes.{prepend_known}
 use Rattle.message.specs.Reader.{held_bytes, still_to_come, unread}
 use Rattle.message.proofs.ReaderLemmas.{LosesFront-cleared, LosesFront-kept, LosesFront-trans}

@@ -1,3 +1,4 @@
+-- No newline is held and the input goes on; what is unread has lost no more than the front of its first line.
 use Rattle.std.proofs.Common.{◌≡◌, [], false, IfSome}
 use Rattle.messages.specs.FirstLine.{IsWithinLine, LosesFront}
 use Rattle.message.specs.Reader.{held_bytes, unread, line_of, has_failed}

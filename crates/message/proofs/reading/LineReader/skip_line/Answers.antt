@@ -1,3 +1,4 @@
+-- What was skipped is the front of the first line, so the bytes that stay unread are those behind its newline.
 use Rattle.std.proofs.Common.{◌≡◌, ◌⊎◌, inl, inr, true, IfSome}
 use Rattle.std.specs.List.{Contains}
 use Rattle.std.specs.Prelude.{◌&&◌}

@@ -1,3 +1,4 @@
+-- No newline is held, so all that is held is the first line: at most 1,100 bytes, and there is room for a read.
 use Rattle.std.proofs.Common.{length, ap, ◌∙◌, arith}
 use Rattle.std.proofs.lemmas.Bool.{leb-true}
 use Rattle.message.proofs.ReaderLemmas.{first_line-all}

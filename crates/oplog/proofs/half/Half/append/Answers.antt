@@ -1,3 +1,4 @@
+-- A crash in the next batch leaves a prefix of all messages, since the batches before it are in the front.
 use Rattle.std.proofs.Common.{◌≡◌, ◌∙◌, ℕ, ◌+◌, ◌-◌, ◌*◌, ap, length, take, subst, arith, refl}
 use Rattle.std.proofs.lemmas.Result.{err_from_is_err_and}
 use Rattle.disk.specs.Moments.{moment}

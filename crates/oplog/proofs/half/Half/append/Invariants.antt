@@ -1,3 +1,4 @@
+-- The batches so far are in the front, by four calls of the device each; and how many messages are left.
 use Rattle.std.proofs.Common.{◌≡◌, ◌<◌, ◌≤◌, ◌+◌, ◌-◌, ◌*◌, ◌%◌, length, take, vec_len}
 use Rattle.disk.specs.Moments.{moment}
 use Rattle.oplog.specs.Costs.{batches}

@@ -1,3 +1,4 @@
+-- Records are synced before their gates open, so a crash leaves the front with the first m of the batch.
 use Rattle.std.proofs.Common.{◌*◌, ℕ, List, length, take, get_or, sym, ◌∙◌, ap, arith}
 use Rattle.std.proofs.lemmas.List.{length-map}
 use Rattle.std.proofs.lemmas.Result.{on_ok_weaker}

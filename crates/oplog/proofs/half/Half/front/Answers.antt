@@ -1,3 +1,4 @@
+-- The gates that are read are the half's, and the open ones before the first shut one make up the front.
 use Rattle.std.proofs.Common.{◌∙◌, arith}
 use Rattle.device_map.specs.Layout.{layout_of}
 use Rattle.oplog.proofs.Gates.{open_at_most}

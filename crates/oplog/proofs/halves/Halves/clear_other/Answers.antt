@@ -1,3 +1,4 @@
+-- The zeros cover the chain byte of the other half, the bytes beside it and its gates, and nothing else changes.
 use Rattle.std.proofs.Common.{◌+◌, ℕ, replicate, refl, sym, ◌∙◌, subst, arith}
 use Rattle.std.proofs.lemmas.List.{length-replicate}
 use Rattle.disk.specs.Device.{SameOutside}

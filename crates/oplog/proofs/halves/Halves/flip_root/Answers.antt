@@ -1,3 +1,4 @@
+-- One byte is stored, the root byte, and no other changes at any moment.
 use Rattle.std.proofs.Common.{sym, ◌∙◌, subst, arith}
 use Rattle.oplog.specs.Calls.{HasParts, Flips, HasFlipped}
 use Rattle.device_map.specs.Layout.{layout_of, other}

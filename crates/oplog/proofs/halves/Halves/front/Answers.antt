@@ -1,3 +1,4 @@
+-- The half is one of the log's, so its open gates are those of the log's front there.
 use Rattle.std.proofs.Common.{subst}
 use Rattle.oplog.specs.Calls.{HasFront}
 use Rattle.oplog.specs.Log.{Log}

@@ -1,3 +1,4 @@
+-- One byte is stored, the chain byte of the named half, and no other changes at any moment.
 use Rattle.std.proofs.Common.{◌≡◌, ℕ, ap, arith, sym, ◌∙◌, subst}
 use Rattle.oplog.specs.Calls.{HasParts, Chains, HasChained}
 use Rattle.device_map.specs.Layout.{Layout, layout_of, part_at, half}

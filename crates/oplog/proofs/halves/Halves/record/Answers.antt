@@ -1,3 +1,4 @@
+-- The bytes that are read are the record's, and have a message exactly where they are that message's record.
 use Rattle.std.proofs.Common.{◌≡◌, ◌<◌, refl, sym, ◌∙◌, subst, arith}
 use Rattle.oplog.specs.Calls.{IsOfRecordAt}
 use Rattle.oplog.specs.Front.{record_at}

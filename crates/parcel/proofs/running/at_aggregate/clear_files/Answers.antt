@@ -1,3 +1,4 @@
+-- Stripes that are emptied fit, and are whole where they were, and no file is left.
 use Rattle.std.proofs.Common.{◌≡◌, ◌∙◌, length, arith}
 use Rattle.parcel.specs.Dropping.{Empties}
 use Rattle.parcel.specs.Fits.{FitsStripe}

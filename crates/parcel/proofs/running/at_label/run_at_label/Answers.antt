@@ -1,3 +1,4 @@
+-- Of the two messages at a label, the one that sets it, by the contract of its function.
 use Rattle.parcel.proofs.running.at_label.run_at_label.Goals as goal
 
 pub returns-in-SetLabel-clause-step : goal.returns-in-SetLabel-clause-step

@@ -1,3 +1,4 @@
+-- The bit of the file is set, which is the effect of a create that passes its tests; the stripes stay.
 use Rattle.std.proofs.Common.{◌<◌, refl, sym, ◌∙◌, arith}
 use Rattle.messages.specs.declared.Msg.TheVariants.{Create}
 use Rattle.parcel.specs.Shown.{by_logical, has_file}

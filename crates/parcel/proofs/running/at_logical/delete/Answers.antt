@@ -1,3 +1,4 @@
+-- The bit of the file goes, and each stripe drops its blocks: the effect of a delete, and all still fits.
 use Rattle.std.proofs.Common.{◌≡◌, ◌<◌, refl, sym, ◌∙◌, length, arith}
 use Rattle.affinity.specs.Geometry.{group}
 use Rattle.affinity.proofs.Placed.{group_below}

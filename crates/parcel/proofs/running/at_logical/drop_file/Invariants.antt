@@ -1,3 +1,4 @@
+-- In the stripes so far the file has no blocks, and the others are as they were.
 use Rattle.std.proofs.Common.{◌≡◌, ℕ, ◌<◌, ◌≤◌, vec_len, slice_index_or}
 use Rattle.std.specs.Prelude.{None}
 use Rattle.parcel.specs.Dropping.{DropsFile}

@@ -1,3 +1,4 @@
+-- The bits of the files that the volume has are the reply, for a list that passes its test.
 use Rattle.std.proofs.Common.{◌^◌, refl, ap, sym, ◌∙◌}
 use Rattle.std.specs.Prelude.{if◌then◌else◌}
 use Rattle.messages.specs.declared.Msg.TheVariants.{List as ListFiles}

@@ -1,3 +1,4 @@
+-- The three messages at this place, each by the contract of its own function.
 use Rattle.parcel.proofs.running.at_logical.run_at_logical.Goals as goal
 
 pub returns-in-Create-clause-step : goal.returns-in-Create-clause-step

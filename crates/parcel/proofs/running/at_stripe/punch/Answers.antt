@@ -1,3 +1,4 @@
+-- The block is gone from its stripe, which is the effect of a punch that passes its tests.
 use Rattle.std.proofs.Common.{refl, sym, ◌∙◌}
 use Rattle.messages.specs.declared.Msg.TheVariants.{Punch}
 use Rattle.parcel.specs.Shown.{by_stripe}

@@ -1,3 +1,4 @@
+-- Writes and punches at a stripe, each by the contract of its own function.
 use Rattle.parcel.proofs.running.at_stripe.run_at_stripe.Goals as goal
 
 pub returns-in-Write-clause-step : goal.returns-in-Write-clause-step

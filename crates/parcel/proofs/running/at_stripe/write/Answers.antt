@@ -1,3 +1,4 @@
+-- The stripe's entries are its blocks, so its room is the state's; the block that is set is the effect of a write.
 use Rattle.std.proofs.Common.{◌≡◌, refl, ap, sym, ◌∙◌, length}
 use Rattle.affinity.specs.Geometry.{group}
 use Rattle.messages.specs.declared.Msg.TheVariants.{Write}

@@ -1,3 +1,4 @@
+-- The three messages at a volume, each by the contract of its own function.
 use Rattle.parcel.proofs.running.at_volume.run_at_volume.Goals as goal
 
 pub returns-in-Seal-clause-step : goal.returns-in-Seal-clause-step

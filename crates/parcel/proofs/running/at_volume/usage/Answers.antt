@@ -1,3 +1,4 @@
+-- The totals of the volume and its seal are the reply, for a usage that passes its test.
 use Rattle.std.proofs.Common.{refl, sym, ◌∙◌}
 use Rattle.messages.specs.declared.Msg.TheVariants.{Usage as AskUsage}
 use Rattle.messages.specs.declared.Reply.TheVariants.{Usage}

@@ -1,3 +1,4 @@
+-- The first test that fails, of those of a create: the volume, the seal, and that the file isn't there.
 use Rattle.std.proofs.Common.{ap, ◌∙◌}
 use Rattle.std.specs.Prelude.{None, not}
 use Rattle.messages.specs.declared.Refusal.TheVariants.{Exists}

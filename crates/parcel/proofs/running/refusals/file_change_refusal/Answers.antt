@@ -1,3 +1,4 @@
+-- The first test that fails of four: range, volume, seal and file.
 use Rattle.std.proofs.Common.{ap, ◌∙◌}
 use Rattle.std.specs.Prelude.{None}
 use Rattle.messages.specs.declared.Refusal.TheVariants.{File}

@@ -1,3 +1,4 @@
+-- The first test that fails, of those of a read: the volume and the file.
 use Rattle.std.proofs.Common.{ap, ◌∙◌}
 use Rattle.std.specs.Prelude.{None}
 use Rattle.messages.specs.declared.Refusal.TheVariants.{Volume, File}

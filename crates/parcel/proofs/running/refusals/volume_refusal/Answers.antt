@@ -1,3 +1,4 @@
+-- The one test: that the volume is made.
 use Rattle.parcel.proofs.running.refusals.volume_refusal.Goals as goal
 
 pub returns : goal.returns

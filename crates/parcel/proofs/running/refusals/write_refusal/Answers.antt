@@ -1,3 +1,4 @@
+-- The first test that fails, of those of a write: the volume, the seal, the file and room in the stripe.
 use Rattle.std.proofs.Common.{ap, ◌∙◌}
 use Rattle.std.specs.Prelude.{None}
 use Rattle.messages.specs.declared.Refusal.TheVariants.{File, Space}

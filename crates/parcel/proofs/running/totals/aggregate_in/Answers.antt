@@ -1,3 +1,4 @@
+-- The totals of the aggregate where it is in, and zeros where it is not.
 use Rattle.std.proofs.Common.{ap, sym, ◌∙◌}
 use Rattle.parcel.specs.Shown.{by_aggregate, by_child}
 use Rattle.parcel.specs.Totals.{sum_totals, totals_of}

@@ -1,3 +1,4 @@
+-- Each volume fits at its place, and the sums are small enough for 32 bits.
 use Rattle.std.proofs.Common.{◌≡◌, ◌*◌, ◌<◌, sym, subst, length, slice_index_or, arith}
 use Rattle.std.specs.Prelude.{None}
 use Rattle.std.proofs.lemmas.List.{get_or_read}

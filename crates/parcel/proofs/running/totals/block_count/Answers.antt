@@ -1,3 +1,4 @@
+-- A stripe has as many entries as the state counts blocks in its group, and all groups make up the volume.
 use Rattle.std.proofs.Common.{◌≡◌, ◌<◌, ap, sym, ◌∙◌, length, slice_index_or, arith}
 use Rattle.std.specs.Prelude.{None, IfSome}
 use Rattle.std.proofs.lemmas.List.{get_or_read}

@@ -1,3 +1,4 @@
+-- The total so far is what the stripes so far count, at most 64 each.
 use Rattle.std.proofs.Common.{◌≡◌, ◌≤◌, ◌*◌}
 use Rattle.meaning.specs.State.{sum_below, group_count}
 use Rattle.parcel.specs.Shown.{blocks_of}

@@ -1,3 +1,4 @@
+-- There are at most 64 files, so that their number does not overflow.
 use Rattle.std.proofs.Common.{arith}
 use Rattle.meaning.proofs.Sums.{count_below-le}
 use Rattle.parcel.specs.Shown.{has_file}

@@ -1,3 +1,4 @@
+-- The total so far is the number of files below this one that there are.
 use Rattle.std.proofs.Common.{◌≡◌}
 use Rattle.meaning.specs.State.{count_below}
 use Rattle.parcel.specs.Shown.{has_file}

@@ -1,3 +1,4 @@
+-- Each aggregate adds its totals, and the sums are small enough for 32 bits.
 use Rattle.std.proofs.Common.{◌≡◌, ℕ, ◌*◌, ◌<◌, ap, sym, ◌∙◌, subst, length, slice_index_or, arith}
 use Rattle.std.specs.Prelude.{None}
 use Rattle.std.proofs.lemmas.List.{get_or_read}

@@ -1,3 +1,4 @@
+-- The totals so far are the sum over the aggregates so far.
 use Rattle.std.proofs.Common.{◌≡◌}
 use Rattle.parcel.specs.Shown.{by_root}
 use Rattle.parcel.specs.Totals.{sum_totals, totals_of}

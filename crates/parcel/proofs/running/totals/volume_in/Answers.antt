@@ -1,3 +1,4 @@
+-- A volume that is not in counts as zeros.
 use Rattle.std.proofs.Common.{ap, sym, ◌∙◌}
 use Rattle.parcel.specs.Shown.{by_child, volume_facts}
 use Rattle.parcel.specs.Totals.{totals_of}

@@ -1,3 +1,4 @@
+-- Files are counted by their bits and blocks by the stripes, where these are in; a volume that is made counts one.
 use Rattle.std.proofs.Common.{◌≡◌, Bool, true, false, refl, ap, sym, ◌∙◌}
 use mir.Val.{bool_byte}
 use Rattle.meaning.specs.State.{one_if}

@@ -1,3 +1,4 @@
+-- A message that passes its tests leads to the next state, again one in range, and the counts stay right.
 use Rattle.std.proofs.Common.{rules, ◌≡◌, ap, sym, ◌∙◌, subst, None}
 use Rattle.meaning.specs.State.{IsState}
 use Rattle.meaning.specs.Serial.{refusal, accepted_reply, effect, outcome}

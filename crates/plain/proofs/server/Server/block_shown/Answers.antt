@@ -1,3 +1,4 @@
+-- The block that is found is the reply to a read that passes its tests, and the state stays.
 use Rattle.std.proofs.Common.{◌≡◌, None, Some, Option, Bor, ap, sym, ◌∙◌}
 use Rattle.std.specs.Prelude.{IfSome}
 use Rattle.std.specs.Option.{option_copied}

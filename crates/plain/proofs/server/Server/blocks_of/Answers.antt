@@ -1,3 +1,4 @@
+-- The numbers that are noted for the stripes of a volume sum up to its blocks, which fit into 32 bits.
 use Rattle.std.proofs.Common.{ℕ, ap, ◌∙◌, arith}
 use Rattle.meaning.specs.State.{FileKey}
 use Rattle.plain.specs.Server.{server_state}

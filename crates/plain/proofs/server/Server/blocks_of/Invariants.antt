@@ -1,3 +1,4 @@
+-- The total so far and the numbers of the stripes still to come are the blocks of the volume.
 use Rattle.std.proofs.Common.{◌≡◌, ℕ, ◌+◌}
 use Rattle.meaning.specs.State.{FileKey, block_count}
 use Rattle.plain.specs.Server.{server_state}

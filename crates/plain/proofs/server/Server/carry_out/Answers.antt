@@ -1,3 +1,4 @@
+-- A message that passes its tests has its effect, which is the next state and again a state in range.
 use Rattle.std.proofs.Common.{◌≡◌, None, ap, sym, ◌∙◌, subst}
 use Rattle.message.specs.Heads.{asking}
 use Rattle.meaning.specs.State.{IsState}

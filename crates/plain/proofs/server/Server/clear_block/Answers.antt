@@ -1,3 +1,4 @@
+-- A removal changes its key alone, which is the effect of a punch.
 use Rattle.std.specs.BTreeMap as map
 use Rattle.meaning.specs.KeyOrders.{by_block}
 use Rattle.plain.specs.Server.{server_state}

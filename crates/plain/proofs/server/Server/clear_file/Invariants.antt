@@ -1,3 +1,4 @@
+-- But for blocks of this file the state is as it was, the counts are right; and the blocks get fewer.
 use Rattle.std.proofs.Common.{◌≡◌}
 use Rattle.std.specs.BTreeMap.{btree_map_len}
 use Rattle.meaning.specs.State.{is_block_of_file}

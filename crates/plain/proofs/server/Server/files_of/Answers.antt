@@ -1,3 +1,4 @@
+-- The keys that are walked are the files of the volume, so there are as many, at most 64.
 use Rattle.std.proofs.Common.{◌≡◌, ◌∙◌, arith}
 use Rattle.std.proofs.lemmas.Iterator.Consumers.{count_from_yields_List, YieldsList-from_rest}
 use Rattle.meaning.specs.State.{file_count}

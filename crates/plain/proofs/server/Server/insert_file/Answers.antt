@@ -1,3 +1,4 @@
+-- An insertion adds its key alone, which is the effect of a create.
 use Rattle.std.specs.BTreeSet as set
 use Rattle.meaning.specs.KeyOrders.{by_file}
 use Rattle.plain.specs.Server.{server_state}

@@ -1,3 +1,4 @@
+-- Where there is no memory for the label, the volume is taken out again, and none is made that wasn't before.
 use Rattle.std.proofs.Common.{ap, ◌∙◌}
 use Rattle.std.specs.BTreeSet as set
 use Rattle.meaning.specs.KeyOrders.{volume_order}

@@ -1,3 +1,4 @@
+-- The keys that are walked are the files of the volume, each with its own bit, so that the sum fits into 64 bits.
 use Rattle.std.proofs.Common.{◌^◌, ap, ◌∙◌, arith}
 use Rattle.std.proofs.lemmas.Nat.{one_shl}
 use Rattle.meaning.specs.State.{FileKey}

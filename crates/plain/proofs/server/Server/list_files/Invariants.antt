@@ -1,3 +1,4 @@
+-- The bits so far and those of the files still to come are the bits of the volume's files.
 use Rattle.std.proofs.Common.{◌≡◌, ◌+◌, ◌^◌}
 use Rattle.meaning.specs.State.{FileKey}
 use Rattle.meaning.specs.Serial.{file_bits}

@@ -1,3 +1,4 @@
+-- Empty sets and maps are the empty state, in which each stripe has no blocks.
 use Rattle.std.proofs.Common.{◌≡◌, ap, sym, ◌∙◌, subst}
 use Rattle.std.specs.Prelude.{unwrap_or}
 use Rattle.std.specs.Map.{lookup}

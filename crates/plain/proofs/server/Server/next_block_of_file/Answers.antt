@@ -1,3 +1,4 @@
+-- The next key in order, from block 0 of the file on, is another file's: so this one has no block.
 use Rattle.std.proofs.Common.{sym, ap}
 use Rattle.plain.proofs.RemovalOrders.{no_block_of_file}
 use Rattle.plain.proofs.server.Server.next_block_of_file.Goals as goal

@@ -1,3 +1,4 @@
+-- The next key in order, from file 0 of the volume on, is another volume's: so this one has no file.
 use Rattle.std.proofs.Common.{sym, ap}
 use Rattle.plain.proofs.RemovalOrders.{no_file_of_volume}
 use Rattle.plain.proofs.server.Server.next_file_of_volume.Goals as goal

@@ -1,3 +1,4 @@
+-- The number of the stripe is one higher, where no note counts as 0; all others stay.
 use Rattle.std.proofs.Common.{rules, ◌≡◌, ℕ, ◌+◌, List, ap, ◌∙◌}
 use Rattle.std.specs.Prelude.{unwrap_or}
 use Rattle.std.specs.BTreeMap as map

@@ -1,3 +1,4 @@
+-- The block at the key gets the new content, and each other key keeps its value: the effect of a write.
 use Rattle.std.proofs.Common.{rules}
 use Rattle.std.specs.BTreeMap as map
 use Rattle.meaning.specs.KeyOrders.{by_block}

@@ -1,3 +1,4 @@
+-- A block in another's place leaves the counts; a new one adds one to its stripe, or goes again for want of memory.
 use Rattle.std.proofs.Common.{◌≡◌, ◌+◌, Bool, true, false, ap, sym, ◌∙◌, subst}
 use Rattle.std.specs.Prelude.{not, is_some, unwrap_or}
 use Rattle.std.specs.BTreeMap as map

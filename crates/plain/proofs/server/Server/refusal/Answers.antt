@@ -1,3 +1,4 @@
+-- The refusal of a message depends on its kind and its numbers alone.
 use Rattle.std.proofs.Common.{ap, ◌∙◌}
 use Rattle.messages.specs.Messages.{kind}
 use Rattle.plain.specs.Server.{server_state}

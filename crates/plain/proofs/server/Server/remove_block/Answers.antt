@@ -1,3 +1,4 @@
+-- Where a block goes, its stripe had at least one and has one fewer; where there is none, nothing changes.
 use Rattle.std.proofs.Common.{rules, ◌≡◌, ◌+◌, true, false, sym, ◌∙◌, subst}
 use Rattle.std.specs.Prelude.{is_some}
 use Rattle.std.specs.BTreeMap as map

@@ -1,3 +1,4 @@
+-- The file's blocks are gone, and then its key alone is removed: the effect of a delete.
 use Rattle.std.proofs.Common.{ap, ◌∙◌}
 use Rattle.std.specs.BTreeSet as set
 use Rattle.meaning.specs.State.{State, dropping, is_file}

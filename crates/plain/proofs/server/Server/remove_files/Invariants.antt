@@ -1,3 +1,4 @@
+-- But for files of this volume the state is as it was, the counts are right; and the files get fewer.
 use Rattle.std.proofs.Common.{◌≡◌}
 use Rattle.std.specs.BTreeSet.{btree_set_len}
 use Rattle.plain.specs.Server.{server_state, IsConsistent}

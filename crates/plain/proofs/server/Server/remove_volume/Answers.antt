@@ -1,3 +1,4 @@
+-- The volume's files are gone, and then its key is removed from three collections: the effect of a dropvol.
 use Rattle.std.proofs.Common.{ap, ◌∙◌}
 use Rattle.std.specs.BTreeSet as set
 use Rattle.std.specs.BTreeMap as map

@@ -1,3 +1,4 @@
+-- The block of a read and the label of a volume are the accepted replies, by their look-ups.
 use Rattle.std.proofs.Common.{ap, sym, ◌∙◌}
 use Rattle.meaning.specs.Serial.{accepted_reply}
 use Rattle.plain.specs.Server.{server_state}

@@ -1,3 +1,4 @@
+-- The block of a read and the label of a volume are the accepted replies, by kind and numbers.
 use Rattle.std.proofs.Common.{sym, ap, ◌∙◌}
 use Rattle.message.specs.Heads.{asking}
 use Rattle.meaning.specs.Serial.{accepted_reply}

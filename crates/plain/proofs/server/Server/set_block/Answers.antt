@@ -1,3 +1,4 @@
+-- An insertion changes the block at its key alone, which is the effect of a write.
 use Rattle.std.specs.BTreeMap as map
 use Rattle.meaning.specs.KeyOrders.{by_block}
 use Rattle.plain.specs.Server.{server_state}

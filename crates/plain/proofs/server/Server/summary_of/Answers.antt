@@ -1,3 +1,4 @@
+-- All keys are in range, so the lengths of the two sets and the map are the totals, which fit into 32 bits.
 use Rattle.std.proofs.Common.{◌∙◌, arith}
 use Rattle.messages.specs.declared.Reply.TheVariants.{Summary}
 use Rattle.plain.specs.Server.{server_state}

@@ -1,3 +1,4 @@
+-- Where the volume isn't sealed and the block is there, the write passes all its tests and leaves the counts.
 use Rattle.std.proofs.Common.{◌≡◌, None, ap, sym, ◌∙◌, subst}
 use Rattle.std.specs.Prelude.{unwrap_or}
 use Rattle.std.specs.BTreeMap as map

@@ -1,3 +1,4 @@
+-- The message that was logged first leaves its slot and frees its affinity, with the reply that was kept for it.
 use Rattle.std.proofs.Common.{◌≡◌, ℕ, ◌<◌, ◌≤◌, length, sym, ap, subst, ◌∙◌, arith}
 use Rattle.std.specs.Prelude.{vec_capacity}
 use Rattle.arena.specs.Row.{Row, IsParted, after_take, capacity_of}

@@ -1,3 +1,4 @@
+-- Without a free slot nothing changes; else the message waits in a new slot, with a ticket above all others.
 use Rattle.std.proofs.Common.{◌≡◌, ℕ, ◌+◌, ◌≤◌, Bool, [], ◌∷◌, ◌++◌, length, refl, sym, ap, subst, ◌∙◌}
 use Rattle.std.specs.Prelude.{vec_capacity}
 use Rattle.affinity.specs.Kind.{is_changing}

@@ -1,3 +1,4 @@
+-- No message is held, so the tree is whole and has the committed state; the dirty pieces are left to write.
 use Rattle.std.proofs.Common.{◌≡◌, ℕ, ◌+◌, ◌≤◌, [], false, None, Some, refl, sym, ap, subst, ◌∙◌, rules}
 use Rattle.std.specs.Prelude.{if◌then◌else◌, is_err}
 use Rattle.disk.specs.Moments.{LeavesOnly, moment}

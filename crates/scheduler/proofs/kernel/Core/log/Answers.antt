@@ -1,3 +1,4 @@
+-- The changes that ran fit into the log, a crash recovers a prefix of them, and then they are logged.
 use Rattle.std.proofs.Common.{◌≡◌, ℕ, ◌+◌, ◌*◌, ◌-◌, ◌≤◌, List, length, take, true, false, refl, sym, ap, subst, ◌∙◌}
 use Rattle.std.specs.Prelude.{if◌then◌else◌, vec_capacity}
 use Rattle.arena.specs.Row.{capacity_of, chain_at}

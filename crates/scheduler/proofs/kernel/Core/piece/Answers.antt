@@ -1,3 +1,4 @@
+-- A refusal touches nothing; the write of a piece keeps the committed state at each moment.
 use Rattle.std.proofs.Common.{[], refl, sym, subst, ◌∙◌}
 use Rattle.std.specs.Prelude.{if◌then◌else◌}
 use Rattle.disk.specs.Moments.{LeavesOnly}

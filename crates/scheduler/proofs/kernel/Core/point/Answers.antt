@@ -1,3 +1,4 @@
+-- No message is held, so the tree is whole and has the committed state, and the checkpoint keeps that state.
 use Rattle.std.proofs.Common.{◌≤◌, ◌+◌, [], arith, refl, sym, ap, subst, ◌∙◌}
 use Rattle.std.specs.Prelude.{if◌then◌else◌}
 use Rattle.disk.specs.Moments.{LeavesOnly, moment}

@@ -1,3 +1,4 @@
+-- The invariant of a core: what a crash leaves now, and nothing in doubt unless a call has failed.
 use Rattle.std.proofs.Common.{◌≡◌, [], false, subst}
 use Rattle.scheduler.specs.Kept.{CoreView, StandsNow}
 use Rattle.scheduler.proofs.kernel.Core.stands.Goals as goal

@@ -1,3 +1,4 @@
+-- Meanwhile no line is read, and neither the output nor the device fails.
 use Rattle.std.proofs.Common.{◌≡◌}
 use Rattle.serving.specs.Session.{IsAsBefore}
 use Rattle.serving.proofs.session.Session.come_home.Given as goal

@@ -1,3 +1,4 @@
+-- Meanwhile no line is read, and the output does not fail; and how many places are free.
 use Rattle.std.specs.Prelude.{count_by, is_none}
 use Rattle.serving.specs.Session.{IsAsBefore}
 use Rattle.serving.proofs.session.Session.send_all.Given as goal

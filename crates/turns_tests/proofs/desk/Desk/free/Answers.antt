@@ -1,3 +1,4 @@
+-- With one held message fewer, the slots and tickets of a desk are numbered as before.
 use Rattle.std.proofs.Common.{sym, subst}
 use Rattle.turns.specs.Turns.{Queuing}
 use Rattle.turns_tests.specs.Desk.{IsNumberedQueue}

@@ -1,3 +1,4 @@
+-- The result that is taken back is the one that was won, of the job that was lent at that place.
 use Rattle.std.proofs.Common.{rules, ◌≡◌, length, ap, sym, ◌∙◌, subst, set, None, Some}
 use Rattle.atomic_table.specs.Seated.{TableId}
 use Rattle.parcel.specs.Run.{JobView, IsJobRun}

@@ -1,3 +1,4 @@
+-- All places are ready and all flags are down, so the dispatcher's seat holds each slot and has nothing lent.
 use Rattle.std.proofs.Common.{rules, ◌≡◌, length, replicate, None, false, sym, ap, ◌∙◌, subst}
 use Rattle.std.proofs.lemmas.List.{length-replicate}
 use Rattle.atomic_table.specs.Seated.{TableId}

@@ -1,3 +1,4 @@
+-- The seats that are left are of this bench; and how many there are.
 use Rattle.std.proofs.Common.{◌≡◌, All, vec_len}
 use Rattle.workers.proofs.bench.Bench.start_all.Given as goal
 
