@@ -1,10 +1,10 @@
 /* Stands between a program and the GNU C library, and counts what the program asks of its files; standard input and both
  * outputs apart. At its end one line goes to the file that COUNTS names:
  *
- *     WALL USER SYSTEM PEAK SYNCS WRITES WRITTEN READS READ FIRST
+ *     WALL CPU PEAK SYNCS WRITES WRITTEN READS READ FIRST FIRST_CPU
  *
  * microseconds from the start and of processor time, the peak of memory in KB, calls and bytes, and the microseconds from the
- * start to the first write to standard output. */
+ * start to the first write to standard output, with the processor time until then. */
 #define _GNU_SOURCE
 #include <fcntl.h>
 #include <stdatomic.h>
@@ -16,7 +16,7 @@
 #include <time.h>
 #include <unistd.h>
 
-static atomic_long syncs, writes, written, reads, bytes_read, first, is_told;
+static atomic_long syncs, writes, written, reads, bytes_read, first, first_cpu, is_told;
 static long start;
 
 static long now(void) {
@@ -29,8 +29,10 @@ __attribute__((constructor)) static void begin(void) {
     start = now();
 }
 
-static long micros(struct timeval spent) {
-    return spent.tv_sec * 1000000 + spent.tv_usec;
+static long cpu(void) {
+    struct rusage spent;
+    getrusage(RUSAGE_SELF, &spent);
+    return (spent.ru_utime.tv_sec + spent.ru_stime.tv_sec) * 1000000 + spent.ru_utime.tv_usec + spent.ru_stime.tv_usec;
 }
 
 /* The peak of this program's memory. What getrusage tells may be that of the shell that started it. */
@@ -48,11 +50,9 @@ __attribute__((destructor)) static void tell(void) {
     if (!path || atomic_exchange(&is_told, 1))
         return;
     long wall = now() - start;
-    struct rusage spent;
-    getrusage(RUSAGE_SELF, &spent);
     int file = open(path, O_WRONLY | O_CREAT | O_TRUNC | O_CLOEXEC, 0600);
-    dprintf(file, "%ld %ld %ld %ld %ld %ld %ld %ld %ld %ld\n", wall, micros(spent.ru_utime), micros(spent.ru_stime), peak(),
-            syncs, writes, written, reads, bytes_read, first);
+    dprintf(file, "%ld %ld %ld %ld %ld %ld %ld %ld %ld %ld\n", wall, cpu(), peak(), syncs, writes, written, reads, bytes_read,
+            first, first_cpu);
     close(file);
 }
 
@@ -70,8 +70,10 @@ static ssize_t count(ssize_t size, atomic_long *calls, atomic_long *bytes) {
 }
 
 static ssize_t put(int file, const void *from, size_t size) {
-    if (file == 1 && !first)
+    if (file == 1 && !first) {
         first = now() - start;
+        first_cpu = cpu();
+    }
     ssize_t done = syscall(SYS_write, file, from, size);
     return file > 2 ? count(done, &writes, &written) : done;
 }

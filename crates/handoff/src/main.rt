@@ -1,5 +1,5 @@
 //! Round trips through the bench: jobs that read a block are offered, run and collected. It is there
-//! to be timed: `benchmark/handoff/run` sets it beside an ordinary Rust program.
+//! to be timed: `benchmark/figures bench` sets it beside an ordinary Rust program.
 #![tactic(auto)]
 
 mod trips;

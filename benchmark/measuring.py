@@ -1,0 +1,210 @@
+"""Measures the rows of the file of figures. The programs of a row take turns, so that what else the machine does meets all of them."""
+import contextlib
+import os
+import subprocess
+import time
+from statistics import median
+
+from figures_file import DIGITS, EVERY, FEWER_ALONE, MORE_READS, OF_WAFFD, ORDINARY, programs_of
+from programs import GREATEST, LONGEST_RUN, OPTIONS, PROGRAM, Failed, done
+
+SYNCS = 500  # of a round, for the time of one
+RECORD = 520  # bytes of a record of the log
+LEAST_SYNC = 5  # microseconds; a sync of less reaches no disk
+
+
+def values_in_turns(repeat, runs):
+    """The values of all rounds, by program. In each round all run, and another one first than in the last."""
+    found = {program: {} for program in runs}
+    programs = list(runs)
+    for turn in range(repeat):
+        first = turn % len(programs)
+        for program in programs[first:] + programs[:first]:
+            for what, value in runs[program]().items():
+                found[program].setdefault(what, []).append(value)
+    return found
+
+
+def kept(found):
+    """These values with the digits that are kept."""
+    return {program: {what: [round(value, DIGITS[what]) if DIGITS[what] else round(value) for value in values]
+                      for what, values in of_program.items()} for program, of_program in found.items()}
+
+
+class Measuring:
+    def __init__(self, programs, repeat, lines):
+        self.programs, self.repeat, self.lines = programs, repeat, lines
+        self.starts = {}
+
+    def build(self, row):
+        """Builds what a row needs, before any row is measured."""
+        if row["part"] == "plain":
+            self.programs.build("lines.rs", "plain_lines")
+            self.programs.build("serial.rs", "serial")
+        elif row["part"] == "bench":
+            self.programs.build("handoff/plain.rs", "mutex")
+            done([self.programs.handoff(), "1", "1"])
+        elif row["part"] != "disk":
+            self.programs.build("serve/lines.rs", "lines")
+            for geometry, numbers in (("default", {}), ("greatest", GREATEST)):
+                env = {name.upper(): str(number) for name, number in numbers.items()}
+                self.programs.build("serve/server.rs", f"server.{geometry}", env)
+
+    def measure(self, row):
+        """The values of each program of a row."""
+        return kept(getattr(self, "measure_" + row["part"])(row))
+
+    # ---- the disk
+
+    def measure_disk(self, row):
+        return values_in_turns(self.repeat, {"disk": self.sync_time})
+
+    def sync_time(self):
+        """The median of the times that a record takes to be written and synced, into a file that has its room."""
+        times = []
+        with open(self.programs.at("synced"), "w+b", buffering=0) as file:
+            file.write(bytes(RECORD * SYNCS))
+            os.fsync(file.fileno())
+            for n in range(SYNCS):
+                begun = time.perf_counter_ns()
+                os.pwrite(file.fileno(), b"\1" * RECORD, n * RECORD)
+                os.fdatasync(file.fileno())
+                times.append((time.perf_counter_ns() - begun) / 1000)
+        if median(times) < LEAST_SYNC:
+            raise Failed("a sync costs nothing in the folder for temporary files: TMPDIR has to name one on a disk")
+        return {"us": median(times)}
+
+    # ---- served lines
+
+    def prepare(self, geometry):
+        """The device and the log of a geometry, with all that the lines use."""
+        device, log = self.programs.at(f"{geometry}.device"), self.programs.at(f"{geometry}.log")
+        server = self.programs.at(f"server.{geometry}")
+        done([PROGRAM, "format", device, *(OPTIONS if geometry == "greatest" else [])])
+        self.programs.write_input([self.programs.at("lines"), "fill", "0", geometry])
+        size = os.path.getsize(self.programs.stream("input")) + self.lines * 1200 + 1000000
+        done([server, "make", log, str(size)])
+        for words in ([PROGRAM, "serve", device, "--workers", "4", "--slots", "64"], [server, "batch", log, "1024"]):
+            self.programs.counted(words)
+            self.programs.expect(words)
+
+    def run(self, geometry, program, slots, output="file"):
+        """One run of a program on the input, with a fresh device or log."""
+        kind, _, workers = program.partition(" ")
+        path = self.programs.copied(f"{geometry}.{'device' if workers else 'log'}")
+        if workers:
+            words = [PROGRAM, "serve", path, "--workers", workers, "--slots", str(slots)]
+        else:
+            words = [self.programs.at(f"server.{geometry}"), kind, path, str(slots)]
+        counts = self.programs.counted(words, output)
+        self.programs.expect(words)
+        return counts
+
+    def start(self, geometry):
+        """What each program asks for to answer one line, and the floor of an opening: all rounds. Measured once for a geometry."""
+        if geometry not in self.starts:
+            self.prepare(geometry)
+            self.programs.write_input(["echo", "summary"])
+            runs = {program: lambda program=program: self.run(geometry, program, 16) for program in (*ORDINARY, *OF_WAFFD)}
+            runs["floor"] = lambda: {"us": int(done([self.programs.at(f"server.{geometry}"), "floor",
+                                                     self.programs.copied(f"{geometry}.device")]))}
+            self.starts[geometry] = values_in_turns(self.repeat, runs)
+        return self.starts[geometry]
+
+    def measure_opening(self, row):
+        found = self.start(row["geometry"])
+        return {program: {"ms": [value / 1000 for value in found[program]["us" if program == "floor" else "first"]]}
+                for program in programs_of(row)}
+
+    def lines_of(self, mix, slots):
+        return self.lines * (MORE_READS if mix == "read" else 1) // (FEWER_ALONE if slots == 1 else 1)
+
+    def measure_serve(self, row):
+        geometry, mix, slots = row["geometry"], row["mix"], row["slots"]
+        starts = self.start(geometry)
+        lines = self.lines_of(mix, slots)
+        self.programs.write_input([self.programs.at("lines"), mix, str(lines), geometry])
+        changes = self.programs.count_input(b"write")
+        return values_in_turns(self.repeat, {
+            program: lambda program=program: self.net(self.run(geometry, program, slots, row["output"]), starts[program], lines, changes)
+            for program in programs_of(row)})
+
+    @staticmethod
+    def net(counts, start, lines, changes):
+        """What a run's lines took, without the opening: times count from the first reply, and calls less those of a run of one line."""
+        wall, cpu = counts["wall"] - counts["first"], counts["cpu"] - counts["first_cpu"]
+        if wall <= 0 or cpu <= 0:
+            raise Failed("all replies came with the first one")
+        found = {"lines/s": lines * 1e6 / wall, "cpu us": cpu / lines, "peak MB": counts["peak"] / 1000}
+        if changes:
+            found["syncs"] = (counts["syncs"] - median(start["syncs"])) * 1000 / changes
+            found["bytes"] = (counts["written"] - median(start["written"])) / changes
+        return found
+
+    # ---- checkpoints by the number of records
+
+    def measure_every(self, row):
+        starts = self.start(row["geometry"])["waffd 2"]
+        runs = {f"every {every}": lambda every=every: self.run_every(row["geometry"], every, starts) for every in EVERY}
+        return values_in_turns(self.repeat, runs)
+
+    def run_every(self, geometry, every, starts):
+        """Writes with 16 slots and 2 workers; and the records in force after a hard stop, with the time to the next first reply."""
+        words = ["--workers", "2", "--slots", "16", "--every", str(every)]
+        self.programs.write_input([self.programs.at("lines"), "write", str(self.lines), geometry])
+        counts = self.programs.counted([PROGRAM, "serve", self.programs.copied(f"{geometry}.device"), *words])
+        found = self.net(counts, starts, self.lines, self.lines)
+        path = self.programs.copied(f"{geometry}.device")
+        self.stop_hard([PROGRAM, "serve", path, *words])
+        records = next(line.split()[1] for line in done([PROGRAM, "show", path]).splitlines() if line.startswith("records "))
+        self.programs.write_input(["echo", "summary"])
+        first = self.programs.counted([PROGRAM, "serve", path, "--workers", "2"])["first"]
+        return {**{what: found[what] for what in ("lines/s", "syncs", "bytes")}, "records": int(records), "ms": first / 1000}
+
+    def stop_hard(self, words):
+        """Kills a server once it has answered all lines of an input that doesn't end."""
+        output = self.programs.stream("output")
+        with open(output, "wb") as sink, open(self.programs.stream("input"), "rb") as source:
+            child = subprocess.Popen(words, stdin=subprocess.PIPE, stdout=sink)
+            try:
+                while block := source.read(1 << 20):
+                    child.stdin.write(block)
+                child.stdin.flush()
+                wanted, until = self.programs.count_input(), time.monotonic() + LONGEST_RUN
+                while self.count_lines(output) < wanted:
+                    if child.poll() is not None or time.monotonic() > until:
+                        raise Failed(f"{' '.join(words)} has not answered all lines")
+                    time.sleep(0.01)
+            except BrokenPipeError:
+                raise Failed(f"{' '.join(words)} has not read all lines") from None
+            finally:
+                child.kill()
+                child.wait()
+                with contextlib.suppress(BrokenPipeError):
+                    child.stdin.close()
+
+    @staticmethod
+    def count_lines(path):
+        with open(path, "rb") as file:
+            return file.read().count(b"\n")
+
+    # ---- the serial server, and the bench
+
+    def alone(self, words, number):
+        """Microseconds of a line or a round trip of a program that has no device."""
+        counts = self.programs.counted(words)
+        self.programs.expect(words)
+        return {"us": counts["wall"] / number, "cpu us": counts["cpu"] / number}
+
+    def measure_plain(self, row):
+        self.programs.write_input([self.programs.at("plain_lines"), row["mix"], str(self.lines * MORE_READS)])
+        lines = self.programs.count_input()
+        return values_in_turns(self.repeat, {"serial": lambda: self.alone([self.programs.at("serial")], lines),
+                                             "waffd": lambda: self.alone([PROGRAM, "plain"], lines)})
+
+    def measure_bench(self, row):
+        trips = self.lines * 3
+        self.programs.write_input(["true"])
+        words = [str(row["workers"]), str(trips)]
+        runs = {"mutex": [self.programs.at("mutex"), *words], "waffd": [self.programs.handoff(), *words]}
+        return values_in_turns(self.repeat, {name: lambda command=command: self.alone(command, trips) for name, command in runs.items()})
