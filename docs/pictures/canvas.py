@@ -28,6 +28,11 @@ def number(n):
     return f"{n:.1f}".rstrip("0").rstrip(".")
 
 
+def path(points):
+    """A path from point to point."""
+    return "M" + "L".join(f"{number(x)} {number(y)}" for x, y in points)
+
+
 class Canvas:
     def __init__(self, title, height):
         self.title, self.height = title, height
@@ -43,12 +48,15 @@ class Canvas:
         if stroke != "none":
             self.edges += zip(corners, corners[1:])
 
-    def line(self, *points, arrow=True, dashed=False, color=INK):
+    def line(self, *points, arrow=True, dashed=False, color=INK, width=1.3, dashes="6 4"):
         """A line from point to point, with a head at its end."""
-        path = "M" + "L".join(f"{number(x)} {number(y)}" for x, y in points)
-        more = ' marker-end="url(#head)"' * arrow + ' stroke-dasharray="6 4"' * dashed
-        self.lines.append(f'<path d="{path}" fill="none" stroke="{color}" stroke-width="1.3"{more}/>')
+        more = ' marker-end="url(#head)"' * arrow + f' stroke-dasharray="{dashes}"' * dashed
+        self.lines.append(f'<path d="{path(points)}" fill="none" stroke="{color}" stroke-width="{width}"{more}/>')
         self.edges += zip(points, points[1:])
+
+    def mark(self, points, color):
+        """A small filled form with these corners, over the lines."""
+        self.words.append(f'<path d="{path(points)}Z" fill="{color}" stroke="{WHITE}"/>')
 
     def text(self, x, y, words, size=13, at="start", bold=False, code=False, color=INK):
         """One line of text, on the base line y, that begins, has its middle or ends at x."""
