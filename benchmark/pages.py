@@ -13,7 +13,8 @@ COLUMNS = 140
 MAIN = "waffd 2"  # the default number of workers
 MOST_SHOWN = 256  # slots
 LOGGED = 521  # bytes of a change in the log: its record and its gate
-BUSY = 0.5
+BUSY = 0.5  # a load from which times say little
+QUICK = "**Of a short run, which shows the form of the figures and says little:** "
 PART = re.compile(r"(<!-- figures: (\w+) -->\n)(.*?)^(( *)<!-- end of figures -->)", re.S | re.M)
 
 
@@ -50,11 +51,11 @@ def of_run(figures):
             "sync a record.")
     spreads = sorted(spread(figures.values(served(geometry, mix, slots), program, "lines/s"))
                      for geometry in GEOMETRIES for mix in SLOTS for slots in SLOTS[mix] for program in (*ORDINARY, *OF_WAFFD))
-    text += f" Speeds lie {median(spreads):.0f} percent around their median, at most {spreads[-1]:.0f}."
+    text += f" Speeds of the rounds: ±{median(spreads):.0f} percent as a rule, ±{spreads[-1]:.0f} at most."
     if told["load"] > BUSY:
         text += f" **The machine did other work** (load {told['load']})."
     if told["is_quick"]:
-        text = "**A short run, which shows the form of the figures and says little.** " + text
+        text = QUICK + text
     return [text]
 
 
@@ -130,7 +131,8 @@ def of_missed(figures):
         values = [(value, ", ".join(filter(None, (geometry, of)))) for mark, geometry in of_mark for value, of in mark.missed()]
         worst, of = max(values) if of_mark[0][0].is_most else min(values)
         tried = sum(len(mark.values) for mark, _ in of_mark)
-        yield f"- {said}: {number(worst)}" + f" ({of}), {len(values)} of {tried}" * bool(of)
+        shown = number(worst) if number(worst) != number(of_mark[0][0].bound) else f"{worst:.4g}"
+        yield f"- {said}: {shown}" + f" ({of}), {len(values)} of {tried}" * bool(of)
 
 
 def of_speed(figures):
@@ -140,9 +142,10 @@ def of_speed(figures):
     syncs = [figures.median(row, program, "syncs") for row in rows for program in OF_WAFFD]
     batch, twice = (span([round(figures.ratio(row, other, MAIN, "lines/s"), 1) for row in rows]) for other in ("batch", "twice"))
     sync = figures.median({"part": "disk"}, "disk", "us")
-    return [f"With 64 or 256 lines open, {span([round(speed, -3) for speed in speeds])} writes of full blocks a second, and {span(syncs)} "
-            f"syncs for 1,000 of them; a sync takes {number(sync)} microseconds. An ordinary unproved Rust server is {batch} times as "
-            f"fast; {twice} times, if it locks and syncs as `waffd` does."]
+    quick = QUICK * figures.told["is_quick"]
+    return [f"{quick}With 64 or 256 lines open, {span([round(speed, -3) for speed in speeds])} writes of full blocks a second, and "
+            f"{span(syncs)} syncs for 1,000 of them; a sync takes {number(sync)} microseconds. An ordinary unproved Rust server is {batch} "
+            f"times as fast; {twice} times, if it locks and syncs as `waffd` does."]
 
 
 PAGES = {os.path.join("docs", "speed.md"): {"run": of_run, "table": of_table, "others": of_others, "missed": of_missed},
