@@ -125,8 +125,8 @@ kept_then p q r first second = record {
 
 -- loaded with this log, of parts whose room has the sizes of a geometry
 pub are_loaded : (p q : Parts) (g : Geometry) (log : Log) (m : Medium) → q.halves ≡ log → log.geometry ≡ g → log.failed ≡ false → log.current ≡ log.named → IsWholeTree q.tree → q.tree.geometry ≡ g → KeepsRoom p q
-    → length p.frozen.items ≡ image_size g → length p.other_marks.items ≡ piece_count g → AreAllMarked g p.other_marks.items → device_size (layout_of g) ≤ length m.now → AreLoaded q m
-are_loaded p q g log m is_log of fine together tree geometry room frozen marks all whole =
+    → length p.frozen.items ≡ image_size g → length p.named_marks.items ≡ piece_count g → length p.other_marks.items ≡ piece_count g → AreAllMarked g p.other_marks.items → device_size (layout_of g) ≤ length m.now → AreLoaded q m
+are_loaded p q g log m is_log of fine together tree geometry room frozen named marks all whole =
     let same : q.halves.geometry ≡ g = ap (λ (l : Log). l.geometry) is_log ∙ of in
     record {
       tree = tree;
@@ -135,6 +135,7 @@ are_loaded p q g log m is_log of fine together tree geometry room frozen marks a
       together = ap (λ (l : Log). l.current) is_log ∙ together ∙ sym (ap (λ (l : Log). l.named) is_log);
       whole = subst (λ (h : Geometry). device_size (layout_of h) ≤ length m.now) (sym same) whole;
       frozen = room.frozen ∙ frozen ∙ sym (ap image_size same);
+      named_marks = (λ i. length (room.named_marks i).items) ∙ named ∙ sym (ap piece_count same);
       other_marks = (λ i. length (room.other_marks i).items) ∙ marks ∙ sym (ap piece_count same);
       all =
           subst (λ (h : Geometry). AreAllMarked h q.other_marks.items) (sym same)

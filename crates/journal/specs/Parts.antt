@@ -58,6 +58,7 @@ pub record AreLoaded (p : Parts) (m : Medium) : Type 0 where
   pub together : p.halves.current ≡ p.halves.named
   pub whole : HasParts p.halves m
   pub frozen : length p.frozen.items ≡ image_size p.halves.geometry
+  pub named_marks : length p.named_marks.items ≡ piece_count p.halves.geometry
   pub other_marks : length p.other_marks.items ≡ piece_count p.halves.geometry
   pub all : AreAllMarked p.halves.geometry p.other_marks.items
 

@@ -113,7 +113,7 @@ fn finish_cut<D: Disk>(parts: &mut Parts, disk: &mut D) -> Result<(), LogFault>
     ensures not_bad { IsNotBad result }
     ensures call { IsLogCall result (D.medium disk.old) (D.medium disk.new) }
 {
-    freeze(&parts.tree, &parts.other_marks, &mut parts.frozen);
+    freeze(&parts.tree, &parts.other_marks, &mut parts.frozen); // no record behind it
     finish_on(&mut parts.halves, disk, &parts.frozen, &parts.other_marks)
 }
 

@@ -124,14 +124,14 @@ replay_behind-requires-clause-loaded g c =
     let p = c.args.parts.now in
     let taken = c.requires.taken in
     are_loaded p _ p.tree.geometry (renamed c.in_ok-named.named.area (new_log p.tree.geometry)) (g.D.Disk.medium c.load_named.new.disk) c.in_ok-named.ensures.log refl refl refl c.in_ok-named.ensures.whole c.in_ok-named.ensures.geometry
-    (record { frozen = refl; named_marks = refl; other_marks = refl; due = refl }) taken.frozen taken.other_marks taken.all (omega (arith, c.requires.whole, c.load_named.ensures.call.1))
+    (record { frozen = refl; named_marks = refl; other_marks = refl; due = refl }) taken.frozen taken.named_marks taken.other_marks taken.all (omega (arith, c.requires.whole, c.load_named.ensures.call.1))
 
 pub returns-then-not-named-clause-loaded : goal.returns-then-not-named-clause-loaded
 returns-then-not-named-clause-loaded g c =
     let p = c.args.parts.now in
     let taken = c.requires.taken in
     are_loaded p _ p.tree.geometry (renamed c.in_ok-named.named.area (new_log p.tree.geometry)) (g.D.Disk.medium c.load_named.new.disk) c.in_ok-named.ensures.log refl refl refl c.in_ok-named.ensures.whole c.in_ok-named.ensures.geometry
-    (record { frozen = refl; named_marks = refl; other_marks = refl; due = refl }) taken.frozen taken.other_marks taken.all (omega (arith, c.requires.whole, c.load_named.ensures.call.1))
+    (record { frozen = refl; named_marks = refl; other_marks = refl; due = refl }) taken.frozen taken.named_marks taken.other_marks taken.all (omega (arith, c.requires.whole, c.load_named.ensures.call.1))
 
 pub returns-then-not-named-clause-room : goal.returns-then-not-named-clause-room
 returns-then-not-named-clause-room g c = record { frozen = refl; named_marks = refl; other_marks = refl; due = refl }

@@ -126,7 +126,7 @@ returns-clause-loaded g c =
     let room = c.finish_cut.ensures.room in
     are_loaded p _ p.halves.geometry (finished_now p.halves) (g.D.Disk.medium c.replay.new.disk) log refl before.fine refl c.in_ok-replay.ensures.whole geometry
     (record { frozen = room.frozen; named_marks = room.named_marks; other_marks = room.other_marks; due = room.due })
-    before.frozen before.other_marks before.all (omega (arith, before.whole, c.finish_cut.ensures.call.1, c.replay.ensures.call.1))
+    before.frozen before.named_marks before.other_marks before.all (omega (arith, before.whole, c.finish_cut.ensures.call.1, c.replay.ensures.call.1))
 
 pub returns-clause-room : goal.returns-clause-room
 returns-clause-room g c =
