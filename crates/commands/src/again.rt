@@ -1,7 +1,8 @@
 //! The promise of a service over a crash, in bytes alone: what went into two lives of a device, and what came out.
-ghost use Rattle.std.specs.Prelude.{◌≡◌, ◌<◌, IfOk, IfErr};
+ghost use Rattle.std.specs.Prelude.{◌≡◌, ◌≢◌, ◌<◌, IfOk, IfErr};
 ghost use Rattle.checkpoint.specs.Recovery.{holds};
 ghost use Rattle.commands.specs.Promise.{GoesOn};
+ghost use Rattle.commands.specs.declared.faults.Fault.TheVariants as faults;
 ghost use Rattle.disk.specs.Device.{IsSynced};
 ghost use Rattle.disk.specs.Memory.{medium_of};
 ghost use Rattle.disk.specs.Torn.{HasBytes};
@@ -23,6 +24,7 @@ use std::thread::Threads;
 fn made(alloc: Global, geometry: Geometry) -> Result<MemDisk, Fault>
     ensures stands { IfOk result (λ d. holds geometry (medium_of d).now ≡ Some empty) }
     ensures synced { IfOk result (λ d. IsSynced (medium_of d)) }
+    ensures streams { IfErr result (λ fault. (fault ≢ faults.Read) × (fault ≢ faults.Write)) }
 {
     let disk = MemDisk::new(alloc, device_len(&geometry))?;
     match format(alloc, disk, geometry) {
@@ -52,6 +54,7 @@ pub fn serve_again<T: Threads + Wait + Sync, R: Read, W: Write, S: Read, V: Writ
         (S.remaining next_r.old) (V.contents next_w.old) (V.contents next_w.new)) }
     ensures unread { IfErr result (λ _. (R.remaining r.new ≡ R.remaining r.old) × (S.remaining next_r.new ≡ S.remaining next_r.old)) }
     ensures unwritten { IfErr result (λ _. (W.contents w.new ≡ W.contents w.old) × (V.contents next_w.new ≡ V.contents next_w.old)) }
+    ensures streams { IfErr result (λ fault. (fault ≢ faults.Read) × (fault ≢ faults.Write)) }
 {
     let disk = made(alloc, geometry)?;
     let (disk, first) = serve_stopped(rt, alloc, disk, n, torn, service, r, w);
