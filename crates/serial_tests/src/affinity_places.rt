@@ -1,0 +1,110 @@
+//! Where messages belong, how affinities are numbered, and which are related.
+
+use crate::common::SMALL;
+use affinity::{Geometry, Kind, place_of, related};
+use std::process::Abort;
+use std::test::Fail;
+
+const TWO_OF_EACH: [u16; 8] = [2, 2, 2, 1, 2, 4, 2, 4];
+
+const GREATEST: [u16; 8] = [4, 8, 8, 64, 64, 256, 64, 1024];
+
+/// A message's kind and numbers, and the number and the end of its affinity where the numbers are in range.
+type Numbered = (Kind, [u16; 4], Option<(u16, u16)>);
+
+/// Servers, and messages of each.
+const NUMBERED: [([u16; 8], &[Numbered]); 3] = [
+    (
+        SMALL,
+        &[
+            (Kind::Summary, [0, 0, 0, 0], Some((0, 7))),
+            (Kind::MakeVol, [0, 0, 0, 0], Some((1, 7))),
+            (Kind::Usage, [0, 0, 0, 0], Some((2, 7))),
+            (Kind::List, [0, 0, 0, 0], Some((3, 6))),
+            (Kind::Read, [0, 0, 0, 0], Some((4, 5))),
+            (Kind::Punch, [0, 0, 0, 1], Some((5, 6))),
+            (Kind::SetLabel, [0, 0, 0, 0], Some((6, 7))),
+            // The numbers that a kind has are tested, and no others.
+            (Kind::Write, [0, 0, 0, 4], None),
+            (Kind::Write, [0, 0, 2, 0], None),
+            (Kind::Create, [0, 0, 2, 0], None),
+            (Kind::Seal, [0, 0, 9, 9], Some((2, 7))),
+            (Kind::Seal, [0, 1, 0, 0], None),
+            (Kind::DropVol, [1, 0, 0, 0], None),
+            (Kind::Summary, [9, 9, 9, 9], Some((0, 7))),
+        ],
+    ),
+    (
+        TWO_OF_EACH,
+        &[
+            (Kind::Seal, [1, 1, 0, 0], Some((18, 23))),
+            (Kind::Label, [1, 1, 0, 0], Some((22, 23))),
+        ],
+    ),
+    (
+        GREATEST,
+        &[
+            (Kind::Summary, [0, 0, 0, 0], Some((0, 357))),
+            (Kind::Label, [3, 7, 0, 0], Some((356, 357))),
+        ],
+    ),
+];
+
+fn checks_numbers(rt: &impl Abort, g: &Geometry, rows: &[Numbered]) {
+    for (kind, numbers, want) in rows {
+        let found = place_of(g, *kind, *numbers).map(|a| (a.number(), a.end()));
+        assert!(rt; found == *want, "{kind:?} {numbers:?}");
+    }
+}
+
+#[test]
+fn servers_are_numbered(rt: HostRuntime) -> Result<(), Fail> {
+    for (numbers, rows) in NUMBERED {
+        checks_numbers(&rt, &Geometry::new(numbers)?, rows);
+    }
+    Ok(())
+}
+
+/// A message at each affinity of a small server: serial, aggregate, volume, volume logical, both stripes, label.
+const EACH_AFFINITY: [(Kind, [u16; 4]); 7] = [
+    (Kind::Summary, [0, 0, 0, 0]),
+    (Kind::MakeVol, [0, 0, 0, 0]),
+    (Kind::Seal, [0, 0, 0, 0]),
+    (Kind::Create, [0, 0, 0, 0]),
+    (Kind::Write, [0, 0, 0, 0]),
+    (Kind::Write, [0, 0, 0, 1]),
+    (Kind::SetLabel, [0, 0, 0, 0]),
+];
+
+/// Which of them are related, in the same order: all but a stripe to the other one, and the label to both stripes and to
+/// volume logical.
+const ARE_RELATED: [[bool; 7]; 7] = [
+    [true, true, true, true, true, true, true],
+    [true, true, true, true, true, true, true],
+    [true, true, true, true, true, true, true],
+    [true, true, true, true, true, true, false],
+    [true, true, true, true, true, false, false],
+    [true, true, true, true, false, true, false],
+    [true, true, true, false, false, false, true],
+];
+
+/// Whether one of them is related so to each.
+fn checks_related(rt: &impl Abort, g: &Geometry, message: (Kind, [u16; 4]), row: &[bool]) {
+    let found = place_of(g, message.0, message.1);
+    for ((kind, numbers), want) in EACH_AFFINITY.iter().zip(row) {
+        let other = place_of(g, *kind, *numbers);
+        let is_related = found.zip(other).map(|(a, b)| related(a, b));
+        assert!(rt; is_related == Some(*want), "{found:?} {other:?}");
+    }
+}
+
+#[test]
+fn each_stripe_is_related_to_all_but_the_other_one_and_the_label(
+    rt: HostRuntime,
+) -> Result<(), Fail> {
+    let g = Geometry::new(SMALL)?;
+    for (message, row) in EACH_AFFINITY.iter().zip(ARE_RELATED.iter()) {
+        checks_related(&rt, &g, *message, row);
+    }
+    Ok(())
+}

@@ -1,0 +1,37 @@
+//! What tests share: the numbers of servers, blocks, and assertions that are called with rows.
+
+use message::Block;
+use std::process::Abort;
+
+/// One volume of two files of four blocks, in two stripes that hold two blocks each. Neighboring blocks of a file lie in
+/// different stripes.
+pub(crate) const SMALL: [u16; 8] = [1, 1, 2, 1, 2, 4, 2, 4];
+
+/// What the program takes where nothing is said.
+pub(crate) const DEFAULTS: [u16; 8] = [1, 4, 4, 4, 16, 64, 64, 256];
+
+// Bytes that begin with these, with zeros after them.
+pub(crate) fn padded<const N: usize>(front: &[u8]) -> [u8; N] {
+    let mut bytes = [0; N];
+    for (byte, given) in bytes.iter_mut().zip(front) {
+        *byte = *given;
+    }
+    bytes
+}
+
+pub(crate) fn block_of(front: &[u8]) -> Block {
+    Block(padded(front))
+}
+
+pub(crate) fn same(rt: &impl Abort, got: &[u8], want: &[u8]) {
+    assert_eq!(rt; got, want);
+}
+
+// The same as text, of a row with this name.
+pub(crate) fn same_text(rt: &impl Abort, name: &str, got: &[u8], want: &[u8]) {
+    assert_eq!(rt; str::from_utf8(got), str::from_utf8(want), "{name}");
+}
+
+pub(crate) fn holds(rt: &impl Abort, fact: bool) {
+    assert!(rt; fact);
+}

@@ -1,0 +1,71 @@
+//! The lines of replies.
+
+use crate::common::{block_of, padded, same};
+use message::{Refusal, Reply, no_message_line, write_reply};
+use std::process::Abort;
+
+fn spells(rt: &impl Abort, reply: &Reply, line: &[u8]) {
+    let mut out = [7; 1031];
+    let size = write_reply(reply, &mut out);
+    same(rt, &out[..size], line);
+}
+
+const REPLIES: [(Reply, &str); 14] = [
+    (Reply::Done, "done\n"),
+    (Reply::Hole, "hole\n"),
+    (Reply::Refused(Refusal::Range), "error range\n"),
+    (Reply::Refused(Refusal::Volume), "error volume\n"),
+    (Reply::Refused(Refusal::Exists), "error exists\n"),
+    (Reply::Refused(Refusal::Sealed), "error sealed\n"),
+    (Reply::Refused(Refusal::File), "error file\n"),
+    (Reply::Refused(Refusal::Space), "error space\n"),
+    (Reply::Files(0), "files\n"),
+    (Reply::Files(3), "files 0 1\n"),
+    (Reply::Files(1 << 63), "files 63\n"),
+    (
+        Reply::Usage {
+            files: 2,
+            blocks: 1,
+            sealed: false,
+        },
+        "usage 2 1 open\n",
+    ),
+    (
+        Reply::Usage {
+            files: 64,
+            blocks: 4294967295,
+            sealed: true,
+        },
+        "usage 64 4294967295 sealed\n",
+    ),
+    (
+        Reply::Summary {
+            volumes: 1,
+            files: 2,
+            blocks: 10,
+        },
+        "summary 1 2 10\n",
+    ),
+];
+
+/// What blocks begin with, with zeros after it, and their lines.
+const BLOCKS: [(&[u8], &str); 5] = [
+    (b"ab", "block 6162\n"),
+    (b"", "block 00\n"),
+    (&[0, 0, 10], "block 00000a\n"),
+    (&[171, 0, 205, 0], "block ab00cd\n"),
+    (&[255], "block ff\n"),
+];
+
+#[test]
+fn writes_replies(rt: HostRuntime) {
+    for (reply, line) in REPLIES.iter() {
+        spells(&rt, reply, line.as_bytes());
+    }
+    for (front, line) in BLOCKS.iter() {
+        spells(&rt, &Reply::Block(block_of(front)), line.as_bytes());
+    }
+    spells(&rt, &Reply::Label([0; 32]), b"label 00\n");
+    spells(&rt, &Reply::Label(padded(b"ab")), b"label 6162\n");
+    same(&rt, no_message_line(), b"error line\n");
+}

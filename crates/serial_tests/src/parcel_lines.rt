@@ -1,0 +1,69 @@
+//! Lines to a tree, one message at a time: what a message asks for is lent to it, and restored after it.
+use crate::common::same_text;
+use crate::plain_meaning::SESSIONS;
+use affinity::{Geometry, place_of};
+use message::{Msg, Refusal, Reply, no_message_line, parse_line, write_reply};
+use parcel::{Job, Tree, run};
+use std::alloc::{AllocError, Global};
+use std::process::Abort;
+use std::test::Fail;
+
+// The reply to a message; none where what it needs is out, which it never is here.
+fn serve(tree: &mut Tree, message: &Msg) -> Option<Reply> {
+    let g = tree.geometry();
+    let message = *message;
+    let Some(a) = place_of(&g, message.kind(), message.numbers()) else {
+        return Some(Reply::Refused(Refusal::Range));
+    };
+    let (standing, parcels) = tree.lend(a)?;
+    let done = run(Job::new(g, 0, message, standing, parcels));
+    let reply = *done.reply();
+    match tree.restore(a, done.into_parcels()) {
+        Ok(()) => Some(reply),
+        Err(_) => None,
+    }
+}
+
+// Adds what a tree answers to a line.
+fn tell(
+    rt: &impl Abort,
+    tree: &mut Tree,
+    line: &str,
+    told: &mut Vec<u8>,
+) -> Result<(), AllocError> {
+    let Some(message) = parse_line(line.as_bytes()) else {
+        return told.extend_from_slice(no_message_line());
+    };
+    let reply = serve(tree, &message).expect(rt, "nothing is out");
+    let mut out = [0; 1031];
+    let size = write_reply(&reply, &mut out);
+    told.extend_from_slice(&out[..size])
+}
+
+/// A tree answers the lines so, in a session that shows this.
+pub(crate) fn expect_told(
+    rt: &impl Abort,
+    alloc: Global,
+    tree: &mut Tree,
+    name: &str,
+    rows: &[(&str, &str)],
+) -> Result<(), AllocError> {
+    let mut told = Vec::new(alloc);
+    let mut replies = Vec::new(alloc);
+    for (line, reply) in rows {
+        tell(rt, tree, line, &mut told)?;
+        replies.extend_from_slice(reply.as_bytes())?;
+        replies.push(b'\n')?;
+    }
+    same_text(rt, name, told.as_slice(), replies.as_slice());
+    Ok(())
+}
+
+#[test]
+fn each_session_is_answered_as_by_the_serial_server(rt: HostRuntime) -> Result<(), Fail> {
+    for (name, numbers, rows) in SESSIONS {
+        let mut tree = Tree::new(rt.alloc(), Geometry::new(numbers)?)?;
+        expect_told(&rt, rt.alloc(), &mut tree, name, rows)?;
+    }
+    Ok(())
+}

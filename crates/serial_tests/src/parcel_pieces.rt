@@ -1,0 +1,220 @@
+//! Pieces of an image are taken into a new tree, asked by messages and written again.
+ghost use Rattle.std.specs.Prelude.{◌≡◌, length, IfOk, OnOk};
+ghost use Rattle.serial_tests.specs.Pieces.{IsNewTree, IsSmallTree};
+
+use crate::common::{SMALL, holds};
+use crate::parcel_lines::expect_told;
+use affinity::Geometry;
+use parcel::{BadPiece, Tree, read_piece, read_piece_1, write_piece};
+use std::alloc::Global;
+use std::process::Abort;
+use std::test::Fail;
+
+/// A volume with files 0 and 1, whose label begins with 7.
+const VOLUME: [(usize, u8); 3] = [(0, 1), (8, 3), (16, 7)];
+
+/// Block 0 of file 0, and block 1 of file 1, which holds 0x61.
+const STRIPE: [(usize, u8); 6] = [(0, 1), (8, 0x62), (520, 1), (521, 1), (522, 1), (528, 0x61)];
+
+/// A volume with file 0, whose label begins with 6162.
+const LABELED: [(usize, u8); 4] = [(0, 1), (8, 1), (16, 0x61), (17, 0x62)];
+
+/// A sealed volume with files 0 and 1.
+const SEALED: [(usize, u8); 3] = [(0, 1), (1, 1), (8, 3)];
+
+/// Block 1 of file 1, which begins with 61.
+const ONE_BLOCK: [(usize, u8); 4] = [(0, 1), (1, 1), (2, 1), (8, 0x61)];
+
+fn new_tree(alloc: Global) -> Result<Tree, Fail>
+    ensures { IfOk result IsNewTree }
+{
+    Ok(Tree::new(alloc, Geometry::new(SMALL)?)?)
+}
+
+// The bytes of a volume's piece: these, and zeros.
+fn volume_piece(rows: &[(usize, u8)]) -> [u8; 64] {
+    let mut bytes = [0; 64];
+    for (at, byte) in rows {
+        if *at < 64 {
+            bytes[*at] = *byte;
+        }
+    }
+    bytes
+}
+
+// The bytes of a stripe's piece: these, and zeros.
+fn stripe_piece(rows: &[(usize, u8)]) -> [u8; 1040] {
+    let mut bytes = [0; 1040];
+    for (at, byte) in rows {
+        if *at < 1040 {
+            bytes[*at] = *byte;
+        }
+    }
+    bytes
+}
+
+// Takes in the piece of the volume and that of its first stripe.
+fn read_both(tree: &mut Tree, volume: &[u8], stripe: &[u8]) -> Result<(), BadPiece>
+    requires new { IsNewTree tree.old }
+    requires volume { length volume.now ≡ 64 }
+    requires stripe { length stripe.now ≡ 1040 }
+    ensures { OnOk result (IsSmallTree tree.new) }
+{
+    read_piece(tree, 0, volume)?;
+    read_piece(tree, 1, stripe)
+}
+
+// The same bytes are written again, and zeros for the second stripe.
+fn expect_written(rt: &impl Abort, tree: &Tree, volume: &[u8], stripe: &[u8])
+    requires { IsSmallTree tree.now }
+{
+    let mut of_volume = [9; 64];
+    write_piece(tree, 0, &mut of_volume);
+    holds(rt, of_volume.as_slice() == volume);
+    let mut of_stripe = [9; 1040];
+    write_piece(tree, 1, &mut of_stripe);
+    holds(rt, of_stripe.as_slice() == stripe);
+    write_piece(tree, 2, &mut of_stripe);
+    holds(rt, of_stripe.iter().all(|byte| *byte == 0));
+}
+
+// Whether a tree takes in a volume's piece with these bytes, and then a stripe's with those.
+fn expect_good(
+    rt: &impl Abort,
+    alloc: Global,
+    volume: &[(usize, u8)],
+    stripe: &[(usize, u8)],
+    good: bool,
+) -> Result<(), Fail> {
+    let mut tree = new_tree(alloc)?;
+    let volume = volume_piece(volume);
+    let stripe = stripe_piece(stripe);
+    let read = read_both(&mut tree, &volume, &stripe);
+    holds(rt, read.is_ok() == good);
+    if read.is_ok() {
+        expect_written(rt, &tree, &volume, &stripe);
+    }
+    Ok(())
+}
+
+/// The bytes of a volume's piece, and of its first stripe's.
+type Row<'a> = (&'a [(usize, u8)], &'a [(usize, u8)]);
+
+const GOOD: [Row<'static>; 5] = [
+    (&[], &[]),
+    (&VOLUME, &STRIPE),
+    (&SEALED, &STRIPE),
+    (&SEALED, &ONE_BLOCK),
+    (&LABELED, &[]),
+];
+
+const BAD: [Row<'static>; 7] = [
+    (&[(1, 1)], &[]),
+    (&[(0, 2)], &[]),
+    (&[(0, 1), (2, 1)], &[]),
+    (&[(0, 1), (8, 4)], &[]),
+    (&[(0, 1), (48, 1)], &[]),
+    (&[(0, 1), (8, 1)], &STRIPE),
+    (&VOLUME, &[(1039, 1)]),
+];
+
+const TAKEN: [(&[Row<'static>], bool); 2] = [(&GOOD, true), (&BAD, false)];
+
+#[test]
+fn good_pieces_come_back_and_bad_ones_are_refused(rt: HostRuntime) -> Result<(), Fail> {
+    for (rows, good) in TAKEN {
+        for (volume, stripe) in rows {
+            expect_good(&rt, rt.alloc(), volume, stripe, good)?;
+        }
+    }
+    Ok(())
+}
+
+const TOLD: [(&str, &str); 6] = [
+    ("list 0 0", "files 0 1"),
+    ("label 0 0", "label 07"),
+    ("read 0 0 0 0", "block 62"),
+    ("read 0 0 1 1", "block 61"),
+    ("read 0 0 0 1", "hole"),
+    ("create 0 0 1", "error exists"),
+];
+
+const TOLD_OF_LABELED: [(&str, &str); 3] = [
+    ("list 0 0", "files 0"),
+    ("label 0 0", "label 6162"),
+    ("usage 0 0", "usage 1 0 open"),
+];
+
+const TOLD_OF_SEALED: [(&str, &str); 4] = [
+    ("list 0 0", "files 0 1"),
+    ("label 0 0", "label 00"),
+    ("usage 0 0", "usage 2 1 sealed"),
+    ("read 0 0 1 1", "block 61"),
+];
+
+/// What the volume is, its pieces, and what is told of it.
+const TOLD_OF: [(&str, Row<'static>, &[(&str, &str)]); 3] = [
+    ("a volume with two files", (&VOLUME, &STRIPE), &TOLD),
+    ("a labeled volume", (&LABELED, &[]), &TOLD_OF_LABELED),
+    ("a sealed volume", (&SEALED, &ONE_BLOCK), &TOLD_OF_SEALED),
+];
+
+// A new tree takes in both pieces, and answers the lines so.
+fn expect_pieces_told(
+    rt: &impl Abort,
+    alloc: Global,
+    name: &str,
+    pieces: Row<'_>,
+    rows: &[(&str, &str)],
+) -> Result<(), Fail> {
+    let (volume, stripe) = pieces;
+    let mut tree = new_tree(alloc)?;
+    let read = read_both(&mut tree, &volume_piece(volume), &stripe_piece(stripe));
+    holds(rt, read == Ok(()));
+    expect_told(rt, alloc, &mut tree, name, rows)?;
+    Ok(())
+}
+
+#[test]
+fn what_pieces_say_is_told(rt: HostRuntime) -> Result<(), Fail> {
+    for (name, pieces, rows) in TOLD_OF {
+        expect_pieces_told(&rt, rt.alloc(), name, pieces, rows)?;
+    }
+    Ok(())
+}
+
+// Whether a tree takes in a volume's piece of version 1. Then its label is zeros.
+fn expect_version_1(
+    rt: &impl Abort,
+    alloc: Global,
+    volume: &[(usize, u8)],
+    good: bool,
+) -> Result<(), Fail> {
+    let mut tree = new_tree(alloc)?;
+    let read = first_piece(&mut tree, &volume_piece(volume));
+    holds(rt, read.is_ok() == good);
+    if good {
+        expect_told(
+            rt,
+            alloc,
+            &mut tree,
+            "version 1",
+            &[("label 0 0", "label 00")],
+        )?;
+    }
+    Ok(())
+}
+
+fn first_piece(tree: &mut Tree, volume: &[u8]) -> Result<(), BadPiece>
+    requires new { IsNewTree tree.old }
+    requires volume { length volume.now ≡ 64 }
+{
+    read_piece_1(tree, 0, volume)
+}
+
+#[test]
+fn version_1_has_no_label(rt: HostRuntime) -> Result<(), Fail> {
+    let alloc = rt.alloc();
+    expect_version_1(&rt, alloc, &[(0, 1), (8, 3)], true)?;
+    expect_version_1(&rt, alloc, &VOLUME, false)
+}
