@@ -1,2 +1,0 @@
--- The words of the example of a client of a device.
-pub mod Sealing

@@ -1,0 +1,6 @@
+-- The dispatcher's seat stays at its bench from one try to the next.
+use Rattle.std.proofs.Common.{◌≡◌}
+use Rattle.parts_tests.proofs.workers_hand_off.collect.Given as goal
+
+abbrev pub invariant-loop : goal.invariant-loop
+invariant-loop l = l.desk.bench ≡ l.initial.desk.bench

@@ -1,0 +1,6 @@
+-- The dispatcher's seat stays at its bench from one place to the next, as jobs are offered.
+use Rattle.std.proofs.Common.{◌≡◌}
+use Rattle.parts_tests.proofs.workers_hand_off.offer_round.Given as goal
+
+abbrev pub invariant-loop-k : goal.invariant-loop-k
+invariant-loop-k g l = l.desk.bench ≡ l.initial.desk.bench

@@ -1,0 +1,66 @@
+//! A call of an arena with what it must answer, so that a test is a table of calls.
+ghost use Rattle.std.specs.Prelude.{◌+◌, ◌<◌};
+
+use arena::Arena;
+use std::alloc::{AllocError, Global};
+use std::process::Abort;
+
+#[derive(Drop)]
+pub enum Call {
+    Put(char, Result<usize, char>),
+    Front(usize, Option<usize>),
+    Next(usize, Option<usize>),
+    MoveTo(usize, usize, bool),
+    Get(usize, Option<char>),
+
+    /// Writes where there is a value, and says whether there was one.
+    Write(usize, char, bool),
+    Lend(usize, Option<char>),
+    Restore(usize, char, Result<(), char>),
+    Take(usize, Option<char>),
+
+    /// How many slots are free, and how many there are.
+    Counts(usize, usize),
+}
+
+fn write(arena: &mut Arena<char>, i: usize, value: char) -> bool {
+    match arena.get_mut(i) {
+        Some(there) => {
+            *there = value;
+            true
+        }
+        None => false,
+    }
+}
+
+fn is_right(arena: &mut Arena<char>, call: &Call) -> bool {
+    match call {
+        Call::Put(value, want) => arena.put(*value) == *want,
+        Call::Front(c, want) => arena.front(*c) == *want,
+        Call::Next(i, want) => arena.next(*i) == *want,
+        Call::MoveTo(i, c, want) => arena.move_to(*i, *c) == *want,
+        Call::Get(i, want) => arena.get(*i).copied() == *want,
+        Call::Write(i, value, want) => write(arena, *i, *value) == *want,
+        Call::Lend(i, want) => arena.lend(*i) == *want,
+        Call::Restore(i, value, want) => arena.restore(*i, *value) == *want,
+        Call::Take(i, want) => arena.take(*i) == *want,
+        Call::Counts(free, slots) => arena.free() == *free && arena.capacity() == *slots,
+    }
+}
+
+/// Makes these calls, one after the other.
+pub fn checks(rt: &impl Abort, name: &str, arena: &mut Arena<char>, calls: &[Call]) {
+    for (number, call) in calls.iter().enumerate() {
+        assert!(rt; is_right(arena, call), "{name}, at call {number}");
+    }
+}
+
+/// An arena. Where memory is refused once, the same call gives it.
+pub fn made(alloc: Global, slots: usize, chains: usize) -> Result<Arena<char>, AllocError>
+    requires { slots + chains < usize.MAX }
+{
+    match Arena::with_capacity(alloc, slots, chains) {
+        Ok(arena) => Ok(arena),
+        Err(_) => Arena::with_capacity(alloc, slots, chains),
+    }
+}

@@ -1,0 +1,11 @@
+//! What tests share: assertions that are called with rows.
+
+use std::process::Abort;
+
+pub(crate) fn same(rt: &impl Abort, got: &[u8], want: &[u8]) {
+    assert_eq!(rt; got, want);
+}
+
+pub(crate) fn holds(rt: &impl Abort, fact: bool) {
+    assert!(rt; fact);
+}

@@ -1,0 +1,221 @@
+//! Files of the system as devices.
+use crate::common::{holds, same};
+use crate::disk_calls::{Call, FAULT, FINE, OUTSIDE, expect};
+use disk::{Disk, DiskFault, FileDisk, FileFault};
+use std::fs::{self, OpenOptions, Permissions};
+use std::os::unix::fs::PermissionsExt;
+use std::process::{self, Abort};
+use std::test::Fail;
+
+/// A new, empty folder, and the path of a file in it.
+#[derive(Drop)]
+pub(crate) struct Place {
+    folder: String,
+    path: String,
+}
+
+impl Place {
+    pub(crate) fn new(rt: &HostRuntime, name: &str) -> Result<Place, Fail> {
+        let id = process::id(rt.process());
+        let folder = format!(in rt.alloc(); "/tmp/parts_tests_{name}_{id}")?;
+        if fs::exists(rt, folder.as_str())? {
+            fs::remove_dir_all(rt, folder.as_str())?;
+        }
+        fs::create_dir(rt, folder.as_str())?;
+        let path = format!(in rt.alloc(); "{folder}/device")?;
+        Ok(Place { folder, path })
+    }
+
+    /// Puts these bytes into the file.
+    pub(crate) fn write(&self, rt: &HostRuntime, bytes: &[u8]) -> Result<(), Fail> {
+        Ok(fs::write(rt, self.path.as_str(), bytes)?)
+    }
+
+    pub(crate) fn path(&self) -> &str {
+        self.path.as_str()
+    }
+
+    fn create(&self, rt: &HostRuntime, len: u64) -> Result<FileDisk, FileFault> {
+        FileDisk::create(rt, self.path.as_str(), len)
+    }
+
+    fn open(&self, rt: &HostRuntime) -> Result<FileDisk, FileFault> {
+        FileDisk::open(rt, self.path.as_str())
+    }
+
+    fn open_read_only(&self, rt: &HostRuntime) -> Result<FileDisk, FileFault> {
+        FileDisk::open_read_only(rt, self.path.as_str())
+    }
+
+    /// The bytes of the file.
+    pub(crate) fn read(&self, rt: &HostRuntime) -> Result<Vec<u8>, Fail> {
+        Ok(fs::read(rt, self.path.as_str())?)
+    }
+
+    pub(crate) fn remove(self, rt: &HostRuntime) -> Result<(), Fail> {
+        Ok(fs::remove_dir_all(rt, self.folder.as_str())?)
+    }
+}
+
+/// Whether the system may write this file.
+fn may_write(rt: &HostRuntime, path: &str) -> bool {
+    OpenOptions::new()
+        .read(true)
+        .write(true)
+        .open(rt, path)
+        .is_ok()
+}
+
+/// The system refused it.
+fn is_fault(rt: &impl Abort, made: Result<FileDisk, FileFault>) {
+    holds(rt, matches!(made, Err(FileFault::Device)));
+}
+
+const CALLS: [Call; 8] = [
+    Call::Write(3, b"abc"),
+    Call::Write(11, b"z"),
+    Call::Sync,
+    Call::Read(0, 12),
+    Call::Read(11, 2),
+    Call::Write(u64::MAX, b"ab"),
+    Call::Write(13, b""),
+    Call::Write(12, b""),
+];
+
+const ANSWERS: [Result<(), DiskFault>; 8] = [
+    FINE, FINE, FINE, FINE, OUTSIDE, OUTSIDE, OUTSIDE, FINE,
+];
+
+#[test]
+fn a_file_holds_what_was_written(rt: HostRuntime) -> Result<(), Fail> {
+    let place = Place::new(&rt, "written")?;
+    place.write(&rt, b"something else that was there")?;
+    let mut disk = place.create(&rt, 12)?;
+    expect(&rt, rt.alloc(), &mut disk, &CALLS, &ANSWERS)?;
+    same(&rt, &place.read(&rt)?, b"\0\0\0abc\0\0\0\0\0z");
+    drop(disk);
+
+    let mut disk = place.open(&rt)?;
+    holds(&rt, disk.len() == 12);
+    let mut part = [0; 5];
+    disk.read_at(2, &mut part)?;
+    same(&rt, &part, b"\0abc\0");
+    drop(disk);
+    place.remove(&rt)
+}
+
+/// Reads of a device of eight bytes whose file has six.
+const SHORT_READS: [Call; 4] = [
+    Call::Read(4, 4),
+    Call::Read(2, 4),
+    Call::Read(7, 1),
+    Call::Read(7, 2),
+];
+
+#[test]
+fn a_file_that_ends_early_is_a_fault(rt: HostRuntime) -> Result<(), Fail> {
+    let place = Place::new(&rt, "short")?;
+    let mut disk = place.create(&rt, 8)?;
+    place.write(&rt, b"\0\0\0\0\0\0")?;
+    let wanted = [FAULT, FINE, FAULT, OUTSIDE];
+    expect(&rt, rt.alloc(), &mut disk, &SHORT_READS, &wanted)?;
+    holds(&rt, disk.len() == 8);
+    drop(disk);
+    place.remove(&rt)
+}
+
+#[test]
+fn what_the_system_refuses_is_a_fault(rt: HostRuntime) -> Result<(), Fail> {
+    let place = Place::new(&rt, "refused")?;
+    let below = format!(in rt.alloc(); "{}/missing/device", place.folder)?;
+    // There is no such file, nor such a folder, and a folder is no file.
+    is_fault(&rt, place.open(&rt));
+    is_fault(&rt, FileDisk::open(&rt, below.as_str()));
+    is_fault(&rt, FileDisk::open(&rt, place.folder.as_str()));
+    is_fault(&rt, place.open_read_only(&rt));
+    is_fault(&rt, FileDisk::open_read_only(&rt, below.as_str()));
+    is_fault(&rt, FileDisk::open_read_only(&rt, place.folder.as_str()));
+    is_fault(&rt, FileDisk::open_read_only(&rt, "/dev/null"));
+    is_fault(&rt, FileDisk::create(&rt, below.as_str(), 4));
+    is_fault(&rt, FileDisk::create(&rt, place.folder.as_str(), 4));
+    // No file is that long.
+    is_fault(&rt, place.create(&rt, u64::MAX));
+    place.remove(&rt)
+}
+
+/// Writes that leave a device of four bytes.
+const OUTSIDE_WRITES: [Call; 4] = [
+    Call::Write(3, b"xy"),
+    Call::Write(4, b"x"),
+    Call::Write(0, b"longer"),
+    Call::Write(9, b"x"),
+];
+
+/// Each write leaves the device: it is refused, and the file keeps its bytes and its length.
+#[test]
+fn a_write_out_of_range_leaves_the_file(rt: HostRuntime) -> Result<(), Fail> {
+    let place = Place::new(&rt, "outside")?;
+    place.write(&rt, b"kept")?;
+    let mut disk = place.open(&rt)?;
+    expect(&rt, rt.alloc(), &mut disk, &OUTSIDE_WRITES, &[OUTSIDE; 4])?;
+    same(&rt, &place.read(&rt)?, b"kept");
+    drop(disk);
+    place.remove(&rt)
+}
+
+/// The system opens this file and refuses to sync it.
+#[test]
+fn a_file_that_is_not_synced_is_a_fault(rt: HostRuntime) {
+    let path = "/dev/null";
+    holds(&rt, may_write(&rt, path));
+    is_fault(&rt, FileDisk::open(&rt, path));
+}
+
+/// Calls of a device that was opened for reading alone.
+const READ_ONLY_CALLS: [Call; 4] = [
+    Call::Read(0, 4),
+    Call::Write(1, b"x"),
+    Call::Read(3, 1),
+    Call::Write(3, b"xy"),
+];
+
+/// Also the administrator, whom no permission keeps from writing, writes nothing.
+#[test]
+fn a_file_opened_for_reading_takes_no_write(rt: HostRuntime) -> Result<(), Fail> {
+    let place = Place::new(&rt, "for_reading")?;
+    place.write(&rt, b"kept")?;
+    fs::set_permissions(&rt, place.path.as_str(), Permissions::from_mode(0o444))?;
+    let mut disk = place.open_read_only(&rt)?;
+    holds(&rt, disk.len() == 4);
+    let wanted = [FINE, FAULT, FINE, OUTSIDE];
+    expect(&rt, rt.alloc(), &mut disk, &READ_ONLY_CALLS, &wanted)?;
+    let mut part = [0; 3];
+    disk.read_at(1, &mut part)?;
+    same(&rt, &part, b"ept");
+    same(&rt, &place.read(&rt)?, b"kept");
+    drop(disk);
+    place.remove(&rt)
+}
+
+/// The system refuses to sync this file, and here also to write it.
+#[test]
+fn a_file_opened_for_reading_is_not_synced(rt: HostRuntime) {
+    let path = "/proc/version";
+    is_fault(&rt, FileDisk::open(&rt, path));
+    holds(&rt, FileDisk::open_read_only(&rt, path).is_ok());
+}
+
+#[test]
+fn a_read_only_file_is_a_fault(rt: HostRuntime) -> Result<(), Fail> {
+    let place = Place::new(&rt, "read_only")?;
+    place.write(&rt, b"kept")?;
+    fs::set_permissions(&rt, place.path.as_str(), Permissions::from_mode(0o444))?;
+    // The administrator may write such a file.
+    let wanted = if may_write(&rt, place.path.as_str()) {
+        None
+    } else {
+        Some(FileFault::Device)
+    };
+    holds(&rt, place.open(&rt).err() == wanted);
+    place.remove(&rt)
+}

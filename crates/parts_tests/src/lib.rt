@@ -1,0 +1,23 @@
+//! Tests of the parts that a server is built of, by the public surfaces of arena, disk, turns and workers.
+#![tactic(auto)]
+
+#[cfg(test)]
+mod arena_calls;
+#[cfg(test)]
+mod arena_rows;
+#[cfg(test)]
+mod common;
+#[cfg(test)]
+mod disk_backing;
+#[cfg(test)]
+mod disk_calls;
+#[cfg(test)]
+mod disk_files;
+#[cfg(test)]
+mod disk_fuses;
+#[cfg(test)]
+mod disk_tearing;
+#[cfg(test)]
+mod turns_making;
+#[cfg(test)]
+mod workers_hand_off;

@@ -1,0 +1,612 @@
+//! Jobs handed to real threads, and their results.
+ghost use Rattle.std.specs.Prelude.{◌≡◌, ◌<◌, ◌≤◌, All};
+
+use crate::common::holds;
+use affinity::{Geometry, place_of};
+use message::{Block, Msg, Reply};
+use parcel::{Job, Tree, run};
+use std::alloc::Global;
+use std::hint::spin_loop;
+use std::marker::Model;
+use std::rt::Env;
+use std::sync::Wait;
+use std::sync::atomic::{AtomicBool, AtomicU64, Ordering};
+use std::test::Fail;
+use std::thread::Threads;
+use std::{env, thread};
+use workers::{Bench, DispatchSeat, Duty, Gate, OpenGate};
+
+/// One volume of two files of four blocks, in two stripes that hold two blocks each.
+const SMALL: [u16; 8] = [1, 1, 2, 1, 2, 4, 2, 4];
+
+/// How often a test tries before it gives up.
+const MOST_TRIES: u32 = 1_000_000;
+
+/// How many kinds of message there are.
+const KINDS: u64 = 14;
+
+/// How far apart the tickets of one place are: more than there are places, and prime to the kinds.
+const STRIDE: u64 = 65;
+
+/// How often two jobs are offered while one worker may look on and the other sleeps.
+const MEETINGS: u64 = 500;
+
+/// How many looks of a spin loop a worker goes to sleep in.
+const LONG_PAUSE: u64 = 5_000;
+
+/// The looks that pass before the two jobs are offered are fewer, since a worker begins to look on just then.
+const SHORT_PAUSES: u64 = 50;
+
+// A message of each kind.
+fn message(kind: u64) -> Msg {
+    match kind {
+        0 => Msg::MakeVol(0, 0),
+        1 => Msg::DropVol(0, 0),
+        2 => Msg::Create(0, 0, 0),
+        3 => Msg::Delete(0, 0, 0),
+        4 => Msg::Seal(0, 0),
+        5 => Msg::Unseal(0, 0),
+        6 => Msg::Write(0, 0, 0, 0, Block([7; 512])),
+        7 => Msg::Punch(0, 0, 0, 0),
+        8 => Msg::Read(0, 0, 0, 0),
+        9 => Msg::List(0, 0),
+        10 => Msg::Usage(0, 0),
+        11 => Msg::Summary,
+        12 => Msg::SetLabel(0, 0, [7; 32]),
+        _ => Msg::Label(0, 0),
+    }
+}
+
+// The job of a ticket, on a new tree.
+fn job(alloc: Global, ticket: u64) -> Result<Option<Job>, Fail> {
+    let mut tree = Tree::new(alloc, Geometry::new(SMALL)?)?;
+    let g = tree.geometry();
+    let message = message(ticket % KINDS);
+    let Some(a) = place_of(&g, message.kind(), message.numbers()) else {
+        return Ok(None);
+    };
+    let Some((standing, parcels)) = tree.lend(a) else {
+        return Ok(None);
+    };
+    Ok(Some(Job::new(g, ticket, message, standing, parcels)))
+}
+
+// The reply to the message of a ticket where it runs alone.
+fn reply_alone(alloc: Global, ticket: u64) -> Result<Option<Reply>, Fail> {
+    let Some(job) = job(alloc, ticket)? else {
+        return Ok(None);
+    };
+    Ok(Some(*run(job).reply()))
+}
+
+// Offers the job of a ticket; says whether the place took it.
+fn offer(
+    bench: &Bench,
+    desk: &mut DispatchSeat,
+    alloc: Global,
+    k: usize,
+    ticket: u64,
+) -> Result<bool, Fail>
+    requires { (desk.old.bench ≡ bench.now) × (k < bench.now.slots) }
+    ensures { desk.new.bench ≡ desk.old.bench }
+{
+    let Some(job) = job(alloc, ticket)? else {
+        return Ok(false);
+    };
+    Ok(bench.offer(desk, k, job).is_ok())
+}
+
+// The ticket and the reply of the result at a place, once it is there.
+fn collect(bench: &Bench, desk: &mut DispatchSeat, k: usize) -> Option<(u64, Reply)>
+    requires { (desk.old.bench ≡ bench.now) × (k < bench.now.slots) }
+    ensures { desk.new.bench ≡ desk.old.bench }
+{
+    for _ in 0..MOST_TRIES {
+        if let Some(done) = bench.collect(desk, k) {
+            return Some((done.ticket(), *done.reply()));
+        }
+        thread::yield_now();
+    }
+    None
+}
+
+// Whether the job of a ticket is handed back by a place where something is lent.
+fn is_handed_back(
+    bench: &Bench,
+    desk: &mut DispatchSeat,
+    alloc: Global,
+    k: usize,
+    ticket: u64,
+) -> Result<bool, Fail>
+    requires { (desk.old.bench ≡ bench.now) × (k < bench.now.slots) }
+    ensures { desk.new.bench ≡ desk.old.bench }
+{
+    let Some(job) = job(alloc, ticket)? else {
+        return Ok(false);
+    };
+    match bench.offer(desk, k, job) {
+        Ok(()) => Ok(false),
+        Err(back) => Ok(back.ticket() == ticket),
+    }
+}
+
+// One job offered at place 0 of two, which nobody runs yet: the next one is handed back there, and no
+// result is anywhere.
+fn offers_one(bench: &Bench, desk: &mut DispatchSeat, alloc: Global) -> Result<bool, Fail>
+    requires { (desk.old.bench ≡ bench.now) × (1 < bench.now.slots) }
+    ensures { desk.new.bench ≡ desk.old.bench }
+{
+    let first = offer(bench, desk, alloc, 0, 11)?;
+    let second = is_handed_back(bench, desk, alloc, 0, 12)?;
+    let nothing = bench.collect(desk, 0).is_none() && bench.collect(desk, 1).is_none();
+    Ok(first && second && nothing)
+}
+
+/// It passes too where any one request for memory is refused.
+#[test]
+fn a_bench_is_opened_at_the_next_try(rt: HostRuntime) -> Result<(), Fail> {
+    let alloc = rt.alloc();
+    let (_bench, desk, seats) = match Bench::open(alloc, 2, 3) {
+        Ok(opened) => opened,
+        Err(_) => Bench::open(alloc, 2, 3)?,
+    };
+    holds(
+        &rt,
+        desk.places() == 2 && !desk.any_lent() && seats.len() == 3,
+    );
+    Ok(())
+}
+
+#[test]
+fn one_worker_answers_one_job(rt: HostRuntime) -> Result<(), Fail> {
+    let alloc = rt.alloc();
+    let alone = replies_alone(alloc)?;
+    let (bench, desk, seats) = Bench::open(alloc, 2, 1)?;
+    let gate = OpenGate;
+    let (runtime, bench, gate) = (&rt, &bench, &gate);
+    let fine = thread::scope(
+        thread::scope_env(),
+        runtime,
+        move |scope| -> Result<bool, Fail>
+            requires desk { (desk.bench ≡ bench.now) × (bench.now.slots ≡ 2) }
+            requires seats { All (λ w. w ≡ bench.now) seats.items }
+        {
+            let mut desk = desk;
+            let offered = offers_one(bench, &mut desk, alloc);
+            let started = bench.start(runtime, scope, &mut desk, seats, gate).is_ok();
+            let collected = is_answer(collect(bench, &mut desk, 0), 11, &alone);
+            bench.stop(&mut desk);
+            Ok(offered? && started && collected)
+        },
+    )?;
+    holds(&rt, fine);
+    Ok(())
+}
+
+// A job that is offered at place 0 and comes back from there.
+#[derive(Drop)]
+struct RoundTrip<'c> {
+    bench: &'c Bench,
+    desk: DispatchSeat,
+    alloc: Global,
+}
+
+impl<'c> Model for RoundTrip<'c> {
+    ghost use Rattle.std.specs.Prelude.{◌≡◌, ◌<◌};
+    ghost use Rattle.workers.specs.Desk.{Desk};
+
+    ghost Value = { Desk };
+
+    ghost view = { λ s. s.desk };
+
+    ghost invariant = { λ s. (s.desk.bench ≡ s.bench.now) × (0 < s.bench.now.slots) };
+}
+
+impl<'c> Duty<Result<Option<(u64, Reply)>, Fail>> for RoundTrip<'c> {
+    ghost can_begin = { λ s. Unit {0} };
+
+    ghost gives = { λ old new end. Unit {0} };
+
+    fn fulfil<T: Wait, G: Gate>(&mut self, rt: &T, gate: &G) -> Result<Option<(u64, Reply)>, Fail> {
+        let _ = rt;
+        let _ = gate;
+        if offer(self.bench, &mut self.desk, self.alloc, 0, 11)? {
+            Ok(collect(self.bench, &mut self.desk, 0))
+        } else {
+            Ok(None)
+        }
+    }
+
+    fn release(&mut self) {
+        self.bench.stop(&mut self.desk);
+    }
+}
+
+// Where it isn't released this doesn't end.
+#[test]
+fn a_duty_is_done_beside_a_worker(rt: HostRuntime) -> Result<(), Fail> {
+    let alloc = rt.alloc();
+    let alone = reply_alone(alloc, 11)?;
+    let (bench, desk, seats) = Bench::open(alloc, 2, 1)?;
+    let mut trip = RoundTrip {
+        bench: &bench,
+        desk,
+        alloc,
+    };
+    let came = bench.with_workers(&rt, &OpenGate, seats, &mut trip)??;
+    let fine = match (came, alone) {
+        (Some((ticket, reply)), Some(alone)) => ticket == 11 && reply == alone,
+        _ => false,
+    };
+    holds(&rt, fine);
+    Ok(())
+}
+
+// Where a thread can't be started nobody stops the bench but `start`, so this ends only if it did.
+#[test]
+fn a_bench_with_no_job_starts_and_ends(rt: HostRuntime) -> Result<(), Fail> {
+    let (bench, desk, seats) = Bench::open(rt.alloc(), 2, 3)?;
+    let gate = OpenGate;
+    let (runtime, bench, gate) = (&rt, &bench, &gate);
+    thread::scope(
+        thread::scope_env(),
+        runtime,
+        move |scope| -> Result<(), Fail>
+            requires desk { desk.bench ≡ bench.now }
+            requires seats { All (λ w. w ≡ bench.now) seats.items }
+        {
+            let mut desk = desk;
+            bench.start(runtime, scope, &mut desk, seats, gate)?;
+            bench.stop(&mut desk);
+            Ok(())
+        },
+    )
+}
+
+// Each of many jobs at place 0 is there when the wait for it returns.
+fn jobs_waited_for<R: Wait>(
+    bench: &Bench,
+    desk: &mut DispatchSeat,
+    alloc: Global,
+    rt: &R,
+) -> Result<bool, Fail>
+    requires { (desk.old.bench ≡ bench.now) × (0 < bench.now.slots) }
+    ensures { desk.new.bench ≡ desk.old.bench }
+{
+    let mut fine = true;
+    for ticket in 0..1_000 {
+        if !offer(bench, desk, alloc, 0, ticket)? {
+            return Ok(false);
+        }
+        bench.wait(rt, desk);
+        fine = fine
+            && bench
+                .collect(desk, 0)
+                .is_some_and(|done| done.ticket() == ticket);
+    }
+    Ok(fine)
+}
+
+#[test]
+fn a_wait_ends_with_the_delivery(rt: HostRuntime) -> Result<(), Fail> {
+    let alloc = rt.alloc();
+    let (bench, desk, seats) = Bench::open(alloc, 1, 1)?;
+    let gate = OpenGate;
+    let (runtime, bench, gate) = (&rt, &bench, &gate);
+    let fine = thread::scope(
+        thread::scope_env(),
+        runtime,
+        move |scope| -> Result<bool, Fail>
+            requires desk { (desk.bench ≡ bench.now) × (bench.now.slots ≡ 1) }
+            requires seats { All (λ w. w ≡ bench.now) seats.items }
+        {
+            let mut desk = desk;
+            let started = bench.start(runtime, scope, &mut desk, seats, gate).is_ok();
+            let fine = if started {
+                jobs_waited_for(bench, &mut desk, alloc, runtime)
+            } else {
+                Ok(false)
+            };
+            bench.stop(&mut desk);
+            fine
+        },
+    )?;
+    holds(&rt, fine);
+    Ok(())
+}
+
+// Holds the job of each even ticket until the ticket after it was answered.
+#[derive(Drop)]
+struct Holding {
+    answered: AtomicU64,
+    gave_up: AtomicBool,
+}
+
+impl Holding {
+    fn new() -> Holding {
+        Holding {
+            answered: AtomicU64::new(0),
+            gave_up: AtomicBool::new(false),
+        }
+    }
+}
+
+impl Gate for Holding {
+    fn before(&self, ticket: u64) {
+        if ticket % 2 == 1 {
+            return;
+        }
+        for _ in 0..MOST_TRIES {
+            if self.answered.load(Ordering::SeqCst) > ticket {
+                return;
+            }
+            thread::yield_now();
+        }
+        self.gave_up.store(true, Ordering::SeqCst);
+    }
+
+    fn answered(&self, ticket: u64) {
+        self.answered.store(ticket, Ordering::SeqCst);
+    }
+}
+
+// The job after an even ticket is answered while that of the ticket is held.
+fn two_jobs(
+    bench: &Bench,
+    desk: &mut DispatchSeat,
+    alloc: Global,
+    gate: &Holding,
+    ticket: u64,
+) -> Result<bool, Fail>
+    requires { (desk.old.bench ≡ bench.now) × (1 < bench.now.slots) }
+    ensures { desk.new.bench ≡ desk.old.bench }
+{
+    let behind = ticket.wrapping_add(1);
+    let (Some(first), Some(second)) = (job(alloc, ticket)?, job(alloc, behind)?) else {
+        return Ok(false);
+    };
+    let offered = bench.offer(desk, 0, first).is_ok() && bench.offer(desk, 1, second).is_ok();
+    let answered = collect(bench, desk, 1).is_some();
+    gate.answered(behind);
+    let freed = collect(bench, desk, 0).is_some();
+    Ok(offered && answered && freed && !gate.gave_up.load(Ordering::SeqCst))
+}
+
+// Lets some time pass.
+fn pause(looks: u64) {
+    for _ in 0..looks {
+        spin_loop();
+    }
+}
+
+// Again and again one of two workers has just done a job, and looks on, while the other sleeps. Two jobs are offered then at once:
+// the one that looks on may take the first of them, which holds it, while no offer has woken the other.
+fn all_meetings(
+    bench: &Bench,
+    desk: &mut DispatchSeat,
+    alloc: Global,
+    gate: &Holding,
+    meetings: u64,
+) -> Result<bool, Fail>
+    requires { (desk.old.bench ≡ bench.now) × (1 < bench.now.slots) }
+    ensures { desk.new.bench ≡ desk.old.bench }
+{
+    for meeting in 0..meetings {
+        pause(LONG_PAUSE);
+        let single = meeting.wrapping_mul(4).wrapping_add(1);
+        let done = offer(bench, desk, alloc, 0, single)? && collect(bench, desk, 0).is_some();
+        pause(meeting % SHORT_PAUSES);
+        if !done || !two_jobs(bench, desk, alloc, gate, single.wrapping_add(1))? {
+            return Ok(false);
+        }
+    }
+    Ok(true)
+}
+
+// The most rounds or meetings at a bench, where `BENCH_ROUNDS` in the environment says how many.
+fn most_rounds<R: Env + Alloc>(rt: &R) -> u64 {
+    match env::var(rt, "BENCH_ROUNDS") {
+        Ok(text) => text.as_str().parse::<u64>().unwrap_or(u64::MAX),
+        Err(_) => u64::MAX,
+    }
+}
+
+// Two jobs at once, and then the meetings.
+fn first_and_meetings(
+    bench: &Bench,
+    desk: &mut DispatchSeat,
+    alloc: Global,
+    gate: &Holding,
+    meetings: u64,
+) -> Result<bool, Fail>
+    requires { (desk.old.bench ≡ bench.now) × (1 < bench.now.slots) }
+    ensures { desk.new.bench ≡ desk.old.bench }
+{
+    let first = two_jobs(bench, desk, alloc, gate, 0)?;
+    Ok(first && all_meetings(bench, desk, alloc, gate, meetings)?)
+}
+
+// Whether two jobs run at once at a bench with two workers, and again in each of the meetings.
+fn two_workers_meet<R: Threads + Wait + Sync>(
+    rt: &R,
+    alloc: Global,
+    meetings: u64,
+) -> Result<bool, Fail> {
+    let (bench, desk, seats) = Bench::open(alloc, 2, 2)?;
+    let gate = Holding::new();
+    let (bench, gate) = (&bench, &gate);
+    thread::scope(
+        thread::scope_env(),
+        rt,
+        move |scope| -> Result<bool, Fail>
+            requires desk { (desk.bench ≡ bench.now) × (bench.now.slots ≡ 2) }
+            requires seats { All (λ w. w ≡ bench.now) seats.items }
+        {
+            let mut desk = desk;
+            let started = bench.start(rt, scope, &mut desk, seats, gate).is_ok();
+            let fine = first_and_meetings(bench, &mut desk, alloc, gate, meetings);
+            bench.stop(&mut desk);
+            Ok(fine? && started)
+        },
+    )
+}
+
+#[test]
+fn two_jobs_run_at_once(rt: HostRuntime) -> Result<(), Fail> {
+    let fine = two_workers_meet(&rt, rt.alloc(), 0)?;
+    holds(&rt, fine);
+    Ok(())
+}
+
+#[test]
+fn a_worker_that_is_held_up_calls_another(rt: HostRuntime) -> Result<(), Fail> {
+    let meetings = most_rounds(&rt).min(MEETINGS);
+    let fine = two_workers_meet(&rt, rt.alloc(), meetings)?;
+    holds(&rt, fine);
+    Ok(())
+}
+
+// The reply to each kind of message where it runs alone.
+fn replies_alone(alloc: Global) -> Result<Vec<Option<Reply>>, Fail> {
+    let mut replies = Vec::new(alloc);
+    for kind in 0..KINDS {
+        replies.push(reply_alone(alloc, kind)?)?;
+    }
+    Ok(replies)
+}
+
+// Whether the result that came is that of this ticket, with the reply that its message gets alone.
+fn is_answer(came: Option<(u64, Reply)>, ticket: u64, alone: &[Option<Reply>]) -> bool {
+    match came {
+        Some((back, reply)) => {
+            back == ticket && alone.get((ticket % KINDS) as usize) == Some(&Some(reply))
+        }
+        None => false,
+    }
+}
+
+// The ticket and the reply of the result at a place: the dispatcher sleeps until it is there.
+fn await_result<R: Wait>(
+    bench: &Bench,
+    desk: &mut DispatchSeat,
+    rt: &R,
+    k: usize,
+) -> Option<(u64, Reply)>
+    requires { (desk.old.bench ≡ bench.now) × (k < bench.now.slots) }
+    ensures { desk.new.bench ≡ desk.old.bench }
+{
+    for _ in rt.forever() {
+        if let Some(done) = bench.collect(desk, k) {
+            return Some((done.ticket(), *done.reply()));
+        }
+        bench.wait(rt, desk);
+    }
+    None
+}
+
+// Offers a job at each place, where the one before has to be answered first. Says whether all was so.
+fn offer_round<R: Wait>(
+    bench: &Bench,
+    desk: &mut DispatchSeat,
+    with: (&R, Global),
+    places: usize,
+    round: u64,
+    alone: &[Option<Reply>],
+) -> Result<bool, Fail>
+    requires { (desk.old.bench ≡ bench.now) × (places ≡ bench.now.slots) }
+    ensures { desk.new.bench ≡ desk.old.bench }
+{
+    let (rt, alloc) = with;
+    for k in 0..places {
+        let before = round.wrapping_mul(STRIDE).wrapping_add(k as u64);
+        if round > 0 && !is_answer(await_result(bench, desk, rt, k), before, alone) {
+            return Ok(false);
+        }
+        if !offer(bench, desk, alloc, k, before.wrapping_add(STRIDE))? {
+            return Ok(false);
+        }
+    }
+    Ok(true)
+}
+
+// Collects the last job of each place, after which nothing is left. Says whether all was so.
+fn collect_round<R: Wait>(
+    bench: &Bench,
+    desk: &mut DispatchSeat,
+    rt: &R,
+    places: usize,
+    round: u64,
+    alone: &[Option<Reply>],
+) -> bool
+    requires { (desk.old.bench ≡ bench.now) × (places ≡ bench.now.slots) }
+    ensures { desk.new.bench ≡ desk.old.bench }
+{
+    for k in 0..places {
+        let last = round.wrapping_mul(STRIDE).wrapping_add(k as u64);
+        let came = await_result(bench, desk, rt, k);
+        if !is_answer(came, last, alone) || bench.collect(desk, k).is_some() {
+            return false;
+        }
+    }
+    true
+}
+
+// Hands jobs over at each place, with a ticket of its own each, and sleeps while none comes back. Says
+// whether each came back once, with the reply that its message gets alone.
+fn all_jobs<R: Wait>(
+    bench: &Bench,
+    desk: &mut DispatchSeat,
+    with: (&R, Global),
+    places: usize,
+    rounds: u64,
+) -> Result<bool, Fail>
+    requires { (desk.old.bench ≡ bench.now) × (places ≡ bench.now.slots) }
+    ensures { desk.new.bench ≡ desk.old.bench }
+{
+    let (rt, alloc) = with;
+    let alone = replies_alone(alloc)?;
+    for round in 0..rounds {
+        if !offer_round(bench, desk, with, places, round, &alone)? {
+            return Ok(false);
+        }
+    }
+    Ok(collect_round(bench, desk, rt, places, rounds, &alone))
+}
+
+// Whether all jobs come back at a bench with as many places as workers.
+fn hands_off_all<R: Threads + Wait + Sync>(
+    rt: &R,
+    alloc: Global,
+    places: usize,
+    rounds: u64,
+) -> Result<bool, Fail>
+    requires { places ≤ 64 }
+{
+    let (bench, desk, seats) = Bench::open(alloc, places, places)?;
+    let gate = OpenGate;
+    let (bench, gate) = (&bench, &gate);
+    thread::scope(
+        thread::scope_env(),
+        rt,
+        move |scope| -> Result<bool, Fail>
+            requires desk { (desk.bench ≡ bench.now) × (bench.now.slots ≡ places) }
+            requires seats { All (λ w. w ≡ bench.now) seats.items }
+        {
+            let mut desk = desk;
+            let started = bench.start(rt, scope, &mut desk, seats, gate).is_ok();
+            let fine = all_jobs(bench, &mut desk, (rt, alloc), places, rounds);
+            bench.stop(&mut desk);
+            Ok(fine? && started)
+        },
+    )
+}
+
+#[test]
+fn each_of_100000_jobs_comes_back_once(rt: HostRuntime) -> Result<(), Fail> {
+    let most = most_rounds(&rt);
+    for (places, rounds) in [(1, 25_000), (2, 12_500), (8, 3_125), (64, 391)] {
+        let fine = hands_off_all(&rt, rt.alloc(), places, most.min(rounds))?;
+        holds(&rt, fine);
+    }
+    Ok(())
+}

@@ -1,1 +1,0 @@
--- There are no lemmas here: the proofs of these tests need the invariants of loops alone.

@@ -1,6 +1,0 @@
--- The dispatcher's seat stays at its bench from one round to the next.
-use Rattle.std.proofs.Common.{◌≡◌}
-use Rattle.workers_tests.proofs.hand_off.all_jobs.Given as goal
-
-abbrev pub invariant-loop-round : goal.invariant-loop-round
-invariant-loop-round g l = l.desk.bench ≡ l.initial.desk.bench

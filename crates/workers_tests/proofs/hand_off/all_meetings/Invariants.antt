@@ -1,6 +1,0 @@
--- The dispatcher's seat stays at its bench from one meeting to the next.
-use Rattle.std.proofs.Common.{◌≡◌}
-use Rattle.workers_tests.proofs.hand_off.all_meetings.Given as goal
-
-abbrev pub invariant-loop-meeting : goal.invariant-loop-meeting
-invariant-loop-meeting l = l.desk.bench ≡ l.initial.desk.bench

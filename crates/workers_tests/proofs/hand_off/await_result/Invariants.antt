@@ -1,6 +1,0 @@
--- The dispatcher's seat stays at its bench from one wait to the next.
-use Rattle.std.proofs.Common.{◌≡◌}
-use Rattle.workers_tests.proofs.hand_off.await_result.Given as goal
-
-abbrev pub invariant-loop : goal.invariant-loop
-invariant-loop g l = l.desk.bench ≡ l.initial.desk.bench

@@ -1,6 +1,0 @@
--- The dispatcher's seat stays at its bench from one try to the next.
-use Rattle.std.proofs.Common.{◌≡◌}
-use Rattle.workers_tests.proofs.hand_off.collect.Given as goal
-
-abbrev pub invariant-loop : goal.invariant-loop
-invariant-loop l = l.desk.bench ≡ l.initial.desk.bench

@@ -1,6 +1,0 @@
--- The dispatcher's seat stays at its bench from one job to the next.
-use Rattle.std.proofs.Common.{◌≡◌}
-use Rattle.workers_tests.proofs.hand_off.jobs_waited_for.Given as goal
-
-abbrev pub invariant-loop-ticket : goal.invariant-loop-ticket
-invariant-loop-ticket g l = l.desk.bench ≡ l.initial.desk.bench

@@ -1,6 +1,0 @@
--- The dispatcher's seat stays at its bench from one place to the next, as jobs are offered.
-use Rattle.std.proofs.Common.{◌≡◌}
-use Rattle.workers_tests.proofs.hand_off.offer_round.Given as goal
-
-abbrev pub invariant-loop-k : goal.invariant-loop-k
-invariant-loop-k g l = l.desk.bench ≡ l.initial.desk.bench

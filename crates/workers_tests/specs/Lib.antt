@@ -1,1 +1,0 @@
--- The tests of the bench need no words of their own.
