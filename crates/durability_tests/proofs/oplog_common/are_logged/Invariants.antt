@@ -2,7 +2,7 @@
 use Rattle.std.proofs.Common.{ℕ, ◌<◌, get_or}
 use Rattle.messages.specs.declared.Msg.{Msg}
 use Rattle.oplog.specs.Logged.{IsLogged}
-use Rattle.oplog_tests.proofs.common.are_logged.Given as goal
+use Rattle.durability_tests.proofs.oplog_common.are_logged.Given as goal
 
 abbrev pub invariant-loop-m : goal.invariant-loop-m
 invariant-loop-m l = (k : ℕ) → k < l.m-index → (d : Msg) → IsLogged l.g (get_or l.messages k d)

@@ -1,5 +1,6 @@
 //! Worked examples on a device of 8,840 bytes.
-use crate::common::{Server, Step, Way, answers, counts, finds, holds, reads};
+use crate::common::{counts, holds};
+use crate::oplog_common::{Server, Step, Way, answers, finds, reads};
 use affinity::Geometry;
 use disk::Disk;
 use message::Msg;
@@ -24,6 +25,34 @@ fn goes(rt: &impl Abort, server: &mut Server, rows: &[(Step, [u64; 4])]) {
     }
 }
 
+/// Half 1 is cleared and named: it has room for four records.
+const ROOM: [(Step, [u64; 4]); 2] = [(Step::Clear, [0, 0, 0, 0]), (Step::Flip, [1, 4, 1, 1])];
+
+/// A chain is opened to half 1, which is named then.
+const CHAIN: [(Step, [u64; 4]); 2] = [(Step::Chain, [0, 4, 0, 1]), (Step::Flip, [1, 4, 1, 1])];
+
+/// A half has room where it was cleared before it was named, and not since.
+const CHANGES: [(Step, [u64; 4]); 8] = [
+    (Step::Flip, [1, 0, 1, 1]),
+    (Step::Clear, [1, 0, 1, 1]),
+    (Step::Flip, [0, 4, 0, 0]),
+    (Step::Flip, [1, 0, 1, 1]),
+    (Step::Flip, [0, 0, 0, 0]),
+    (Step::Clear, [0, 0, 0, 0]),
+    (Step::Name(1), [0, 0, 1, 1]),
+    (Step::Flip, [0, 0, 0, 0]),
+];
+
+const WALKS: [&[(Step, [u64; 4])]; 3] = [&ROOM, &CHAIN, &CHANGES];
+
+#[test]
+fn a_half_that_was_cleared_has_room(rt: HostRuntime) -> Result<(), Fail> {
+    for rows in WALKS {
+        goes(&rt, &mut Server::new(rt.alloc(), 4)?, rows);
+    }
+    Ok(())
+}
+
 #[test]
 fn a_record_is_appended_and_read(rt: HostRuntime) -> Result<(), Fail> {
     let mut server = Server::new(rt.alloc(), 4)?;
@@ -38,30 +67,6 @@ fn a_record_is_appended_and_read(rt: HostRuntime) -> Result<(), Fail> {
     counts(&rt, server.nonzero(), 3);
     finds(&rt, server.front(1), 1);
     reads(&rt, server.record(1, 0), Ok(Msg::MakeVol(0, 0)));
-    Ok(())
-}
-
-/// Half 1 is cleared and named: it has room for four records.
-const ROOM: [(Step, [u64; 4]); 2] = [(Step::Clear, [0, 0, 0, 0]), (Step::Flip, [1, 4, 1, 1])];
-
-#[test]
-fn a_half_that_was_cleared_has_room(rt: HostRuntime) -> Result<(), Fail> {
-    let mut server = Server::new(rt.alloc(), 4)?;
-    goes(&rt, &mut server, &ROOM);
-    Ok(())
-}
-
-/// A chain is opened to half 1, which is named then.
-const CHAIN: [(Step, [u64; 4]); 2] = [(Step::Chain, [0, 4, 0, 1]), (Step::Flip, [1, 4, 1, 1])];
-
-#[test]
-fn a_chain_goes_on_in_the_other_half(rt: HostRuntime) -> Result<(), Fail> {
-    let mut server = Server::new(rt.alloc(), 4)?;
-    goes(&rt, &mut server, &CHAIN[..1]);
-    // The chain byte of half 0, and nothing beside it.
-    counts(&rt, server.byte(128), 1);
-    counts(&rt, server.nonzero(), 1);
-    goes(&rt, &mut server, &CHAIN[1..]);
     Ok(())
 }
 
@@ -115,25 +120,6 @@ fn the_front_ends_at_a_gate_that_is_not_open(rt: HostRuntime) -> Result<(), Fail
         finds(&rt, server.front(1), wanted);
         finds(&rt, server.front(0), 0);
     }
-    Ok(())
-}
-
-/// A half has room where it was cleared before it was named, and not since.
-const CHANGES: [(Step, [u64; 4]); 8] = [
-    (Step::Flip, [1, 0, 1, 1]),
-    (Step::Clear, [1, 0, 1, 1]),
-    (Step::Flip, [0, 4, 0, 0]),
-    (Step::Flip, [1, 0, 1, 1]),
-    (Step::Flip, [0, 0, 0, 0]),
-    (Step::Clear, [0, 0, 0, 0]),
-    (Step::Name(1), [0, 0, 1, 1]),
-    (Step::Flip, [0, 0, 0, 0]),
-];
-
-#[test]
-fn a_half_that_was_not_cleared_has_no_room(rt: HostRuntime) -> Result<(), Fail> {
-    let mut server = Server::new(rt.alloc(), 4)?;
-    goes(&rt, &mut server, &CHANGES);
     Ok(())
 }
 

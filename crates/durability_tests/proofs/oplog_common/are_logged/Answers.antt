@@ -4,7 +4,7 @@ use Rattle.std.proofs.lemmas.List.{get_or_default}
 use borrow.Author.Count.{below_more}
 use Rattle.messages.specs.declared.Msg.{Msg}
 use Rattle.oplog.specs.Logged.{IsLogged}
-use Rattle.oplog_tests.proofs.common.are_logged.Goals as goal
+use Rattle.durability_tests.proofs.oplog_common.are_logged.Goals as goal
 
 pub loop-m-preserved : goal.loop-m-preserved
 loop-m-preserved c =

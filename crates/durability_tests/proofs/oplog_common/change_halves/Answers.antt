@@ -1,7 +1,7 @@
 -- The other half was cleared, so it is ready for records once it is named and current.
 use Rattle.std.proofs.Common.{arith}
 use Rattle.oplog.proofs.Ready.{ready_named}
-use Rattle.oplog_tests.proofs.common.change_halves.Goals as goal
+use Rattle.durability_tests.proofs.oplog_common.change_halves.Goals as goal
 
 pub returns-clause-ready : goal.returns-clause-ready
 returns-clause-ready g c = λ k.

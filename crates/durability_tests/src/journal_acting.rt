@@ -7,22 +7,9 @@ use harness::{
     expected, messages_of,
 };
 use std::alloc::Global;
-use std::process::Abort;
-
-/// One volume of two files of four blocks, in two stripes that hold two blocks each, and four records in a half.
-/// Neighboring blocks of a file lie in different stripes.
-pub(crate) const SMALL: [u16; 8] = [1, 1, 2, 1, 2, 4, 2, 4];
 
 /// One volume of one file of four blocks, each in a stripe of its own, and eight records in a half.
 pub(crate) const FLAT: [u16; 8] = [1, 1, 4, 1, 1, 4, 1, 8];
-
-pub(crate) fn holds(rt: &impl Abort, fact: bool) {
-    assert!(rt; fact);
-}
-
-pub(crate) fn counts(rt: &impl Abort, got: u64, want: u64) {
-    assert_eq!(rt; got, want);
-}
 
 /// A device, what leads to the state that it stands for, and what is done to a server on it.
 #[derive(Drop)]

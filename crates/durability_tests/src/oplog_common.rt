@@ -253,14 +253,6 @@ impl Server {
     }
 }
 
-pub(crate) fn holds(rt: &impl Abort, fact: bool) {
-    assert!(rt; fact);
-}
-
-pub(crate) fn counts(rt: &impl Abort, got: u64, want: u64) {
-    assert_eq!(rt; got, want);
-}
-
 pub(crate) fn answers(rt: &impl Abort, got: Result<(), LogFault>, want: Result<(), LogFault>) {
     assert_eq!(rt; got, want);
 }

@@ -1,5 +1,5 @@
 //! Devices that are opened, and such as are refused.
-use crate::acting::{SMALL, holds};
+use crate::common::{SMALL, holds};
 use affinity::Geometry;
 use checkpoint::{OpenFault, inspect};
 use disk::MemDisk;
@@ -59,7 +59,10 @@ fn is_refused(
     holds(rt, device.bytes() == bytes.as_slice());
     match inspect(alloc, device) {
         Ok(_) => holds(rt, false),
-        Err(e) => holds(rt, e.fault == fault),
+        Err(e) => {
+            holds(rt, e.fault == fault);
+            holds(rt, e.disk.bytes() == bytes.as_slice());
+        }
     }
     Ok(())
 }

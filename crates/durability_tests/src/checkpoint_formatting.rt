@@ -1,6 +1,7 @@
 //! Devices that are made: their bytes, and what a crash leaves.
 ghost use Rattle.std.specs.Prelude.{◌<◌};
 
+use crate::common::{SMALL, holds};
 use affinity::Geometry;
 use checkpoint::{FormatFault, format};
 use disk::MemDisk;
@@ -9,10 +10,7 @@ use std::alloc::{AllocError, Global};
 use std::process::Abort;
 use std::test::Fail;
 
-/// One volume of two files of four blocks, in two stripes that hold two blocks each, and four records in a half.
-pub(crate) const SMALL: [u16; 8] = [1, 1, 2, 1, 2, 4, 2, 4];
-
-/// The length of its device.
+/// The length of the small device.
 pub(crate) const LEN: usize = 8840;
 
 /// The header of its device, but for the zeros after.
@@ -24,10 +22,6 @@ const HEADER: [u8; 24] = [
 /// open, a write and a sync; three writes of zeros; the version, the header after its gate, and the gate, each a write
 /// and a sync.
 const CALLS: [(usize, u64); 3] = [(0, 11), (1, 13), (2, 11)];
-
-pub(crate) fn holds(rt: &impl Abort, fact: bool) {
-    assert!(rt; fact);
-}
 
 /// Sets a byte, if there is one.
 pub(crate) fn put(bytes: &mut [u8], at: usize, byte: u8) {

@@ -1,5 +1,6 @@
 //! Devices that fail or stop at each call, and crashes of every kind.
-use crate::common::{Server, Way, counts, holds, same_messages};
+use crate::common::{counts, holds};
+use crate::oplog_common::{Server, Way, same_messages};
 use harness::{KINDS, MIXED, NEW, OLD};
 use message::Msg;
 use std::alloc::Global;

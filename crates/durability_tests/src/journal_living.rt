@@ -1,5 +1,6 @@
 //! Lives of a server, which the device ends at any call.
-use crate::acting::{Play, SMALL, Script, counts};
+use crate::common::{SMALL, counts};
+use crate::journal_acting::{Play, Script};
 use harness::{Act, Wrong, sweep};
 use std::alloc::Global;
 use std::process::Abort;

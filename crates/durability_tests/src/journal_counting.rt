@@ -1,5 +1,5 @@
 //! How often each call of a journal calls the device, and how many bytes it writes.
-use crate::acting::{SMALL, counts, holds};
+use crate::common::{SMALL, counts, holds};
 use checkpoint::inspect;
 use disk::MemDisk;
 use harness::{Act, Counts, Halt, NEW, OLD, Server, Wrong, device_with, messages_of, torn};

@@ -1,5 +1,6 @@
 //! Worked examples of logs, points and cuts.
-use crate::acting::{FLAT, SMALL, holds};
+use crate::common::{SMALL, holds};
+use crate::journal_acting::FLAT;
 use affinity::Geometry;
 use checkpoint::{Shown, inspect};
 use disk::MemDisk;

@@ -1,0 +1,142 @@
+//! What is reported of devices.
+use crate::checkpoint_formatting::{LEN, new_bytes, put};
+use crate::common::{SMALL, holds};
+use affinity::Geometry;
+use checkpoint::{OpenFault, Shown, format, inspect};
+use disk::MemDisk;
+use message::Reply;
+use std::alloc::{AllocError, Global};
+use std::process::Abort;
+use std::test::Fail;
+
+/// How many calls of the device it takes to inspect an empty one: its header, the area, the head of an image, three
+/// pieces, a chain byte and the gates.
+const CALLS: u64 = 8;
+
+/// The formatted device with other bytes at some places.
+fn device(alloc: Global, changes: &[(usize, u8)]) -> Result<MemDisk, AllocError> {
+    let mut bytes = new_bytes(alloc, LEN, 0)?;
+    for (at, byte) in changes {
+        put(&mut bytes, *at, *byte);
+    }
+    MemDisk::of_bytes(alloc, bytes)
+}
+
+/// What is reported if there are this many volumes and files, and no blocks.
+fn shown(records: usize, volumes: u32, files: u32, version: u8) -> Result<Shown, Fail> {
+    Ok(Shown {
+        geometry: Geometry::new(SMALL)?,
+        area: 0,
+        records,
+        summary: Reply::Summary {
+            volumes,
+            files,
+            blocks: 0,
+        },
+        version,
+    })
+}
+
+/// The device is reported as empty, by few calls of it.
+fn expect_empty(rt: &impl Abort, alloc: Global, disk: MemDisk) -> Result<(), Fail> {
+    let calls = disk.calls();
+    let want = shown(0, 0, 0, 2)?;
+    match inspect(alloc, disk) {
+        Ok(told) => {
+            holds(rt, told.0 == want);
+            holds(rt, calls.checked_add(CALLS) == Some(told.1.calls()));
+        }
+        Err(_) => holds(rt, false),
+    }
+    Ok(())
+}
+
+#[test]
+fn a_new_device_is_empty(rt: HostRuntime) -> Result<(), Fail> {
+    let g = Geometry::new(SMALL)?;
+    let disk = MemDisk::new(rt.alloc(), LEN as u64)?;
+    match format(rt.alloc(), disk, g) {
+        Ok(disk) => expect_empty(&rt, rt.alloc(), disk),
+        Err(_) => {
+            holds(&rt, false);
+            Ok(())
+        }
+    }
+}
+
+/// Bytes that are set, and how many records, volumes and files are reported then, and the version of the image.
+const SHOWN: [(&[(usize, u8)], usize, u32, u32, u8); 7] = [
+    (&[(64, 7)], 0, 0, 0, 2),
+    (&[(192, 1), (196, 1)], 1, 1, 0, 2),
+    (&[(4424, 1)], 0, 0, 0, 1),
+    (&[(4424, 1), (4488, 1)], 0, 1, 0, 1),
+    (&[(4488, 1), (4504, 1)], 0, 1, 0, 2),
+    // The other half counts after a chain alone.
+    (
+        &[(128, 1), (192, 1), (196, 1), (2340, 1), (2344, 3)],
+        2,
+        1,
+        1,
+        2,
+    ),
+    (&[(192, 1), (196, 1), (2340, 1), (2344, 3)], 1, 1, 0, 2),
+];
+
+#[test]
+fn records_and_images_are_told(rt: HostRuntime) -> Result<(), Fail> {
+    for (changes, records, volumes, files, version) in SHOWN {
+        let want = shown(records, volumes, files, version)?;
+        match inspect(rt.alloc(), device(rt.alloc(), changes)?) {
+            Ok((told, _)) => holds(&rt, told == want),
+            Err(_) => holds(&rt, false),
+        }
+    }
+    Ok(())
+}
+
+/// Behind a cut a record that is none: nothing is changed where it is told.
+#[test]
+fn a_bad_record_behind_a_cut_is_told(rt: HostRuntime) -> Result<(), Fail> {
+    let device = device(rt.alloc(), &[(128, 1), (2340, 1)])?;
+    let bytes = device.bytes().to_vec(rt.alloc())?;
+    match inspect(rt.alloc(), device) {
+        Ok(_) => holds(&rt, false),
+        Err(e) => {
+            holds(&rt, e.fault == OpenFault::BadRecord(1, 0));
+            holds(&rt, e.disk.bytes() == bytes.as_slice());
+        }
+    }
+    Ok(())
+}
+
+/// Where a request of `inspect` for memory is refused, the device had one call, a read of its header, and the same call tells.
+#[test]
+fn a_device_is_inspected_at_the_next_try(rt: HostRuntime) -> Result<(), Fail> {
+    let alloc = rt.alloc();
+    let disk = device(alloc, &[(192, 1), (196, 1)])?;
+    let bytes = disk.bytes().to_vec(alloc)?;
+    let (told, disk) = match inspect(alloc, disk) {
+        Ok(told) => told,
+        Err(e) => {
+            let is_read = e.disk.calls() == 1 && e.disk.bytes() == bytes.as_slice();
+            holds(&rt, e.fault == OpenFault::OutOfMemory && is_read);
+            inspect(alloc, e.disk).map_err(|e| e.fault)?
+        }
+    };
+    holds(&rt, told == shown(1, 1, 0, 2)?);
+    holds(&rt, disk.bytes() == bytes.as_slice());
+    Ok(())
+}
+
+#[test]
+fn each_read_may_fail(rt: HostRuntime) -> Result<(), Fail> {
+    for n in 1..CALLS + 2 {
+        let mut disk = device(rt.alloc(), &[])?;
+        disk.fail_at(n);
+        match inspect(rt.alloc(), disk) {
+            Ok(_) => holds(&rt, n == CALLS + 1),
+            Err(e) => holds(&rt, n <= CALLS && e.fault == OpenFault::Device),
+        }
+    }
+    Ok(())
+}
