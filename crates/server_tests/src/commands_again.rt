@@ -1,0 +1,213 @@
+//! Two lives of one device: the first stops at each of its calls and is crashed, and the second one tells what is there.
+ghost use Rattle.std.specs.Prelude.{◌<◌};
+
+use crate::commands_calls::System;
+use crate::serving_running::SMALL;
+use affinity::Geometry;
+use commands::{Service, serve_again};
+use harness::{KINDS, torn};
+use std::alloc::{AllocError, Global};
+use std::test::Fail;
+
+/// More calls than the first life makes of its device.
+const CALLS: u64 = 120;
+
+/// What the first life is asked with the answers, what the second one is asked, and what it may answer: each with the number of lines that
+/// were acknowledged at most where it does.
+type Row<'a> = (&'a [(&'a str, &'a str)], &'a str, &'a [(&'a str, usize)]);
+
+/// Each line is related to those before it: it is there only with them.
+const RELATED: Row<'static> = (
+    &[
+        ("makevol 0 0\n", "done\n"),
+        ("create 0 0 0\n", "done\n"),
+        ("write 0 0 0 0 61\n", "done\n"),
+    ],
+    "summary\n",
+    &[
+        ("summary 0 0 0\n", 0),
+        ("summary 1 0 0\n", 1),
+        ("summary 1 1 0\n", 2),
+        ("summary 1 1 1\n", 3),
+    ],
+);
+
+/// Block 1 is in another stripe: it may be there without what was written to block 0 before.
+const STRIPES: Row<'static> = (
+    &[
+        ("makevol 0 0\n", "done\n"),
+        ("create 0 0 0\n", "done\n"),
+        ("write 0 0 0 0 61\n", "done\n"),
+        ("write 0 0 0 1 62\n", "done\n"),
+        ("write 0 0 0 0 63\n", "done\n"),
+    ],
+    "summary\nread 0 0 0 0\nread 0 0 0 1\n",
+    &[
+        ("summary 0 0 0\nerror volume\nerror volume\n", 0),
+        ("summary 1 0 0\nerror file\nerror file\n", 1),
+        ("summary 1 1 0\nhole\nhole\n", 2),
+        ("summary 1 1 1\nhole\nblock 62\n", 2),
+        ("summary 1 1 1\nblock 61\nhole\n", 3),
+        ("summary 1 1 1\nblock 63\nhole\n", 3),
+        ("summary 1 1 2\nblock 61\nblock 62\n", 4),
+        ("summary 1 1 2\nblock 63\nblock 62\n", 5),
+    ],
+);
+
+/// Some lines change nothing, and a label may be there without a file before it.
+const UNCHANGED: Row<'static> = (
+    &[
+        ("makevol 0 0\n", "done\n"),
+        ("hello\n", "error line\n"),
+        ("create 0 0 0\n", "done\n"),
+        ("punch 0 0 9 0\n", "error range\n"),
+        ("create 0 0 0\n", "error exists\n"),
+        ("setlabel 0 0 6162\n", "done\n"),
+        ("label 0 0\n", "label 6162\n"),
+    ],
+    "summary\nlabel 0 0\n",
+    &[
+        ("summary 0 0 0\nerror volume\n", 0),
+        ("summary 1 0 0\nlabel 00\n", 2),
+        ("summary 1 0 0\nlabel 6162\n", 2),
+        ("summary 1 1 0\nlabel 00\n", 5),
+        ("summary 1 1 0\nlabel 6162\n", 7),
+    ],
+);
+
+/// What came of two lives: how many lines of the first one were acknowledged, whether it ended without fault, and which of the states
+/// of its row the second one found.
+#[derive(Clone, Copy, PartialEq, Eq)]
+struct Found {
+    acknowledged: usize,
+    well: bool,
+    state: usize,
+}
+
+/// How many of these answers were written, one after the other and nothing else.
+fn acknowledged(lines: &[(&str, &str)], written: &[u8]) -> Option<usize> {
+    let mut rest = written;
+    let mut count = 0usize;
+    for (_, answer) in lines {
+        if rest.is_empty() {
+            return Some(count);
+        }
+        rest = rest.strip_prefix(answer.as_bytes())?;
+        count = count.saturating_add(1);
+    }
+    if rest.is_empty() { Some(count) } else { None }
+}
+
+/// The lines that are asked, one after the other.
+fn asked(alloc: Global, lines: &[(&str, &str)]) -> Result<String, AllocError> {
+    let mut input = String::new(alloc);
+    for (line, _) in lines {
+        input.push_str(line)?;
+    }
+    Ok(input)
+}
+
+/// That the second life answers as the serial server does from a state with each acknowledged line, and without a gap.
+fn expect_lives<T: System>(rt: &T, row: &Row<'_>, n: u64, at: usize) -> Result<Found, Fail>
+    requires { 0 < n }
+{
+    let (lines, questions, states) = row;
+    let Ok(geometry) = Geometry::new(SMALL) else {
+        return Err(Fail::new(format_args!("no geometry")));
+    };
+    let input = asked(rt.alloc(), lines)?;
+    let (mut first, mut second) = (Vec::new(rt.alloc()), Vec::new(rt.alloc()));
+    let ends = serve_again(
+        rt,
+        rt.alloc(),
+        geometry,
+        n,
+        torn(rt.alloc(), at)?,
+        Service::new(1, 4, 0),
+        &mut input.as_bytes(),
+        &mut first,
+        &mut questions.as_bytes(),
+        &mut second,
+    );
+    let count = acknowledged(lines, first.as_slice());
+    let state = states
+        .iter()
+        .position(|state| state.0.as_bytes() == second.as_slice());
+    if let (Ok((ended, Ok(()))), Some(count), Some(state)) = (ends, count, state) {
+        let most = states.get(state).map(|found| found.1);
+        if Some(count) <= most && (ended.is_err() || count == lines.len()) {
+            return Ok(Found {
+                acknowledged: count,
+                well: ended.is_ok(),
+                state,
+            });
+        }
+    }
+    Err(Fail::new(format_args!(
+        "{questions} at call {n}, torn by {at}: {count:?} lines, state {state:?}"
+    )))
+}
+
+/// What is seen of the lives of a row: whether one stopped, whether one did so with some lines acknowledged, and whether two tearings at
+/// one call left two states.
+#[derive(Clone, Copy, Default, PartialEq, Eq)]
+struct Seen {
+    stopped: bool,
+    halfway: bool,
+    torn: bool,
+}
+
+impl Seen {
+    fn or(self, other: Seen) -> Seen {
+        Seen {
+            stopped: self.stopped || other.stopped,
+            halfway: self.halfway || other.halfway,
+            torn: self.torn || other.torn,
+        }
+    }
+}
+
+/// What is seen of the lives that stop at this call, one for each tearing.
+fn look<T: System>(rt: &T, row: &Row<'_>, n: u64) -> Result<Seen, Fail>
+    requires { 0 < n }
+{
+    let first = expect_lives(rt, row, n, 0)?;
+    let mut seen = Seen::default();
+    for at in 1..KINDS {
+        let found = expect_lives(rt, row, n, at)?;
+        seen = seen.or(Seen {
+            stopped: !found.well,
+            halfway: !found.well && 0 < found.acknowledged,
+            torn: found.state != first.state,
+        });
+    }
+    Ok(seen)
+}
+
+/// That it is so at each call, up to one that no first life comes to; and that lives were looked at which show something.
+fn expect_row<T: System>(rt: &T, row: &Row<'_>) -> Result<(), Fail> {
+    let mut seen = Seen::default();
+    for n in 1..CALLS {
+        let found = look(rt, row, n)?;
+        if !found.stopped && seen.halfway && seen.torn {
+            return Ok(());
+        }
+        seen = seen.or(found);
+    }
+    Err(Fail::new(format_args!("{}: not each way to stop was seen", row.1)))
+}
+
+#[test]
+fn related_lines_are_there_one_after_the_other(rt: HostRuntime) -> Result<(), Fail> {
+    expect_row(&rt, &RELATED)
+}
+
+#[test]
+fn a_block_of_another_stripe_may_be_there_alone(rt: HostRuntime) -> Result<(), Fail> {
+    expect_row(&rt, &STRIPES)
+}
+
+#[test]
+fn lines_that_change_nothing_are_answered_too(rt: HostRuntime) -> Result<(), Fail> {
+    expect_row(&rt, &UNCHANGED)
+}

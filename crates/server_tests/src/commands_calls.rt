@@ -1,0 +1,493 @@
+//! Calls of the program over memory: which words it takes, what it prints of them, and where.
+use commands::{Fault, command, report, report_unread_words};
+use std::alloc::{AllocError, Global};
+use std::cell::Cell;
+use std::fs::File;
+use std::io;
+use std::io::{ErrorKind, Read, Write};
+use std::rt::Files;
+use std::sync::Wait;
+use std::test::Fail;
+use std::thread::Threads;
+
+/// What a call of the program takes, and what its tests ask for beside.
+pub(crate) trait System: AllocGlobal + Files<File = File> + Threads + Wait + Sync {}
+
+impl<T: AllocGlobal + Files<File = File> + Threads + Wait + Sync> System for T {}
+
+/// What the input gives, and what the output takes.
+#[derive(Clone, Copy, Drop)]
+pub(crate) enum Streams {
+    /// All at once.
+    Open,
+
+    /// One byte at a time.
+    ByteByByte,
+
+    /// One line at a time, where each line before has its answer; else a read fails.
+    LineByLine,
+
+    /// A read behind the input fails.
+    FailingInput,
+
+    /// The output takes nothing.
+    ClosedOutput,
+
+    /// The output takes all, and can't pass it on.
+    StuckOutput,
+
+    /// Neither the output nor what is printed of faults is taken.
+    AllClosed,
+}
+
+/// An input that is given so.
+#[derive(Drop)]
+struct Input<'a> {
+    left: &'a [u8],
+    streams: Streams,
+    reads: u64,
+    answered: &'a Cell<u64>,
+}
+
+impl Input<'_> {
+    fn fails(&self) -> bool {
+        match self.streams {
+            Streams::FailingInput => self.left.is_empty(),
+            Streams::LineByLine => self.answered.get() != self.reads,
+            _ => false,
+        }
+    }
+
+    /// How many bytes a read gives at most.
+    fn most(&self) -> usize {
+        match self.streams {
+            Streams::ByteByByte => 1,
+            Streams::LineByLine => match self.left.iter().position(|byte| *byte == b'\n') {
+                Some(end) => end.saturating_add(1),
+                None => 0,
+            },
+            _ => self.left.len(),
+        }
+    }
+}
+
+impl Read for Input<'_> {
+    fn read(&mut self, buf: &mut [u8]) -> io::Result<usize> {
+        if self.fails() {
+            return Err(io::Error::from(ErrorKind::Other));
+        }
+        let count = self.most().min(self.left.len()).min(buf.len());
+        let (given, rest) = self.left.split_at(count);
+        buf[..count].copy_from_slice(given);
+        self.left = rest;
+        self.reads = self.reads.saturating_add(1);
+        Ok(count)
+    }
+}
+
+/// Keeps what it takes, and counts the lines.
+#[derive(Drop)]
+struct Output<'a> {
+    taken: Vec<u8>,
+    is_closed: bool,
+    is_stuck: bool,
+    answered: &'a Cell<u64>,
+}
+
+impl Write for Output<'_> {
+    fn write(&mut self, buf: &[u8]) -> io::Result<usize> {
+        if self.is_closed {
+            return Err(io::Error::from(ErrorKind::BrokenPipe));
+        }
+        for byte in buf {
+            if *byte == b'\n' {
+                self.answered.set(self.answered.get().saturating_add(1));
+            }
+        }
+        if self.is_stuck {
+            return Ok(buf.len());
+        }
+        self.taken.write(buf)
+    }
+
+    fn flush(&mut self) -> io::Result<()> {
+        if self.is_closed || self.is_stuck {
+            return Err(io::Error::from(ErrorKind::BrokenPipe));
+        }
+        Ok(())
+    }
+}
+
+/// A call of the program: its words, among which `@` stands for a path, its input, and its streams.
+#[derive(Clone, Copy, Drop)]
+pub(crate) struct Call<'a> {
+    pub(crate) words: &'a str,
+    pub(crate) path: &'a str,
+    pub(crate) input: &'a [u8],
+    pub(crate) streams: Streams,
+}
+
+impl<'a> Call<'a> {
+    pub(crate) fn of(words: &'a str, input: &'a [u8]) -> Call<'a> {
+        Call::on("", words, input)
+    }
+
+    pub(crate) fn on(path: &'a str, words: &'a str, input: &'a [u8]) -> Call<'a> {
+        Call {
+            words,
+            path,
+            input,
+            streams: Streams::Open,
+        }
+    }
+}
+
+/// How a call ended: its status, what it printed, and what it printed of faults.
+#[derive(Drop)]
+struct Ended {
+    status: u8,
+    output: Vec<u8>,
+    faults: Vec<u8>,
+}
+
+/// The words of a call, which stand between spaces.
+fn split(alloc: Global, call: &Call<'_>) -> Result<Vec<String>, AllocError> {
+    let mut words = Vec::new(alloc);
+    for word in call.words.split_ascii_whitespace() {
+        let word = if word == "@" { call.path } else { word };
+        words.push(String::from_str(alloc, word)?)?;
+    }
+    Ok(words)
+}
+
+fn end_of<T: System>(rt: &T, call: &Call<'_>) -> Result<Ended, AllocError> {
+    let words = split(rt.alloc(), call)?;
+    let answered = Cell::new(0);
+    let mut input = Input {
+        left: call.input,
+        streams: call.streams,
+        reads: 0,
+        answered: &answered,
+    };
+    let all_closed = matches!(call.streams, Streams::AllClosed);
+    let mut output = Output {
+        taken: Vec::new(rt.alloc()),
+        is_closed: all_closed || matches!(call.streams, Streams::ClosedOutput),
+        is_stuck: matches!(call.streams, Streams::StuckOutput),
+        answered: &answered,
+    };
+    let mut faults = Output {
+        taken: Vec::new(rt.alloc()),
+        is_closed: all_closed,
+        is_stuck: false,
+        answered: &answered,
+    };
+    let status = command(
+        rt,
+        rt.alloc(),
+        words.as_slice(),
+        &mut input,
+        &mut output,
+        &mut faults,
+    );
+    Ok(Ended {
+        status,
+        output: output.taken,
+        faults: faults.taken,
+    })
+}
+
+/// A text that is printed, or a part of it.
+#[derive(Clone, Copy, Drop)]
+pub(crate) enum Said<'a> {
+    Is(&'a str),
+    Has(&'a str),
+}
+
+pub(crate) const NOTHING: Said<'static> = Said::Is("");
+
+fn text(bytes: &[u8]) -> &str {
+    str::from_utf8(bytes).unwrap_or("no text")
+}
+
+fn is_said(printed: &[u8], said: Said<'_>) -> bool {
+    match said {
+        Said::Is(whole) => text(printed) == whole,
+        Said::Has(part) => text(printed).contains(part),
+    }
+}
+
+/// That a call ends so: its status, what it prints, and what it prints of faults.
+pub(crate) fn expect<T: System>(
+    rt: &T,
+    call: Call<'_>,
+    status: u8,
+    output: Said<'_>,
+    faults: Said<'_>,
+) -> Result<(), Fail> {
+    let ended = end_of(rt, &call)?;
+    let is_so = is_said(ended.output.as_slice(), output)
+        && is_said(ended.faults.as_slice(), faults);
+    if ended.status == status && is_so {
+        return Ok(());
+    }
+    let (words, found) = (call.words, ended.status);
+    let printed = text(ended.output.as_slice());
+    let told = text(ended.faults.as_slice());
+    Err(Fail::new(format_args!("{words}: {found}, {printed}, {told}")))
+}
+
+const OPTIONS: &str = "
+      --aggregates <N>  Aggregates, 1 to 4 [default: 1]
+      --volumes <N>     Volumes of each aggregate, 1 to 8 [default: 4]
+      --stripes <N>     Stripes of each volume, 1 to 8 [default: 4]
+      --width <N>       Blocks in a row in one stripe, 1 to 64 [default: 4]
+      --files <N>       Files of each volume, 1 to 64 [default: 16]
+      --blocks <N>      Blocks of each file, 1 to 256 [default: 64]
+      --quota <N>       Blocks that a stripe can hold, 1 to 64 [default: 64]
+      --half <N>        Records in each half of the log, 4 to 1024 [default: 256]
+";
+
+const SERVICE: &str = "
+      --workers <N>  Threads that run messages, 0 to 64 [default: 2]
+      --slots <N>    Lines that are read and not answered yet, 1 to 1024 [default: 16]
+      --every <N>    Changes between consistency points, 0 to 1024; 0 makes them where the log is full [default: 0]
+";
+
+/// Words that ask for help or the version, and a part of what is printed. `by_hand/run` looks at the kit and the logic in the version.
+const HELP: [(&str, &str); 24] = [
+    ("waffd --help", "Usage: waffd "),
+    ("waffd -h", "Usage: waffd "),
+    ("waffd help", "Usage: waffd "),
+    ("waffd plain --help", "Usage: waffd "),
+    ("waffd help plain", "Usage: waffd "),
+    ("waffd format -h", "Usage: waffd "),
+    ("waffd help format", "Usage: waffd "),
+    ("waffd show --help", "Usage: waffd "),
+    ("waffd help show", "Usage: waffd "),
+    ("waffd serve -h", "Usage: waffd "),
+    ("waffd help serve", "Usage: waffd "),
+    ("waffd --version", "waffd 0.1.0 (proved with rattle-kit-"),
+    ("waffd -V", ", logic "),
+    (
+        "waffd --help",
+        "A server for messages about files of 512-byte blocks\n",
+    ),
+    ("waffd --help", "  plain   Answers the messages"),
+    ("waffd --help", "  format  Makes a device"),
+    ("waffd --help", "  serve   Answers the messages"),
+    ("waffd --help", "  show    Tells what the device"),
+    ("waffd format -h", "  <DEVICE>  The file of the device"),
+    ("waffd show -h", "  <DEVICE>  The file of the device"),
+    ("waffd serve -h", "  <DEVICE>  The file of the device"),
+    ("waffd serve -h", SERVICE),
+    ("waffd plain -h", OPTIONS),
+    ("waffd format -h", OPTIONS),
+];
+
+#[test]
+fn help_goes_to_the_output(rt: HostRuntime) -> Result<(), Fail> {
+    for (words, part) in HELP {
+        expect(&rt, Call::of(words, b""), 0, Said::Has(part), NOTHING)?;
+    }
+    Ok(())
+}
+
+const UNMET: Said<'static> = Said::Has("error: the following required arguments were not provided");
+
+const OUT_OF_RANGE: Said<'static> = Said::Is("waffd: geometry out of range\n");
+
+/// Wrong words, and what is said of them. Of each number of a geometry these are below its range, above it, and the greatest.
+const WRONG: [(&str, Said<'static>); 48] = [
+    (
+        "waffd plain --version",
+        Said::Has("error: unexpected argument '--version'"),
+    ),
+    ("waffd serve", UNMET),
+    (
+        "waffd serve d e",
+        Said::Has("error: unexpected argument 'e'"),
+    ),
+    (
+        "waffd serve d --files 2",
+        Said::Has("error: unexpected argument '--files'"),
+    ),
+    (
+        "waffd serve d --workers 65",
+        Said::Has("error: invalid value '65'"),
+    ),
+    (
+        "waffd serve d --slots 0",
+        Said::Has("error: invalid value '0'"),
+    ),
+    (
+        "waffd serve d --slots=1025",
+        Said::Has("error: invalid value '1025'"),
+    ),
+    (
+        "waffd serve --every 1025 d",
+        Said::Has("error: invalid value '1025'"),
+    ),
+    ("", Said::Has("Usage: waffd")),
+    ("waffd", Said::Has("Usage: waffd")),
+    (
+        "waffd flat",
+        Said::Has("error: unrecognized subcommand 'flat'"),
+    ),
+    (
+        "waffd help flat",
+        Said::Has("error: unrecognized subcommand 'flat'"),
+    ),
+    (
+        "waffd --plain",
+        Said::Has("error: unexpected argument '--plain'"),
+    ),
+    ("waffd plain x", Said::Has("error: unexpected argument 'x'")),
+    (
+        "waffd plain --files",
+        Said::Has("error: a value is required"),
+    ),
+    (
+        "waffd plain --files two",
+        Said::Has("error: invalid value 'two'"),
+    ),
+    (
+        "waffd plain --files 65536",
+        Said::Has("error: invalid value '65536'"),
+    ),
+    (
+        "waffd plain --files=-1",
+        Said::Has("error: invalid value '-1'"),
+    ),
+    (
+        "waffd plain --files 2 --files 2",
+        Said::Has("error: the argument '--files <N>' cannot be used multiple times"),
+    ),
+    (
+        "waffd plain --files 0 --blocks x",
+        Said::Has("error: invalid value 'x'"),
+    ),
+    ("waffd format", UNMET),
+    ("waffd show", UNMET),
+    (
+        "waffd show d e",
+        Said::Has("error: unexpected argument 'e'"),
+    ),
+    (
+        "waffd show d --files 2",
+        Said::Has("error: unexpected argument '--files'"),
+    ),
+    ("waffd plain --aggregates 0", OUT_OF_RANGE),
+    ("waffd plain --aggregates 5", OUT_OF_RANGE),
+    ("waffd plain --aggregates 65535", OUT_OF_RANGE),
+    ("waffd plain --volumes 0", OUT_OF_RANGE),
+    ("waffd plain --volumes 9", OUT_OF_RANGE),
+    ("waffd plain --volumes 65535", OUT_OF_RANGE),
+    ("waffd plain --stripes 0", OUT_OF_RANGE),
+    ("waffd plain --stripes 9", OUT_OF_RANGE),
+    ("waffd plain --stripes 65535", OUT_OF_RANGE),
+    ("waffd plain --width 0", OUT_OF_RANGE),
+    ("waffd plain --width 65", OUT_OF_RANGE),
+    ("waffd plain --width 65535", OUT_OF_RANGE),
+    ("waffd plain --files 0", OUT_OF_RANGE),
+    ("waffd plain --files 65", OUT_OF_RANGE),
+    ("waffd plain --files 65535", OUT_OF_RANGE),
+    ("waffd plain --blocks 0", OUT_OF_RANGE),
+    ("waffd plain --blocks 257", OUT_OF_RANGE),
+    ("waffd plain --blocks 65535", OUT_OF_RANGE),
+    ("waffd plain --quota 0", OUT_OF_RANGE),
+    ("waffd plain --quota 65", OUT_OF_RANGE),
+    ("waffd plain --quota 65535", OUT_OF_RANGE),
+    ("waffd plain --half 3", OUT_OF_RANGE),
+    ("waffd plain --half 1025", OUT_OF_RANGE),
+    ("waffd plain --half 65535", OUT_OF_RANGE),
+];
+
+/// Nothing is read for them.
+#[test]
+fn wrong_words_are_told_on_the_standard_error(rt: HostRuntime) -> Result<(), Fail> {
+    for (words, told) in WRONG {
+        expect(&rt, Call::of(words, b"makevol 0 0\n"), 2, NOTHING, told)?;
+    }
+    Ok(())
+}
+
+/// Calls whose output isn't taken, their status, and what is told of it where that is taken.
+const UNWRITTEN: [(&str, Streams, u8, &str); 6] = [
+    (
+        "waffd --help",
+        Streams::ClosedOutput,
+        1,
+        "waffd: write fault\n",
+    ),
+    (
+        "waffd --help",
+        Streams::StuckOutput,
+        1,
+        "waffd: write fault\n",
+    ),
+    (
+        "waffd --version",
+        Streams::ClosedOutput,
+        1,
+        "waffd: write fault\n",
+    ),
+    (
+        "waffd plain",
+        Streams::ClosedOutput,
+        1,
+        "waffd: write fault\n",
+    ),
+    ("waffd --help", Streams::AllClosed, 1, ""),
+    ("waffd --what", Streams::AllClosed, 2, ""),
+];
+
+#[test]
+fn what_cannot_be_written_is_a_write_fault(rt: HostRuntime) -> Result<(), Fail> {
+    for (words, streams, status, told) in UNWRITTEN {
+        let call = Call {
+            words,
+            path: "",
+            input: b"summary\n",
+            streams,
+        };
+        expect(&rt, call, status, NOTHING, Said::Is(told))?;
+    }
+    Ok(())
+}
+
+/// That a fault which was met outside a command has this status and this text.
+fn expect_told(found: u8, faults: &[u8], status: u8, told: &str) -> Result<(), Fail> {
+    if found == status && text(faults) == told {
+        return Ok(());
+    }
+    let faults = text(faults);
+    Err(Fail::new(format_args!("{told}: {found}, {faults}")))
+}
+
+const NO_TEXT: &str = "error: invalid UTF-8 was detected in one or more arguments
+
+For more information, try '--help'.
+";
+
+#[test]
+fn words_that_are_no_text_are_wrong_words(rt: HostRuntime) -> Result<(), Fail> {
+    let rows = [
+        (ErrorKind::InvalidData, 2, NO_TEXT),
+        (ErrorKind::OutOfMemory, 3, "waffd: out of memory\n"),
+    ];
+    for (kind, status, told) in rows {
+        let mut faults = Vec::new(rt.alloc());
+        let found = report_unread_words(&io::Error::from(kind), &mut faults);
+        expect_told(found, faults.as_slice(), status, told)?;
+    }
+    Ok(())
+}
+
+/// That no ticket was left to a message, which takes 2^64 of them to meet, is told so.
+#[test]
+fn that_no_ticket_is_left_has_its_text(rt: HostRuntime) -> Result<(), Fail> {
+    let mut faults = Vec::new(rt.alloc());
+    let found = report(Fault::NoTicketLeft, &mut faults);
+    expect_told(found, faults.as_slice(), 1, "waffd: no ticket left\n")
+}

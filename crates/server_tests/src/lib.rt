@@ -1,0 +1,48 @@
+//! Tests of the server and of the program's commands by their public surfaces, over devices in memory and in files, and with threads.
+#![tactic(auto)]
+
+#[cfg(test)]
+mod commands_again;
+#[cfg(test)]
+mod commands_answering;
+#[cfg(test)]
+mod commands_calls;
+#[cfg(test)]
+mod commands_devices;
+#[cfg(test)]
+mod commands_service;
+#[cfg(test)]
+mod commands_stopping;
+#[cfg(test)]
+mod serving_again;
+#[cfg(test)]
+mod serving_crashing;
+#[cfg(test)]
+mod serving_drawing;
+#[cfg(test)]
+mod serving_faults;
+#[cfg(test)]
+mod serving_lives;
+#[cfg(test)]
+mod serving_noting;
+#[cfg(test)]
+mod serving_open_lines;
+#[cfg(test)]
+mod serving_overlap;
+#[cfg(test)]
+mod serving_pieces;
+#[cfg(test)]
+mod serving_points;
+#[cfg(test)]
+mod serving_precedence;
+#[cfg(test)]
+mod serving_rows;
+#[cfg(test)]
+mod serving_running;
+#[cfg(test)]
+mod serving_sessions;
+#[cfg(test)]
+mod serving_streams;
+#[cfg(test)]
+mod serving_waiting;
+pub mod serving_watching;

@@ -1,0 +1,176 @@
+//! A second call of a server, on the core that the first one gave back; and one behind a call for which memory was refused.
+ghost use Rattle.std.specs.Prelude.{◌≡◌, false, IfOk, IsTrue};
+ghost use Rattle.legal_runs.specs.Laws.{IsIdle};
+ghost use Rattle.scheduler.specs.Kept.{world_of};
+
+use crate::serving_noting::{Notes, Pieces};
+use crate::serving_rows::leaves;
+use crate::serving_running::{SMALL, writes};
+use disk::MemDisk;
+use harness::{Wrong, device_with};
+use scheduler::Core;
+use serving::{ServeError, ServeFault, serve};
+use std::alloc::Global;
+use std::sync::Wait;
+use std::test::Fail;
+use std::thread::Threads;
+use workers::OpenGate;
+
+const FIRST: &[u8] = b"makevol 0 0\ncreate 0 0 0\nwrite 0 0 0 0 61\n";
+
+const SECOND: &[u8] = b"read 0 0 0 0\nwrite 0 0 0 1 62\nread 0 0 0 1\n";
+
+/// What both are answered.
+const ANSWERS: &[u8] = b"done\ndone\ndone\nblock 61\ndone\nblock 62\n";
+
+/// Whether the first input can't be read to its end, whether a cut is begun after it, and which area is named in the end:
+/// opening names area 1, and each point the other one. An input that ends has a point after it.
+const TWICE: [(bool, bool, usize); 4] = [
+    (false, false, 1),
+    (true, false, 0),
+    (false, true, 0),
+    (true, true, 1),
+];
+
+/// Serves the first input, at whose end the reader fails, or doesn't.
+fn serve_first<T: Threads + Wait + Sync>(
+    rt: &T,
+    alloc: Global,
+    core: Core<MemDisk>,
+    workers: usize,
+    fails: bool,
+    output: &mut Vec<u8>,
+) -> Result<Core<MemDisk>, Wrong>
+    requires idle { IsIdle (world_of core) }
+    requires works { core.failed ≡ false }
+    ensures idle { IfOk result (λ core. IsIdle (world_of core)) }
+    ensures works { IfOk result (λ core. core.failed ≡ false) }
+{
+    let notes = Notes::new();
+    let mut reader = Pieces {
+        left: FIRST,
+        size: 70_000,
+        fails,
+        notes: &notes,
+    };
+    match serve(
+        rt,
+        alloc,
+        core,
+        &mut reader,
+        output,
+        workers.min(64),
+        0,
+        &OpenGate,
+    ) {
+        Ok(core) => Ok(core),
+        Err(
+            ServeError {
+                core,
+                fault: ServeFault::Read,
+            },
+        ) => Ok(core),
+        Err(_) => Err(Wrong::Unfit),
+    }
+}
+
+/// Begins a cut, if one is wanted: whether all is well.
+fn begin_cut(core: &mut Core<MemDisk>, cuts: bool) -> bool
+    requires idle { IsIdle (world_of core.old) }
+    requires works { core.old.failed ≡ false }
+    ensures idle { IsTrue result → IsIdle (world_of core.new) }
+    ensures works { IsTrue result → core.new.failed ≡ false }
+{
+    if !cuts {
+        return true;
+    }
+    match core.cut() {
+        Ok(()) => true,
+        Err(_) => false,
+    }
+}
+
+/// Serves both inputs on one core: the device and what was answered.
+fn serve_twice<T: Threads + Wait + Sync>(
+    rt: &T,
+    alloc: Global,
+    workers: usize,
+    fails: bool,
+    cuts: bool,
+) -> Result<(MemDisk, Vec<u8>), Wrong> {
+    let device = device_with(alloc, SMALL, &[])?;
+    let Ok(core) = Core::open(alloc, device, 4) else {
+        return Err(Wrong::Unfit);
+    };
+    let mut output = Vec::new(alloc);
+    let mut core = serve_first(rt, alloc, core, workers, fails, &mut output)?;
+    if !begin_cut(&mut core, cuts) {
+        return Err(Wrong::Unfit);
+    }
+    let mut input = SECOND;
+    match serve(
+        rt,
+        alloc,
+        core,
+        &mut input,
+        &mut output,
+        workers.min(64),
+        0,
+        &OpenGate,
+    ) {
+        Ok(core) => Ok((core.into_disk(), output)),
+        Err(_) => Err(Wrong::Unfit),
+    }
+}
+
+#[test]
+fn a_core_that_came_back_is_served_on(rt: HostRuntime) -> Result<(), Fail> {
+    for (fails, cuts, area) in TWICE {
+        for workers in [1, 2] {
+            let (device, output) = serve_twice(&rt, rt.alloc(), workers, fails, cuts)?;
+            writes(&rt, output.as_slice(), ANSWERS);
+            leaves(&rt, rt.alloc(), device, area, [1, 1, 2])?;
+        }
+    }
+    Ok(())
+}
+
+/// Serves the first input. Where memory is refused nothing was read or written, and the core that comes back is served on.
+fn serve_at_next_try<T: Threads + Wait + Sync>(
+    rt: &T,
+    alloc: Global,
+    core: Core<MemDisk>,
+    output: &mut Vec<u8>,
+) -> Result<Core<MemDisk>, Wrong>
+    requires idle { IsIdle (world_of core) }
+    requires works { core.failed ≡ false }
+{
+    let mut input = FIRST;
+    let core = match serve(rt, alloc, core, &mut input, output, 3, 0, &OpenGate) {
+        Ok(core) => return Ok(core),
+        Err(
+            ServeError {
+                core,
+                fault: ServeFault::OutOfMemory,
+            },
+        ) => core,
+        Err(_) => return Err(Wrong::Unfit),
+    };
+    if input.len() != FIRST.len() || !output.is_empty() {
+        return Err(Wrong::Unfit);
+    }
+    serve(rt, alloc, core, &mut input, output, 3, 0, &OpenGate).map_err(|_| Wrong::OutOfMemory)
+}
+
+#[test]
+fn lines_are_served_at_the_next_try(rt: HostRuntime) -> Result<(), Fail> {
+    let device = device_with(rt.alloc(), SMALL, &[])?;
+    let mut output = Vec::with_capacity(rt.alloc(), 4096)?;
+    let Ok(core) = Core::open(rt.alloc(), device, 4) else {
+        return Err(Wrong::OutOfMemory.into());
+    };
+    let core = serve_at_next_try(&rt, rt.alloc(), core, &mut output)?;
+    writes(&rt, output.as_slice(), b"done\ndone\ndone\n");
+    leaves(&rt, rt.alloc(), core.into_disk(), 0, [1, 1, 1])?;
+    Ok(())
+}

@@ -1,0 +1,265 @@
+//! Which messages run at once.
+use crate::serving_drawing::draw_lines;
+use crate::serving_noting::Notes;
+use crate::serving_running::{End, FLAT, PIPED, SMALL, Way, holds, serve_lines, session, writes};
+use affinity::{Affinity, Geometry, place_of, related};
+use harness::{Wrong, device_with};
+use message::parse_line;
+use std::alloc::Global;
+use std::process::Abort;
+use std::sync::Wait;
+use std::sync::atomic::{AtomicBool, Ordering};
+use std::test::Fail;
+use std::thread;
+use std::thread::Threads;
+use workers::Gate;
+
+/// Holds the jobs of these tickets until the message with the ticket behind them is answered.
+#[derive(Drop)]
+struct Holding {
+    first: u64,
+    last: u64,
+    /// How often a job looks whether it may go on, before it gives up.
+    tries: u32,
+    answered: AtomicBool,
+    gave_up: AtomicBool,
+}
+
+impl Gate for Holding {
+    fn before(&self, ticket: u64) {
+        if ticket < self.first || ticket >= self.last {
+            return;
+        }
+        for _ in 0..self.tries {
+            if self.answered.load(Ordering::SeqCst) {
+                return;
+            }
+            thread::yield_now();
+        }
+        self.gave_up.store(true, Ordering::SeqCst);
+    }
+
+    fn answered(&self, ticket: u64) {
+        if ticket == self.last {
+            self.answered.store(true, Ordering::SeqCst);
+        }
+    }
+}
+
+/// Messages of which some are held until the one behind them is answered.
+#[derive(Clone, Copy)]
+struct AtOnce {
+    /// The numbers of the server.
+    numbers: [u16; 8],
+    lines: &'static [u8],
+    workers: usize,
+    slots: usize,
+    /// The first message that is held, and the one behind the last.
+    first: u64,
+    last: u64,
+    tries: u32,
+    /// What the lines are answered.
+    want: &'static [u8],
+}
+
+/// One volume of one file of four blocks, each in a stripe of its own.
+const FOUR: [u16; 8] = [1, 1, 4, 1, 1, 4, 1, 8];
+
+/// The last message is answered while a worker has each of those that are held.
+const AT_ONCE: [AtOnce; 6] = [
+    AtOnce {
+        numbers: SMALL,
+        lines: b"write 0 0 0 0 61\nwrite 0 0 0 1 62\n",
+        workers: 2,
+        slots: 2,
+        first: 0,
+        last: 1,
+        tries: 1_000_000,
+        want: b"done\ndone\n",
+    },
+    AtOnce {
+        numbers: FOUR,
+        lines: b"write 0 0 0 0 61\nwrite 0 0 0 1 62\nwrite 0 0 0 2 63\nwrite 0 0 0 3 64\n",
+        workers: 4,
+        slots: 4,
+        first: 0,
+        last: 3,
+        tries: 1_000_000,
+        want: b"done\ndone\ndone\ndone\n",
+    },
+    // The answer to message 0 waits with two lines behind it. It is told, since message 3 could not be read else.
+    AtOnce {
+        numbers: FOUR,
+        lines: b"punch 0 0 0 0\npunch 0 0 0 1\npunch 0 0 0 2\npunch 0 0 0 3\n",
+        workers: 3,
+        slots: 3,
+        first: 1,
+        last: 3,
+        tries: 16_000_000,
+        want: b"done\ndone\ndone\ndone\n",
+    },
+    // Busy processors may be slow to answer while seven jobs are held.
+    AtOnce {
+        numbers: FLAT,
+        lines: b"punch 0 0 0 0\npunch 0 0 0 1\npunch 0 0 0 2\npunch 0 0 0 3\npunch 0 0 0 4\npunch 0 0 0 5\npunch 0 0 0 6\npunch 0 0 0 7\n",
+        workers: 8,
+        slots: 8,
+        first: 0,
+        last: 7,
+        tries: 16_000_000,
+        want: b"done\ndone\ndone\ndone\ndone\ndone\ndone\ndone\n",
+    },
+    AtOnce {
+        numbers: SMALL,
+        lines: b"setlabel 0 0 61\nwrite 0 0 0 0 61\n",
+        workers: 2,
+        slots: 2,
+        first: 0,
+        last: 1,
+        tries: 1_000_000,
+        want: b"done\ndone\n",
+    },
+    AtOnce {
+        numbers: SMALL,
+        lines: b"create 0 0 1\nlabel 0 0\n",
+        workers: 2,
+        slots: 2,
+        first: 0,
+        last: 1,
+        tries: 1_000_000,
+        want: b"done\nlabel 00\n",
+    },
+];
+
+const A_FILE: &[u8] = b"makevol 0 0\ncreate 0 0 0\n";
+
+/// Serves these lines where there is a file, and gives what they are answered. `Endless` where the last isn't answered while
+/// each of the others is held.
+fn runs_at_once<T: Threads + Wait + Sync>(
+    rt: &T,
+    alloc: Global,
+    row: AtOnce,
+) -> Result<Vec<u8>, Wrong> {
+    let way = Way {
+        workers: row.workers,
+        slots: row.slots,
+        every: 0,
+    };
+    let device = device_with(alloc, row.numbers, &[])?;
+    let (device, _) = serve_lines(rt, alloc, device, way, A_FILE)?;
+    let gate = Holding {
+        first: row.first,
+        last: row.last,
+        tries: row.tries,
+        answered: AtomicBool::new(false),
+        gave_up: AtomicBool::new(false),
+    };
+    let notes = Notes::new();
+    let left = session(rt, alloc, device, way, row.lines, PIPED, &gate, &notes);
+    if left.end != End::Whole || gate.gave_up.load(Ordering::SeqCst) {
+        return Err(Wrong::Endless);
+    }
+    Ok(left.output)
+}
+
+#[test]
+fn unrelated_messages_run_at_once(rt: HostRuntime) -> Result<(), Fail> {
+    for row in AT_ONCE {
+        let output = runs_at_once(&rt, rt.alloc(), row)?;
+        writes(&rt, output.as_slice(), row.want);
+    }
+    Ok(())
+}
+
+/// Looks whether each job waits until all related ones with smaller tickets are answered.
+#[derive(Drop)]
+struct InTurn {
+    /// The places of the messages, by ticket.
+    places: Vec<Affinity>,
+    answered: Vec<AtomicBool>,
+    is_amiss: AtomicBool,
+}
+
+impl InTurn {
+    /// A gate for the messages in range of these lines.
+    fn new(alloc: Global, g: &Geometry, lines: &[u8]) -> Result<InTurn, Wrong> {
+        let mut gate = InTurn {
+            places: Vec::new(alloc),
+            answered: Vec::new(alloc),
+            is_amiss: AtomicBool::new(false),
+        };
+        for line in lines.split(|byte| *byte == b'\n') {
+            let message = parse_line(line);
+            let place = message.and_then(|m| place_of(g, m.kind(), m.numbers()));
+            if let Some(place) = place {
+                gate.places.push(place)?;
+                gate.answered.push(AtomicBool::new(false))?;
+            }
+        }
+        Ok(gate)
+    }
+
+    /// Whether one before this, which is related to it, isn't answered.
+    fn is_early(&self, ticket: u64) -> bool {
+        let Some(place) = self.places.get(ticket as usize) else {
+            return true;
+        };
+        let before = self.places.iter().zip(self.answered.iter());
+        let mut before = before.take(ticket as usize);
+        before.any(|(other, answered)| {
+            related(*place, *other) && !answered.load(Ordering::SeqCst)
+        })
+    }
+}
+
+impl Gate for InTurn {
+    fn before(&self, ticket: u64) {
+        if self.is_early(ticket) {
+            self.is_amiss.store(true, Ordering::SeqCst);
+        }
+    }
+
+    fn answered(&self, ticket: u64) {
+        if let Some(answered) = self.answered.get(ticket as usize) {
+            answered.store(true, Ordering::SeqCst);
+        }
+    }
+}
+
+/// Two aggregates of two volumes, each of two files of four blocks in two stripes, and eight records in a half.
+const WIDE: [u16; 8] = [2, 2, 2, 1, 2, 4, 2, 8];
+
+/// No message runs before all related ones with smaller tickets are answered.
+fn goes_in_turn<T: Threads + Wait + Sync + Abort>(
+    rt: &T,
+    alloc: Global,
+    way: Way,
+    lines: &[u8],
+) -> Result<(), Wrong> {
+    let Ok(g) = Geometry::new(WIDE) else {
+        return Err(Wrong::Unfit);
+    };
+    let gate = InTurn::new(alloc, &g, lines)?;
+    let device = device_with(alloc, WIDE, &[])?;
+    let notes = Notes::new();
+    let left = session(rt, alloc, device, way, lines, PIPED, &gate, &notes);
+    holds(
+        rt,
+        left.end == End::Whole && !gate.is_amiss.load(Ordering::SeqCst),
+    );
+    Ok(())
+}
+
+#[test]
+fn related_messages_go_one_after_the_other(rt: HostRuntime) -> Result<(), Fail> {
+    let lines = draw_lines(rt.alloc(), 5, 3, 1000)?;
+    for workers in [2, 4] {
+        let way = Way {
+            workers,
+            slots: 16,
+            every: 3,
+        };
+        goes_in_turn(&rt, rt.alloc(), way, lines.as_slice())?;
+    }
+    Ok(())
+}

@@ -1,0 +1,249 @@
+//! How far the consistency point in progress goes on behind an answer, while a job is out, and before a reply is told.
+use crate::serving_noting::{Count, Flag, Notes, Noting, Pieces};
+use crate::serving_running::{
+    End, PIPED, Way, ends, holds, serve_lines, serve_on, session, writes,
+};
+use disk::MemDisk;
+use harness::{Wrong, device_with};
+use std::alloc::{AllocError, Global};
+use std::io::{self, Write};
+use std::sync::Wait;
+use std::test::Fail;
+use std::thread;
+use std::thread::Threads;
+use workers::Gate;
+
+/// One volume of one file of eight blocks, each in a stripe of its own, and 64 records in a half.
+const WIDE: [u16; 8] = [1, 1, 8, 1, 1, 8, 1, 64];
+
+/// A point is due after eight records: while the pieces of eight blocks are written into an image, the next eight blocks come.
+const EIGHT: Way = Way {
+    workers: 8,
+    slots: 8,
+    every: 8,
+};
+
+/// Looks at the device when a message is answered. Between two answers for which the log was written in one go there is one piece
+/// at most.
+#[derive(Drop)]
+struct Stepwise<'a> {
+    notes: &'a Notes,
+    /// How many syncs there were at the last answer, and how many pieces.
+    syncs: Count,
+    pieces: Count,
+    /// How often there was one piece between two such answers.
+    steps: Count,
+    /// Whether there were more.
+    is_amiss: Flag,
+}
+
+impl Gate for Stepwise<'_> {
+    fn before(&self, _ticket: u64) {}
+
+    fn answered(&self, _ticket: u64) {
+        let (syncs, pieces) = (self.notes.syncs.get(), self.notes.pieces.get());
+        if syncs == self.syncs.get() {
+            match pieces.saturating_sub(self.pieces.get()) {
+                0 => {}
+                1 => self.steps.add(1),
+                _ => self.is_amiss.set(),
+            }
+        }
+        self.syncs.set(syncs);
+        self.pieces.set(pieces);
+    }
+}
+
+/// How many blocks are written. Eight that come one after the other are unrelated.
+const WRITES: u64 = 800;
+
+/// A file and the writes of its blocks, and what they are answered.
+fn lines(alloc: Global) -> Result<(Vec<u8>, Vec<u8>), AllocError> {
+    let mut lines = b"makevol 0 0\ncreate 0 0 0\n".to_vec(alloc)?;
+    let mut answers = b"done\ndone\n".to_vec(alloc)?;
+    for number in 0..WRITES {
+        let block = number % 8;
+        let line = format!(in alloc; "write 0 0 0 {block} 61\n")?;
+        lines.extend_from_slice(line.as_bytes())?;
+        answers.extend_from_slice(b"done\n")?;
+    }
+    Ok((lines, answers))
+}
+
+#[test]
+fn one_piece_is_written_behind_each_answer(rt: HostRuntime) -> Result<(), Fail> {
+    let (lines, answers) = lines(rt.alloc())?;
+    let notes = Notes::new();
+    let gate = Stepwise {
+        notes: &notes,
+        syncs: Count::new(),
+        pieces: Count::new(),
+        steps: Count::new(),
+        is_amiss: Flag::new(),
+    };
+    let device = device_with(rt.alloc(), WIDE, &[])?;
+    let left = session(&rt, rt.alloc(), device, EIGHT, &lines, PIPED, &gate, &notes);
+    ends(&rt, left.end, End::Whole);
+    writes(&rt, left.output.as_slice(), answers.as_slice());
+    holds(&rt, gate.steps.get() > 0);
+    holds(&rt, !gate.is_amiss.get());
+    Ok(())
+}
+
+const A_FILE: &[u8] = b"makevol 0 0\ncreate 0 0 0\n";
+
+/// A point is due after each change.
+const EACH: Way = Way {
+    workers: 2,
+    slots: 16,
+    every: 1,
+};
+
+/// How many pieces the first point on an opened device writes: those of the stripes and of the volume.
+const PIECES: u64 = 9;
+
+/// A device with a file.
+fn with_a_file<T: Threads + Wait + Sync>(rt: &T, alloc: Global) -> Result<MemDisk, Wrong> {
+    let device = device_with(alloc, WIDE, &[])?;
+    let (device, _) = serve_lines(rt, alloc, device, EACH, A_FILE)?;
+    Ok(device)
+}
+
+/// How often a job looks whether a piece was written, before it goes on.
+const LOOKS: u32 = 1_000_000;
+
+/// Holds job 1, and looks whether a piece is written meanwhile.
+#[derive(Drop)]
+struct Watching<'a> {
+    notes: &'a Notes,
+    /// How many pieces there were when the job began.
+    pieces: Count,
+    is_amiss: Flag,
+}
+
+impl Gate for Watching<'_> {
+    fn before(&self, ticket: u64) {
+        if ticket != 1 {
+            return;
+        }
+        let pieces = self.notes.pieces.get();
+        self.pieces.set(pieces);
+        for _ in 0..LOOKS {
+            if self.notes.pieces.get() != pieces {
+                self.is_amiss.set();
+                return;
+            }
+            thread::yield_now();
+        }
+    }
+
+    fn answered(&self, _ticket: u64) {}
+}
+
+const TWICE: &[u8] = b"punch 0 0 0 0\npunch 0 0 0 0\n";
+
+/// The point that message 0 makes due is in progress while job 1 is out: nothing is answered meanwhile, so no piece is written.
+#[test]
+fn no_piece_is_written_while_a_job_is_out_and_none_is_answered(
+    rt: HostRuntime,
+) -> Result<(), Fail> {
+    let notes = Notes::new();
+    let gate = Watching {
+        notes: &notes,
+        pieces: Count::new(),
+        is_amiss: Flag::new(),
+    };
+    let device = with_a_file(&rt, rt.alloc())?;
+    let left = session(&rt, rt.alloc(), device, EACH, TWICE, PIPED, &gate, &notes);
+    ends(&rt, left.end, End::Whole);
+    writes(&rt, left.output.as_slice(), b"done\ndone\n");
+    let written = notes.pieces.get().saturating_sub(gate.pieces.get());
+    holds(&rt, written >= PIECES && !gate.is_amiss.get());
+    Ok(())
+}
+
+/// Remembers how many pieces there were when a message was last answered.
+#[derive(Drop)]
+struct AtAnswer<'a> {
+    notes: &'a Notes,
+    pieces: Count,
+    /// How many there were when the first one was.
+    first: Count,
+}
+
+impl Gate for AtAnswer<'_> {
+    fn before(&self, _ticket: u64) {}
+
+    fn answered(&self, ticket: u64) {
+        let pieces = self.notes.pieces.get();
+        self.pieces.set(pieces);
+        if ticket == 0 {
+            self.first.set(pieces);
+        }
+    }
+}
+
+/// Looks, when it is told lines, how many pieces were written since the last of them was answered: one at most.
+#[derive(Drop)]
+struct Prompt<'a> {
+    output: Vec<u8>,
+    gate: &'a AtAnswer<'a>,
+    is_amiss: Flag,
+}
+
+impl Write for Prompt<'_> {
+    fn write(&mut self, buf: &[u8]) -> io::Result<usize> {
+        let before = self.gate.pieces.get();
+        if self.gate.notes.pieces.get() > before.saturating_add(1) {
+            self.is_amiss.set();
+        }
+        self.output.write(buf)
+    }
+
+    fn flush(&mut self) -> io::Result<()> {
+        Ok(())
+    }
+}
+
+/// Changes of 14 bytes, of which a client sends two at a time.
+const PAIRS: &[u8] = b"punch 0 0 0 0\npunch 0 0 0 0\npunch 0 0 0 1\npunch 0 0 0 1\n";
+
+/// A client sends two changes and waits for both replies. The second is told before the rest of the point that the first made due.
+#[test]
+fn no_reply_waits_for_a_whole_point(rt: HostRuntime) -> Result<(), Fail> {
+    let notes = Notes::new();
+    let gate = AtAnswer {
+        notes: &notes,
+        pieces: Count::new(),
+        first: Count::new(),
+    };
+    let device = Noting {
+        device: with_a_file(&rt, rt.alloc())?,
+        notes: &notes,
+    };
+    let mut reader = Pieces {
+        left: PAIRS,
+        size: 28,
+        fails: false,
+        notes: &notes,
+    };
+    let mut writer = Prompt {
+        output: Vec::new(rt.alloc()),
+        gate: &gate,
+        is_amiss: Flag::new(),
+    };
+    let ended = serve_on(
+        &rt,
+        rt.alloc(),
+        device,
+        EACH,
+        &mut reader,
+        &mut writer,
+        &gate,
+    );
+    ends(&rt, ended.end, End::Whole);
+    writes(&rt, writer.output.as_slice(), b"done\ndone\ndone\ndone\n");
+    let written = notes.pieces.get().saturating_sub(gate.first.get());
+    holds(&rt, written >= PIECES && !writer.is_amiss.get());
+    Ok(())
+}

@@ -1,0 +1,137 @@
+//! When records are logged, and when points are made.
+use crate::serving_noting::Notes;
+use crate::serving_running::{
+    End, FLAT, Left, PIPED, SMALL, Streams, Way, holds, serve_lines, session,
+};
+use checkpoint::inspect;
+use harness::{Wrong, device_with};
+use std::alloc::{AllocError, Global};
+use std::process::Abort;
+use std::sync::Wait;
+use std::test::Fail;
+use std::thread::Threads;
+use workers::OpenGate;
+
+/// `count` lines, each a change that is done.
+fn changes(alloc: Global, count: usize) -> Result<Vec<u8>, AllocError> {
+    let mut lines = Vec::new(alloc);
+    for number in 0..count {
+        lines.extend_from_slice(match number {
+            0 => b"makevol 0 0\n",
+            1 => b"create 0 0 0\n",
+            _ if number % 2 == 0 => b"write 0 0 0 0 61\n",
+            _ => b"punch 0 0 0 1\n",
+        })?;
+    }
+    Ok(lines)
+}
+
+/// How many changes there are, and after how many there is a point; and how many points are made, at least and at most. A half of the
+/// log has four records.
+const POINTS: [(usize, u64, u64, u64); 10] = [
+    // There is a point where the log is full and at the end.
+    (0, 0, 1, 1),
+    (4, 0, 1, 1),
+    (5, 0, 2, 2),
+    (8, 0, 2, 2),
+    (9, 0, 3, 3),
+    (40, 0, 10, 10),
+    // One is due by count, but while one is in progress none becomes so.
+    (40, 1, 8, 41),
+    (40, 2, 8, 21),
+    (40, 3, 8, 14),
+    (40, 100, 10, 10),
+];
+
+/// Serves changes in pieces of this size. No line is written before its record is synced; gives how many points there
+/// were.
+fn points_of<T: Threads + Wait + Sync + Abort>(
+    rt: &T,
+    alloc: Global,
+    count: usize,
+    way: Way,
+    size: usize,
+) -> Result<u64, Wrong> {
+    let notes = Notes::new();
+    let streams = Streams {
+        read: size,
+        written: size,
+        ..PIPED
+    };
+    let device = device_with(alloc, SMALL, &[])?;
+    let lines = changes(alloc, count)?;
+    let left = session(rt, alloc, device, way, &lines, streams, &OpenGate, &notes);
+    let Left { device, end, .. } = left;
+    let is_whole = end == End::Whole && notes.taken.get() == count as u64;
+    let all_logged = notes.logged.get() == count as u64;
+    holds(rt, is_whole && all_logged && !notes.is_early.get());
+    let Ok((shown, _)) = inspect(alloc, device) else {
+        return Err(Wrong::Unfit);
+    };
+    // Opening names area 1, and each point the other one.
+    holds(
+        rt,
+        shown.records == 0 && shown.area as u64 == notes.points.get() % 2,
+    );
+    Ok(notes.points.get().saturating_sub(1))
+}
+
+#[test]
+fn points_are_made_where_they_are_due(rt: HostRuntime) -> Result<(), Fail> {
+    for (count, every, least, most) in POINTS {
+        for (workers, slots, size) in [(1, 1, 5), (1, 16, 70_000), (2, 3, 70_000)] {
+            let way = Way {
+                workers,
+                slots,
+                every,
+            };
+            let points = points_of(&rt, rt.alloc(), count, way, size)?;
+            holds(&rt, least <= points && points <= most);
+        }
+    }
+    Ok(())
+}
+
+/// One change of each stripe.
+const EIGHT: &[u8] = b"punch 0 0 0 0
+punch 0 0 0 1
+punch 0 0 0 2
+punch 0 0 0 3
+punch 0 0 0 4
+punch 0 0 0 5
+punch 0 0 0 6
+punch 0 0 0 7
+";
+
+/// How many syncs there are where these lines come with one read and one worker runs them, from the opening to the last point.
+fn syncs_of<T: Threads + Wait + Sync + Abort>(
+    rt: &T,
+    alloc: Global,
+    lines: &[u8],
+) -> Result<u64, Wrong> {
+    let way = Way {
+        workers: 1,
+        slots: 8,
+        every: 0,
+    };
+    let device = device_with(alloc, FLAT, &[])?;
+    let (device, _) = serve_lines(rt, alloc, device, way, b"makevol 0 0\ncreate 0 0 0\n")?;
+    let notes = Notes::new();
+    let left = session(rt, alloc, device, way, lines, PIPED, &OpenGate, &notes);
+    holds(rt, left.end == End::Whole);
+    Ok(notes.syncs.get())
+}
+
+/// How often lines are served until they are logged at once: a worker that waits for a processor comes too late.
+const TRIES: usize = 100;
+
+#[test]
+fn lines_that_come_together_are_logged_together(rt: HostRuntime) -> Result<(), Fail> {
+    let one = syncs_of(&rt, rt.alloc(), b"punch 0 0 0 0\n")?;
+    for _ in 0..TRIES {
+        if syncs_of(&rt, rt.alloc(), EIGHT)? == one {
+            return Ok(());
+        }
+    }
+    Err(Wrong::Endless.into())
+}

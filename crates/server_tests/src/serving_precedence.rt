@@ -1,0 +1,115 @@
+//! Which fault is reported if several befall one session.
+use crate::serving_noting::Notes;
+use crate::serving_running::{End, Left, PIPED, SMALL, Streams, Way, ends, holds, session};
+use checkpoint::OpenFault;
+use disk::MemDisk;
+use harness::{Wrong, device_with};
+use serving::ServeFault;
+use std::alloc::Global;
+use std::process::Abort;
+use std::sync::Wait;
+use std::test::Fail;
+use std::thread::Threads;
+use workers::OpenGate;
+
+/// Some lines, after which the input can't be read.
+const LINES: &[u8] = b"makevol 0 0
+create 0 0 0
+write 0 0 0 0 61
+write 0 0 0 1 62
+no message
+read 0 0 0 0
+";
+
+/// Which call of the device fails, and which of the writer. 0: none.
+#[derive(Clone, Copy)]
+struct Failing {
+    device: u64,
+    writer: u64,
+}
+
+/// Which of them did fail.
+#[derive(Clone, Copy)]
+struct Failed {
+    device: bool,
+    writer: bool,
+}
+
+/// How a session ends of which these have failed: it has begun if anything was read.
+fn end_of(failed: Failed, has_begun: bool) -> End {
+    match (failed.writer, failed.device) {
+        (true, _) => End::Fault(ServeFault::Write),
+        (false, true) if has_begun => End::Fault(ServeFault::Device),
+        (false, true) => End::Unopened(OpenFault::Device),
+        (false, false) => End::Fault(ServeFault::Read),
+    }
+}
+
+/// Serves the lines, and looks at what is reported.
+fn told<T: Threads + Wait + Sync + Abort>(
+    rt: &T,
+    alloc: Global,
+    way: Way,
+    failing: Failing,
+) -> Result<Failed, Wrong> {
+    let notes = Notes::new();
+    let streams = Streams {
+        fails: true,
+        fails_at: failing.writer,
+        ..PIPED
+    };
+    let mut device: MemDisk = device_with(alloc, SMALL, &[])?;
+    if failing.device != 0 {
+        device.fail_at(failing.device);
+    }
+    let before = device.calls();
+    let left = session(rt, alloc, device, way, LINES, streams, &OpenGate, &notes);
+    let Left { device, end, .. } = left;
+    let calls = device.calls().saturating_sub(before);
+    let failed = Failed {
+        device: failing.device != 0 && calls >= failing.device,
+        writer: failing.writer != 0 && notes.writes.get() >= failing.writer,
+    };
+    ends(rt, end, end_of(failed, notes.reads.get() != 0));
+    Ok(failed)
+}
+
+/// More calls than a session has.
+const MOST_CALLS: u64 = 1000;
+
+/// Lets each call of the device fail in turn, with this call of the writer: whether both failed at some of them.
+fn tell_each<T: Threads + Wait + Sync + Abort>(
+    rt: &T,
+    alloc: Global,
+    way: Way,
+    writer: u64,
+) -> Result<bool, Wrong> {
+    let mut both = false;
+    for device in 1..MOST_CALLS {
+        let failed = told(rt, alloc, way, Failing { device, writer })?;
+        if !failed.device {
+            return Ok(both);
+        }
+        both = both || failed.writer;
+    }
+    Err(Wrong::Endless)
+}
+
+#[test]
+fn the_output_is_told_before_the_device_and_that_before_the_input(
+    rt: HostRuntime,
+) -> Result<(), Fail> {
+    for every in [0, 1] {
+        let way = Way {
+            workers: 2,
+            slots: 4,
+            every,
+        };
+        let mut both = false;
+        for writer in 0..4 {
+            both = tell_each(&rt, rt.alloc(), way, writer)? || both;
+        }
+        holds(&rt, both);
+    }
+    Ok(())
+}

@@ -1,0 +1,242 @@
+//! How input is read and output is written, and what comes of it where one of them fails.
+use crate::serving_drawing::draw_lines;
+use crate::serving_noting::Notes;
+use crate::serving_running::{
+    End, Left, PIPED, SMALL, Streams, Way, ends, holds, serial, serve_lines, session, writes,
+};
+use checkpoint::inspect;
+use harness::{Wrong, device_with};
+use serving::ServeFault;
+use std::alloc::Global;
+use std::process::Abort;
+use std::sync::Wait;
+use std::test::Fail;
+use std::thread::Threads;
+use workers::OpenGate;
+
+/// Serves these lines on a new device.
+fn serve_new<T: Threads + Wait + Sync>(
+    rt: &T,
+    alloc: Global,
+    way: Way,
+    lines: &[u8],
+    streams: Streams,
+    notes: &Notes,
+) -> Result<Left, Wrong> {
+    let device = device_with(alloc, SMALL, &[])?;
+    Ok(session(rt, alloc, device, way, lines, streams, &OpenGate, notes))
+}
+
+/// Workers, slots, and how many records are between points.
+const WAYS: [Way; 3] = [
+    Way {
+        workers: 1,
+        slots: 1,
+        every: 0,
+    },
+    Way {
+        workers: 2,
+        slots: 16,
+        every: 0,
+    },
+    Way {
+        workers: 2,
+        slots: 3,
+        every: 1,
+    },
+];
+
+const LINES: &[u8] = b"makevol 0 0
+create 0 0 0
+no message
+write 0 0 0 0 61
+write 0 0 0 1 62
+read 0 0 0 0
+read 0 9 0 0
+";
+
+/// These bytes up to the end of their last whole line.
+fn whole_lines(bytes: &[u8]) -> &[u8] {
+    match bytes.iter().rposition(|byte| *byte == b'\n') {
+        Some(last) => bytes.get(..=last).unwrap_or_default(),
+        None => b"",
+    }
+}
+
+/// Where the input can be read so far alone, its whole lines are answered, and the last point is left out.
+fn meets_fault<T: Threads + Wait + Sync + Abort>(
+    rt: &T,
+    alloc: Global,
+    way: Way,
+    input: &[u8],
+    read: usize,
+) -> Result<(), Wrong> {
+    let notes = Notes::new();
+    let streams = Streams {
+        read,
+        fails: true,
+        ..PIPED
+    };
+    let left = serve_new(rt, alloc, way, input, streams, &notes)?;
+    ends(rt, left.end, End::Fault(ServeFault::Read));
+    let want = serial(alloc, SMALL, whole_lines(input))?;
+    writes(rt, left.output.as_slice(), want.as_slice());
+    let done = want.as_slice().split(|byte| *byte == b'\n');
+    let done = done.filter(|line| *line == b"done".as_slice()).count();
+    let Ok((shown, _)) = inspect(alloc, left.device) else {
+        return Err(Wrong::Unfit);
+    };
+    holds(rt, !notes.is_late.get());
+    holds(
+        rt,
+        way.every != 0 || (shown.records == done && shown.area == 1),
+    );
+    Ok(())
+}
+
+#[test]
+fn whole_lines_are_answered_before_a_failed_read(rt: HostRuntime) -> Result<(), Fail> {
+    // Behind each byte, the ways in turn.
+    for (way, (read, first)) in WAYS.iter().zip([(8, 0), (70_000, 1), (20, 2)]) {
+        for end in (first..=LINES.len()).step_by(WAYS.len()) {
+            let input = LINES.get(..end).unwrap_or_default();
+            meets_fault(&rt, rt.alloc(), *way, input, read)?;
+        }
+    }
+    Ok(())
+}
+
+/// Whether the n-th call of the writer failed: then nothing more was read or written.
+fn fails_to_write<T: Threads + Wait + Sync + Abort>(
+    rt: &T,
+    alloc: Global,
+    way: Way,
+    read: usize,
+    n: u64,
+) -> Result<bool, Wrong> {
+    let notes = Notes::new();
+    let streams = Streams {
+        read,
+        fails: false,
+        written: 9,
+        fails_at: n,
+    };
+    let left = serve_new(rt, alloc, way, LINES, streams, &notes)?;
+    let has_failed = notes.writes.get() >= n;
+    let end = if has_failed {
+        End::Fault(ServeFault::Write)
+    } else {
+        End::Whole
+    };
+    ends(rt, left.end, end);
+    let want = serial(alloc, SMALL, LINES)?;
+    let is_beginning = want.as_slice().starts_with(left.output.as_slice());
+    let is_all = left.output.len() == want.len();
+    holds(
+        rt,
+        is_beginning && (is_all || has_failed) && !notes.is_deaf.get(),
+    );
+    Ok(has_failed)
+}
+
+/// More calls than a writer has.
+const MOST_CALLS: u64 = 1000;
+
+/// Lets each call of the writer fail in turn, until none does.
+fn each_call_fails<T: Threads + Wait + Sync + Abort>(
+    rt: &T,
+    alloc: Global,
+    way: Way,
+    read: usize,
+) -> Result<(), Wrong> {
+    for n in 1..MOST_CALLS {
+        if !fails_to_write(rt, alloc, way, read, n)? {
+            return Ok(());
+        }
+    }
+    Err(Wrong::Endless)
+}
+
+#[test]
+fn nothing_is_read_or_written_behind_a_failed_write(rt: HostRuntime) -> Result<(), Fail> {
+    for (way, read) in WAYS.iter().zip([13, 70_000, 40]) {
+        each_call_fails(&rt, rt.alloc(), *way, read)?;
+    }
+    Ok(())
+}
+
+/// Random lines that come in pieces of this size are answered as they have to, and nothing waits for a read. Gives how many
+/// reads there are, and how many writes and flushes.
+fn calls_of<T: Threads + Wait + Sync + Abort>(
+    rt: &T,
+    alloc: Global,
+    way: Way,
+    lines: &[u8],
+    read: usize,
+) -> Result<(u64, u64), Wrong> {
+    let notes = Notes::new();
+    let streams = Streams { read, ..PIPED };
+    let left = serve_new(rt, alloc, way, lines, streams, &notes)?;
+    ends(rt, left.end, End::Whole);
+    let want = serial(alloc, SMALL, lines)?;
+    writes(rt, left.output.as_slice(), want.as_slice());
+    holds(rt, !notes.is_late.get());
+    Ok((notes.reads.get(), notes.writes.get()))
+}
+
+#[test]
+fn nothing_waits_for_a_read(rt: HostRuntime) -> Result<(), Fail> {
+    let lines = draw_lines(rt.alloc(), 3, 4, 100)?;
+    for way in WAYS {
+        for read in [1, 12, 100] {
+            calls_of(&rt, rt.alloc(), way, lines.as_slice(), read)?;
+        }
+    }
+    Ok(())
+}
+
+/// How often this line comes.
+const MANY: usize = 5000;
+
+/// How many writes and flushes the answers to lines without a ticket take, with 1, 16 and 3 slots: two for each 1, 16 or 3 lines, and for
+/// the rest.
+const WRITES: [u64; 3] = [10_000, 626, 3334];
+
+#[test]
+fn piped_input_takes_few_calls(rt: HostRuntime) -> Result<(), Fail> {
+    let mut lines = Vec::new(rt.alloc());
+    for _ in 0..MANY {
+        lines.extend_from_slice(b"read 9 0 0 0\n")?;
+    }
+    for (way, most) in WAYS.iter().zip(WRITES) {
+        // The input is read in one go.
+        let (reads, writes) = calls_of(&rt, rt.alloc(), *way, lines.as_slice(), 70_000)?;
+        holds(&rt, reads <= 3 && writes == most);
+    }
+    Ok(())
+}
+
+const NO_WORKERS: Way = Way {
+    workers: 0,
+    slots: 2,
+    every: 0,
+};
+
+#[test]
+fn no_workers_are_refused(rt: HostRuntime) -> Result<(), Fail> {
+    let notes = Notes::new();
+    let streams = Streams {
+        read: 1,
+        fails: true,
+        written: 1,
+        fails_at: 1,
+    };
+    let left = serve_new(&rt, rt.alloc(), NO_WORKERS, LINES, streams, &notes)?;
+    ends(&rt, left.end, End::Fault(ServeFault::NoWorkers));
+    holds(&rt, notes.reads.get() == 0 && notes.writes.get() == 0);
+    // The core came back, and its device is served on as if nothing had been.
+    let (_, output) = serve_lines(&rt, rt.alloc(), left.device, WAYS[0], LINES)?;
+    let want = serial(rt.alloc(), SMALL, LINES)?;
+    writes(&rt, output.as_slice(), want.as_slice());
+    Ok(())
+}

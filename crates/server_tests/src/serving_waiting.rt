@@ -1,0 +1,129 @@
+//! Jobs that are held until the output is written to, while a point is due, and while the output fails.
+use crate::serving_noting::{Flag, Notes};
+use crate::serving_running::{
+    End, Left, PIPED, SMALL, Streams, Way, ends, holds, serve_lines, session,
+};
+use checkpoint::inspect;
+use disk::MemDisk;
+use harness::{Wrong, device_with};
+use serving::ServeFault;
+use std::alloc::Global;
+use std::process::Abort;
+use std::sync::Wait;
+use std::test::Fail;
+use std::thread;
+use std::thread::Threads;
+use workers::Gate;
+
+/// How often a worker looks whether it may go on, before it gives up.
+const MOST_TRIES: u32 = 1_000_000;
+
+/// Holds job 1 until the output is written to: by then the dispatcher has let go out what may go out after message 0.
+#[derive(Drop)]
+struct Held<'a> {
+    notes: &'a Notes,
+    gave_up: Flag,
+    /// Whether job 2 ran before a cut had begun.
+    is_early: Flag,
+    /// Whether message 1 was answered.
+    answered: Flag,
+}
+
+impl Held<'_> {
+    /// Waits until the output is written to.
+    fn wait(&self) {
+        for _ in 0..MOST_TRIES {
+            if self.notes.writes.get() > 0 {
+                return;
+            }
+            thread::yield_now();
+        }
+        self.gave_up.set();
+    }
+}
+
+impl Gate for Held<'_> {
+    fn before(&self, ticket: u64) {
+        match ticket {
+            1 => self.wait(),
+            2 if self.notes.cuts.get() == 0 => self.is_early.set(),
+            _ => {}
+        }
+    }
+
+    fn answered(&self, ticket: u64) {
+        if ticket == 1 {
+            self.answered.set();
+        }
+    }
+}
+
+/// What was seen of three writes: message 1 is unrelated to message 0, and message 2 is related to one of them.
+#[derive(Drop)]
+struct Met {
+    end: End,
+    is_early: bool,
+    /// Whether message 1 was answered.
+    answered: bool,
+    device: MemDisk,
+}
+
+/// Serves three lines with two workers where there is a file; the n-th call of the output fails, where n is not 0. The answer to
+/// message 0 is written while job 1 is held.
+fn meet<T: Threads + Wait + Sync + Abort>(
+    rt: &T,
+    alloc: Global,
+    every: u64,
+    lines: &[u8],
+    fails_at: u64,
+) -> Result<Met, Wrong> {
+    let way = Way {
+        workers: 2,
+        slots: 4,
+        every,
+    };
+    let device = device_with(alloc, SMALL, &[])?;
+    let (device, _) = serve_lines(rt, alloc, device, way, b"makevol 0 0\ncreate 0 0 0\n")?;
+    let notes = Notes::new();
+    let gate = Held {
+        notes: &notes,
+        gave_up: Flag::new(),
+        is_early: Flag::new(),
+        answered: Flag::new(),
+    };
+    let streams = Streams { fails_at, ..PIPED };
+    let left = session(rt, alloc, device, way, lines, streams, &gate, &notes);
+    let Left { device, end, .. } = left;
+    holds(rt, !gate.gave_up.get() && !notes.is_early.get());
+    Ok(Met {
+        end,
+        is_early: gate.is_early.get(),
+        answered: gate.answered.get(),
+        device,
+    })
+}
+
+#[test]
+fn nothing_goes_out_while_a_point_is_due(rt: HostRuntime) -> Result<(), Fail> {
+    let lines = b"write 0 0 0 0 61\nwrite 0 0 0 1 62\nwrite 0 0 0 0 63\n";
+    // After message 0 message 2 may go, where no point is due.
+    for (every, is_early) in [(0, true), (1, false)] {
+        let met = meet(&rt, rt.alloc(), every, lines, 0)?;
+        ends(&rt, met.end, End::Whole);
+        holds(&rt, met.is_early == is_early && met.answered);
+    }
+    Ok(())
+}
+
+#[test]
+fn jobs_that_are_out_are_logged_behind_a_failed_write(rt: HostRuntime) -> Result<(), Fail> {
+    let lines = b"write 0 0 0 0 61\nwrite 0 0 0 1 62\nwrite 0 0 0 1 63\n";
+    let met = meet(&rt, rt.alloc(), 0, lines, 1)?;
+    ends(&rt, met.end, End::Fault(ServeFault::Write));
+    let Ok((shown, _)) = inspect(rt.alloc(), met.device) else {
+        return Err(Wrong::Unfit.into());
+    };
+    // Nothing more goes out then.
+    holds(&rt, met.answered && shown.records == 2);
+    Ok(())
+}
